@@ -1,0 +1,9 @@
+//! Positions, texts with their lines, and strings.
+
+pub mod js_string;
+pub mod position;
+pub mod source_text_info;
+
+pub use js_string::JsString;
+pub use position::{Position, PositionRange, SourceRange};
+pub use source_text_info::SourceTextInfo;

@@ -1,0 +1,13 @@
+//! Syntax trees, comments, and parsed sources.
+
+pub mod comments;
+pub mod fault;
+pub mod media_type;
+pub mod node;
+pub mod parsed_source;
+
+pub use comments::{CommentKind, Comments, DependencyComment};
+pub use fault::{SourceFault, source_fault};
+pub use media_type::MediaType;
+pub use node::{ImportPhase, Kind, Node, Program, StrLit};
+pub use parsed_source::ParsedSource;

@@ -1,0 +1,9 @@
+//! Lists, texts and maps as values: contracts see what they hold, and no pointer or capacity.
+
+pub mod items;
+pub mod text;
+pub mod try_clone;
+
+pub use items::Items;
+pub use text::Text;
+pub use try_clone::TryClone;
