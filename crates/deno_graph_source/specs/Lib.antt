@@ -1,2 +1,4 @@
+pub mod Comments
+pub mod MediaType
 pub mod Node
 pub mod formers
