@@ -1,4 +1,6 @@
 pub mod Comments
 pub mod MediaType
 pub mod Node
+pub mod Source
+pub mod SourceRange
 pub mod formers
