@@ -1,2 +1,4 @@
 pub mod Node
+pub mod Position
+pub mod SourceRange
 pub mod formers
