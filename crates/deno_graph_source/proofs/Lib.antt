@@ -1,2 +1,3 @@
 pub mod Judgements
 pub mod NodeRanges
+pub mod PositionLemmas
