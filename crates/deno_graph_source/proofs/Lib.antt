@@ -1,3 +1,4 @@
 pub mod Judgements
 pub mod NodeRanges
 pub mod PositionLemmas
+pub mod SourceFaults

@@ -1,7 +1,7 @@
 -- Comments by the position that they are filed at.
 use Rattle.std.specs.Prelude.{ℕ, List, Option, ◌++◌}
 use Rattle.std.specs.List.{flat_map}
-use Rattle.std.specs.Map.{lookup}
+use Rattle.std.specs.Map.{lookup, values_of}
 use Rattle.std.specs.BTreeMap.{is_at}
 use Rattle.std.specs.Ordering.{nat_cmp}
 use Rattle.deno_graph_source.specs.declared.tree.comments.DependencyComment.{DependencyComment}
@@ -21,7 +21,7 @@ filed_at filing pos = lookup (is_at (nat_cmp pos)) filing
 
 -- every comment of a filing, as often as it was filed
 abbrev pub all_filed : Filing → List DependencyComment
-all_filed filing = flat_map (λ entry. entry.1) filing
+all_filed filing = flat_map (λ comments. comments) (values_of filing)
 
 -- every comment, as often as it was filed
 unfoldable pub comments_of : FiledComments → List DependencyComment

@@ -1,4 +1,5 @@
-ghost use Rattle.std.specs.Prelude.{◌≡◌, [], map, IfOk};
+ghost use Rattle.std.specs.Prelude.{◌≡◌, [], ◌++◌, map, IfOk, OnOk};
+ghost use Rattle.deno_graph_source.specs.Comments.{all_filed};
 ghost use Rattle.std.specs.List.Sorted.{IsPermutation};
 ghost use Rattle.std.specs.Option.{option_copied};
 
@@ -80,4 +81,42 @@ impl Comments {
     {
         Some(self.trailing.get(&pos)?.as_slice())
     }
+
+    /// Every comment, as often as it was filed, in no promised order.
+    pub fn iter_unstable(&self, alloc: Global) -> Result<Vec<&DependencyComment>, AllocError>
+        ensures { IfOk result (λ all.
+            IsPermutation (comments_of self.now) (map (λ comment. comment.now) all.items)) }
+    {
+        let mut all = Vec::new(alloc);
+        push_filed(&mut all, &self.leading)?;
+        push_filed(&mut all, &self.trailing)?;
+        Ok(all)
+    }
+}
+
+/// Adds every comment of `filing` at the end of `all`.
+fn push_filed<'a>(
+    all: &mut Vec<&'a DependencyComment>,
+    filing: &'a BTreeMap<usize, Items<DependencyComment>>,
+) -> Result<(), AllocError>
+    ensures { OnOk result (map (λ comment. comment.now) all.new.items
+        ≡ map (λ comment. comment.now) all.old.items ++ all_filed filing.now.entries) }
+{
+    for comments in filing.values() {
+        push_comments(all, comments.as_slice())?;
+    }
+    Ok(())
+}
+
+fn push_comments<'a>(
+    all: &mut Vec<&'a DependencyComment>,
+    comments: &'a [DependencyComment],
+) -> Result<(), AllocError>
+    ensures { OnOk result (map (λ comment. comment.now) all.new.items
+        ≡ map (λ comment. comment.now) all.old.items ++ comments.now) }
+{
+    for comment in comments {
+        all.push(comment)?;
+    }
+    Ok(())
 }
