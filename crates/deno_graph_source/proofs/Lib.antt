@@ -1,4 +1,5 @@
 pub mod Judgements
+pub mod LossyText
 pub mod NodeRanges
 pub mod PositionLemmas
 pub mod SourceFaults
