@@ -2,6 +2,7 @@ pub mod Comments
 pub mod JsString
 pub mod MediaType
 pub mod Node
+pub mod ParsedSource
 pub mod Position
 pub mod Source
 pub mod SourceRange
