@@ -1,3 +1,4 @@
+pub mod ByPosition
 pub mod Comments
 pub mod JsString
 pub mod MediaType

@@ -13,7 +13,7 @@ use std::rc::RcStr;
 use url::Url;
 
 /// A module with its tree and comments, which fit its text: every parsed source is valid.
-#[derive(Debug, Drop)]
+#[derive(Debug, PartialEq, Eq, Drop)]
 pub struct ParsedSource {
     specifier: Url,
     media_type: MediaType,
@@ -42,6 +42,15 @@ impl Model for ParsedSource {
         program = source.program;
         comments = source.comments;
         scope_analysis = source.scope_analysis
+    } };
+
+    ghost inverse = { λ value. record {
+        specifier = value.specifier;
+        text_info = value.text;
+        media_type = value.media_type;
+        program = value.program;
+        comments = value.comments;
+        scope_analysis = value.scope_analysis
     } };
 
     ghost invariant = { λ source. IsValid source.text_info source.program source.comments };
