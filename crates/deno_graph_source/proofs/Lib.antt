@@ -4,3 +4,4 @@ pub mod NodeRanges
 pub mod PositionLemmas
 pub mod PositionOrder
 pub mod SourceFaults
+pub mod ValidSource
