@@ -1,2 +1,3 @@
 pub mod LossyText
 pub mod TextEntries
+pub mod Units
