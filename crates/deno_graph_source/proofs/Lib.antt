@@ -5,3 +5,5 @@ pub mod PositionLemmas
 pub mod PositionOrder
 pub mod SourceFaults
 pub mod ValidSource
+pub mod TextEntries
+pub mod Units
