@@ -1,4 +1,5 @@
 pub mod Node
+pub mod Place
 pub mod Position
 pub mod SourceRange
 pub mod formers

@@ -1,5 +1,5 @@
 -- Where a place in a text stands: its line, and its character in that line.
-use Rattle.std.specs.Prelude.{◌≡◌, ◌==◌, ℕ, List, length, take, count_by}
+use Rattle.std.specs.Prelude.{◌≡◌, ◌==◌, ◌<◌, ◌⊎◌, ℕ, List, length, take, count_by}
 use Rattle.std.specs.List.{after_last}
 use Rattle.std.specs.Str.{IsCharBoundary, chars}
 use Rattle.deno_graph_source.specs.declared.text.position.Position.{Position}
@@ -24,3 +24,8 @@ position_at text offset = position_of (chars (take offset text))
 abbrev pub HasPosition : List ℕ → Position → Type 0
 HasPosition text position =
     (offset : ℕ) × IsCharBoundary text offset × (position_at text offset ≡ position)
+
+-- `first` comes before `second`: by line, and in one line by character
+abbrev pub IsBefore : Position → Position → Type 0
+IsBefore first second =
+    (first.line < second.line) ⊎ ((first.line ≡ second.line) × (first.character < second.character))

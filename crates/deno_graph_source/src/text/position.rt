@@ -1,6 +1,6 @@
-ghost use Rattle.std.specs.Prelude.{◌≡◌, ℕ, ◌+◌, ◌^◌, ◌<◌, ◌≤◌, List, [], ◌∷◌, ◌++◌, length};
+ghost use Rattle.std.specs.Prelude.{◌≡◌, ℕ, ◌+◌, ◌^◌, ◌<◌, ◌≤◌, ◌↔◌, IsTrue, List, [], ◌∷◌, ◌++◌, length};
 ghost use Rattle.std.specs.Str.{IsCharBoundary, chars};
-ghost use Rattle.deno_graph_source.specs.Position.{position_at, position_of};
+ghost use Rattle.deno_graph_source.specs.Position.{IsBefore, position_at, position_of};
 
 use crate::text::source_text_info::SourceTextInfo;
 
@@ -38,8 +38,14 @@ impl Position {
         Position::zeroed().after(&text_info.text()[..pos])
     }
 
+    pub(crate) fn is_before(self, other: Position) -> bool
+        ensures { IsTrue result ↔ IsBefore self other }
+    {
+        self < other
+    }
+
     /// The position behind `text`, where `self` is the one before it.
-    fn after(self, text: &str) -> Position
+    pub(crate) fn after(self, text: &str) -> Position
         requires line { self.line + length text.now < 2 ^ 64 }
         requires character { self.character + length text.now < 2 ^ 64 }
         ensures { (front : List ℕ) → self ≡ position_of front
@@ -53,7 +59,7 @@ impl Position {
     }
 
     /// The position behind the character `c`, where `self` is the one before it.
-    fn past(self, c: char) -> Position
+    pub(crate) fn past(self, c: char) -> Position
         requires line { self.line + 1 < 2 ^ 64 }
         requires character { self.character + 1 < 2 ^ 64 }
         ensures passes { (front : List ℕ) → self ≡ position_of front
