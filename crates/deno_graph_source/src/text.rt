@@ -1,5 +1,6 @@
 //! Positions, texts with their lines, and strings.
 
+pub(crate) mod checkpoints;
 pub mod js_string;
 pub(crate) mod place;
 pub mod position;

@@ -19,6 +19,8 @@ impl Place {
     /// The start of every text.
     pub(crate) fn start() -> Place
         ensures pos { result.pos ≡ 0 }
+        ensures line { result.position.line ≡ 0 }
+        ensures character { result.position.character ≡ 0 }
         ensures place { (text : List ℕ) → IsUtf8 text → IsPlace text result }
     {
         Place {

@@ -40,7 +40,7 @@ loop-c-preserved c =
               absurd (omega (arith, inside, c.past-place.ensures.pos))
           | inr same ↦
               let is_it : c.loop-c.place.pos ≡ pos = omega arith in
-              subst (λ p. IsBefore p c.args.wanted) (is.position ∙ ap (position_at text) is_it) (c.if-not-is_before.ensures.0 refl)
+              subst (λ p. IsBefore p c.args.wanted) (is.position ∙ ap (position_at text) is_it) (c.if-not-is_before.ensures.fact.0 refl)
         ]
       ];
     }
