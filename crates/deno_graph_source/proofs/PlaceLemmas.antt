@@ -1,10 +1,10 @@
 -- Boundaries of a text, and the characters before and behind them.
-use Rattle.std.proofs.Common.{◌≡◌, ℕ, ◌+◌, ◌-◌, ◌<◌, ◌≤◌, ◌⊎◌, inl, inr, List, [], ◌∷◌, ◌++◌, length, take, drop, get_or, zero, suc, All, true, not, refl, sym, ap, ◌∙◌, subst, arith, length-append, length-drop, append_assoc}
+use Rattle.std.proofs.Common.{◌≡◌, ℕ, ◌+◌, ◌-◌, ◌<◌, ◌≤◌, inl, inr, List, [], ◌∷◌, ◌++◌, length, take, drop, get_or, zero, suc, All, not, refl, sym, ap, ◌∙◌, subst, arith, length-append, length-drop, append_assoc}
 use Rattle.std.proofs.lemmas.Bool.{cases_lt, cases_Bool, false≢true}
 use Rattle.std.proofs.lemmas.List.{length-take-le, take-append-drop, take-append-le, take_all, append-nil}
 use Rattle.std.proofs.lemmas.List.Elements.{All-append}
 use Rattle.std.proofs.lemmas.List.Sorted.{IsNonDecreasingBy-push}
-use Rattle.std.proofs.lemmas.Str.{IsCharBoundary-start, IsCharBoundary-past_char, IsUtf8-take, IsUtf8-drop, IsUtf8-between, IsUtf8-encode, chars-append, chars_past_char, chars-nil, encodes-chars, drop_past_char, encode_same, length-encode, length-le-encodes}
+use Rattle.std.proofs.lemmas.Str.{IsCharBoundary-start, IsCharBoundary-past_char, IsUtf8-take, IsUtf8-drop, IsUtf8-between, chars-append, chars_past_char, chars-nil, encodes-chars, encode_same, length-encode, length-le-encodes}
 use Rattle.std.proofs.Math.Seq.{take-add}
 use Rattle.std.specs.Char.{len_utf8}
 use Rattle.std.specs.Cmp.{nat_cmp_is}

@@ -1,10 +1,8 @@
-use Rattle.std.proofs.Common.{◌≡◌, ◌++◌, ◌∷◌, [], ◌≤◌, ℕ, List, All, drop, length, get_or, arith, ap, sym, ◌∙◌, subst}
-use Rattle.std.proofs.lemmas.List.Elements.{All-append}
-use Rattle.std.proofs.lemmas.List.Sorted.{IsNonDecreasingBy-push}
+use Rattle.std.proofs.Common.{◌≡◌, ◌++◌, ◌∷◌, [], ◌≤◌, ℕ, List, All, drop, arith, ap, sym, ◌∙◌, subst}
 use Rattle.std.proofs.lemmas.Str.{IsUtf8-drop, IsCharBoundary-past_char, drop_past_char}
 use Rattle.std.specs.Str.Iter.{chars_rest}
 use lib.Utf8.{encode}
-use Rattle.deno_graph_source.specs.Place.{IsPlace, ArePlaces}
+use Rattle.deno_graph_source.specs.Place.{ArePlaces}
 use Rattle.deno_graph_source.specs.declared.text.place.Place.{Place}
 use Rattle.deno_graph_source.proofs.PlaceLemmas.{line_le_pos, character_le_pos, IsPlace-past, ArePlaces-push, below_last}
 use Rattle.deno_graph_source.proofs.text.checkpoints.checkpoints.Goals as goal

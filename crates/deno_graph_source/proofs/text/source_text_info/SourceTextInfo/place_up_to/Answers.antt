@@ -1,4 +1,4 @@
-use Rattle.std.proofs.Common.{◌≡◌, ◌≤◌, ◌-◌, ℕ, List, rules, of_calls, arith, subst, sym, ap, ◌∙◌, leb}
+use Rattle.std.proofs.Common.{◌≡◌, ◌-◌, rules, of_calls, arith, subst, sym, ap, ◌∙◌, leb}
 use Rattle.std.specs.Rc.{rc_str_bytes}
 use Rattle.std.specs.Str.{IsUtf8}
 use Rattle.std.proofs.lemmas.Str.{IsUtf8-string_bytes}

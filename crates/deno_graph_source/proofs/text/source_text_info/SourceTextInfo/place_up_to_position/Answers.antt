@@ -1,4 +1,4 @@
-use Rattle.std.proofs.Common.{◌≡◌, ◌≤◌, ◌-◌, ℕ, List, rules, of_calls, arith, subst, sym, ap, ◌∙◌, ◌⊎◌, inl, inr, not}
+use Rattle.std.proofs.Common.{◌≡◌, ◌-◌, rules, of_calls, arith, subst, sym, ap, ◌∙◌, inl, inr, not}
 use Rattle.std.specs.Rc.{rc_str_bytes}
 use Rattle.std.specs.Str.{IsUtf8}
 use Rattle.std.proofs.lemmas.Str.{IsUtf8-string_bytes}
@@ -6,7 +6,7 @@ use Rattle.std.proofs.lemmas.Bool.{false≢true}
 use Rattle.std.proofs.lemmas.List.Sorted.{IsPartitionPoint-from_clause}
 use Rattle.deno_graph_source.specs.Place.{IsPlace, ArePlaces}
 use Rattle.deno_graph_source.specs.declared.text.place.Place.{Place}
-use Rattle.deno_graph_source.specs.Position.{IsBefore, is_before}
+use Rattle.deno_graph_source.specs.Position.{is_before}
 use Rattle.deno_graph_source.proofs.PlaceLemmas.{partitioned}
 use Rattle.deno_graph_source.proofs.PositionLemmas.{is_before-from}
 use Rattle.deno_graph_source.proofs.text.source_text_info.SourceTextInfo.place_up_to_position.Goals as goal
