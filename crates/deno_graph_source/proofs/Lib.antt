@@ -1,6 +1,9 @@
 pub mod Judgements
 pub mod LossyText
 pub mod NodeRanges
+pub mod CheckpointLemmas
+pub mod FrontLemmas
+pub mod PlaceLemmas
 pub mod PositionLemmas
 pub mod PositionOrder
 pub mod SourceFaults
