@@ -1,8 +1,10 @@
 //! Writing values as JSON.
 
 mod dependency;
+mod dynamic_dependency;
 mod module_info;
 mod position;
+mod static_dependency;
 mod write;
 
 pub(crate) use write::ToJson;
