@@ -1,5 +1,6 @@
 -- The JSON form, a file for each kind of value.
 pub mod Dependency
+pub mod DynamicArgument
 pub mod DynamicDependency
 pub mod Info
 pub mod Object

@@ -10,7 +10,7 @@ pub mod static_dependency;
 mod tests;
 
 pub use dependency::DependencyDescriptor;
-pub use dynamic_argument::DynamicArgument;
+pub use dynamic_argument::{DynamicArgument, DynamicTemplatePart};
 pub use dynamic_dependency::{DynamicDependencyDescriptor, DynamicDependencyKind};
 pub use module_info::ModuleInfo;
 pub use static_dependency::{StaticDependencyDescriptor, StaticDependencyKind};

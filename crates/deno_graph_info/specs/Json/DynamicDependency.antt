@@ -1,12 +1,11 @@
 -- A dynamic dependency as JSON.
 use Rattle.std.specs.Prelude.{ℕ, List, [], ◌∷◌, codes, Some}
-use Rattle.serde_json.specs.Data.{Data, null, string}
-use Rattle.deno_graph_info.specs.declared.analysis.dynamic_argument.DynamicArgument.{DynamicArgument}
-use Rattle.deno_graph_info.specs.declared.analysis.dynamic_argument.DynamicArgument.TheVariants.{String, Expr}
+use Rattle.serde_json.specs.Data.{Data, string}
 use Rattle.deno_graph_info.specs.declared.analysis.dynamic_dependency.DynamicDependencyKind.{DynamicDependencyKind}
 use Rattle.deno_graph_info.specs.declared.analysis.dynamic_dependency.DynamicDependencyKind.TheVariants.{Import, ImportDefer, ImportSource, Require}
 use Rattle.deno_graph_info.specs.declared.analysis.dynamic_dependency.DynamicDependencyDescriptor.{DynamicDependencyDescriptor}
 use Rattle.deno_graph_info.specs.DynamicDependency.{is_import, is_expr}
+use Rattle.deno_graph_info.specs.Json.DynamicArgument.{json_of_argument}
 use Rattle.deno_graph_info.specs.Json.Object.{Entry, object_of, unless}
 use Rattle.deno_graph_info.specs.Json.Position.{json_of_range}
 
@@ -15,11 +14,6 @@ dynamic_kind_name Import = codes "import"
 dynamic_kind_name ImportDefer = codes "importDefer"
 dynamic_kind_name ImportSource = codes "importSource"
 dynamic_kind_name Require = codes "require"
-
--- a string as itself; null where nothing is known
-abbrev pub json_of_argument : DynamicArgument → Data
-json_of_argument (String text) = string text
-json_of_argument Expr = null
 
 -- its table: `kind` is left out where it is `import`, and `argument` where nothing is known of it
 abbrev pub dynamic_entries : DynamicDependencyDescriptor → List Entry

@@ -1,6 +1,7 @@
 //! Writing values as JSON.
 
 mod dependency;
+mod dynamic_argument;
 mod dynamic_dependency;
 mod module_info;
 mod position;

@@ -1,6 +1,6 @@
 use crate::analysis::{
     DependencyDescriptor, DynamicArgument, DynamicDependencyDescriptor, DynamicDependencyKind,
-    ModuleInfo, StaticDependencyDescriptor, StaticDependencyKind,
+    DynamicTemplatePart, ModuleInfo, StaticDependencyDescriptor, StaticDependencyKind,
 };
 use deno_graph_source::text::{Position, PositionRange};
 use deno_graph_source::values::{Items, Text, TryClone};
@@ -98,6 +98,36 @@ fn writes_a_dynamic_dependency(rt: HostRuntime) -> Result<(), Fail> {
     assert_eq!(rt;
         text.as_str(),
         "{\"dependencies\":[{\"argumentRange\":[[0,7],[0,8]],\"type\":\"dynamic\"}]}"
+    );
+    Ok(())
+}
+
+fn template(alloc: Global) -> Result<DynamicArgument, AllocError> {
+    let mut parts = Items::new(alloc);
+    parts.push(DynamicTemplatePart::String {
+        value: Text::from_str(alloc, "test")?,
+    })?;
+    parts.push(DynamicTemplatePart::Expr)?;
+    Ok(DynamicArgument::Template(parts))
+}
+
+#[test]
+fn writes_a_template(rt: HostRuntime) -> Result<(), Fail> {
+    let alloc = rt.alloc();
+    let argument = template(alloc)?;
+    assert!(rt; !argument.is_expr());
+    assert!(rt; argument.try_clone(alloc)? == argument);
+    let dependency = DynamicDependencyDescriptor {
+        kind: DynamicDependencyKind::Import,
+        argument,
+        argument_range: range_on_first_line(7, 22),
+    };
+    let text = info(alloc, false, DependencyDescriptor::from(dependency))?
+        .to_value(alloc)?
+        .to_string(alloc)?;
+    assert_eq!(rt;
+        text.as_str(),
+        "{\"dependencies\":[{\"argument\":[{\"type\":\"string\",\"value\":\"test\"},{\"type\":\"expr\"}],\"argumentRange\":[[0,7],[0,22]],\"type\":\"dynamic\"}]}"
     );
     Ok(())
 }

@@ -1,7 +1,6 @@
 ghost use Rattle.serde_json.specs.Data.{string};
-ghost use Rattle.deno_graph_info.specs.Json.DynamicDependency.{json_of_argument, json_of_dynamic, dynamic_kind_name};
+ghost use Rattle.deno_graph_info.specs.Json.DynamicDependency.{json_of_dynamic, dynamic_kind_name};
 
-use crate::analysis::dynamic_argument::DynamicArgument;
 use crate::analysis::dynamic_dependency::{DynamicDependencyDescriptor, DynamicDependencyKind};
 use crate::analysis::json::write::{ObjectWriter, ToJson, unless};
 use serde_json::Value;
@@ -12,17 +11,6 @@ impl ToJson for DynamicDependencyKind {
 
     fn to_json(&self, alloc: Global) -> Result<Value, AllocError> {
         Value::try_from_str(alloc, self.name())
-    }
-}
-
-impl ToJson for DynamicArgument {
-    ghost json = { json_of_argument };
-
-    fn to_json(&self, alloc: Global) -> Result<Value, AllocError> {
-        match self {
-            DynamicArgument::String(text) => text.to_json(alloc),
-            DynamicArgument::Expr => Ok(Value::Null),
-        }
     }
 }
 
