@@ -1,2 +1,4 @@
+pub mod JsString
 pub mod Node
+pub mod TextMap
 pub mod formers

@@ -1,0 +1,2 @@
+pub mod LossyText
+pub mod TextEntries
