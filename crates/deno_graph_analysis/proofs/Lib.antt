@@ -1,2 +1,4 @@
+pub mod Ascending
+pub mod Listed
+pub mod NodePaths
 pub mod Nodes
-pub mod Paths
