@@ -29,7 +29,7 @@ placed rules node own inside = cond (rules.is_after_inside node) [] own ++ cond 
 abbrev pub path_step : Rules → Node → List (List NodePath) → List NodePath
 path_step rules node below = placed rules node (here (rules.is_listed node)) (under (λ n. n) below)
 
-pub paths_at : Rules → Node → List NodePath
+unfoldable pub paths_at : Rules → Node → List NodePath
 paths_at rules = by_children (path_step rules)
 
 pub paths_at-is : (rules : Rules) (node : Node) → paths_at rules node ≡ path_step rules node (map (paths_at rules) (children_of node))
@@ -37,7 +37,7 @@ unfolding paths_at
 paths_at-is rules node = by_children-is (path_step rules) node
 
 -- the listed paths of a body
-pub listed_paths : Rules → List Node → List NodePath
+unfoldable pub listed_paths : Rules → List Node → List NodePath
 listed_paths rules body = under (λ n. n) (map (paths_at rules) body)
 
 -- an item of `under`: the number of a child, and then a path below it
@@ -131,7 +131,8 @@ Member-of_inside rules node own inside x open' m =
     Member-left (cond after [] own ++ cond closed [] inside) (cond after own []) x
     (Member-right (cond after [] own) (cond closed [] inside) x (Member-of_unless closed inside x open' m))
 
-got_map : {A B : Type 0} (f : A → B) (o : Option A) (y : B) → option_map f o ≡ Some y → (x : A) × (o ≡ Some x) × (f x ≡ y)
+-- an item of a mapped list, or an option, is made of one before
+pub got_map : {A B : Type 0} (f : A → B) (o : Option A) (y : B) → option_map f o ≡ Some y → (x : A) × (o ≡ Some x) × (f x ≡ y)
 got_map f None y e = let no : ⊥ = cc in absurd no
 got_map f (Some x) y e = let s : f x ≡ y = cc in (x, refl, s)
 
