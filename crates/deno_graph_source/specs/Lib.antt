@@ -1,2 +1,3 @@
+pub mod JsString
 pub mod Node
 pub mod formers
