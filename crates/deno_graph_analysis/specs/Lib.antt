@@ -1,3 +1,5 @@
+pub mod Dependency
+pub mod Item
 pub mod Listing
 pub mod NodePath
 pub mod Recursion
