@@ -1,4 +1,5 @@
 pub mod Ascending
+pub mod Entries
 pub mod Listed
 pub mod Listings
 pub mod NodePaths

@@ -1,9 +1,9 @@
 -- Which nodes of a tree are dependencies, and where they are listed.
-use Rattle.std.specs.Prelude.{Bool, true, false, is_some}
+use Rattle.std.specs.Prelude.{List, [], Bool, true, false, is_some, if◌then◌else◌}
 use Rattle.deno_graph_source.specs.declared.tree.node.Kind.{Kind}
 use Rattle.deno_graph_source.specs.declared.tree.node.Kind.TheVariants.{ImportDecl, NamedExport, ExportAll, ExportOther, Other}
 use Rattle.deno_graph_source.specs.declared.tree.node.Node.{Node}
-use Rattle.deno_graph_source.specs.Node.{kind_of}
+use Rattle.deno_graph_source.specs.Node.{kind_of, children_of}
 use Rattle.deno_graph_analysis.specs.Listing.{Rules}
 
 -- nothing inside these kinds is read
@@ -13,6 +13,10 @@ is_closed (NamedExport type_only src) = true
 is_closed (ExportAll type_only src) = true
 is_closed ExportOther = false
 is_closed Other = false
+
+-- the nodes directly inside, unless these are left unread
+unfoldable pub children_to_visit : Node → List Node
+children_to_visit node = if is_closed (kind_of node) then [] else children_of node
 
 -- the kinds that are dependencies: imports, and exports from a source
 abbrev pub is_dependency : Kind → Bool

@@ -1,7 +1,6 @@
 ghost use Rattle.std.specs.Prelude.{◌≡◌, ◌++◌, ◌↔◌, [], map, if◌then◌else◌, IsTrue, IfOk, OnOk};
 ghost use Rattle.std.specs.Option.{option_map, option_to_list};
-ghost use Rattle.deno_graph_source.specs.Node.{kind_of, range_of, children_of};
-ghost use Rattle.deno_graph_analysis.specs.Dependency.{is_closed, is_listed_after_inside};
+ghost use Rattle.deno_graph_analysis.specs.Dependency.{children_to_visit, is_closed, is_listed_after_inside};
 ghost use Rattle.deno_graph_analysis.specs.Item.{AreDependencies, import_kind, export_kind, item_of, item_of_node, items_at, items_below, leading_at, stated_item};
 
 use crate::dep::descriptor::{DependencyDescriptor, StaticDependencyDescriptor};
@@ -43,16 +42,30 @@ struct DependencyCollector<'a> {
 
 impl<'a> DependencyCollector<'a> {
     /// Adds the dependencies that a node and what is inside it state.
+    #[cycle(visit)]
     fn visit_node(&mut self, node: &'a Node) -> Result<(), AllocError>
         ensures comments { self.new.comments ≡ self.old.comments }
         ensures items { OnOk result (map item_of self.new.items.items ≡ map item_of self.old.items.items ++ items_at self.old.comments.now node.now) }
     {
         let after_inside = is_listed_after_inside(&node.kind);
         self.push_if(!after_inside, node)?;
-        for child in children_to_visit(node) {
+        self.visit_inside(node)?;
+        self.push_if(after_inside, node)
+    }
+
+    /// Adds the dependencies that stand inside a node, unless it is closed.
+    #[cycle(visit)]
+    fn visit_inside(&mut self, node: &'a Node) -> Result<(), AllocError>
+        ensures comments { self.new.comments ≡ self.old.comments }
+        ensures items { OnOk result (map item_of self.new.items.items ≡ map item_of self.old.items.items ++ items_below self.old.comments.now (children_to_visit node.now)) }
+    {
+        if is_closed(&node.kind) {
+            return Ok(());
+        }
+        for child in node.children.as_slice() {
             self.visit_node(child)?;
         }
-        self.push_if(after_inside, node)
+        Ok(())
     }
 
     /// Adds the dependency that the node states, if it is wanted and there is one.
@@ -90,40 +103,51 @@ fn is_listed_after_inside(kind: &Kind) -> bool
     }
 }
 
-/// The nodes directly inside, unless these are left unread.
-fn children_to_visit(node: &Node) -> &[Node]
-    ensures { result.now ≡ (if is_closed (kind_of node.now) then [] else children_of node.now) }
-{
-    if is_closed(&node.kind) {
-        &[]
-    } else {
-        node.children.as_slice()
-    }
-}
-
 /// The dependency that a node states, or `None` where it states none.
+#[tactic(auto, unfolding(crate::specs::Item::item_of_node, deno_graph_source::specs::Node::kind_of, deno_graph_source::specs::Node::range_of))]
 fn describe<'a>(comments: &'a Comments, node: &'a Node) -> Option<DependencyDescriptor<'a>>
     ensures { option_map item_of result ≡ item_of_node comments.now node.now }
 {
-    let (kind, src, is_side_effect) = match &node.kind {
+    match &node.kind {
         Kind::ImportDecl {
             type_only,
             phase,
             src,
             has_specifiers,
-        } => (import_kind(*type_only, *phase), src, !*has_specifiers),
-        Kind::NamedExport { type_only, src } => (export_kind(*type_only), src.as_ref()?, false),
-        Kind::ExportAll { type_only, src } => (export_kind(*type_only), src, false),
-        Kind::ExportOther | Kind::Other => return None,
-    };
-    Some(DependencyDescriptor::from(StaticDependencyDescriptor {
+        } => {
+            let kind = import_kind(*type_only, *phase);
+            Some(stated(comments, node.range, kind, src, !*has_specifiers))
+        }
+        Kind::NamedExport { type_only, src } => {
+            let src = src.as_ref()?;
+            Some(stated(comments, node.range, export_kind(*type_only), src, false))
+        }
+        Kind::ExportAll { type_only, src } => {
+            Some(stated(comments, node.range, export_kind(*type_only), src, false))
+        }
+        Kind::ExportOther | Kind::Other => None,
+    }
+}
+
+/// The dependency that a node at this range states, whose specifier is this literal.
+fn stated<'a>(
+    comments: &'a Comments,
+    range: SourceRange,
+    kind: StaticDependencyKind,
+    src: &'a StrLit,
+    is_side_effect: bool,
+) -> DependencyDescriptor<'a>
+    ensures { item_of result ≡ stated_item comments.now range kind src.now is_side_effect }
+{
+    let descriptor = StaticDependencyDescriptor {
         kind,
-        leading_comments: leading_comments(comments, node.range.start),
-        range: node.range,
+        leading_comments: leading_comments(comments, range.start),
+        range,
         specifier: src.value.to_str_lossy(),
         specifier_range: src.range,
         is_side_effect,
-    }))
+    };
+    descriptor.into()
 }
 
 fn import_kind(type_only: bool, phase: ImportPhase) -> StaticDependencyKind
