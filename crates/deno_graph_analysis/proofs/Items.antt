@@ -12,7 +12,9 @@ use Rattle.deno_graph_source.specs.declared.tree.node.Kind.{Kind}
 use Rattle.deno_graph_source.specs.declared.tree.node.Kind.TheVariants.{ImportDecl, NamedExport, ExportAll, ExportOther, Other}
 use Rattle.deno_graph_source.specs.declared.tree.node.Node.{Node}
 use Rattle.deno_graph_analysis.specs.Dependency.{dependency_rules, is_dependency}
-use Rattle.deno_graph_analysis.specs.Item.{Item, AreDependencies, item_of_kind, item_of_node, item_at, items_below}
+use Rattle.deno_graph_analysis.specs.Dependencies.{AreDependencies, item_at, items_below}
+use Rattle.deno_graph_analysis.specs.Dependency.{item_of_kind, item_of_node}
+use Rattle.deno_graph_analysis.specs.Item.{Item}
 use Rattle.deno_graph_analysis.specs.Listing.{Rules}
 use Rattle.deno_graph_analysis.specs.NodePath.{NodePath, node_below, node_at}
 use Rattle.deno_graph_analysis.specs.Recursion.{entries_at}
@@ -63,10 +65,10 @@ module _ {A : Type 0} (rules : Rules) (f : Node → Option A) (listed : (node : 
   inside_same (x ∷ nodes) number at says each =
       map-append Some (entries_at rules own x) (flat_map (entries_at rules own) nodes) ∙
       (let a = each 0 x refl in
-       let b = map_map-as (λ q. number 0 ∷ q) at (below x) (says 0 x refl) (paths_at rules x) in
-       let c = inside_same nodes (λ n. number (suc n)) at (λ n child e. says (suc n) child e) (λ n child e. each (suc n) child e) in
-       let d = map-append at (map (λ q. number 0 ∷ q) (paths_at rules x)) (under (λ n. number (suc n)) (map (paths_at rules) nodes)) in
-       cc)
+      let b = map_map-as (λ q. number 0 ∷ q) at (below x) (says 0 x refl) (paths_at rules x) in
+      let c = inside_same nodes (λ n. number (suc n)) at (λ n child e. says (suc n) child e) (λ n child e. each (suc n) child e) in
+      let d = map-append at (map (λ q. number 0 ∷ q) (paths_at rules x)) (under (λ n. number (suc n)) (map (paths_at rules) nodes)) in
+      cc)
 
   own_same : (node : Node) → map Some (own node) ≡ map (below node) (here (rules.is_listed node))
   unfolding own below
@@ -97,7 +99,8 @@ kind_listed comments range (ExportAll type_only src) = refl
 kind_listed comments range ExportOther = refl
 kind_listed comments range Other = refl
 
-node_listed : (comments : FiledComments) (node : Node) → is_dependency (kind_of node) ≡ is_some (item_of_node comments node)
+-- and it is listed where it does
+pub node_listed : (comments : FiledComments) (node : Node) → is_dependency (kind_of node) ≡ is_some (item_of_node comments node)
 unfolding item_of_node
 node_listed comments node = kind_listed comments (range_of node) (kind_of node)
 
@@ -105,7 +108,7 @@ node_listed comments node = kind_listed comments (range_of node) (kind_of node)
 pub AreDependencies-items_below : (comments : FiledComments) (body : List Node) → AreDependencies comments body (items_below comments body)
 unfolding own
 AreDependencies-items_below comments body = record {
-    paths = listed_paths dependency_rules body;
-    is_listing = IsListing-listed_paths dependency_rules body;
-    are_items = body_same dependency_rules (item_of_node comments) (node_listed comments) body;
-  }
+  paths = listed_paths dependency_rules body;
+  is_listing = IsListing-listed_paths dependency_rules body;
+  are_items = body_same dependency_rules (item_of_node comments) (node_listed comments) body;
+}

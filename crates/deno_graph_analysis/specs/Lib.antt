@@ -1,3 +1,4 @@
+pub mod Dependencies
 pub mod Dependency
 pub mod Item
 pub mod Listing

@@ -6,7 +6,9 @@ use Rattle.deno_graph_source.specs.Comments.{FiledComments}
 use Rattle.deno_graph_source.specs.Node.{kind_of, children_of}
 use Rattle.deno_graph_source.specs.declared.tree.node.Node.{Node, out-Node}
 use Rattle.deno_graph_analysis.specs.Dependency.{dependency_rules, children_to_visit, is_closed, is_listed_after_inside}
-use Rattle.deno_graph_analysis.specs.Item.{Item, item_of, item_of_node, items_at, items_below}
+use Rattle.deno_graph_analysis.specs.Dependencies.{items_at, items_below}
+use Rattle.deno_graph_analysis.specs.Dependency.{item_of_node}
+use Rattle.deno_graph_analysis.specs.Item.{Item, item_of}
 use Rattle.deno_graph_analysis.proofs.Entries.{entries_at-pieces, appended_thrice}
 use Rattle.deno_graph_analysis.proofs.dep.walk.DependencyCollector.+visit.Goals as goal
 
