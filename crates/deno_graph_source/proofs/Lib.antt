@@ -3,3 +3,4 @@ pub mod LossyText
 pub mod NodeRanges
 pub mod PositionLemmas
 pub mod TextEntries
+pub mod Units
