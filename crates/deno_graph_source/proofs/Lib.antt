@@ -4,3 +4,5 @@ pub mod NodeRanges
 pub mod PositionLemmas
 pub mod TextEntries
 pub mod Units
+pub mod PositionOrder
+pub mod SourceFaults
