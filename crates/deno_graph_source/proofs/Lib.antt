@@ -1,3 +1,4 @@
+pub mod FrontLemmas
 pub mod Judgements
 pub mod LossyText
 pub mod NodeRanges

@@ -1,0 +1,7 @@
+pub mod Ascending
+pub mod Entries
+pub mod Items
+pub mod Listed
+pub mod Listings
+pub mod NodePaths
+pub mod Nodes
