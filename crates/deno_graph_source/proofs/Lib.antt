@@ -2,3 +2,5 @@ pub mod Judgements
 pub mod LossyText
 pub mod NodeRanges
 pub mod PositionLemmas
+pub mod PositionOrder
+pub mod SourceFaults

@@ -1,7 +1,9 @@
+pub mod ByPosition
 pub mod Comments
 pub mod JsString
 pub mod MediaType
 pub mod Node
+pub mod ParsedSource
 pub mod Position
 pub mod Source
 pub mod SourceRange
