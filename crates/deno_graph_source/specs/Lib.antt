@@ -6,5 +6,8 @@ pub mod Node
 pub mod ParsedSource
 pub mod Position
 pub mod Source
+pub mod Place
+pub mod Position
+pub mod PositionRange
 pub mod SourceRange
 pub mod formers
