@@ -5,3 +5,4 @@ pub mod PlaceLemmas
 pub mod PositionLemmas
 pub mod PositionOrder
 pub mod SourceFaults
+pub mod TextEntries

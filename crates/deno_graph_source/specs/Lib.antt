@@ -10,4 +10,5 @@ pub mod Place
 pub mod Position
 pub mod PositionRange
 pub mod SourceRange
+pub mod TextMap
 pub mod formers
