@@ -1,5 +1,5 @@
 -- An object by its table: each key with its value, or with none where the member is left out.
-use Rattle.std.specs.Prelude.{ℕ, List, [], ◌∷◌, map, Bool, true, false, Option, Some, None}
+use Rattle.std.specs.Prelude.{ℕ, List, [], ◌∷◌, map, Bool, true, false, not, ◌&&◌, ◌||◌, bytes_eq, if◌then◌else◌, Option, Some, None}
 use Rattle.serde_json.specs.Data.{Data, boolean, array, object, Members, no_members, put}
 use Rattle.serde_json.specs.View.{items_of}
 
@@ -25,17 +25,31 @@ object_of es = object (put_entries es no_members)
 abbrev pub array_of : {A : Type 0} → (A → Data) → List A → Data
 array_of f xs = array (items_of (map f xs))
 
+-- a value that is left out where the test holds
+abbrev pub unless : {A : Type 0} → Bool → A → Option A
+unless true x = None
+unless false x = Some x
+
 -- a bool that is left out where it is false
 abbrev pub if_true : Bool → Option Data
-if_true false = None
-if_true true = Some (boolean true)
+if_true b = unless (not b) (boolean b)
 
--- a list, unless it is empty
-abbrev pub non_empty_of : {A : Type 0} → List A → Option (List A)
-non_empty_of [] = None
-non_empty_of (x ∷ xs) = Some (x ∷ xs)
+-- a list that is left out where it is empty
+abbrev pub if_any : {A : Type 0} → List A → Option (List A)
+if_any [] = None
+if_any (x ∷ xs) = Some (x ∷ xs)
 
--- an array that is left out where it is empty
-abbrev pub if_any : {A : Type 0} → (A → Data) → List A → Option Data
-if_any f [] = None
-if_any f (x ∷ xs) = Some (array_of f (x ∷ xs))
+-- some entry has the key
+abbrev pub has_key : List ℕ → List Entry → Bool
+has_key k [] = false
+has_key k (e ∷ es) = bytes_eq k e.0 || has_key k es
+
+-- no two entries have one key
+abbrev pub has_distinct_keys : List Entry → Bool
+has_distinct_keys [] = true
+has_distinct_keys (e ∷ es) = not (has_key e.0 es) && has_distinct_keys es
+
+-- the value of the first entry that has the key
+abbrev pub entry_at : List ℕ → List Entry → Option Data
+entry_at k [] = None
+entry_at k (e ∷ es) = if bytes_eq k e.0 then e.1 else entry_at k es
