@@ -32,3 +32,7 @@ static_item_of descriptor = record {
 -- what a descriptor says, with what its borrows point to in their place
 abbrev pub item_of : DependencyDescriptor → Item
 item_of (Static descriptor) = static_item (static_item_of descriptor)
+
+-- the ranges that a dependency is read at are ranges of the text
+abbrev pub HasTextRanges : List ℕ → Item → Type 0
+HasTextRanges text (static_item item) = IsTextRange text item.specifier_range
