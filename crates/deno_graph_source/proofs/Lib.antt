@@ -6,3 +6,10 @@ pub mod PositionLemmas
 pub mod PositionOrder
 pub mod SourceFaults
 pub mod TextEntries
+pub mod FrontLemmas
+pub mod PlaceLemmas
+pub mod PositionLemmas
+pub mod TextEntries
+pub mod Units
+pub mod PositionOrder
+pub mod SourceFaults
