@@ -13,3 +13,4 @@ pub mod TextEntries
 pub mod Units
 pub mod PositionOrder
 pub mod SourceFaults
+pub mod ValidSource
