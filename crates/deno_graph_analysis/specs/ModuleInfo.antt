@@ -7,6 +7,7 @@ use Rattle.deno_graph_source.specs.declared.text.position.SourceRange.{SourceRan
 use Rattle.deno_graph_source.specs.declared.tree.node.Program.{Program}
 use Rattle.deno_graph_info.specs.declared.analysis.dependency.DependencyDescriptor.{DependencyDescriptor}
 use Rattle.deno_graph_info.specs.declared.analysis.dependency.DependencyDescriptor.TheVariants.{Static}
+use Rattle.deno_graph_info.specs.declared.analysis.attributes.ImportAttributes.TheVariants as attributes
 use Rattle.deno_graph_info.specs.declared.analysis.module_info.ModuleInfo.{ModuleInfo}
 use Rattle.deno_graph_info.specs.declared.analysis.static_dependency.StaticDependencyDescriptor.{StaticDependencyDescriptor}
 use Rattle.deno_graph_analysis.specs.Dependencies.{AreDependencies}
@@ -24,6 +25,7 @@ static_dependency_of text item = record {
     specifier = item.specifier;
     specifier_range = positions_of text item.specifier_range;
     is_side_effect = item.is_side_effect;
+    import_attributes = attributes.None;
   }
 
 -- a dependency with its positions in the text

@@ -1,3 +1,4 @@
+pub mod FrontLemmas
 pub mod Judgements
 pub mod LossyText
 pub mod NodeRanges
@@ -6,11 +7,5 @@ pub mod PositionLemmas
 pub mod PositionOrder
 pub mod SourceFaults
 pub mod TextEntries
-pub mod FrontLemmas
-pub mod PlaceLemmas
-pub mod PositionLemmas
-pub mod TextEntries
 pub mod Units
-pub mod PositionOrder
-pub mod SourceFaults
 pub mod ValidSource

@@ -7,11 +7,7 @@ pub mod ParsedSource
 pub mod Place
 pub mod Position
 pub mod PositionRange
-pub mod Position
 pub mod Source
-pub mod Place
-pub mod Position
-pub mod PositionRange
 pub mod SourceRange
 pub mod TextMap
 pub mod formers

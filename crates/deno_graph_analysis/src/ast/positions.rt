@@ -4,7 +4,7 @@ ghost use Rattle.deno_graph_analysis.specs.Item.{item_of, static_item_of, HasTex
 ghost use Rattle.deno_graph_analysis.specs.ModuleInfo.{dependency_of, static_dependency_of};
 
 use crate::dep;
-use deno_graph_info::analysis::{DependencyDescriptor, StaticDependencyDescriptor};
+use deno_graph_info::analysis::{DependencyDescriptor, ImportAttributes, StaticDependencyDescriptor};
 use deno_graph_source::text::{PositionRange, SourceTextInfo};
 use deno_graph_source::values::{Items, Text};
 use std::alloc::{AllocError, Global};
@@ -53,5 +53,6 @@ fn static_dependency(
         specifier: Text::from_str(alloc, found.specifier)?,
         specifier_range: PositionRange::from_source_range(found.specifier_range, text_info),
         is_side_effect: found.is_side_effect,
+        import_attributes: ImportAttributes::None,
     })
 }
