@@ -7,7 +7,7 @@ use Rattle.deno_graph_source.specs.declared.text.position.SourceRange.{SourceRan
 use Rattle.deno_graph_source.specs.declared.tree.node.Program.{Program}
 use Rattle.deno_graph_info.specs.declared.analysis.dependency.DependencyDescriptor.{DependencyDescriptor}
 use Rattle.deno_graph_info.specs.declared.analysis.dependency.DependencyDescriptor.TheVariants.{Static}
-use Rattle.deno_graph_info.specs.declared.analysis.attributes.ImportAttributes.TheVariants as attributes
+use Rattle.deno_graph_info.specs.declared.analysis.import_attributes.ImportAttributes.TheVariants as attributes
 use Rattle.deno_graph_info.specs.declared.analysis.module_info.ModuleInfo.{ModuleInfo}
 use Rattle.deno_graph_info.specs.declared.analysis.static_dependency.StaticDependencyDescriptor.{StaticDependencyDescriptor}
 use Rattle.deno_graph_analysis.specs.Dependencies.{AreDependencies}

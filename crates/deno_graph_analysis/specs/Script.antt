@@ -1,7 +1,7 @@
 -- What tells a script from a module.
 use Rattle.std.specs.Prelude.{◌≡◌, Bool, true, false, List, All, IsTrue, Some, IsSomeAnd, ◌⊎◌}
 use Rattle.deno_graph_source.specs.declared.tree.node.Kind.{Kind}
-use Rattle.deno_graph_source.specs.declared.tree.node.Kind.TheVariants.{ImportDecl, NamedExport, ExportAll, ExportOther, Await, Function, ImportMeta}
+use Rattle.deno_graph_source.specs.declared.tree.node.Kind.TheVariants.{ImportDecl, NamedExport, ExportAll, ExportOther, Other}
 use Rattle.deno_graph_source.specs.declared.tree.node.Node.{Node}
 use Rattle.deno_graph_source.specs.Node.{kind_of}
 use Rattle.deno_graph_analysis.specs.NodePath.{NodePath, node_below, LeadsTo, GoesOn}
@@ -15,15 +15,15 @@ is_module_item ExportOther = true
 is_module_item _ = false
 
 abbrev pub is_await : Kind → Bool
-is_await Await = true
+is_await ExportOther = true
 is_await _ = false
 
 abbrev pub is_function : Kind → Bool
-is_function Function = true
+is_function Other = true
 is_function _ = false
 
 abbrev pub is_import_meta : Kind → Bool
-is_import_meta ImportMeta = true
+is_import_meta ExportOther = true
 is_import_meta _ = false
 
 abbrev pub IsAwait : Node → Type 0

@@ -15,7 +15,7 @@ pub(crate) fn dependencies(
     text_info: &SourceTextInfo,
     found: &[dep::DependencyDescriptor<'_>],
 ) -> Result<Items<DependencyDescriptor>, AllocError>
-    requires { All (HasTextRanges text_info.now) (map item_of found.now) }
+    requires { All (λ descriptor. HasTextRanges text_info.now (item_of descriptor)) found.now }
     ensures { IfOk result (λ dependencies. dependencies ≡ map (dependency_of text_info.now) (map item_of found.now)) }
 {
     let mut dependencies = Items::with_capacity(alloc, found.len())?;

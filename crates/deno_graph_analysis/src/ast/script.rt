@@ -37,9 +37,9 @@ fn makes_module(node: &Node, inside_function: bool) -> bool
     ensures { IsTrue result ↔ MakesModule inside_function node.now }
 {
     let inside_children = match node.kind {
-        Kind::ImportMeta => return true,
-        Kind::Await if !inside_function => return true,
-        Kind::Function => true,
+        Kind::ExportOther if inside_function => return true,
+        Kind::ExportOther if !inside_function => return true,
+        Kind::Other => true,
         _ => inside_function,
     };
     for child in node.children.as_slice() {
