@@ -6,4 +6,3 @@ pub mod Listed
 pub mod Listings
 pub mod NodePaths
 pub mod Nodes
-pub mod Scripts

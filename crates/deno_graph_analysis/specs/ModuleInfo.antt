@@ -21,12 +21,12 @@ positions_of text range = record { start = position_at text range.start; end = p
 -- a static dependency with the positions of its specifier
 abbrev pub static_dependency_of : List ℕ → StaticItem → StaticDependencyDescriptor
 static_dependency_of text item = record {
-    kind = item.kind;
-    specifier = item.specifier;
-    specifier_range = positions_of text item.specifier_range;
-    is_side_effect = item.is_side_effect;
-    import_attributes = attributes.None;
-  }
+  kind = item.kind;
+  specifier = item.specifier;
+  specifier_range = positions_of text item.specifier_range;
+  is_side_effect = item.is_side_effect;
+  import_attributes = attributes.None;
+}
 
 -- a dependency with its positions in the text
 abbrev pub dependency_of : List ℕ → Item → DependencyDescriptor

@@ -4,7 +4,9 @@ ghost use Rattle.deno_graph_analysis.specs.Item.{item_of, static_item_of, HasTex
 ghost use Rattle.deno_graph_analysis.specs.ModuleInfo.{dependency_of, static_dependency_of};
 
 use crate::dep;
-use deno_graph_info::analysis::{DependencyDescriptor, ImportAttributes, StaticDependencyDescriptor};
+use deno_graph_info::analysis::{
+    DependencyDescriptor, ImportAttributes, StaticDependencyDescriptor,
+};
 use deno_graph_source::text::{PositionRange, SourceTextInfo};
 use deno_graph_source::values::{Items, Text};
 use std::alloc::{AllocError, Global};
