@@ -1,4 +1,5 @@
 pub mod Ascending
+pub mod DependencyRanges
 pub mod Entries
 pub mod Items
 pub mod Listed

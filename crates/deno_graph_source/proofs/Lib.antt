@@ -8,6 +8,6 @@ pub mod PlaceLemmas
 pub mod PositionLemmas
 pub mod PositionOrder
 pub mod SourceFaults
-pub mod ValidSource
 pub mod TextEntries
 pub mod Units
+pub mod ValidSource
