@@ -1,9 +1,8 @@
+pub mod CheckpointLemmas
 pub mod FrontLemmas
 pub mod Judgements
 pub mod LossyText
 pub mod NodeRanges
-pub mod CheckpointLemmas
-pub mod FrontLemmas
 pub mod PlaceLemmas
 pub mod PositionLemmas
 pub mod PositionOrder
