@@ -1,0 +1,41 @@
+-- An object by its table: each key with its value, or with none where the member is left out.
+use Rattle.std.specs.Prelude.{ℕ, List, [], ◌∷◌, map, Bool, true, false, Option, Some, None}
+use Rattle.serde_json.specs.Data.{Data, boolean, array, object, Members, no_members, put}
+use Rattle.serde_json.specs.View.{items_of}
+
+-- a key, and its value or none
+abbrev pub Entry : Type 0
+Entry = List ℕ × Option Data
+
+-- the members, with the value at the key if there is one
+abbrev pub put_present : List ℕ → Option Data → Members → Members
+put_present k None ms = ms
+put_present k (Some d) ms = put k d ms
+
+-- the members, with those entries that have a value
+abbrev pub put_entries : List Entry → Members → Members
+put_entries [] ms = ms
+put_entries (e ∷ es) ms = put_entries es (put_present e.0 e.1 ms)
+
+-- the object of those entries that have a value
+abbrev pub object_of : List Entry → Data
+object_of es = object (put_entries es no_members)
+
+-- the array of the items' forms, in order
+abbrev pub array_of : {A : Type 0} → (A → Data) → List A → Data
+array_of f xs = array (items_of (map f xs))
+
+-- a bool that is left out where it is false
+abbrev pub if_true : Bool → Option Data
+if_true false = None
+if_true true = Some (boolean true)
+
+-- a list, unless it is empty
+abbrev pub non_empty_of : {A : Type 0} → List A → Option (List A)
+non_empty_of [] = None
+non_empty_of (x ∷ xs) = Some (x ∷ xs)
+
+-- an array that is left out where it is empty
+abbrev pub if_any : {A : Type 0} → (A → Data) → List A → Option Data
+if_any f [] = None
+if_any f (x ∷ xs) = Some (array_of f (x ∷ xs))

@@ -1,0 +1,8 @@
+//! Writing values as JSON.
+
+mod dependency;
+mod module_info;
+mod position;
+mod write;
+
+pub(crate) use write::{ToJson, non_empty, put_member, tagged};

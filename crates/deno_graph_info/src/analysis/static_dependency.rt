@@ -1,0 +1,71 @@
+ghost use Rattle.std.specs.Prelude.{◌≡◌};
+ghost use Rattle.deno_graph_info.specs.Json.Static.{static_kind_name};
+
+use deno_graph_source::text::PositionRange;
+use deno_graph_source::values::{Text, TryClone};
+use std::alloc::{AllocError, Global};
+
+/// Which syntax states a static dependency.
+#[derive(Clone, Copy, Debug, PartialEq, Eq)]
+pub enum StaticDependencyKind {
+    /// `import .. from ".."` or `import ".."`.
+    Import,
+    /// `import defer * as name from ".."`.
+    ImportDefer,
+    /// `import source name from ".."`.
+    ImportSource,
+    /// `import type .. from ".."`, or the type `import("..")`.
+    ImportType,
+    /// `import name = require("..")`.
+    ImportEquals,
+    /// `export .. from ".."`.
+    Export,
+    /// `export type .. from ".."`.
+    ExportType,
+    /// `export import name = require("..")`.
+    ExportEquals,
+    /// `declare module ".." { .. }`, which may add to a module that exists.
+    MaybeTsModuleAugmentation,
+}
+
+impl StaticDependencyKind {
+    /// The name that JSON has for it.
+    pub(crate) fn name(self) -> &'static str
+        ensures { result.now ≡ static_kind_name self }
+    {
+        match self {
+            StaticDependencyKind::Import => "import",
+            StaticDependencyKind::ImportDefer => "importDefer",
+            StaticDependencyKind::ImportSource => "importSource",
+            StaticDependencyKind::ImportType => "importType",
+            StaticDependencyKind::ImportEquals => "importEquals",
+            StaticDependencyKind::Export => "export",
+            StaticDependencyKind::ExportType => "exportType",
+            StaticDependencyKind::ExportEquals => "exportEquals",
+            StaticDependencyKind::MaybeTsModuleAugmentation => "maybeTsModuleAugmentation",
+        }
+    }
+}
+
+/// A dependency whose specifier is written in the source as a string.
+#[derive(Debug, PartialEq, Eq, Drop)]
+pub struct StaticDependencyDescriptor {
+    pub kind: StaticDependencyKind,
+    /// The specifier as it is written, without its quotes.
+    pub specifier: Text,
+    /// Where the specifier stands, with its quotes.
+    pub specifier_range: PositionRange,
+    /// Whether this is an import that binds no name, as `import "..";`.
+    pub is_side_effect: bool,
+}
+
+impl TryClone for StaticDependencyDescriptor {
+    fn try_clone(&self, alloc: Global) -> Result<StaticDependencyDescriptor, AllocError> {
+        Ok(StaticDependencyDescriptor {
+            kind: self.kind,
+            specifier: self.specifier.try_clone(alloc)?,
+            specifier_range: self.specifier_range,
+            is_side_effect: self.is_side_effect,
+        })
+    }
+}
