@@ -2,4 +2,11 @@
 //! found as JSON.
 #![tactic(auto)]
 
+pub mod fault;
 pub mod notation;
+mod input;
+mod output;
+mod program;
+
+pub use fault::Fault;
+pub use program::serve;
