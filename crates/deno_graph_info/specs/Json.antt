@@ -4,3 +4,4 @@ pub mod Info
 pub mod Object
 pub mod Position
 pub mod Static
+pub mod Writer

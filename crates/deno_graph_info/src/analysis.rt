@@ -4,6 +4,8 @@ pub mod dependency;
 mod json;
 pub mod module_info;
 pub mod static_dependency;
+#[cfg(test)]
+mod tests;
 
 pub use dependency::DependencyDescriptor;
 pub use module_info::ModuleInfo;

@@ -1,5 +1,5 @@
 -- An object by its table: each key with its value, or with none where the member is left out.
-use Rattle.std.specs.Prelude.{ℕ, List, [], ◌∷◌, map, Bool, true, false, Option, Some, None}
+use Rattle.std.specs.Prelude.{ℕ, List, [], ◌∷◌, map, Bool, true, false, not, ◌&&◌, ◌||◌, bytes_eq, if◌then◌else◌, Option, Some, None}
 use Rattle.serde_json.specs.Data.{Data, boolean, array, object, Members, no_members, put}
 use Rattle.serde_json.specs.View.{items_of}
 
@@ -39,3 +39,18 @@ non_empty_of (x ∷ xs) = Some (x ∷ xs)
 abbrev pub if_any : {A : Type 0} → (A → Data) → List A → Option Data
 if_any f [] = None
 if_any f (x ∷ xs) = Some (array_of f (x ∷ xs))
+
+-- some entry has the key
+abbrev pub has_key : List ℕ → List Entry → Bool
+has_key k [] = false
+has_key k (e ∷ es) = bytes_eq k e.0 || has_key k es
+
+-- no two entries have one key
+abbrev pub has_distinct_keys : List Entry → Bool
+has_distinct_keys [] = true
+has_distinct_keys (e ∷ es) = not (has_key e.0 es) && has_distinct_keys es
+
+-- the value of the first entry that has the key
+abbrev pub entry_at : List ℕ → List Entry → Option Data
+entry_at k [] = None
+entry_at k (e ∷ es) = if bytes_eq k e.0 then e.1 else entry_at k es

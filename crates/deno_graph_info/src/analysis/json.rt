@@ -5,4 +5,4 @@ mod module_info;
 mod position;
 mod write;
 
-pub(crate) use write::{ToJson, non_empty, put_member, tagged};
+pub(crate) use write::ToJson;

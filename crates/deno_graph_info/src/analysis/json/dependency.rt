@@ -3,7 +3,7 @@ ghost use Rattle.deno_graph_info.specs.Json.Dependency.{json_of_dependency};
 ghost use Rattle.deno_graph_info.specs.Json.Static.{json_of_static, static_kind_name};
 
 use crate::analysis::dependency::DependencyDescriptor;
-use crate::analysis::json::write::{ToJson, put_member, tagged};
+use crate::analysis::json::write::{ObjectWriter, ToJson};
 use crate::analysis::static_dependency::{StaticDependencyDescriptor, StaticDependencyKind};
 use serde_json::Value;
 use std::alloc::{AllocError, Global};
@@ -20,12 +20,12 @@ impl ToJson for StaticDependencyDescriptor {
     ghost json = { json_of_static };
 
     fn to_json(&self, alloc: Global) -> Result<Value, AllocError> {
-        let mut object = tagged(alloc, "static")?;
-        put_member(&mut object, alloc, "kind", Some(&self.kind))?;
-        put_member(&mut object, alloc, "specifier", Some(&self.specifier))?;
-        put_member(&mut object, alloc, "specifierRange", Some(&self.specifier_range))?;
-        put_member(&mut object, alloc, "sideEffect", self.is_side_effect.then_some(&true))?;
-        Ok(Value::Object(object))
+        let mut object = ObjectWriter::tagged(alloc, "static")?;
+        object.put("kind", &self.kind)?;
+        object.put("specifier", &self.specifier)?;
+        object.put("specifierRange", &self.specifier_range)?;
+        object.put_some("sideEffect", self.is_side_effect.then_some(&true))?;
+        Ok(object.into_value())
     }
 }
 

@@ -1,17 +1,17 @@
 ghost use Rattle.deno_graph_info.specs.Json.Info.{json_of_info};
 
-use crate::analysis::json::write::{ToJson, non_empty, put_member};
+use crate::analysis::json::write::{ObjectWriter, ToJson, non_empty};
 use crate::analysis::module_info::ModuleInfo;
-use serde_json::{Map, Value};
+use serde_json::Value;
 use std::alloc::{AllocError, Global};
 
 impl ToJson for ModuleInfo {
     ghost json = { json_of_info };
 
     fn to_json(&self, alloc: Global) -> Result<Value, AllocError> {
-        let mut object = Map::new(alloc);
-        put_member(&mut object, alloc, "script", self.is_script.then_some(&true))?;
-        put_member(&mut object, alloc, "dependencies", non_empty(&self.dependencies))?;
-        Ok(Value::Object(object))
+        let mut object = ObjectWriter::new(alloc);
+        object.put_some("script", self.is_script.then_some(&true))?;
+        object.put_some("dependencies", non_empty(&self.dependencies))?;
+        Ok(object.into_value())
     }
 }

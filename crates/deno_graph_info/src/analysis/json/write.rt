@@ -1,7 +1,8 @@
-ghost use Rattle.std.specs.Prelude.{◌≡◌, [], codes, IfOk, OnOk, OnErr, option_map, Some};
-ghost use Rattle.serde_json.specs.Data.{Data, boolean, string, no_members};
-ghost use Rattle.serde_json.specs.View.{view, members_view};
+ghost use Rattle.std.specs.Prelude.{◌≡◌, codes, IfOk, OnOk, OnErr, option_map};
+ghost use Rattle.serde_json.specs.Data.{boolean, string, object, no_members, put as with_member};
+ghost use Rattle.serde_json.specs.View.{view};
 ghost use Rattle.deno_graph_info.specs.Json.Object.{put_present, array_of, non_empty_of};
+ghost use Rattle.deno_graph_info.specs.Json.Writer.{written};
 
 use deno_graph_source::values::{Items, Text};
 use serde_json::{Map, Value, put};
@@ -47,32 +48,68 @@ impl<T: ToJson> ToJson for Items<T> {
     }
 }
 
-/// Puts the form of `value` into `object` at `key`, where there is a value.
-/// On an error `object` has the members that it had.
-pub(crate) fn put_member<T: ToJson>(
-    object: &mut Map<String, Value>,
+/// An object that is written member by member.
+#[derive(Drop)]
+pub(crate) struct ObjectWriter {
     alloc: Global,
-    key: &str,
-    value: Option<&T>,
-) -> Result<(), AllocError>
-    ensures ok { OnOk result (members_view object.new.entries
-        ≡ put_present key.now (option_map (λ v. T.json v.now) value.entry) (members_view object.old.entries)) }
-    ensures err { OnErr result (object.new.entries ≡ object.old.entries) }
-{
-    match value {
-        Some(present) => put(object, alloc, key, present.to_json(alloc)?),
-        None => Ok(()),
-    }
+    members: Map<String, Value>,
 }
 
-/// An object with the one member `type`.
-pub(crate) fn tagged(alloc: Global, tag: &str) -> Result<Map<String, Value>, AllocError>
-    ensures { IfOk result (λ object. members_view object.entries
-        ≡ put_present (codes "type") (Some (string tag.now)) no_members) }
-{
-    let mut object = Map::new(alloc);
-    put(&mut object, alloc, "type", Value::try_from_str(alloc, tag)?)?;
-    Ok(object)
+impl ObjectWriter {
+    /// An object with no members. Takes no memory.
+    pub(crate) fn new(alloc: Global) -> ObjectWriter
+        ensures { written result ≡ no_members }
+    {
+        ObjectWriter {
+            alloc,
+            members: Map::new(alloc),
+        }
+    }
+
+    /// An object with the one member `type`.
+    pub(crate) fn tagged(alloc: Global, tag: &str) -> Result<ObjectWriter, AllocError>
+        ensures { IfOk result
+            (λ object. written object ≡ with_member (codes "type") (string tag.now) no_members) }
+    {
+        let mut object = ObjectWriter::new(alloc);
+        let value = Value::try_from_str(alloc, tag)?;
+        put(&mut object.members, alloc, "type", value)?;
+        Ok(object)
+    }
+
+    /// Puts the form of `value` at `key`. On an error the members stay as they were.
+    pub(crate) fn put<T: ToJson>(&mut self, key: &str, value: &T) -> Result<(), AllocError>
+        ensures ok { OnOk result
+            (written self.new ≡ with_member key.now (T.json value.now) (written self.old)) }
+        ensures err { OnErr result (written self.new ≡ written self.old) }
+    {
+        let form = value.to_json(self.alloc)?;
+        put(&mut self.members, self.alloc, key, form)
+    }
+
+    /// Puts the form of the value at `key` if there is a value, and else leaves the member out.
+    /// On an error the members stay as they were.
+    pub(crate) fn put_some<T: ToJson>(
+        &mut self,
+        key: &str,
+        value: Option<&T>,
+    ) -> Result<(), AllocError>
+        ensures ok { OnOk result (written self.new
+            ≡ put_present key.now (option_map (λ v. T.json v.now) value.entry) (written self.old)) }
+        ensures err { OnErr result (written self.new ≡ written self.old) }
+    {
+        match value {
+            Some(present) => self.put(key, present),
+            None => Ok(()),
+        }
+    }
+
+    /// The object as a value. Takes no memory.
+    pub(crate) fn into_value(self) -> Value
+        ensures { view result ≡ object (written self) }
+    {
+        Value::Object(self.members)
+    }
 }
 
 /// The list, unless it is empty.

@@ -1,0 +1,82 @@
+use crate::analysis::{
+    DependencyDescriptor, ModuleInfo, StaticDependencyDescriptor, StaticDependencyKind,
+};
+use deno_graph_source::text::{Position, PositionRange};
+use deno_graph_source::values::{Items, Text, TryClone};
+use std::alloc::{AllocError, Global};
+use std::test::Fail;
+
+fn position(line: usize, character: usize) -> Position {
+    Position { line, character }
+}
+
+fn range_on_first_line(start: usize, end: usize) -> PositionRange {
+    PositionRange {
+        start: position(0, start),
+        end: position(0, end),
+    }
+}
+
+fn side_effect_import(alloc: Global) -> Result<StaticDependencyDescriptor, AllocError> {
+    Ok(StaticDependencyDescriptor {
+        kind: StaticDependencyKind::Import,
+        specifier: Text::from_str(alloc, "./b.ts")?,
+        specifier_range: range_on_first_line(7, 15),
+        is_side_effect: true,
+    })
+}
+
+fn info(
+    alloc: Global,
+    is_script: bool,
+    dependency: DependencyDescriptor,
+) -> Result<ModuleInfo, AllocError> {
+    let mut dependencies = Items::new(alloc);
+    dependencies.push(dependency)?;
+    Ok(ModuleInfo {
+        is_script,
+        dependencies,
+    })
+}
+
+#[test]
+fn writes_an_empty_info(rt: HostRuntime) -> Result<(), Fail> {
+    let alloc = rt.alloc();
+    let mut info = ModuleInfo {
+        is_script: false,
+        dependencies: Items::new(alloc),
+    };
+    assert_eq!(rt; info.to_value(alloc)?.to_string(alloc)?.as_str(), "{}");
+    info.is_script = true;
+    assert_eq!(rt;
+        info.to_value(alloc)?.to_string(alloc)?.as_str(),
+        "{\"script\":true}"
+    );
+    Ok(())
+}
+
+#[test]
+fn writes_a_static_dependency(rt: HostRuntime) -> Result<(), Fail> {
+    let alloc = rt.alloc();
+    let dependency = DependencyDescriptor::from(side_effect_import(alloc)?);
+    let text = info(alloc, false, dependency)?
+        .to_value(alloc)?
+        .to_string(alloc)?;
+    assert_eq!(rt;
+        text.as_str(),
+        "{\"dependencies\":[{\"kind\":\"import\",\"sideEffect\":true,\"specifier\":\"./b.ts\",\"specifierRange\":[[0,7],[0,15]],\"type\":\"static\"}]}"
+    );
+    Ok(())
+}
+
+#[test]
+fn copies_an_info(rt: HostRuntime) -> Result<(), Fail> {
+    let alloc = rt.alloc();
+    let dependency = DependencyDescriptor::from(side_effect_import(alloc)?);
+    let expected = side_effect_import(alloc)?;
+    assert!(rt; dependency.as_static().is_some_and(|d| *d == expected));
+    let original = info(alloc, true, dependency)?;
+    let copy = original.try_clone(alloc)?;
+    assert!(rt; copy == original);
+    Ok(())
+}
