@@ -1,2 +1,7 @@
+pub mod Comments
+pub mod MediaType
 pub mod Node
+pub mod Position
+pub mod Source
+pub mod SourceRange
 pub mod formers

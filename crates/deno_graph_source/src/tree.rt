@@ -5,6 +5,7 @@ pub mod fault;
 pub mod media_type;
 pub mod node;
 pub mod parsed_source;
+mod range_check;
 
 pub use comments::{CommentKind, Comments, DependencyComment};
 pub use fault::{SourceFault, source_fault};

@@ -1,5 +1,6 @@
-ghost use Rattle.std.specs.Prelude.{◌≡◌};
-ghost use Rattle.std.specs.Str.{IsCharBoundary};
+ghost use Rattle.std.specs.Prelude.{◌≡◌, ℕ, ◌+◌, ◌^◌, ◌<◌, ◌≤◌, List, [], ◌∷◌, ◌++◌, length};
+ghost use Rattle.std.specs.Str.{IsCharBoundary, chars};
+ghost use Rattle.deno_graph_source.specs.Position.{position_at, position_of};
 
 use crate::text::source_text_info::SourceTextInfo;
 
@@ -29,19 +30,48 @@ impl Position {
         }
     }
 
+    /// The position of `pos`, a character boundary of the text, in bytes from its start.
     pub fn from_source_pos(pos: usize, text_info: &SourceTextInfo) -> Position
         requires { IsCharBoundary text_info.now pos }
+        ensures { result ≡ position_at text_info.now pos }
     {
-        let mut position = Position::zeroed();
-        for c in text_info.text()[..pos].chars() {
-            if c == '\n' {
-                position.line = position.line.saturating_add(1);
-                position.character = 0;
-            } else {
-                position.character = position.character.saturating_add(1);
-            }
+        Position::zeroed().after(&text_info.text()[..pos])
+    }
+
+    /// The position behind `text`, where `self` is the one before it.
+    fn after(self, text: &str) -> Position
+        requires line { self.line + length text.now < 2 ^ 64 }
+        requires character { self.character + length text.now < 2 ^ 64 }
+        ensures { (front : List ℕ) → self ≡ position_of front
+            → result ≡ position_of (front ++ chars text.now) }
+    {
+        let mut position = self;
+        for c in text.chars() {
+            position = position.past(c);
         }
         position
+    }
+
+    /// The position behind the character `c`, where `self` is the one before it.
+    fn past(self, c: char) -> Position
+        requires line { self.line + 1 < 2 ^ 64 }
+        requires character { self.character + 1 < 2 ^ 64 }
+        ensures passes { (front : List ℕ) → self ≡ position_of front
+            → result ≡ position_of (front ++ c ∷ []) }
+        ensures line { result.line ≤ self.line + 1 }
+        ensures character { result.character ≤ self.character + 1 }
+    {
+        if c == '\n' {
+            Position {
+                line: self.line + 1,
+                character: 0,
+            }
+        } else {
+            Position {
+                line: self.line,
+                character: self.character + 1,
+            }
+        }
     }
 }
 
@@ -56,6 +86,8 @@ impl PositionRange {
     pub fn from_source_range(range: SourceRange, text_info: &SourceTextInfo) -> PositionRange
         requires start { IsCharBoundary text_info.now range.start }
         requires end { IsCharBoundary text_info.now range.end }
+        ensures start { result.start ≡ position_at text_info.now range.start }
+        ensures end { result.end ≡ position_at text_info.now range.end }
     {
         PositionRange {
             start: Position::from_source_pos(range.start, text_info),

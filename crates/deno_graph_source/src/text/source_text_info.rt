@@ -1,7 +1,11 @@
-ghost use Rattle.std.specs.Prelude.{◌≡◌};
+ghost use Rattle.std.specs.Prelude.{◌≡◌, ◌↔◌, IfOk, IfSome, IsSome, nat_eq};
+ghost use Rattle.std.specs.Cmp.{partial_equiv_from_equiv};
+ghost use Rattle.std.specs.Cmp.Lexicographic.{pointwise, nat_list_eq_equiv};
 ghost use Rattle.std.specs.Rc.{rc_str_bytes};
+ghost use Rattle.deno_graph_source.specs.SourceRange.{IsTextRange, slice_of};
 
 use crate::text::position::SourceRange;
+use crate::values::TryClone;
 use std::alloc::{AllocError, Global};
 use std::marker::Model;
 use std::rc::RcStr;
@@ -25,7 +29,10 @@ impl Model for SourceTextInfo {
 }
 
 impl SourceTextInfo {
-    pub fn new(alloc: Global, text: RcStr) -> Result<SourceTextInfo, AllocError> {
+    /// The text with its lines, or an error where memory was refused.
+    pub fn new(alloc: Global, text: RcStr) -> Result<SourceTextInfo, AllocError>
+        ensures { IfOk result (λ info. info ≡ rc_str_bytes text) }
+    {
         let _ = alloc;
         Ok(SourceTextInfo { text })
     }
@@ -42,7 +49,38 @@ impl SourceTextInfo {
         &self.text
     }
 
-    pub fn range_text(&self, range: &SourceRange) -> Option<&str> {
-        self.text.as_str().get(range.start..range.end)
+    /// The part of the text at `range`, which is in bytes from its start. None where the range is
+    /// reversed, goes past the text's end or has an end that is no character boundary.
+    pub fn range_text(&self, range: &SourceRange) -> Option<&str>
+        ensures some { IsSome result ↔ IsTextRange self.now range.now }
+        ensures text { IfSome result (λ part. part.now ≡ slice_of self.now range.now) }
+    {
+        let text = self.text();
+        let (front, _) = text.split_at_checked(range.end)?;
+        let (_, part) = front.split_at_checked(range.start)?;
+        Some(part)
     }
+}
+
+impl TryClone for SourceTextInfo {
+    fn try_clone(&self, alloc: Global) -> Result<SourceTextInfo, AllocError> {
+        let _ = alloc;
+        Ok(SourceTextInfo {
+            text: self.text.clone()?,
+        })
+    }
+}
+
+impl PartialEq for SourceTextInfo {
+    ghost eq = { pointwise nat_eq };
+
+    ghost laws = { partial_equiv_from_equiv nat_list_eq_equiv };
+
+    fn eq(&self, other: &SourceTextInfo) -> bool {
+        self.text() == other.text()
+    }
+}
+
+impl Eq for SourceTextInfo {
+    ghost laws = { nat_list_eq_equiv };
 }

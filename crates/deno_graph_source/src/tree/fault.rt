@@ -1,5 +1,8 @@
+ghost use Rattle.std.specs.Prelude.{◌∷◌, []};
+
+use crate::text::SourceRange;
 use crate::tree::comments::Comments;
-use crate::tree::node::Program;
+use crate::tree::node::{Kind, Node, Program};
 use std::alloc::{AllocError, Global};
 use thiserror::Error;
 

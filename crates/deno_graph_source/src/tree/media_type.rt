@@ -15,3 +15,25 @@ pub enum MediaType {
     Json,
     Other,
 }
+
+impl MediaType {
+    ghost use Rattle.std.specs.Prelude.{◌≡◌};
+    ghost use Rattle.deno_graph_source.specs.MediaType.{is_typed};
+
+    /// Whether a file of this type holds types: TypeScript and its declaration files, but not
+    /// JavaScript with JSX.
+    pub fn is_typed(self) -> bool
+        ensures { result ≡ is_typed self }
+    {
+        matches!(
+            self,
+            MediaType::TypeScript
+                | MediaType::Mts
+                | MediaType::Cts
+                | MediaType::Dts
+                | MediaType::Dmts
+                | MediaType::Dcts
+                | MediaType::Tsx
+        )
+    }
+}

@@ -1,3 +1,6 @@
+ghost use Rattle.std.specs.Prelude.{◌≡◌};
+ghost use Rattle.std.specs.Option.{option_copied};
+
 use crate::text::{JsString, SourceRange};
 use crate::values::Items;
 
@@ -40,6 +43,21 @@ pub enum Kind {
     ExportOther,
     /// Everything else.
     Other,
+}
+
+impl Kind {
+    ghost use Rattle.deno_graph_source.specs.Node.{literal_of};
+
+    /// The string literal that this kind holds: the specifier of an import or an export.
+    pub fn literal(&self) -> Option<&StrLit>
+        ensures { option_copied result ≡ literal_of self.now }
+    {
+        match self {
+            Kind::ImportDecl { src, .. } | Kind::ExportAll { src, .. } => Some(src),
+            Kind::NamedExport { src, .. } => src.as_ref(),
+            Kind::ExportOther | Kind::Other => None,
+        }
+    }
 }
 
 /// A node of a syntax tree.

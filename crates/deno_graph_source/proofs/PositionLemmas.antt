@@ -1,0 +1,67 @@
+-- How a position moves as characters are passed.
+use Rattle.std.proofs.Common.{◌≡◌, ℕ, ◌+◌, ◌-◌, ◌≤◌, Bool, true, false, cond, not, ◌==◌, List, [], ◌∷◌, ◌++◌, length, take, drop, reverse, count_by, refl, sym, ap, ◌∙◌, arith, length-append, length-drop, append_assoc}
+use Rattle.std.specs.List.{prefix_len, suffix_len, after_last}
+use Rattle.std.proofs.lemmas.List.{reverse-append}
+use Rattle.std.proofs.lemmas.List.Sums.{suffix_len-le-length, sum_by-append, count_by-le-length}
+use Rattle.deno_graph_source.specs.declared.text.position.Position.{Position}
+use Rattle.deno_graph_source.specs.Position.{line_of, character_of, position_of}
+
+-- what follows the last line feed is what stands at the end and is no line feed
+character_of-suffix : (front : List ℕ) → character_of front ≡ suffix_len (λ c. not (c == 10)) front
+character_of-suffix front =
+    let short = suffix_len-le-length (λ c. not (c == 10)) front in
+    omega (arith, length-drop (length front - suffix_len (λ c. not (c == 10)) front) front)
+
+by_test : (is : Bool) (n m : ℕ) → m ≡ n → cond (not is) (1 + n) 0 ≡ cond is 0 (m + 1)
+by_test true n m e = refl
+by_test false n m e = omega arith
+
+character_of-push : (front : List ℕ) (c : ℕ) → character_of (front ++ c ∷ []) ≡ cond (c == 10) 0 (character_of front + 1)
+character_of-push front c =
+    character_of-suffix (front ++ c ∷ []) ∙ ap (prefix_len (λ d. not (d == 10))) (reverse-append front (c ∷ [])) ∙ by_test (c == 10) (suffix_len (λ d. not (d == 10)) front) _ (character_of-suffix front)
+
+one_more : (is : Bool) (n : ℕ) → n + (0 + cond is 1 0) ≡ cond is (n + 1) n
+one_more true n = omega arith
+one_more false n = omega arith
+
+line_of-push : (front : List ℕ) (c : ℕ) → line_of (front ++ c ∷ []) ≡ cond (c == 10) (line_of front + 1) (line_of front)
+line_of-push front c =
+    sum_by-append (λ d. cond (d == 10) 1 0) front (c ∷ []) ∙ one_more (c == 10) (line_of front)
+
+-- a line feed begins the next line
+pub position_of-line_feed : (front : List ℕ) (c : ℕ) → (c == 10) ≡ true → position_of (front ++ c ∷ []) ≡ record { line = (position_of front).line + 1; character = 0 }
+unfolding position_of
+position_of-line_feed front c is =
+    let line : line_of (front ++ c ∷ []) ≡ line_of front + 1 = line_of-push front c ∙ ap (λ b. cond b (line_of front + 1) (line_of front)) is in
+    let character : character_of (front ++ c ∷ []) ≡ 0 = character_of-push front c ∙ ap (λ b. cond b 0 (character_of front + 1)) is in
+    cc
+
+-- any other character is one more of its line
+pub position_of-other : (front : List ℕ) (c : ℕ) → (c == 10) ≡ false → position_of (front ++ c ∷ []) ≡ record { line = (position_of front).line; character = (position_of front).character + 1 }
+unfolding position_of
+position_of-other front c is =
+    let line : line_of (front ++ c ∷ []) ≡ line_of front = line_of-push front c ∙ ap (λ b. cond b (line_of front + 1) (line_of front)) is in
+    let character : character_of (front ++ c ∷ []) ≡ character_of front + 1 = character_of-push front c ∙ ap (λ b. cond b 0 (character_of front + 1)) is in
+    cc
+
+-- there are no more lines, nor characters of a line, than characters
+pub line_of-le : (front : List ℕ) → (position_of front).line ≤ length front
+unfolding position_of
+line_of-le front = count_by-le-length (λ c. c == 10) front
+
+pub character_of-le : (front : List ℕ) → (position_of front).character ≤ length front
+unfolding position_of
+character_of-le front =
+    let short = suffix_len-le-length (λ c. not (c == 10)) front in
+    omega (arith, character_of-suffix front)
+
+-- two positions with the same line and the same character are the same
+pub same_position : (p q : Position) → p.line ≡ q.line → p.character ≡ q.character → p ≡ q
+same_position p q line character =
+    let by_line : p ≡ record { line = q.line; character = p.character } = ap (λ (n : ℕ). let r : Position = record { line = n; character = p.character } in r) line in
+    by_line ∙ ap (λ (n : ℕ). let r : Position = record { line = q.line; character = n } in r) character
+
+-- the start of every text
+pub position_of-nil : (start : Position) → start.line ≡ 0 → start.character ≡ 0 → start ≡ position_of []
+unfolding position_of
+position_of-nil start line character = same_position start (position_of []) line character

@@ -1,0 +1,26 @@
+-- Where a place in a text stands: its line, and its character in that line.
+use Rattle.std.specs.Prelude.{◌≡◌, ◌==◌, ℕ, List, length, take, count_by}
+use Rattle.std.specs.List.{after_last}
+use Rattle.std.specs.Str.{IsCharBoundary, chars}
+use Rattle.deno_graph_source.specs.declared.text.position.Position.{Position}
+
+-- the number of line feeds among the characters `front`
+abbrev pub line_of : List ℕ → ℕ
+line_of front = count_by (λ c. c == 10) front
+
+-- the number of characters after the last line feed of `front`, or of all where it has none
+abbrev pub character_of : List ℕ → ℕ
+character_of front = length (after_last (λ c. c == 10) front)
+
+-- the position behind the characters `front`
+unfoldable pub position_of : List ℕ → Position
+position_of front = record { line = line_of front; character = character_of front }
+
+-- the position of the boundary `offset` of `text`, which is counted in bytes
+abbrev pub position_at : List ℕ → ℕ → Position
+position_at text offset = position_of (chars (take offset text))
+
+-- some boundary of `text` has this position
+abbrev pub HasPosition : List ℕ → Position → Type 0
+HasPosition text position =
+    (offset : ℕ) × IsCharBoundary text offset × (position_at text offset ≡ position)
