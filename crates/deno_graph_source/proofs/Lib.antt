@@ -1,3 +1,4 @@
 pub mod Judgements
+pub mod LossyText
 pub mod NodeRanges
 pub mod PositionLemmas

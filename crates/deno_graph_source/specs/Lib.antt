@@ -1,4 +1,5 @@
 pub mod Comments
+pub mod JsString
 pub mod MediaType
 pub mod Node
 pub mod Position

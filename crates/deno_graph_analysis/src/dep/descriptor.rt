@@ -1,0 +1,6 @@
+/// How a dependency is written.
+#[derive(Clone, Copy, Debug, PartialEq, Eq)]
+pub enum StaticDependencyKind {
+    /// `import ..`
+    Import,
+}

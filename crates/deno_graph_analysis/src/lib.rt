@@ -1,0 +1,4 @@
+//! The analysis of one module: which other modules it depends on, and how.
+#![tactic(auto)]
+
+pub mod dep;

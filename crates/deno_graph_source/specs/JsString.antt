@@ -1,0 +1,49 @@
+-- JavaScript strings as lists of code points, of which some may be surrogates.
+use Rattle.std.specs.Prelude.{◌≡◌, ℕ, ◌+◌, Bool, false, ◌&&◌, List, [], ◌∷◌, ◌++◌, map, All, IsTrue, nat_le, nat_lt, nat_eq, slice_index, if◌then◌else◌, encode_utf8_all}
+use Rattle.std.specs.Char.{len_utf8}
+use Rattle.std.specs.Char.Utf16.{is_high_surrogate, is_low_surrogate}
+use Rattle.std.specs.Str.{chars}
+
+-- half of a pair of UTF-16, which is no character: 0xD800 to 0xDFFF
+abbrev pub is_surrogate : ℕ → Bool
+is_surrogate p = nat_le 0xD800 p && nat_lt p 0xE000
+
+-- the character that stands for a code point in a text: U+FFFD for a surrogate
+abbrev pub lossy_char : ℕ → ℕ
+lossy_char p = if is_surrogate p then 0xFFFD else p
+
+-- the UTF-8 of the code points, with U+FFFD for each surrogate
+abbrev pub lossy_text : List ℕ → List ℕ
+lossy_text points = encode_utf8_all (map lossy_char points)
+
+-- no code point is a surrogate
+abbrev pub IsReadable : List ℕ → Type 0
+IsReadable points = All (λ p. is_surrogate p ≡ false) points
+
+-- no high surrogate stands directly before a low one
+abbrev pub IsPaired : List ℕ → Type 0
+IsPaired points =
+    (k : ℕ) → IsTrue (is_high_surrogate (slice_index points k)) → IsTrue (is_low_surrogate (slice_index points (k + 1))) → ⊥
+
+-- the surrogates, each with the place of its U+FFFD in a lossy text, in bytes, where the first code point is at `at`
+abbrev pub lone_from : ℕ → List ℕ → List (ℕ × ℕ)
+lone_from at [] = []
+lone_from at (p ∷ points) =
+    (if is_surrogate p then (at, p) ∷ [] else []) ++ lone_from (at + len_utf8 (lossy_char p)) points
+
+-- the characters of a text whose first byte is at `at`, with each of the surrogates put at its place
+abbrev pub points_from : ℕ → List ℕ → List (ℕ × ℕ) → List ℕ
+points_from at [] lone = []
+points_from at (c ∷ cs) [] = c ∷ cs
+points_from at (c ∷ cs) (l ∷ lone) =
+    if nat_eq at l.0 then l.1 ∷ points_from (at + len_utf8 c) cs lone else c ∷ points_from (at + len_utf8 c) cs (l ∷ lone)
+
+-- the code points that a text and its lone surrogates stand for
+abbrev pub points_of : List ℕ → List (ℕ × ℕ) → List ℕ
+points_of text lone = points_from 0 (chars text) lone
+
+-- a text and its lone surrogates are those of the string that they stand for
+pub record IsStored (text : List ℕ) (lone : List (ℕ × ℕ)) : Type 0 where
+  pub characters : chars text ≡ map lossy_char (points_of text lone)
+  pub places : lone ≡ lone_from 0 (points_of text lone)
+  pub paired : IsPaired (points_of text lone)
