@@ -6,27 +6,13 @@ use deno_graph_source::tree::ParsedSource;
 use serde_json::Value;
 use std::alloc::Global;
 use std::io::{ErrorKind, Read};
-use std::rc::RcStr;
-use url::Url;
 
 const CHUNK: usize = 65536;
 
-/// Reads a document in the notation, and sees whether it is a valid source.
+/// Reads a document in the notation, whose tree has to fit its source.
 pub fn read_source<R: Read>(alloc: Global, input: &mut R) -> Result<ParsedSource, Fault> {
     let value = read_json(alloc, input)?;
-    let document = read_document(alloc, &value)?;
-    let specifier = Url::parse(alloc, document.specifier)?;
-    let text = RcStr::from_str(alloc, document.source)?;
-    let source = ParsedSource::new(
-        alloc,
-        specifier,
-        text,
-        document.media_type,
-        document.program,
-        document.comments,
-        false,
-    )?;
-    Ok(source)
+    read_document(alloc, &value)?.into_source(alloc)
 }
 
 /// Reads one JSON value, up to the end of the input.
@@ -38,6 +24,7 @@ pub fn read_json<R: Read>(alloc: Global, input: &mut R) -> Result<Value, Fault> 
     Ok(Value::from_str(alloc, text)?)
 }
 
+// A refused growth is told from a failed read here, which an `io::Error` doesn't do.
 fn read_to_end<R: Read>(alloc: Global, input: &mut R) -> Result<Vec<u8>, Fault> {
     let mut bytes = Vec::new(alloc);
     let mut chunk = [0u8; CHUNK];
