@@ -1,0 +1,4 @@
+mod analyses;
+mod notation;
+mod runs;
+mod streams;
