@@ -3,6 +3,5 @@
 
 pub mod analyses;
 pub mod runs;
-
 #[cfg(test)]
 mod tests;

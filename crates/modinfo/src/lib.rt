@@ -3,8 +3,8 @@
 #![tactic(auto)]
 
 pub mod fault;
-pub mod notation;
 mod input;
+pub mod notation;
 mod output;
 mod program;
 

@@ -1,9 +1,8 @@
 //! The program `modinfo`, over the standard streams.
 #![tactic(auto)]
 
-use std::env;
-use std::io;
 use std::process::ExitCode;
+use std::{env, io};
 
 fn main(rt: HostRuntime) -> ExitCode {
     match run(&rt) {
@@ -17,7 +16,10 @@ fn main(rt: HostRuntime) -> ExitCode {
 
 fn run(rt: &HostRuntime) -> io::Result<u8> {
     let arguments: Vec<String> = env::args(rt)?.skip(1).collect(rt.alloc())?;
-    let words: Vec<&str> = arguments.iter().map(|word| word.as_str()).collect(rt.alloc())?;
+    let words: Vec<&str> = arguments
+        .iter()
+        .map(|word| word.as_str())
+        .collect(rt.alloc())?;
     Ok(modinfo::serve(
         rt.alloc(),
         words.as_slice(),

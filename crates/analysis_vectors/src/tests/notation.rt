@@ -7,8 +7,7 @@ use std::test::Fail;
 
 /// A document of 20 bytes of source, with these items.
 fn document_of(alloc: Global, body: &str) -> Result<String, AllocError> {
-    format!(
-        in alloc;
+    format!(in alloc;
         r#"{{"mediaType":"Mts","program":{{"body":{body},"range":[0,20]}},"source":"12345678901234567890","specifier":"data:,"}}"#
     )
 }

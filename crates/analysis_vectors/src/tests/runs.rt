@@ -6,8 +6,18 @@ fn runs_answer_what_they_state(rt: HostRuntime) -> Result<(), Fail> {
     for row in &RUNS {
         let answer = run_program(rt.alloc(), row.words, row.input.as_bytes());
         assert_eq!(rt; answer.status, row.status, "{}", row.name);
-        assert_eq!(rt; answer.output.as_slice(), row.output.as_bytes(), "{}", row.name);
-        assert_eq!(rt; answer.errors.as_slice(), row.errors.as_bytes(), "{}", row.name);
+        assert_eq!(rt;
+            answer.output.as_slice(),
+            row.output.as_bytes(),
+            "{}",
+            row.name
+        );
+        assert_eq!(rt;
+            answer.errors.as_slice(),
+            row.errors.as_bytes(),
+            "{}",
+            row.name
+        );
     }
     Ok(())
 }

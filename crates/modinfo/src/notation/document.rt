@@ -51,8 +51,6 @@ impl Document<'_> {
         } = self;
         let specifier = Url::parse(alloc, specifier)?;
         let text = RcStr::from_str(alloc, source)?;
-        Ok(ParsedSource::new(
-            alloc, specifier, text, media_type, program, comments, false,
-        )?)
+        Ok(ParsedSource::new(alloc, specifier, text, media_type, program, comments, false)?)
     }
 }

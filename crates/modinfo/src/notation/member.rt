@@ -24,9 +24,7 @@ pub fn optional<'a>(members: &'a Map<String, Value>, name: &str) -> Option<&'a V
 
 /// The text of the member `name`.
 pub fn text<'a>(members: &'a Map<String, Value>, name: &str) -> Result<&'a str, NotationFault> {
-    required(members, name)?
-        .as_str()
-        .ok_or(NotationFault::Tree)
+    required(members, name)?.as_str().ok_or(NotationFault::Tree)
 }
 
 /// The member `name` as a truth value: false where it is missing.
