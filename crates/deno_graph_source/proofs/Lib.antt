@@ -2,3 +2,4 @@ pub mod Judgements
 pub mod LossyText
 pub mod NodeRanges
 pub mod PositionLemmas
+pub mod TextEntries

@@ -5,4 +5,5 @@ pub mod Node
 pub mod Position
 pub mod Source
 pub mod SourceRange
+pub mod TextMap
 pub mod formers
