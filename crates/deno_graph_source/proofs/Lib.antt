@@ -1,5 +1,6 @@
 pub mod Judgements
 pub mod LossyText
 pub mod NodeRanges
+pub mod PlaceLemmas
 pub mod PositionLemmas
 pub mod TextEntries

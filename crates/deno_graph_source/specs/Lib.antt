@@ -2,8 +2,10 @@ pub mod Comments
 pub mod JsString
 pub mod MediaType
 pub mod Node
+pub mod Place
 pub mod Position
 pub mod Source
+pub mod PositionRange
 pub mod SourceRange
 pub mod TextMap
 pub mod formers

@@ -1,6 +1,8 @@
 //! Positions, texts with their lines, and strings.
 
+pub(crate) mod checkpoints;
 pub mod js_string;
+pub(crate) mod place;
 pub mod position;
 pub mod source_text_info;
 

@@ -1,19 +1,24 @@
-ghost use Rattle.std.specs.Prelude.{◌≡◌, ◌↔◌, IfOk, IfSome, IsSome, nat_eq};
+ghost use Rattle.std.specs.Prelude.{◌≡◌, ◌≤◌, ◌↔◌, IfOk, IfSome, IsSome, nat_eq};
 ghost use Rattle.std.specs.Cmp.{partial_equiv_from_equiv};
 ghost use Rattle.std.specs.Cmp.Lexicographic.{pointwise, nat_list_eq_equiv};
 ghost use Rattle.std.specs.Rc.{rc_str_bytes};
+ghost use Rattle.deno_graph_source.specs.Place.{IsPlace};
+ghost use Rattle.deno_graph_source.specs.Position.{IsBefore};
 ghost use Rattle.deno_graph_source.specs.SourceRange.{IsTextRange, slice_of};
 
-use crate::text::position::SourceRange;
+use crate::text::checkpoints::checkpoints;
+use crate::text::place::Place;
+use crate::text::position::{Position, SourceRange};
 use crate::values::TryClone;
 use std::alloc::{AllocError, Global};
 use std::marker::Model;
-use std::rc::RcStr;
+use std::rc::{Rc, RcStr};
 
 /// A text, with what finds its lines.
 #[derive(Debug, Drop)]
 pub struct SourceTextInfo {
     text: RcStr,
+    checkpoints: Rc<Vec<Place>>,
 }
 
 impl Model for SourceTextInfo {
@@ -25,7 +30,11 @@ impl Model for SourceTextInfo {
 
     ghost coded = { coded_list coded_ℕ };
 
+    ghost use Rattle.deno_graph_source.specs.Place.{ArePlaces};
+
     ghost view = { λ t. rc_str_bytes t.text };
+
+    ghost invariant = { λ t. ArePlaces (rc_str_bytes t.text) t.checkpoints.value.items };
 }
 
 impl SourceTextInfo {
@@ -33,8 +42,11 @@ impl SourceTextInfo {
     pub fn new(alloc: Global, text: RcStr) -> Result<SourceTextInfo, AllocError>
         ensures { IfOk result (λ info. info ≡ rc_str_bytes text) }
     {
-        let _ = alloc;
-        Ok(SourceTextInfo { text })
+        let checkpoints = checkpoints(alloc, text.as_str())?;
+        Ok(SourceTextInfo {
+            text,
+            checkpoints: Rc::new(alloc, checkpoints)?,
+        })
     }
 
     pub fn text(&self) -> &str
@@ -47,6 +59,31 @@ impl SourceTextInfo {
         ensures { rc_str_bytes result.now ≡ self.now }
     {
         &self.text
+    }
+
+    /// A place at or before `pos`, from which `pos` is found in a few hundred steps.
+    pub(crate) fn place_up_to(&self, pos: usize) -> Place
+        ensures place { IsPlace self.now result }
+        ensures before { result.pos ≤ pos }
+    {
+        let places = self.checkpoints.as_slice();
+        match places.partition_point(|place| place.pos <= pos) {
+            0 => Place::start(),
+            passed => places[passed - 1],
+        }
+    }
+
+    /// A place whose position is at or before `position`, from which the boundary that has it, if
+    /// there is one, is found in a few hundred steps.
+    pub(crate) fn place_up_to_position(&self, position: Position) -> Place
+        ensures place { IsPlace self.now result }
+        ensures before { ¬ (IsBefore position result.position) }
+    {
+        let places = self.checkpoints.as_slice();
+        match places.partition_point(|place| !position.is_before(place.position)) {
+            0 => Place::start(),
+            passed => places[passed - 1],
+        }
     }
 
     /// The part of the text at `range`, which is in bytes from its start. None where the range is
@@ -67,6 +104,7 @@ impl TryClone for SourceTextInfo {
         let _ = alloc;
         Ok(SourceTextInfo {
             text: self.text.clone()?,
+            checkpoints: self.checkpoints.clone()?,
         })
     }
 }

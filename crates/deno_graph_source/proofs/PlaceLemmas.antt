@@ -1,0 +1,159 @@
+-- Boundaries of a text, and the characters before and behind them.
+use Rattle.std.proofs.Common.{◌≡◌, ℕ, ◌+◌, ◌-◌, ◌<◌, ◌≤◌, ◌⊎◌, inl, inr, List, [], ◌∷◌, ◌++◌, length, take, drop, get_or, zero, suc, All, true, not, refl, sym, ap, ◌∙◌, subst, arith, length-append, length-drop, append_assoc}
+use Rattle.std.proofs.lemmas.Bool.{cases_lt, cases_Bool, false≢true}
+use Rattle.std.proofs.lemmas.List.{length-take-le, take-append-drop, take-append-le, take_all, append-nil}
+use Rattle.std.proofs.lemmas.List.Elements.{All-append}
+use Rattle.std.proofs.lemmas.List.Sorted.{IsNonDecreasingBy-push}
+use Rattle.std.proofs.lemmas.Str.{IsCharBoundary-start, IsCharBoundary-past_char, IsUtf8-take, IsUtf8-drop, IsUtf8-between, IsUtf8-encode, chars-append, chars_past_char, chars-nil, encodes-chars, drop_past_char, encode_same, length-encode, length-le-encodes}
+use Rattle.std.proofs.Math.Seq.{take-add}
+use Rattle.std.specs.Char.{len_utf8}
+use Rattle.std.specs.List.Sorted.{IsPartitionedBy}
+use Rattle.std.specs.Str.{IsCharBoundary, IsUtf8, chars}
+use lib.Utf8.{encodes, encode}
+use Rattle.deno_graph_source.specs.Place.{IsPlace, ArePlaces}
+use Rattle.deno_graph_source.specs.Position.{HasPosition, IsBefore, is_before, position_at, position_of}
+use Rattle.deno_graph_source.specs.declared.text.place.Place.{Place}
+use Rattle.deno_graph_source.specs.declared.text.position.Position.{Position}
+use Rattle.deno_graph_source.proofs.PositionLemmas.{line_of-le, character_of-le, before_longer, IsBefore-trans, IsBefore-irreflexive, is_before-true, is_before-from}
+
+-- a boundary has at most as many characters before it as bytes
+pub chars_le : (text : List ℕ) (pos : ℕ) → IsUtf8 text → IsCharBoundary text pos → length (chars (take pos text)) ≤ pos
+chars_le text pos utf8 boundary =
+    let front : encodes (chars (take pos text)) ≡ take pos text = encodes-chars (take pos text) (IsUtf8-take text pos utf8 boundary) in
+    omega (arith, length-le-encodes (chars (take pos text)), ap length front, length-take-le pos text boundary.0)
+
+pub line_le_pos : (text : List ℕ) (place : Place) → IsUtf8 text → IsPlace text place → place.position.line ≤ place.pos
+line_le_pos text place utf8 is =
+    omega (arith, ap (λ p. p.line) is.position, line_of-le (chars (take place.pos text)), chars_le text place.pos utf8 is.boundary)
+
+pub character_le_pos : (text : List ℕ) (place : Place) → IsUtf8 text → IsPlace text place → place.position.character ≤ place.pos
+character_le_pos text place utf8 is =
+    omega (arith, ap (λ p. p.character) is.position, character_of-le (chars (take place.pos text)), chars_le text place.pos utf8 is.boundary)
+
+-- the characters before the boundary behind `c`
+pub chars_before_next : (text rest : List ℕ) (pos c : ℕ) → IsUtf8 text → IsCharBoundary text pos → drop pos text ≡ encode c ++ rest → chars (take (pos + len_utf8 c) text) ≡ chars (take pos text) ++ c ∷ []
+chars_before_next text rest pos c utf8 boundary here =
+    let next : IsCharBoundary text (pos + len_utf8 c) = IsCharBoundary-past_char text rest pos c boundary.0 (IsUtf8-drop text pos utf8 boundary) here in
+    let piece : take (len_utf8 c) (drop pos text) ≡ encode c = ap (take (len_utf8 c)) here ∙ take-append-le (len_utf8 c) (encode c) rest (omega (arith, length-encode c)) ∙ take_all (len_utf8 c) (encode c) (omega (arith, length-encode c)) in
+    let size : pos + len_utf8 c - pos ≡ len_utf8 c = omega arith in
+    let between : IsUtf8 (take (pos + len_utf8 c - pos) (drop pos text)) = IsUtf8-between text pos (pos + len_utf8 c) utf8 (omega arith) boundary next in
+    let one : IsUtf8 (encode c) = subst IsUtf8 (ap (λ n. take n (drop pos text)) size ∙ piece) between in
+    ap chars (take-add pos (len_utf8 c) text ∙ ap (λ bs. take pos text ++ bs) piece) ∙ chars-append (take pos text) (encode c) (IsUtf8-take text pos utf8 boundary) ∙ ap (λ cs. chars (take pos text) ++ cs) (chars_past_char (encode c) [] c one (sym (append-nil (encode c))) ∙ ap (λ cs. c ∷ cs) chars-nil)
+
+-- one character further on
+pub IsPlace-past : (text rest : List ℕ) (place next : Place) (c : ℕ) → IsUtf8 text → IsPlace text place → drop place.pos text ≡ encode c ++ rest → next.pos ≡ place.pos + len_utf8 c → ((front : List ℕ) → place.position ≡ position_of front → next.position ≡ position_of (front ++ c ∷ [])) → IsPlace text next
+IsPlace-past text rest place next c utf8 is here pos moves = record {
+  boundary = subst (IsCharBoundary text) (sym pos) (IsCharBoundary-past_char text rest place.pos c is.boundary.0 (IsUtf8-drop text place.pos utf8 is.boundary) here);
+  position = moves (chars (take place.pos text)) is.position ∙ ap position_of (sym (chars_before_next text rest place.pos c utf8 is.boundary here)) ∙ ap (position_at text) (sym pos);
+}
+
+-- a text that begins with the character `c` holds all its bytes
+first_char_le : (cs rest more : List ℕ) (c : ℕ) → encodes cs ++ more ≡ encode c ++ rest → 0 < length (encodes cs) → len_utf8 c ≤ length (encodes cs)
+first_char_le [] rest more c same some = absurd (omega (arith, some))
+first_char_le (d ∷ ds) rest more c same some =
+    let first = encode_same d c (encodes ds ++ more) rest (sym (append_assoc (encode d) (encodes ds) more) ∙ same) in
+    omega (arith, length-encode d, ap len_utf8 first.0, length-append (encode d) (encodes ds))
+
+-- no boundary lies inside a character
+pub past_char_le : (text rest : List ℕ) (pos c n : ℕ) → IsUtf8 text → IsCharBoundary text pos → drop pos text ≡ encode c ++ rest → IsCharBoundary text n → pos < n → pos + len_utf8 c ≤ n
+past_char_le text rest pos c n utf8 boundary here other beyond =
+    let between = IsUtf8-between text pos n utf8 (omega arith) boundary other in
+    let piece : encodes (chars (take (n - pos) (drop pos text))) ≡ take (n - pos) (drop pos text) = encodes-chars (take (n - pos) (drop pos text)) between in
+    let same : encodes (chars (take (n - pos) (drop pos text))) ++ drop (n - pos) (drop pos text) ≡ encode c ++ rest = ap (λ bs. bs ++ drop (n - pos) (drop pos text)) piece ∙ take-append-drop (n - pos) (drop pos text) ∙ here in
+    let size : length (encodes (chars (take (n - pos) (drop pos text)))) ≡ n - pos = ap length piece ∙ length-take-le (n - pos) (drop pos text) (omega (arith, length-drop pos text, other.0)) in
+    omega (arith, first_char_le (chars (take (n - pos) (drop pos text))) rest (drop (n - pos) (drop pos text)) c same (omega (arith, size)))
+
+-- the start of a text
+pub IsPlace-start : (text : List ℕ) (place : Place) → IsUtf8 text → place.pos ≡ 0 → place.position ≡ position_of [] → IsPlace text place
+IsPlace-start text place utf8 pos position = record {
+  boundary = subst (IsCharBoundary text) (sym pos) (IsCharBoundary-start text utf8);
+  position = position ∙ ap position_of (sym chars-nil) ∙ ap (position_at text) (sym pos);
+}
+
+-- a piece of a text that isn't empty has a first character
+some_char : (cs piece : List ℕ) → encodes cs ≡ piece → 0 < length piece → (c : ℕ) × (more : List ℕ) × (cs ≡ c ∷ more)
+some_char [] piece same some = absurd (omega (arith, ap length same))
+some_char (c ∷ more) piece same some = (c, more, refl)
+
+-- the characters before the later of two boundaries
+pub chars_between : (text : List ℕ) (a b : ℕ) → IsUtf8 text → IsCharBoundary text a → a ≤ b → chars (take b text) ≡ chars (take a text) ++ chars (take (b - a) (drop a text))
+chars_between text a b utf8 first order =
+    let sum : b ≡ a + (b - a) = omega arith in
+    let split : take b text ≡ take a text ++ take (b - a) (drop a text) = subst (λ n. take n text ≡ take a text ++ take (b - a) (drop a text)) (sym sum) (take-add a (b - a) text) in
+    ap chars split ∙ chars-append (take a text) (take (b - a) (drop a text)) (IsUtf8-take text a utf8 first)
+
+-- of two boundaries the first has the earlier position
+pub before_from_lt : (text : List ℕ) (a b : ℕ) → IsUtf8 text → IsCharBoundary text a → IsCharBoundary text b → a < b → IsBefore (position_at text a) (position_at text b)
+before_from_lt text a b utf8 first second less =
+    let between : IsUtf8 (take (b - a) (drop a text)) = IsUtf8-between text a b utf8 (omega arith) first second in
+    let size : length (take (b - a) (drop a text)) ≡ b - a = length-take-le (b - a) (drop a text) (omega (arith, length-drop a text, second.0)) in
+    let piece = some_char (chars (take (b - a) (drop a text))) (take (b - a) (drop a text)) (encodes-chars (take (b - a) (drop a text)) between) (omega (arith, size)) in
+    let all : chars (take a text) ++ piece.0 ∷ piece.1 ≡ chars (take b text) = ap (λ cs. chars (take a text) ++ cs) (sym piece.2) ∙ sym (chars_between text a b utf8 first (omega arith)) in
+    subst (λ cs. IsBefore (position_at text a) (position_of cs)) all (before_longer (chars (take a text)) piece.0 piece.1)
+
+-- a position belongs to at most one boundary
+pub same_boundary : (text : List ℕ) (a b : ℕ) → IsUtf8 text → IsCharBoundary text a → IsCharBoundary text b → position_at text a ≡ position_at text b → a ≡ b
+same_boundary text a b utf8 first second same = elim (cases_lt a b) [
+  | inl less ↦ absurd (IsBefore-irreflexive _ (subst (λ p. IsBefore p (position_at text b)) same (before_from_lt text a b utf8 first second less)))
+  | inr no_less ↦ elim (cases_lt b a) [
+    | inl more ↦ absurd (IsBefore-irreflexive _ (subst (IsBefore (position_at text b)) same (before_from_lt text b a utf8 second first more)))
+    | inr no_more ↦ omega arith
+  ]
+]
+
+-- a search from a place that isn't beyond `wanted`, which stops at another position, finds nothing
+pub not_found : (text : List ℕ) (start place : Place) (wanted : Position) → IsUtf8 text → IsPlace text start → IsPlace text place → ¬ (IsBefore wanted start.position) → ((pos : ℕ) → start.pos ≤ pos → pos < place.pos → IsCharBoundary text pos → IsBefore (position_at text pos) wanted) → (IsBefore place.position wanted → place.pos ≡ length text) → ¬ (place.position ≡ wanted) → ¬ (HasPosition text wanted)
+not_found text start place wanted utf8 first stop reaches before end other (pos, (boundary, here)) = elim (cases_lt pos start.pos) [
+  | inl early ↦
+      let less = before_from_lt text pos start.pos utf8 boundary first.boundary early in
+      reaches (subst (λ p. IsBefore p start.position) here (subst (IsBefore (position_at text pos)) (sym first.position) less))
+  | inr from ↦ elim (cases_lt pos place.pos) [
+    | inl under ↦ IsBefore-irreflexive wanted (subst (λ p. IsBefore p wanted) here (before pos from under boundary))
+    | inr over ↦ elim (cases_lt place.pos pos) [
+      | inl beyond ↦
+          let less = before_from_lt text place.pos pos utf8 stop.boundary boundary beyond in
+          let at_end = end (subst (λ p. IsBefore p wanted) (sym stop.position) (subst (IsBefore (position_at text place.pos)) here less)) in
+          omega (arith, at_end, boundary.0)
+      | inr no_beyond ↦
+          let is_it : place.pos ≡ pos = omega arith in
+          other (stop.position ∙ ap (position_at text) is_it ∙ here)
+    ]
+  ]
+]
+
+-- the places that aren't beyond `wanted` come first
+pub partitioned : (text : List ℕ) (places : List Place) (wanted : Position) → IsUtf8 text → ArePlaces text places → IsPartitionedBy (λ place. not (is_before wanted place.position)) places
+partitioned text places wanted utf8 are i j d order within later =
+    let first = are.all i d (omega arith) in
+    let second = are.all j d within in
+    elim (cases_Bool (is_before wanted (get_or places i d).position)) [
+      | inr reached ↦ ap not reached
+      | inl missed ↦
+          let beyond : ¬ (IsBefore wanted (get_or places j d).position) = λ before. false≢true (ap not (sym (is_before-from wanted (get_or places j d).position before)) ∙ later) in
+          let reaches = is_before-true wanted (get_or places i d).position missed in
+          absurd (elim (cases_lt (get_or places i d).pos (get_or places j d).pos) [
+            | inl less ↦
+                let more = before_from_lt text _ _ utf8 first.boundary second.boundary less in
+                beyond (IsBefore-trans _ _ _ reaches (subst (λ p. IsBefore (get_or places i d).position p) (sym second.position) (subst (λ p. IsBefore p (position_at text (get_or places j d).pos)) (sym first.position) more)))
+            | inr no_less ↦
+                let up = are.ascending i j d order within in
+                let here : (get_or places i d).pos ≡ (get_or places j d).pos = omega arith in
+                beyond (subst (IsBefore wanted) (first.position ∙ ap (position_at text) here ∙ sym second.position) reaches)
+          ])
+    ]
+
+All-one : (P : Place → Type 0) (place : Place) → P place → All P (place ∷ [])
+All-one P place is zero d within = is
+All-one P place is (suc k) d within = absurd (omega (arith, within))
+
+-- one more place, at or behind the others
+pub ArePlaces-push : (text : List ℕ) (places : List Place) (place : Place) (last : ℕ) → ArePlaces text places → IsPlace text place → All (λ p. p.pos ≤ last) places → last ≤ place.pos → ArePlaces text (places ++ place ∷ [])
+ArePlaces-push text places place last are is below behind = record {
+  all = All-append (IsPlace text) places (place ∷ []) are.all (All-one (IsPlace text) place is);
+  ascending = IsNonDecreasingBy-push (λ p. p.pos) places place are.ascending (λ d some. let near = below (length places - 1) d (omega arith) in omega arith);
+}
+
+-- the new place is the last
+pub below_last : (places : List Place) (place : Place) (last : ℕ) → All (λ p. p.pos ≤ last) places → last ≤ place.pos → All (λ p. p.pos ≤ place.pos) (places ++ place ∷ [])
+below_last places place last below behind =
+    All-append (λ p. p.pos ≤ place.pos) places (place ∷ []) (λ k d within. let near = below k d within in omega arith) (All-one (λ p. p.pos ≤ place.pos) place (omega arith))
