@@ -4,3 +4,6 @@ pub mod NodeRanges
 pub mod PlaceLemmas
 pub mod PositionLemmas
 pub mod TextEntries
+pub mod PositionLemmas
+pub mod PositionOrder
+pub mod SourceFaults

@@ -64,3 +64,14 @@ All-flat_map_all P f xs items i same past all = rw (← same) (rw (take_all i it
 -- a loop's item is one of the list that it goes over
 pub Contains-item : {X : Type 0} (xs items : List X) (i : ℕ) (x : X) → items ≡ xs → i < length items → x ≡ get_or items i x → Contains xs x
 Contains-item xs items i x same below is = subst (λ ys. Contains ys x) same (i, below, sym is)
+
+-- what a list has, its image has
+pub Contains-map : {X Y : Type 0} (f : X → Y) (xs : List X) (x : X) → Contains xs x → Contains (map f xs) (f x)
+Contains-map f [] x at = absurd (omega arith)
+Contains-map f (z ∷ xs) x (zero, below, is) = (0, omega arith, ap f is)
+Contains-map f (z ∷ xs) x (suc k, below, is) = Contains-cons (f z) (map f xs) (f x) (Contains-map f xs x (k, omega arith, is))
+
+-- what a list of one element has, each list with that element has
+pub Contains-only : {X : Type 0} (xs : List X) (y x : X) → Contains xs y → Contains (y ∷ []) x → Contains xs x
+Contains-only xs y x at (zero, below, is) = subst (λ z. Contains xs z) is at
+Contains-only xs y x at (suc k, below, is) = absurd (omega arith)

@@ -1,8 +1,10 @@
+pub mod ByPosition
 pub mod Comments
 pub mod JsString
 pub mod MediaType
 pub mod Node
 pub mod Place
+pub mod ParsedSource
 pub mod Position
 pub mod Source
 pub mod PositionRange

@@ -7,6 +7,7 @@ use Rattle.deno_graph_source.specs.declared.tree.node.StrLit.{StrLit}
 use Rattle.deno_graph_source.specs.declared.tree.node.Kind.{Kind}
 use Rattle.deno_graph_source.specs.declared.tree.node.Kind.TheVariants.{ImportDecl, NamedExport, ExportAll, ExportOther, Other}
 use Rattle.deno_graph_source.specs.declared.tree.node.Node.{Node, out-Node}
+use Rattle.deno_graph_source.specs.declared.tree.node.Program.{Program}
 use Rattle.deno_graph_source.specs.declared.tree.node.Node.TheOpen.{Node-F}
 use Rattle.deno_graph_source.specs.declared.tree.node.Node.TheFolds.{fold-Node}
 
@@ -41,3 +42,7 @@ node_ranges_step node = node.range ∷ ranges_in_kind node.kind ++ flat_map (λ 
 -- the ranges of a node, of what its kind holds, and of all nodes below it
 unfoldable pub node_ranges : Node → List SourceRange
 node_ranges = fold-Node (List SourceRange) node_ranges_step
+
+-- the ranges of a program, and of all its nodes
+unfoldable pub program_ranges : Program → List SourceRange
+program_ranges program = program.range ∷ flat_map node_ranges program.body

@@ -1,5 +1,6 @@
 //! Syntax trees, comments, and parsed sources.
 
+mod by_position;
 pub mod comments;
 pub mod fault;
 pub mod media_type;

@@ -3,9 +3,9 @@ ghost use Rattle.std.specs.List.Sorted.{IsPermutation};
 ghost use Rattle.std.specs.Option.{option_copied};
 
 use crate::text::SourceRange;
+use crate::tree::by_position::ByPosition;
 use crate::values::{Items, Text, TryClone};
 use std::alloc::{AllocError, Global};
-use std::collections::BTreeMap;
 use std::marker::Model;
 
 /// Which form a comment has.
@@ -35,11 +35,12 @@ impl TryClone for DependencyComment {
     }
 }
 
-/// Comments by the position that they are filed at, in bytes of the text.
-#[derive(Debug, Drop)]
+/// Comments by the position that they are filed at, in bytes of the text. The position need be no
+/// character boundary.
+#[derive(Debug, PartialEq, Eq, Drop)]
 pub struct Comments {
-    leading: BTreeMap<usize, Items<DependencyComment>>,
-    trailing: BTreeMap<usize, Items<DependencyComment>>,
+    leading: ByPosition<Items<DependencyComment>>,
+    trailing: ByPosition<Items<DependencyComment>>,
 }
 
 impl Model for Comments {
@@ -47,14 +48,14 @@ impl Model for Comments {
 
     ghost Value = { FiledComments };
 
-    ghost view = { λ comments. record {
-        leading = comments.leading.entries;
-        trailing = comments.trailing.entries
-    } };
+    ghost view = { λ comments. record { leading = comments.leading; trailing = comments.trailing } };
+
+    ghost inverse = { λ filed. record { leading = filed.leading; trailing = filed.trailing } };
 }
 
 impl Comments {
-    ghost use Rattle.deno_graph_source.specs.Comments.{comments_of, filed_at};
+    ghost use Rattle.deno_graph_source.specs.ByPosition.{value_at};
+    ghost use Rattle.deno_graph_source.specs.Comments.{comments_of};
 
     /// No comments. Takes no memory.
     pub fn new(alloc: Global) -> Comments
@@ -62,22 +63,42 @@ impl Comments {
         ensures trailing { result.trailing ≡ [] }
     {
         Comments {
-            leading: BTreeMap::new(alloc),
-            trailing: BTreeMap::new(alloc),
+            leading: ByPosition::new(alloc),
+            trailing: ByPosition::new(alloc),
         }
     }
 
     /// The comments filed as leading at `pos`, in the order of filing. `None` where there are none.
     pub fn get_leading(&self, pos: usize) -> Option<&[DependencyComment]>
-        ensures { option_copied result ≡ filed_at self.now.leading pos }
+        ensures { option_copied result ≡ value_at self.now.leading pos }
     {
-        Some(self.leading.get(&pos)?.as_slice())
+        Some(self.leading.get(pos)?.as_slice())
     }
 
     /// The comments filed as trailing at `pos`, in the order of filing. `None` where there are none.
     pub fn get_trailing(&self, pos: usize) -> Option<&[DependencyComment]>
-        ensures { option_copied result ≡ filed_at self.now.trailing pos }
+        ensures { option_copied result ≡ value_at self.now.trailing pos }
     {
-        Some(self.trailing.get(&pos)?.as_slice())
+        Some(self.trailing.get(pos)?.as_slice())
+    }
+
+    /// Every comment, as often as it was filed, in no promised order.
+    pub fn iter_unstable(&self, alloc: Global) -> Result<Vec<&DependencyComment>, AllocError>
+        ensures { IfOk result (λ all.
+            IsPermutation (comments_of self.now) (map (λ comment. comment.now) all.items)) }
+    {
+        let mut all = Vec::new(alloc);
+        self.leading.push_items(&mut all)?;
+        self.trailing.push_items(&mut all)?;
+        Ok(all)
+    }
+}
+
+impl TryClone for Comments {
+    fn try_clone(&self, alloc: Global) -> Result<Comments, AllocError> {
+        Ok(Comments {
+            leading: self.leading.try_clone(alloc)?,
+            trailing: self.trailing.try_clone(alloc)?,
+        })
     }
 }

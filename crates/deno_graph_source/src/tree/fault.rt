@@ -1,8 +1,9 @@
-ghost use Rattle.std.specs.Prelude.{◌∷◌, []};
+ghost use Rattle.std.specs.Prelude.{◌≡◌, ◌↔◌, IfOk, IfSome, IsNone};
+ghost use Rattle.deno_graph_source.specs.Source.{IsValid, JudgesSource, Stands};
 
-use crate::text::SourceRange;
 use crate::tree::comments::Comments;
-use crate::tree::node::{Kind, Node, Program};
+use crate::tree::node::Program;
+use crate::tree::range_check::{check_comments, check_program};
 use std::alloc::{AllocError, Global};
 use thiserror::Error;
 
@@ -19,11 +20,44 @@ pub enum SourceFault {
     OutOfMemory,
 }
 
+impl From<AllocError> for SourceFault {
+    ghost use Rattle.deno_graph_source.specs.declared.tree.fault.SourceFault.TheVariants.{OutOfMemory};
+
+    ghost from_gives = { λ error fault. fault ≡ OutOfMemory };
+
+    fn from(_error: AllocError) -> SourceFault {
+        SourceFault::OutOfMemory
+    }
+}
+
+/// What is wrong with a text and what a parser made of it: `None` where nothing is. Where several
+/// faults stand, any one of them is answered.
 pub fn source_fault(
-    _alloc: Global,
-    _text: &str,
-    _program: &Program,
-    _comments: &Comments,
-) -> Result<Option<SourceFault>, AllocError> {
-    Ok(None)
+    alloc: Global,
+    text: &str,
+    program: &Program,
+    comments: &Comments,
+) -> Result<Option<SourceFault>, AllocError>
+    ensures valid { IfOk result (λ fault. IsNone fault ↔ IsValid text.now program.now comments.now) }
+    ensures stands { IfOk result (λ fault. IfSome fault (Stands text.now program.now comments.now)) }
+{
+    match check_source(alloc, text, program, comments) {
+        Ok(()) => Ok(None),
+        Err(SourceFault::OutOfMemory) => Err(AllocError),
+        Err(fault) => Ok(Some(fault)),
+    }
+}
+
+/// Looks for a fault of a source.
+pub(crate) fn check_source(
+    alloc: Global,
+    text: &str,
+    program: &Program,
+    comments: &Comments,
+) -> Result<(), SourceFault>
+    ensures { JudgesSource text.now program.now comments.now result }
+{
+    check_program(text, program)?;
+    let all = comments.iter_unstable(alloc)?;
+    check_comments(text, &all)
 }

@@ -1,0 +1,15 @@
+-- A module as a parser handed it in.
+use Rattle.std.specs.Prelude.{ℕ, Bool, List}
+use Rattle.url.specs.Parts.{Parts}
+use Rattle.deno_graph_source.specs.Comments.{FiledComments}
+use Rattle.deno_graph_source.specs.declared.tree.media_type.MediaType.{MediaType}
+use Rattle.deno_graph_source.specs.declared.tree.node.Program.{Program}
+
+-- where it stands, its text, what it was parsed as, its tree and comments, and whether its scopes were analysed
+pub record ParsedModule : Type 0 where
+  pub specifier : Parts
+  pub text : List ℕ
+  pub media_type : MediaType
+  pub program : Program
+  pub comments : FiledComments
+  pub scope_analysis : Bool

@@ -1,0 +1,110 @@
+ghost use Rattle.std.specs.Prelude.{◌≡◌, [], ◌++◌, map, IfOk, OnOk};
+ghost use Rattle.std.specs.Option.{option_copied};
+
+use crate::values::{Items, TryClone};
+use std::alloc::{AllocError, Global};
+use std::collections::BTreeMap;
+use std::marker::Model;
+
+/// Values by a position in a text, in bytes: contracts see the positions with their values, in
+/// ascending order of positions.
+#[derive(Debug, Drop)]
+pub(crate) struct ByPosition<V> {
+    map: BTreeMap<usize, V>,
+}
+
+impl<V> Model for ByPosition<V> {
+    ghost use Rattle.std.specs.Prelude.{List, ℕ};
+    ghost use Rattle.std.specs.Coded.{coded_list, coded×, coded_ℕ};
+    ghost use Rattle.std.specs.List.Sorted.{IsStrictlySortedBy};
+    ghost use Rattle.std.specs.Map.{keys_of};
+    ghost use Rattle.std.specs.Ordering.{nat_cmp};
+
+    ghost Value = { List (ℕ × V) };
+
+    ghost coded = { coded_list (coded× coded_ℕ V.code) };
+
+    ghost view = { λ by. by.map.entries };
+
+    ghost invariant = { λ by. IsStrictlySortedBy nat_cmp (keys_of by.map.entries) };
+}
+
+impl<V> ByPosition<V> {
+    ghost use Rattle.deno_graph_source.specs.ByPosition.{value_at};
+
+    /// No values. Takes no memory.
+    pub(crate) fn new(alloc: Global) -> ByPosition<V>
+        ensures { result ≡ [] }
+    {
+        ByPosition {
+            map: BTreeMap::new(alloc),
+        }
+    }
+
+    pub(crate) fn get(&self, pos: usize) -> Option<&V>
+        ensures { option_copied result ≡ value_at self.now pos }
+    {
+        self.map.get(&pos)
+    }
+}
+
+impl<T> ByPosition<Items<T>> {
+    ghost use Rattle.deno_graph_source.specs.ByPosition.{all_items};
+
+    /// Adds the items at all positions at the end of `all`.
+    pub(crate) fn push_items<'a>(&'a self, all: &mut Vec<&'a T>) -> Result<(), AllocError>
+        ensures { OnOk result
+            (map (λ item. item.now) all.new.items
+                ≡ map (λ item. item.now) all.old.items ++ all_items self.now) }
+    {
+        for items in self.map.values() {
+            push_each(all, items.as_slice())?;
+        }
+        Ok(())
+    }
+}
+
+fn push_each<'a, T>(all: &mut Vec<&'a T>, items: &'a [T]) -> Result<(), AllocError>
+    ensures { OnOk result
+        (map (λ item. item.now) all.new.items
+            ≡ map (λ item. item.now) all.old.items ++ items.now) }
+{
+    for item in items {
+        all.push(item)?;
+    }
+    Ok(())
+}
+
+impl<V: TryClone + Drop> TryClone for ByPosition<V> {
+    fn try_clone(&self, alloc: Global) -> Result<ByPosition<V>, AllocError> {
+        let mut map = BTreeMap::new(alloc);
+        for (pos, value) in &self.map {
+            drop(map.insert(*pos, value.try_clone(alloc)?)?);
+        }
+        Ok(ByPosition { map })
+    }
+}
+
+impl<V: PartialEq> PartialEq for ByPosition<V> {
+    ghost use Rattle.std.specs.Prelude.{nat_eq};
+    ghost use Rattle.std.specs.Cmp.{on_per, and_per, partial_equiv_from_equiv};
+    ghost use Rattle.std.specs.Cmp.Lexicographic.{pointwise, lists_per};
+    ghost use Rattle.std.specs.Ordering.{on, eq_of_both};
+    ghost use Rattle.std.proofs.lemmas.Cmp.{nat_eq_equiv};
+
+    ghost eq = { pointwise (eq_of_both (on (λ entry. entry.0) nat_eq) (on (λ entry. entry.1) V.eq)) };
+
+    ghost laws = { lists_per (and_per (on_per (λ entry. entry.0) (partial_equiv_from_equiv nat_eq_equiv)) (on_per (λ entry. entry.1) V.laws)) };
+
+    fn eq(&self, other: &ByPosition<V>) -> bool {
+        self.map == other.map
+    }
+}
+
+impl<V: Eq> Eq for ByPosition<V> {
+    ghost use Rattle.std.specs.Cmp.{on_equiv, and_equiv};
+    ghost use Rattle.std.specs.Cmp.Lexicographic.{lists_equiv};
+    ghost use Rattle.std.proofs.lemmas.Cmp.{nat_eq_equiv};
+
+    ghost laws = { lists_equiv (and_equiv (on_equiv (λ entry. entry.0) nat_eq_equiv) (on_equiv (λ entry. entry.1) V.Eq.laws)) };
+}
