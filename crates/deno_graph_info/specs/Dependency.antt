@@ -1,9 +1,16 @@
 -- What a dependency is.
-use Rattle.std.specs.Prelude.{Option, Some}
+use Rattle.std.specs.Prelude.{Option, Some, None}
 use Rattle.deno_graph_info.specs.declared.analysis.dependency.DependencyDescriptor.{DependencyDescriptor}
-use Rattle.deno_graph_info.specs.declared.analysis.dependency.DependencyDescriptor.TheVariants.{Static}
+use Rattle.deno_graph_info.specs.declared.analysis.dependency.DependencyDescriptor.TheVariants.{Static, Dynamic}
+use Rattle.deno_graph_info.specs.declared.analysis.dynamic_dependency.DynamicDependencyDescriptor.{DynamicDependencyDescriptor}
 use Rattle.deno_graph_info.specs.declared.analysis.static_dependency.StaticDependencyDescriptor.{StaticDependencyDescriptor}
 
 -- the static dependency that it is, if it is one
 abbrev pub static_of : DependencyDescriptor → Option StaticDependencyDescriptor
 static_of (Static d) = Some d
+static_of (Dynamic d) = None
+
+-- the dynamic dependency that it is, if it is one
+abbrev pub dynamic_of : DependencyDescriptor → Option DynamicDependencyDescriptor
+dynamic_of (Static d) = None
+dynamic_of (Dynamic d) = Some d

@@ -1,7 +1,9 @@
 -- The JSON form, a file for each kind of value.
 pub mod Dependency
+pub mod DynamicArgument
+pub mod DynamicDependency
 pub mod Info
 pub mod Object
 pub mod Position
-pub mod Static
+pub mod StaticDependency
 pub mod Writer

@@ -1,2 +1,3 @@
 pub mod Dependency
+pub mod DynamicDependency
 pub mod Json

@@ -1,6 +1,8 @@
 //! The dependencies of one module, and their JSON form.
 
 pub mod dependency;
+pub mod dynamic_argument;
+pub mod dynamic_dependency;
 mod json;
 pub mod module_info;
 pub mod static_dependency;
@@ -8,5 +10,7 @@ pub mod static_dependency;
 mod tests;
 
 pub use dependency::DependencyDescriptor;
+pub use dynamic_argument::{DynamicArgument, DynamicTemplatePart};
+pub use dynamic_dependency::{DynamicDependencyDescriptor, DynamicDependencyKind};
 pub use module_info::ModuleInfo;
 pub use static_dependency::{StaticDependencyDescriptor, StaticDependencyKind};

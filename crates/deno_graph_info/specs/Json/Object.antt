@@ -25,20 +25,19 @@ object_of es = object (put_entries es no_members)
 abbrev pub array_of : {A : Type 0} → (A → Data) → List A → Data
 array_of f xs = array (items_of (map f xs))
 
+-- a value that is left out where the test holds
+abbrev pub unless : {A : Type 0} → Bool → A → Option A
+unless true x = None
+unless false x = Some x
+
 -- a bool that is left out where it is false
 abbrev pub if_true : Bool → Option Data
-if_true false = None
-if_true true = Some (boolean true)
+if_true b = unless (not b) (boolean b)
 
--- a list, unless it is empty
-abbrev pub non_empty_of : {A : Type 0} → List A → Option (List A)
-non_empty_of [] = None
-non_empty_of (x ∷ xs) = Some (x ∷ xs)
-
--- an array that is left out where it is empty
-abbrev pub if_any : {A : Type 0} → (A → Data) → List A → Option Data
-if_any f [] = None
-if_any f (x ∷ xs) = Some (array_of f (x ∷ xs))
+-- a list that is left out where it is empty
+abbrev pub if_any : {A : Type 0} → List A → Option (List A)
+if_any [] = None
+if_any (x ∷ xs) = Some (x ∷ xs)
 
 -- some entry has the key
 abbrev pub has_key : List ℕ → List Entry → Bool

@@ -1,5 +1,5 @@
 ghost use Rattle.std.specs.Prelude.{◌≡◌};
-ghost use Rattle.deno_graph_info.specs.Json.Static.{static_kind_name};
+ghost use Rattle.deno_graph_info.specs.Json.StaticDependency.{static_kind_name};
 
 use deno_graph_source::text::PositionRange;
 use deno_graph_source::values::{Text, TryClone};

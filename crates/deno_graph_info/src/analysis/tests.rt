@@ -1,5 +1,6 @@
 use crate::analysis::{
-    DependencyDescriptor, ModuleInfo, StaticDependencyDescriptor, StaticDependencyKind,
+    DependencyDescriptor, DynamicArgument, DynamicDependencyDescriptor, DynamicDependencyKind,
+    DynamicTemplatePart, ModuleInfo, StaticDependencyDescriptor, StaticDependencyKind,
 };
 use deno_graph_source::text::{Position, PositionRange};
 use deno_graph_source::values::{Items, Text, TryClone};
@@ -23,6 +24,14 @@ fn side_effect_import(alloc: Global) -> Result<StaticDependencyDescriptor, Alloc
         specifier: Text::from_str(alloc, "./b.ts")?,
         specifier_range: range_on_first_line(7, 15),
         is_side_effect: true,
+    })
+}
+
+fn required(alloc: Global, specifier: &str) -> Result<DynamicDependencyDescriptor, AllocError> {
+    Ok(DynamicDependencyDescriptor {
+        kind: DynamicDependencyKind::Require,
+        argument: DynamicArgument::String(Text::from_str(alloc, specifier)?),
+        argument_range: range_on_first_line(8, 15),
     })
 }
 
@@ -66,6 +75,72 @@ fn writes_a_static_dependency(rt: HostRuntime) -> Result<(), Fail> {
         text.as_str(),
         "{\"dependencies\":[{\"kind\":\"import\",\"sideEffect\":true,\"specifier\":\"./b.ts\",\"specifierRange\":[[0,7],[0,15]],\"type\":\"static\"}]}"
     );
+    Ok(())
+}
+
+#[test]
+fn writes_a_dynamic_dependency(rt: HostRuntime) -> Result<(), Fail> {
+    let alloc = rt.alloc();
+    let known = DependencyDescriptor::from(required(alloc, "a")?);
+    let text = info(alloc, true, known)?.to_value(alloc)?.to_string(alloc)?;
+    assert_eq!(rt;
+        text.as_str(),
+        "{\"dependencies\":[{\"argument\":\"a\",\"argumentRange\":[[0,8],[0,15]],\"kind\":\"require\",\"type\":\"dynamic\"}],\"script\":true}"
+    );
+    let unknown = DynamicDependencyDescriptor {
+        kind: DynamicDependencyKind::default(),
+        argument: DynamicArgument::default(),
+        argument_range: range_on_first_line(7, 8),
+    };
+    let text = info(alloc, false, DependencyDescriptor::from(unknown))?
+        .to_value(alloc)?
+        .to_string(alloc)?;
+    assert_eq!(rt;
+        text.as_str(),
+        "{\"dependencies\":[{\"argumentRange\":[[0,7],[0,8]],\"type\":\"dynamic\"}]}"
+    );
+    Ok(())
+}
+
+fn template(alloc: Global) -> Result<DynamicArgument, AllocError> {
+    let mut parts = Items::new(alloc);
+    parts.push(DynamicTemplatePart::String {
+        value: Text::from_str(alloc, "test")?,
+    })?;
+    parts.push(DynamicTemplatePart::Expr)?;
+    Ok(DynamicArgument::Template(parts))
+}
+
+#[test]
+fn writes_a_template(rt: HostRuntime) -> Result<(), Fail> {
+    let alloc = rt.alloc();
+    let argument = template(alloc)?;
+    assert!(rt; !argument.is_expr());
+    assert!(rt; argument.try_clone(alloc)? == argument);
+    let dependency = DynamicDependencyDescriptor {
+        kind: DynamicDependencyKind::Import,
+        argument,
+        argument_range: range_on_first_line(7, 22),
+    };
+    let text = info(alloc, false, DependencyDescriptor::from(dependency))?
+        .to_value(alloc)?
+        .to_string(alloc)?;
+    assert_eq!(rt;
+        text.as_str(),
+        "{\"dependencies\":[{\"argument\":[{\"type\":\"string\",\"value\":\"test\"},{\"type\":\"expr\"}],\"argumentRange\":[[0,7],[0,22]],\"type\":\"dynamic\"}]}"
+    );
+    Ok(())
+}
+
+#[test]
+fn copies_a_dynamic_dependency(rt: HostRuntime) -> Result<(), Fail> {
+    let alloc = rt.alloc();
+    let original = DependencyDescriptor::from(required(alloc, "a")?);
+    let copy = original.try_clone(alloc)?;
+    assert!(rt; copy == original);
+    let expected = required(alloc, "a")?;
+    assert!(rt; copy.as_dynamic().is_some_and(|d| *d == expected));
+    assert!(rt; copy.as_static().is_none());
     Ok(())
 }
 

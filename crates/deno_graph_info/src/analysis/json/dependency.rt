@@ -1,33 +1,9 @@
-ghost use Rattle.serde_json.specs.Data.{string};
 ghost use Rattle.deno_graph_info.specs.Json.Dependency.{json_of_dependency};
-ghost use Rattle.deno_graph_info.specs.Json.Static.{json_of_static, static_kind_name};
 
 use crate::analysis::dependency::DependencyDescriptor;
-use crate::analysis::json::write::{ObjectWriter, ToJson};
-use crate::analysis::static_dependency::{StaticDependencyDescriptor, StaticDependencyKind};
+use crate::analysis::json::write::ToJson;
 use serde_json::Value;
 use std::alloc::{AllocError, Global};
-
-impl ToJson for StaticDependencyKind {
-    ghost json = { λ kind. string (static_kind_name kind) };
-
-    fn to_json(&self, alloc: Global) -> Result<Value, AllocError> {
-        Value::try_from_str(alloc, self.name())
-    }
-}
-
-impl ToJson for StaticDependencyDescriptor {
-    ghost json = { json_of_static };
-
-    fn to_json(&self, alloc: Global) -> Result<Value, AllocError> {
-        let mut object = ObjectWriter::tagged(alloc, "static")?;
-        object.put("kind", &self.kind)?;
-        object.put("specifier", &self.specifier)?;
-        object.put("specifierRange", &self.specifier_range)?;
-        object.put_some("sideEffect", self.is_side_effect.then_some(&true))?;
-        Ok(object.into_value())
-    }
-}
 
 impl ToJson for DependencyDescriptor {
     ghost json = { json_of_dependency };
@@ -35,6 +11,7 @@ impl ToJson for DependencyDescriptor {
     fn to_json(&self, alloc: Global) -> Result<Value, AllocError> {
         match self {
             DependencyDescriptor::Static(descriptor) => descriptor.to_json(alloc),
+            DependencyDescriptor::Dynamic(descriptor) => descriptor.to_json(alloc),
         }
     }
 }

@@ -1,6 +1,6 @@
 ghost use Rattle.deno_graph_info.specs.Json.Info.{json_of_info};
 
-use crate::analysis::json::write::{ObjectWriter, ToJson, non_empty};
+use crate::analysis::json::write::{ObjectWriter, ToJson, if_any, if_true};
 use crate::analysis::module_info::ModuleInfo;
 use serde_json::Value;
 use std::alloc::{AllocError, Global};
@@ -10,8 +10,8 @@ impl ToJson for ModuleInfo {
 
     fn to_json(&self, alloc: Global) -> Result<Value, AllocError> {
         let mut object = ObjectWriter::new(alloc);
-        object.put_some("script", self.is_script.then_some(&true))?;
-        object.put_some("dependencies", non_empty(&self.dependencies))?;
+        object.put_some("script", if_true(&self.is_script))?;
+        object.put_some("dependencies", if_any(&self.dependencies))?;
         Ok(object.into_value())
     }
 }

@@ -1,7 +1,7 @@
 ghost use Rattle.std.specs.Prelude.{◌≡◌, codes, IfOk, OnOk, OnErr, option_map};
 ghost use Rattle.serde_json.specs.Data.{boolean, string, object, no_members, put as with_member};
 ghost use Rattle.serde_json.specs.View.{view};
-ghost use Rattle.deno_graph_info.specs.Json.Object.{put_present, array_of, non_empty_of};
+ghost use Rattle.deno_graph_info.specs.Json.Object.{put_present, array_of, unless as when_not, if_any as some_if_any, if_true as true_if_set};
 ghost use Rattle.deno_graph_info.specs.Json.Writer.{written};
 
 use deno_graph_source::values::{Items, Text};
@@ -112,9 +112,23 @@ impl ObjectWriter {
     }
 }
 
+/// The value, unless the test holds.
+pub(crate) fn unless<T>(test: bool, value: &T) -> Option<&T>
+    ensures { option_map (λ r. r.now) result ≡ when_not test value.now }
+{
+    if test { None } else { Some(value) }
+}
+
+/// The flag, unless it is false.
+pub(crate) fn if_true(flag: &bool) -> Option<&bool>
+    ensures { option_map (λ r. boolean r.now) result ≡ true_if_set flag.now }
+{
+    if *flag { Some(flag) } else { None }
+}
+
 /// The list, unless it is empty.
-pub(crate) fn non_empty<T>(items: &Items<T>) -> Option<&Items<T>>
-    ensures { option_map (λ r. r.now) result ≡ non_empty_of items.now }
+pub(crate) fn if_any<T>(items: &Items<T>) -> Option<&Items<T>>
+    ensures { option_map (λ r. r.now) result ≡ some_if_any items.now }
 {
     if items.is_empty() { None } else { Some(items) }
 }
