@@ -64,21 +64,24 @@ AllPairs-from_Ascending R (x ∷ xs) a = AllPairs-cons R x xs (all xs (a.0)) (Al
 
 pub Ascending-from_AllPairs : {X : Type 0} (R : X → X → Type 0) (xs : List X) → AllPairs R xs → Ascending R xs
 Ascending-from_AllPairs R [] a = tt
-Ascending-from_AllPairs {X} R (x ∷ xs) a =
-    (λ y m. let c = Contains-from_Member xs y m in let P : X → Type 0 = λ z. R x z in subst P c.2 (a 0 (suc c.0) y (omega arith) (omega arith)),
-    Ascending-from_AllPairs R xs (λ i j d h k. a (suc i) (suc j) d (omega arith) (omega arith)))
+Ascending-from_AllPairs {X} R (x ∷ xs) a = (
+  λ y m. let c = Contains-from_Member xs y m in let P : X → Type 0 = λ z. R x z in subst P c.2 (a 0 (suc c.0) y (omega arith) (omega arith)),
+  Ascending-from_AllPairs R xs (λ i j d h k. a (suc i) (suc j) d (omega arith) (omega arith)),
+)
 
 pub Ascending-append : {X : Type 0} (R : X → X → Type 0) (xs ys : List X) → Ascending R xs → Ascending R ys → ((x y : X) → Member xs x → Member ys y → R x y) → Ascending R (xs ++ ys)
 Ascending-append R [] ys a b h = b
-Ascending-append R (x ∷ xs) ys a b h =
-    (λ y m. ⊎_elim (a.0 y) (h x y (inl refl)) (Member-append xs ys y m),
-    Ascending-append R xs ys a.1 b (λ z y m n. h z y (inr m) n))
+Ascending-append R (x ∷ xs) ys a b h = (
+  λ y m. ⊎_elim (a.0 y) (h x y (inl refl)) (Member-append xs ys y m),
+  Ascending-append R xs ys a.1 b (λ z y m n. h z y (inr m) n),
+)
 
 pub Ascending-map : {X Y : Type 0} (R : X → X → Type 0) (S : Y → Y → Type 0) (f : X → Y) → ((x y : X) → R x y → S (f x) (f y)) → (xs : List X) → Ascending R xs → Ascending S (map f xs)
 Ascending-map R S f h [] a = tt
-Ascending-map {X} {Y} R S f h (x ∷ xs) a =
-    (λ y m. let r = Member-map f xs y m in let P : Y → Type 0 = λ z. S (f x) z in subst P r.2 (h x r.0 (a.0 r.0 r.1)),
-    Ascending-map R S f h xs a.1)
+Ascending-map {X} {Y} R S f h (x ∷ xs) a = (
+  λ y m. let r = Member-map f xs y m in let P : Y → Type 0 = λ z. S (f x) z in subst P r.2 (h x r.0 (a.0 r.0 r.1)),
+  Ascending-map R S f h xs a.1,
+)
 
 pub Ascending-weaker : {X : Type 0} (R S : X → X → Type 0) → ((x y : X) → R x y → S x y) → (xs : List X) → Ascending R xs → Ascending S xs
 Ascending-weaker R S h [] a = tt
@@ -94,6 +97,6 @@ Ascending-unique {X} R asym (x ∷ xs) (y ∷ ys) a b f g =
     let P : X → Type 0 = λ z. (w : X) → Member ys w → R z w in
     let after_x : (w : X) → Member ys w → R x w = subst P (sym same) b.0 in
     let tails : xs ≡ ys = Ascending-unique R asym xs ys a.1 b.1
-        (λ z m. ⊎_elim (λ (e : y ≡ z). let Q : X → Type 0 = λ w. R x w in let r : R x x = subst Q (sym (same ∙ e)) (a.0 z m) in absurd (asym x x r r)) (λ n. n) (f z (inr m)))
-        (λ z m. ⊎_elim (λ (e : x ≡ z). let Q : X → Type 0 = λ w. R x w in let r : R x x = subst Q (sym e) (after_x z m) in absurd (asym x x r r)) (λ n. n) (g z (inr m))) in
+    (λ z m. ⊎_elim (λ (e : y ≡ z). let Q : X → Type 0 = λ w. R x w in let r : R x x = subst Q (sym (same ∙ e)) (a.0 z m) in absurd (asym x x r r)) (λ n. n) (f z (inr m)))
+    (λ z m. ⊎_elim (λ (e : x ≡ z). let Q : X → Type 0 = λ w. R x w in let r : R x x = subst Q (sym e) (after_x z m) in absurd (asym x x r r)) (λ n. n) (g z (inr m))) in
     cc

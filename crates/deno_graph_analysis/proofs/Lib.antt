@@ -1,4 +1,6 @@
 pub mod Ascending
+pub mod Entries
+pub mod Items
 pub mod Listed
 pub mod Listings
 pub mod NodePaths

@@ -73,12 +73,12 @@ Ascending-under after f grows (ps ∷ pss) h =
     (Ascending-map (Before (λ p. after (f 0 ∷ p))) (Before after) (λ q. f 0 ∷ q) (λ p q b. Before-cons after (f 0) p q b) ps (h 0 ps refl))
     (Ascending-under after (λ n. f (suc n)) (λ m n l. grows (suc m) (suc n) (omega arith)) pss (λ n qs e. h (suc n) qs e))
     (λ x y m k.
-        let a = Member-map (λ q. f 0 ∷ q) ps x m in
-        let b = Member-under (λ n. f (suc n)) pss y k in
-        let l : f 0 < f (suc b.at) = grows 0 (suc b.at) (omega arith) in
-        let P : NodePath → Type 0 = λ z. Before after z y in
-        let Q : NodePath → Type 0 = λ z. Before after (f 0 ∷ a.0) z in
-        subst P a.2 (subst Q b.is (apart (inl l))))
+    let a = Member-map (λ q. f 0 ∷ q) ps x m in
+    let b = Member-under (λ n. f (suc n)) pss y k in
+    let l : f 0 < f (suc b.at) = grows 0 (suc b.at) (omega arith) in
+    let P : NodePath → Type 0 = λ z. Before after z y in
+    let Q : NodePath → Type 0 = λ z. Before after (f 0 ∷ a.0) z in
+    subst P a.2 (subst Q b.is (apart (inl l))))
 
 -- going down the path from the node, no closed node is passed, and the last is listed
 abbrev pub Found : Rules → Node → NodePath → Type 0
@@ -151,14 +151,14 @@ Found-from_Member rules (n ∷ p) node m =
     ⊎_elim
     (λ (h : Member (here (rules.is_listed node)) (n ∷ p)). let e = (Member-here (rules.is_listed node) (n ∷ p) h).1 in let no : ⊥ = cc in absurd no)
     (λ (h : (rules.is_closed node ≡ false) × Member inside (n ∷ p)).
-        let u = Member-under (λ k. k) (map (paths_at rules) (children_of node)) (n ∷ p) h.1 in
-        let e = u.is in
-        let g = got_map (paths_at rules) (slice_get (children_of node) u.at) u.paths (sym (slice_get-map (paths_at rules) (children_of node) u.at) ∙ u.is_there) in
-        let number : u.at ≡ n = cc in
-        let rest : u.rest ≡ p = cc in
-        let Q : NodePath → Type 0 = λ q. Member (paths_at rules g.0) q in
-        let R : List NodePath → Type 0 = λ ps. Member ps u.rest in
-        (h.0, (g.0, ap (λ k. slice_get (children_of node) k) (sym number) ∙ g.1, Found-from_Member rules p g.0 (subst Q rest (subst R (sym g.2) u.in_paths)))))
+    let u = Member-under (λ k. k) (map (paths_at rules) (children_of node)) (n ∷ p) h.1 in
+    let e = u.is in
+    let g = got_map (paths_at rules) (slice_get (children_of node) u.at) u.paths (sym (slice_get-map (paths_at rules) (children_of node) u.at) ∙ u.is_there) in
+    let number : u.at ≡ n = cc in
+    let rest : u.rest ≡ p = cc in
+    let Q : NodePath → Type 0 = λ q. Member (paths_at rules g.0) q in
+    let R : List NodePath → Type 0 = λ ps. Member ps u.rest in
+    (h.0, (g.0, ap (λ k. slice_get (children_of node) k) (sym number) ∙ g.1, Found-from_Member rules p g.0 (subst Q rest (subst R (sym g.2) u.in_paths)))))
     (Member-placed rules node (here (rules.is_listed node)) inside (n ∷ p) (subst P (paths_at-is rules node) m))
 
 -- what is found is listed
@@ -189,9 +189,9 @@ ascending_own after false own mid e f a =
     Ascending-append (Before after) (here own ++ mid) []
     (Ascending-append (Before after) (here own) mid (one own) a
     (λ x y m k. let h = Member-here own x m in let g = f y k in
-        let P : NodePath → Type 0 = λ z. Before after z y in
-        let Q : NodePath → Type 0 = λ z. Before after [] z in
-        subst P (sym h.1) (subst Q g.2 (outer tt e))))
+    let P : NodePath → Type 0 = λ z. Before after z y in
+    let Q : NodePath → Type 0 = λ z. Before after [] z in
+    subst P (sym h.1) (subst Q g.2 (outer tt e))))
     tt (λ x y m k. absurd k)
   where
     one : (b : Bool) → Ascending (Before after) (here b)
@@ -200,9 +200,9 @@ ascending_own after false own mid e f a =
 ascending_own after true own mid e f a =
     Ascending-append (Before after) mid (here own) a (one own)
     (λ x y m k. let h = Member-here own y k in let g = f x m in
-        let P : NodePath → Type 0 = λ z. Before after x z in
-        let Q : NodePath → Type 0 = λ z. Before after z [] in
-        subst P (sym h.1) (subst Q g.2 (inner tt e)))
+    let P : NodePath → Type 0 = λ z. Before after x z in
+    let Q : NodePath → Type 0 = λ z. Before after z [] in
+    subst P (sym h.1) (subst Q g.2 (inner tt e)))
   where
     one : (b : Bool) → Ascending (Before after) (here b)
     one true = (λ y m. absurd m, tt)
@@ -217,10 +217,10 @@ pub Ascending-inside : (rules : Rules) (nodes : List Node) (after : NodePath →
 Ascending-inside rules nodes after says each =
     Ascending-under after (λ n. n) (λ m n l. l) (map (paths_at rules) nodes)
     (λ n ps e.
-        let g = got_map (paths_at rules) (slice_get nodes n) ps (sym (slice_get-map (paths_at rules) nodes n) ∙ e) in
-        let P : List NodePath → Type 0 = λ qs. Ascending (Before (λ p. after (n ∷ p))) qs in
-        subst P g.2
-        (Ascending-weaker (Before (after_below rules g.0)) (Before (λ p. after (n ∷ p))) (λ p q b. Before-same _ _ (λ r. sym (says n g.0 g.1 r)) p q b) (paths_at rules g.0) (each n g.0 g.1)))
+    let g = got_map (paths_at rules) (slice_get nodes n) ps (sym (slice_get-map (paths_at rules) nodes n) ∙ e) in
+    let P : List NodePath → Type 0 = λ qs. Ascending (Before (λ p. after (n ∷ p))) qs in
+    subst P g.2
+    (Ascending-weaker (Before (after_below rules g.0)) (Before (λ p. after (n ∷ p))) (λ p q b. Before-same _ _ (λ r. sym (says n g.0 g.1 r)) p q b) (paths_at rules g.0) (each n g.0 g.1)))
 
 pub Ascending-paths_at : (rules : Rules) (node : Node) → Ascending (Before (after_below rules node)) (paths_at rules node)
 Ascending-paths_at rules = node_induction (λ node. Ascending (Before (after_below rules node)) (paths_at rules node)) (λ node each.

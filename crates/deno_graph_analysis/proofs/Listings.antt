@@ -49,7 +49,7 @@ pub Precedes-total : (rules : Rules) (body : List Node) (p q : NodePath) → p �
 Precedes-total rules body p q ne =
     ⊎_elim (λ (e : p ≡ q). absurd (ne e))
     (λ (w : Before (after_at rules body) p q ⊎ Before (after_at rules body) q p).
-        ⊎_elim (λ h. inl (Precedes-from_Before rules body p q h)) (λ h. inr (Precedes-from_Before rules body q p h)) w)
+    ⊎_elim (λ h. inl (Precedes-from_Before rules body p q h)) (λ h. inr (Precedes-from_Before rules body q p h)) w)
     (Before-total (after_at rules body) p q)
 
 -- a body has one listing at most
@@ -91,12 +91,13 @@ found_child rules nodes n p (Some child) e l f = (child, e, f child e)
 
 found_below : (rules : Rules) (p : NodePath) (node : Node) → IsSomeAnd (node_below (Some node) p) (λ m. IsTrue (rules.is_listed m)) → ((front : NodePath) → Below front p → IsSomeAnd (node_below (Some node) front) (λ m. IsTrue (rules.is_closed m)) → ⊥) → Found rules node p
 found_below rules [] node l o = l
-found_below rules (n ∷ p) node l o =
-    (false_from_ne_true (rules.is_closed node) (o [] tt),
-    found_child rules (children_of node) n p (slice_get (children_of node) n) refl l (λ child e.
-        let P : Option Node → Type 0 = λ c. IsSomeAnd (node_below c p) (λ m. IsTrue (rules.is_listed m)) in
-        let Q : NodePath → Option Node → Type 0 = λ front c. IsSomeAnd (node_below c front) (λ m. IsTrue (rules.is_closed m)) in
-        found_below rules p child (subst P e l) (λ front b h. o (n ∷ front) (refl, b) (subst (Q front) (sym e) h))))
+found_below rules (n ∷ p) node l o = (
+  false_from_ne_true (rules.is_closed node) (o [] tt),
+  found_child rules (children_of node) n p (slice_get (children_of node) n) refl l (λ child e.
+      let P : Option Node → Type 0 = λ c. IsSomeAnd (node_below c p) (λ m. IsTrue (rules.is_listed m)) in
+      let Q : NodePath → Option Node → Type 0 = λ front c. IsSomeAnd (node_below c front) (λ m. IsTrue (rules.is_closed m)) in
+      found_below rules p child (subst P e l) (λ front b h. o (n ∷ front) (refl, b) (subst (Q front) (sym e) h))),
+)
 
 reachable_found : (rules : Rules) (body : List Node) (p : NodePath) → FoundIn rules body p → IsReachable rules body p × IsReported rules body p
 reachable_found rules body [] f = absurd f
@@ -104,7 +105,6 @@ reachable_found rules body (n ∷ p) f =
     let P : Option Node → Type 0 = λ o. IsSomeAnd (node_below o p) (λ m. IsTrue (rules.is_listed m)) in
     let reported : IsReported rules body (n ∷ p) = subst P (sym f.1) (reported_found rules p f.0 f.2) in
     (record { to_node = is_some_and (λ m. IsTrue (rules.is_listed m)) (node_at body (n ∷ p)) reported; is_open = λ front g h. open_in front (Below-from_GoesOn front (n ∷ p) g) h }, reported)
-
   where
     open_in : (front : NodePath) → Below front (n ∷ p) → IsSomeAnd (node_at body front) (λ m. IsTrue (rules.is_closed m)) → ⊥
     open_in [] b h = h
@@ -117,10 +117,10 @@ found_reachable : (rules : Rules) (body : List Node) (p : NodePath) → IsReacha
 found_reachable rules body [] r l = absurd l
 found_reachable rules body (n ∷ p) r l =
     found_child rules body n p (slice_get body n) refl l (λ node e.
-        let P : Option Node → Type 0 = λ c. IsSomeAnd (node_below c p) (λ m. IsTrue (rules.is_listed m)) in
-        let Q : NodePath → Option Node → Type 0 = λ front c. IsSomeAnd (node_below c front) (λ m. IsTrue (rules.is_closed m)) in
-        found_below rules p node (subst P e l)
-        (λ front b h. r.is_open (n ∷ front) (GoesOn-from_Below (n ∷ front) (n ∷ p) (refl, b)) (subst (Q front) (sym e) h)))
+    let P : Option Node → Type 0 = λ c. IsSomeAnd (node_below c p) (λ m. IsTrue (rules.is_listed m)) in
+    let Q : NodePath → Option Node → Type 0 = λ front c. IsSomeAnd (node_below c front) (λ m. IsTrue (rules.is_closed m)) in
+    found_below rules p node (subst P e l)
+    (λ front b h. r.is_open (n ∷ front) (GoesOn-from_Below (n ∷ front) (n ∷ p) (refl, b)) (subst (Q front) (sym e) h)))
 
 found_listed : (rules : Rules) (body : List Node) (p : NodePath) → Member (listed_paths rules body) p → FoundIn rules body p
 unfolding listed_paths
@@ -142,9 +142,10 @@ listed_found rules body (n ∷ p) f =
 -- and the listed paths are one
 pub IsListing-listed_paths : (rules : Rules) (body : List Node) → IsListing rules body (listed_paths rules body)
 IsListing-listed_paths rules body = record {
-    members = λ p. (
-      λ c. reachable_found rules body p (found_listed rules body p (Member-from_Contains (listed_paths rules body) p c)),
-      λ h. Contains-from_Member (listed_paths rules body) p (listed_found rules body p (found_reachable rules body p h.0 h.1)));
-    ascending = AllPairs-from_Ascending (Precedes rules body) (listed_paths rules body)
+  members = λ p. (
+    λ c. reachable_found rules body p (found_listed rules body p (Member-from_Contains (listed_paths rules body) p c)),
+    λ h. Contains-from_Member (listed_paths rules body) p (listed_found rules body p (found_reachable rules body p h.0 h.1)),
+  );
+  ascending = AllPairs-from_Ascending (Precedes rules body) (listed_paths rules body)
       (Ascending-weaker (Before (after_at rules body)) (Precedes rules body) (Precedes-from_Before rules body) (listed_paths rules body) (ascends rules body));
-  }
+}

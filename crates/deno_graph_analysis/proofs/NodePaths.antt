@@ -127,9 +127,11 @@ Before-total after p q = way (compared p q)
     by_front : (b : Bool) → after p ≡ b → Below p q → Before after p q ⊎ Before after q p
     by_front false e b = inl (outer b e)
     by_front true e b = inr (inner b e)
+
     by_rest : (b : Bool) → after q ≡ b → Below q p → Before after p q ⊎ Before after q p
     by_rest false e b = inr (outer b e)
     by_rest true e b = inl (inner b e)
+
     way : Compared p q → (p ≡ q) ⊎ (Before after p q ⊎ Before after q p)
     way (same e) = inl e
     way (low a) = inr (inl (apart a))

@@ -1,3 +1,6 @@
+pub mod Dependencies
+pub mod Dependency
+pub mod Item
 pub mod Listing
 pub mod NodePath
 pub mod Recursion
