@@ -3,7 +3,6 @@ pub mod LossyText
 pub mod NodeRanges
 pub mod PlaceLemmas
 pub mod PositionLemmas
-pub mod TextEntries
-pub mod PositionLemmas
 pub mod PositionOrder
 pub mod SourceFaults
+pub mod TextEntries
