@@ -6,3 +6,4 @@ pub mod PositionLemmas
 pub mod PositionOrder
 pub mod SourceFaults
 pub mod TextEntries
+pub mod Units
