@@ -1,6 +1,7 @@
 pub mod Judgements
 pub mod LossyText
 pub mod NodeRanges
+pub mod FrontLemmas
 pub mod PlaceLemmas
 pub mod PositionLemmas
 pub mod PositionOrder

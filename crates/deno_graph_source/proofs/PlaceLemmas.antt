@@ -7,6 +7,9 @@ use Rattle.std.proofs.lemmas.List.Sorted.{IsNonDecreasingBy-push}
 use Rattle.std.proofs.lemmas.Str.{IsCharBoundary-start, IsCharBoundary-past_char, IsUtf8-take, IsUtf8-drop, IsUtf8-between, IsUtf8-encode, chars-append, chars_past_char, chars-nil, encodes-chars, drop_past_char, encode_same, length-encode, length-le-encodes}
 use Rattle.std.proofs.Math.Seq.{take-add}
 use Rattle.std.specs.Char.{len_utf8}
+use Rattle.std.specs.Cmp.{nat_cmp_is}
+use Rattle.std.specs.Ordering.{nat_cmp}
+use Rattle.std.specs.declared.cmp.Ordering.TheVariants.{Less, Equal, Greater}
 use Rattle.std.specs.List.Sorted.{IsPartitionedBy}
 use Rattle.std.specs.Str.{IsCharBoundary, IsUtf8, chars}
 use lib.Utf8.{encodes, encode}
@@ -14,7 +17,7 @@ use Rattle.deno_graph_source.specs.Place.{IsPlace, ArePlaces}
 use Rattle.deno_graph_source.specs.Position.{HasPosition, IsBefore, is_before, position_at, position_of}
 use Rattle.deno_graph_source.specs.declared.text.place.Place.{Place}
 use Rattle.deno_graph_source.specs.declared.text.position.Position.{Position}
-use Rattle.deno_graph_source.proofs.PositionLemmas.{line_of-le, character_of-le, before_longer, IsBefore-trans, IsBefore-irreflexive, is_before-true, is_before-from}
+use Rattle.deno_graph_source.proofs.PositionLemmas.{line_of-le, character_of-le, before_longer, IsBefore-trans, IsBefore-irreflexive, is_before-true, is_before-from, position_cmp, position_cmp-before, position_cmp-behind, position_cmp-same}
 
 -- a boundary has at most as many characters before it as bytes
 pub chars_le : (text : List ℕ) (pos : ℕ) → IsUtf8 text → IsCharBoundary text pos → length (chars (take pos text)) ≤ pos
@@ -157,3 +160,15 @@ ArePlaces-push text places place last are is below behind = record {
 pub below_last : (places : List Place) (place : Place) (last : ℕ) → All (λ p. p.pos ≤ last) places → last ≤ place.pos → All (λ p. p.pos ≤ place.pos) (places ++ place ∷ [])
 below_last places place last below behind =
     All-append (λ p. p.pos ≤ place.pos) places (place ∷ []) (λ k d within. let near = below k d within in omega arith) (All-one (λ p. p.pos ≤ place.pos) place (omega arith))
+
+-- positions compare as their boundaries
+pub position_cmp-position_at : (text : List ℕ) (a b : ℕ) → IsUtf8 text → IsCharBoundary text a → IsCharBoundary text b → position_cmp (position_at text a) (position_at text b) ≡ nat_cmp a b
+position_cmp-position_at text a b utf8 first second = elim (cases_lt a b) [
+  | inl less ↦ position_cmp-before _ _ (before_from_lt text a b utf8 first second less) ∙ nat_cmp_is a b Less less
+  | inr no_less ↦ elim (cases_lt b a) [
+    | inl more ↦ position_cmp-behind _ _ (before_from_lt text b a utf8 second first more) ∙ nat_cmp_is a b Greater more
+    | inr no_more ↦
+        let same : a ≡ b = omega arith in
+        position_cmp-same _ _ (ap (position_at text) same) ∙ nat_cmp_is a b Equal same
+  ]
+]

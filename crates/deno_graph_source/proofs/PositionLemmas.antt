@@ -1,5 +1,9 @@
 -- How a position moves as characters are passed.
 use Rattle.std.proofs.Common.{◌≡◌, ℕ, ◌+◌, ◌-◌, ◌<◌, ◌≤◌, ◌⊎◌, inl, inr, subst, Bool, true, false, ◌&&◌, ◌||◌, nat_lt, eq-eqb, cond, not, ◌==◌, List, [], ◌∷◌, ◌++◌, length, take, drop, reverse, count_by, refl, sym, ap, ◌∙◌, arith, length-append, length-drop, append_assoc}
+use Rattle.std.specs.Cmp.{nat_cmp_is}
+use Rattle.std.specs.Ordering.{nat_cmp, ordering_then}
+use Rattle.std.specs.declared.cmp.Ordering.{Ordering}
+use Rattle.std.specs.declared.cmp.Ordering.TheVariants.{Less, Equal, Greater}
 use Rattle.std.specs.List.{prefix_len, suffix_len, after_last}
 use Rattle.std.proofs.lemmas.Bool.{cases_Bool, false≢true}
 use Rattle.std.proofs.lemmas.Bool.Decides.{nat_tests}
@@ -117,3 +121,28 @@ is_before-true p q is = elim (cases_Bool (nat_lt p.line q.line)) [
 pub is_before-from : (p q : Position) → IsBefore p q → is_before p q ≡ true
 is_before-from p q (inl line) = grind (arith, nat_tests)
 is_before-from p q (inr character) = grind (arith, nat_tests)
+
+-- what `cmp` on positions answers
+less : (a b : ℕ) → a < b → nat_cmp a b ≡ Less
+less a b h = sym (nat_cmp_is a b Less h)
+
+greater : (a b : ℕ) → b < a → nat_cmp a b ≡ Greater
+greater a b h = sym (nat_cmp_is a b Greater h)
+
+equal : (a b : ℕ) → a ≡ b → nat_cmp a b ≡ Equal
+equal a b h = sym (nat_cmp_is a b Equal h)
+
+abbrev pub position_cmp : Position → Position → Ordering
+position_cmp p q = ordering_then (nat_cmp p.line q.line) (nat_cmp p.character q.character)
+
+pub position_cmp-before : (p q : Position) → IsBefore p q → position_cmp p q ≡ Less
+position_cmp-before p q (inl line) = ap (λ o. ordering_then o (nat_cmp p.character q.character)) (less p.line q.line line)
+position_cmp-before p q (inr later) = ap (λ o. ordering_then o (nat_cmp p.character q.character)) (equal p.line q.line later.0) ∙ less p.character q.character later.1
+
+pub position_cmp-behind : (p q : Position) → IsBefore q p → position_cmp p q ≡ Greater
+position_cmp-behind p q (inl line) = ap (λ o. ordering_then o (nat_cmp p.character q.character)) (greater p.line q.line line)
+position_cmp-behind p q (inr later) = ap (λ o. ordering_then o (nat_cmp p.character q.character)) (equal p.line q.line (sym later.0)) ∙ greater p.character q.character later.1
+
+pub position_cmp-same : (p q : Position) → p ≡ q → position_cmp p q ≡ Equal
+position_cmp-same p q same =
+    ap (λ o. ordering_then o (nat_cmp p.character q.character)) (equal p.line q.line (ap (λ r. r.line) same)) ∙ equal p.character q.character (ap (λ r. r.character) same)

@@ -1,5 +1,5 @@
 -- Where a place in a text stands: its line, and its character in that line.
-use Rattle.std.specs.Prelude.{◌≡◌, ◌==◌, ◌<◌, ◌⊎◌, ◌||◌, ◌&&◌, ℕ, Bool, List, length, take, count_by, nat_lt}
+use Rattle.std.specs.Prelude.{◌≡◌, ◌==◌, ◌<◌, ◌⊎◌, ◌||◌, ◌&&◌, ◌++◌, ℕ, Bool, List, length, take, count_by, nat_lt, encode_utf8_all}
 use Rattle.std.specs.List.{after_last}
 use Rattle.std.specs.Str.{IsCharBoundary, chars}
 use Rattle.deno_graph_source.specs.declared.text.position.Position.{Position}
@@ -15,6 +15,11 @@ character_of front = length (after_last (λ c. c == 10) front)
 -- the position behind the characters `front`
 unfoldable pub position_of : List ℕ → Position
 position_of front = record { line = line_of front; character = character_of front }
+
+-- `size` is the number of bytes of some front of the characters of `text`
+abbrev pub IsFrontSize : List ℕ → ℕ → Type 0
+IsFrontSize text size =
+    (front : List ℕ) × (rest : List ℕ) × (front ++ rest ≡ chars text) × (length (encode_utf8_all front) ≡ size)
 
 -- the position of the boundary `offset` of `text`, which is counted in bytes
 abbrev pub position_at : List ℕ → ℕ → Position

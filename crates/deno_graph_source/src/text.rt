@@ -2,6 +2,7 @@
 
 pub(crate) mod checkpoints;
 pub mod js_string;
+pub mod laws;
 pub(crate) mod place;
 pub mod position;
 pub mod source_text_info;
@@ -9,3 +10,6 @@ pub mod source_text_info;
 pub use js_string::JsString;
 pub use position::{Position, PositionRange, SourceRange};
 pub use source_text_info::SourceTextInfo;
+
+#[cfg(test)]
+mod tests;
