@@ -1,8 +1,9 @@
--- What a dependency is.
+-- What a dependency is, and its import attributes.
 use Rattle.std.specs.Prelude.{Option, Some, None}
 use Rattle.deno_graph_info.specs.declared.analysis.dependency.DependencyDescriptor.{DependencyDescriptor}
 use Rattle.deno_graph_info.specs.declared.analysis.dependency.DependencyDescriptor.TheVariants.{Static, Dynamic}
 use Rattle.deno_graph_info.specs.declared.analysis.dynamic_dependency.DynamicDependencyDescriptor.{DynamicDependencyDescriptor}
+use Rattle.deno_graph_info.specs.declared.analysis.import_attributes.ImportAttributes.{ImportAttributes}
 use Rattle.deno_graph_info.specs.declared.analysis.static_dependency.StaticDependencyDescriptor.{StaticDependencyDescriptor}
 
 -- the static dependency that it is, if it is one
@@ -14,3 +15,8 @@ static_of (Dynamic d) = None
 abbrev pub dynamic_of : DependencyDescriptor → Option DynamicDependencyDescriptor
 dynamic_of (Static d) = None
 dynamic_of (Dynamic d) = Some d
+
+-- the attributes that it states
+abbrev pub attributes_of : DependencyDescriptor → ImportAttributes
+attributes_of (Static d) = d.import_attributes
+attributes_of (Dynamic d) = d.import_attributes

@@ -2,6 +2,7 @@
 pub mod Dependency
 pub mod DynamicArgument
 pub mod DynamicDependency
+pub mod ImportAttributes
 pub mod Info
 pub mod Object
 pub mod Position

@@ -25,6 +25,14 @@ object_of es = object (put_entries es no_members)
 abbrev pub array_of : {A : Type 0} → (A → Data) → List A → Data
 array_of f xs = array (items_of (map f xs))
 
+-- the entries of a map, each value in its form
+abbrev pub map_entries : {A : Type 0} → (A → Data) → List (List ℕ × A) → List Entry
+map_entries f es = map (λ e. (e.0, Some (f e.1))) es
+
+-- the object of a map: a member for each of its entries
+abbrev pub map_object_of : {A : Type 0} → (A → Data) → List (List ℕ × A) → Data
+map_object_of f es = object_of (map_entries f es)
+
 -- a value that is left out where the test holds
 abbrev pub unless : {A : Type 0} → Bool → A → Option A
 unless true x = None

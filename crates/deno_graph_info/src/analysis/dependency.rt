@@ -1,7 +1,8 @@
 ghost use Rattle.std.specs.Prelude.{◌≡◌, option_map};
-ghost use Rattle.deno_graph_info.specs.Dependency.{static_of, dynamic_of};
+ghost use Rattle.deno_graph_info.specs.Dependency.{static_of, dynamic_of, attributes_of};
 
 use crate::analysis::dynamic_dependency::DynamicDependencyDescriptor;
+use crate::analysis::import_attributes::ImportAttributes;
 use crate::analysis::static_dependency::StaticDependencyDescriptor;
 use deno_graph_source::values::TryClone;
 use std::alloc::{AllocError, Global};
@@ -33,6 +34,16 @@ impl DependencyDescriptor {
         match self {
             DependencyDescriptor::Static(_) => None,
             DependencyDescriptor::Dynamic(descriptor) => Some(descriptor),
+        }
+    }
+
+    /// The import attributes that the dependency states.
+    pub fn import_attributes(&self) -> &ImportAttributes
+        ensures { result.now ≡ attributes_of self.now }
+    {
+        match self {
+            DependencyDescriptor::Static(descriptor) => &descriptor.import_attributes,
+            DependencyDescriptor::Dynamic(descriptor) => &descriptor.import_attributes,
         }
     }
 }

@@ -3,6 +3,7 @@ ghost use Rattle.deno_graph_info.specs.DynamicDependency.{is_import};
 ghost use Rattle.deno_graph_info.specs.Json.DynamicDependency.{dynamic_kind_name};
 
 use crate::analysis::dynamic_argument::DynamicArgument;
+use crate::analysis::import_attributes::ImportAttributes;
 use deno_graph_source::text::PositionRange;
 use deno_graph_source::values::TryClone;
 use std::alloc::{AllocError, Global};
@@ -59,6 +60,7 @@ pub struct DynamicDependencyDescriptor {
     pub argument: DynamicArgument,
     /// Where the first argument stands.
     pub argument_range: PositionRange,
+    pub import_attributes: ImportAttributes,
 }
 
 impl TryClone for DynamicDependencyDescriptor {
@@ -67,6 +69,7 @@ impl TryClone for DynamicDependencyDescriptor {
             kind: self.kind,
             argument: self.argument.try_clone(alloc)?,
             argument_range: self.argument_range,
+            import_attributes: self.import_attributes.try_clone(alloc)?,
         })
     }
 }

@@ -3,6 +3,7 @@
 mod dependency;
 mod dynamic_argument;
 mod dynamic_dependency;
+mod import_attributes;
 mod module_info;
 mod position;
 mod static_dependency;

@@ -1,6 +1,7 @@
 ghost use Rattle.std.specs.Prelude.{◌≡◌};
 ghost use Rattle.deno_graph_info.specs.Json.StaticDependency.{static_kind_name};
 
+use crate::analysis::import_attributes::ImportAttributes;
 use deno_graph_source::text::PositionRange;
 use deno_graph_source::values::{Text, TryClone};
 use std::alloc::{AllocError, Global};
@@ -57,6 +58,7 @@ pub struct StaticDependencyDescriptor {
     pub specifier_range: PositionRange,
     /// Whether this is an import that binds no name, as `import "..";`.
     pub is_side_effect: bool,
+    pub import_attributes: ImportAttributes,
 }
 
 impl TryClone for StaticDependencyDescriptor {
@@ -66,6 +68,7 @@ impl TryClone for StaticDependencyDescriptor {
             specifier: self.specifier.try_clone(alloc)?,
             specifier_range: self.specifier_range,
             is_side_effect: self.is_side_effect,
+            import_attributes: self.import_attributes.try_clone(alloc)?,
         })
     }
 }

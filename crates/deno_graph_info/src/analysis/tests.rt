@@ -1,9 +1,10 @@
 use crate::analysis::{
     DependencyDescriptor, DynamicArgument, DynamicDependencyDescriptor, DynamicDependencyKind,
-    DynamicTemplatePart, ModuleInfo, StaticDependencyDescriptor, StaticDependencyKind,
+    DynamicTemplatePart, ImportAttribute, ImportAttributes, ModuleInfo, StaticDependencyDescriptor,
+    StaticDependencyKind,
 };
 use deno_graph_source::text::{Position, PositionRange};
-use deno_graph_source::values::{Items, Text, TryClone};
+use deno_graph_source::values::{Items, Text, TextMap, TryClone};
 use std::alloc::{AllocError, Global};
 use std::test::Fail;
 
@@ -24,6 +25,7 @@ fn side_effect_import(alloc: Global) -> Result<StaticDependencyDescriptor, Alloc
         specifier: Text::from_str(alloc, "./b.ts")?,
         specifier_range: range_on_first_line(7, 15),
         is_side_effect: true,
+        import_attributes: ImportAttributes::None,
     })
 }
 
@@ -32,6 +34,7 @@ fn required(alloc: Global, specifier: &str) -> Result<DynamicDependencyDescripto
         kind: DynamicDependencyKind::Require,
         argument: DynamicArgument::String(Text::from_str(alloc, specifier)?),
         argument_range: range_on_first_line(8, 15),
+        import_attributes: ImportAttributes::None,
     })
 }
 
@@ -91,6 +94,7 @@ fn writes_a_dynamic_dependency(rt: HostRuntime) -> Result<(), Fail> {
         kind: DynamicDependencyKind::default(),
         argument: DynamicArgument::default(),
         argument_range: range_on_first_line(7, 8),
+        import_attributes: ImportAttributes::None,
     };
     let text = info(alloc, false, DependencyDescriptor::from(unknown))?
         .to_value(alloc)?
@@ -121,6 +125,7 @@ fn writes_a_template(rt: HostRuntime) -> Result<(), Fail> {
         kind: DynamicDependencyKind::Import,
         argument,
         argument_range: range_on_first_line(7, 22),
+        import_attributes: ImportAttributes::None,
     };
     let text = info(alloc, false, DependencyDescriptor::from(dependency))?
         .to_value(alloc)?
@@ -128,6 +133,55 @@ fn writes_a_template(rt: HostRuntime) -> Result<(), Fail> {
     assert_eq!(rt;
         text.as_str(),
         "{\"dependencies\":[{\"argument\":[{\"type\":\"string\",\"value\":\"test\"},{\"type\":\"expr\"}],\"argumentRange\":[[0,7],[0,22]],\"type\":\"dynamic\"}]}"
+    );
+    Ok(())
+}
+
+fn attributes(alloc: Global) -> Result<ImportAttributes, AllocError> {
+    let mut map = TextMap::new(alloc);
+    let css = ImportAttribute::Known(Text::from_str(alloc, "css")?);
+    drop(map.insert(Text::from_str(alloc, "type")?, css)?);
+    drop(map.insert(Text::from_str(alloc, "a")?, ImportAttribute::Unknown)?);
+    Ok(ImportAttributes::Known(map))
+}
+
+#[test]
+fn reads_attributes(rt: HostRuntime) -> Result<(), Fail> {
+    let alloc = rt.alloc();
+    assert!(rt; ImportAttributes::default().is_none());
+    let known = attributes(alloc)?;
+    assert!(rt; known.try_clone(alloc)? == known);
+    assert!(rt; !known.is_none());
+    assert!(rt; known.has_asset());
+    assert!(rt; known.get("type").is_some_and(|value| value == "css"));
+    assert!(rt; known.get("a").is_none());
+    assert!(rt; known.get("b").is_none());
+    assert!(rt; !ImportAttributes::Unknown.has_asset());
+    Ok(())
+}
+
+#[test]
+fn writes_attributes(rt: HostRuntime) -> Result<(), Fail> {
+    let alloc = rt.alloc();
+    let mut import = side_effect_import(alloc)?;
+    import.import_attributes = attributes(alloc)?;
+    let dependency = DependencyDescriptor::from(import);
+    assert!(rt; *dependency.import_attributes() == attributes(alloc)?);
+    let text = info(alloc, false, dependency)?
+        .to_value(alloc)?
+        .to_string(alloc)?;
+    assert_eq!(rt;
+        text.as_str(),
+        "{\"dependencies\":[{\"importAttributes\":{\"known\":{\"a\":null,\"type\":\"css\"}},\"kind\":\"import\",\"sideEffect\":true,\"specifier\":\"./b.ts\",\"specifierRange\":[[0,7],[0,15]],\"type\":\"static\"}]}"
+    );
+    let mut require = required(alloc, "a")?;
+    require.import_attributes = ImportAttributes::Unknown;
+    let text = info(alloc, false, DependencyDescriptor::from(require))?
+        .to_value(alloc)?
+        .to_string(alloc)?;
+    assert_eq!(rt;
+        text.as_str(),
+        "{\"dependencies\":[{\"argument\":\"a\",\"argumentRange\":[[0,8],[0,15]],\"importAttributes\":\"unknown\",\"kind\":\"require\",\"type\":\"dynamic\"}]}"
     );
     Ok(())
 }

@@ -22,6 +22,10 @@ impl ToJson for DynamicDependencyDescriptor {
         object.put_some("kind", unless(self.kind.is_import(), &self.kind))?;
         object.put_some("argument", unless(self.argument.is_expr(), &self.argument))?;
         object.put("argumentRange", &self.argument_range)?;
+        object.put_some(
+            "importAttributes",
+            unless(self.import_attributes.is_none(), &self.import_attributes),
+        )?;
         Ok(object.into_value())
     }
 }

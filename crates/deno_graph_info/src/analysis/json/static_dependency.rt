@@ -1,7 +1,7 @@
 ghost use Rattle.serde_json.specs.Data.{string};
 ghost use Rattle.deno_graph_info.specs.Json.StaticDependency.{json_of_static, static_kind_name};
 
-use crate::analysis::json::write::{ObjectWriter, ToJson, if_true};
+use crate::analysis::json::write::{ObjectWriter, ToJson, if_true, unless};
 use crate::analysis::static_dependency::{StaticDependencyDescriptor, StaticDependencyKind};
 use serde_json::Value;
 use std::alloc::{AllocError, Global};
@@ -23,6 +23,10 @@ impl ToJson for StaticDependencyDescriptor {
         object.put("specifier", &self.specifier)?;
         object.put("specifierRange", &self.specifier_range)?;
         object.put_some("sideEffect", if_true(&self.is_side_effect))?;
+        object.put_some(
+            "importAttributes",
+            unless(self.import_attributes.is_none(), &self.import_attributes),
+        )?;
         Ok(object.into_value())
     }
 }

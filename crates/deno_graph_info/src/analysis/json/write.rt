@@ -1,10 +1,10 @@
 ghost use Rattle.std.specs.Prelude.{◌≡◌, codes, IfOk, OnOk, OnErr, option_map};
 ghost use Rattle.serde_json.specs.Data.{boolean, string, object, no_members, put as with_member};
 ghost use Rattle.serde_json.specs.View.{view};
-ghost use Rattle.deno_graph_info.specs.Json.Object.{put_present, array_of, unless as when_not, if_any as some_if_any, if_true as true_if_set};
+ghost use Rattle.deno_graph_info.specs.Json.Object.{put_present, array_of, map_object_of, unless as when_not, if_any as some_if_any, if_true as true_if_set};
 ghost use Rattle.deno_graph_info.specs.Json.Writer.{written};
 
-use deno_graph_source::values::{Items, Text};
+use deno_graph_source::values::{Items, Text, TextMap};
 use serde_json::{Map, Value, put};
 use std::alloc::{AllocError, Global};
 
@@ -45,6 +45,18 @@ impl<T: ToJson> ToJson for Items<T> {
             values.push(item.to_json(alloc)?)?;
         }
         Ok(Value::Array(values))
+    }
+}
+
+impl<T: ToJson> ToJson for TextMap<T> {
+    ghost json = { map_object_of T.json };
+
+    fn to_json(&self, alloc: Global) -> Result<Value, AllocError> {
+        let mut object = ObjectWriter::new(alloc);
+        for (key, value) in self {
+            object.put(key, value)?;
+        }
+        Ok(object.into_value())
     }
 }
 
