@@ -7,3 +7,6 @@ pub mod walk;
 
 pub use descriptor::{DependencyDescriptor, StaticDependencyDescriptor};
 pub use walk::analyze_program_dependencies;
+
+#[cfg(test)]
+mod tests;
