@@ -1,6 +1,6 @@
 -- The entries of a body by plain recursion are those at the paths of its listing.
-use Rattle.std.proofs.Common.{◌≡◌, ℕ, zero, suc, List, [], ◌∷◌, ◌++◌, Bool, true, false, cond, Option, Some, None, map, sym, ap, ◌∙◌, refl, subst}
-use Rattle.std.specs.Prelude.{slice_get, is_some, option_map, option_and_then}
+use Rattle.std.proofs.Common.{◌≡◌, ℕ, suc, List, [], ◌∷◌, ◌++◌, Bool, true, false, cond, Option, Some, None, map, sym, ap, ◌∙◌, refl}
+use Rattle.std.specs.Prelude.{slice_get, is_some, option_and_then}
 use Rattle.std.specs.List.{flat_map}
 use Rattle.std.specs.Option.{option_to_list}
 use Rattle.std.proofs.lemmas.Bool.{false≢true}
@@ -12,9 +12,8 @@ use Rattle.deno_graph_source.specs.declared.tree.node.Kind.{Kind}
 use Rattle.deno_graph_source.specs.declared.tree.node.Kind.TheVariants.{ImportDecl, NamedExport, ExportAll, ExportOther, Other}
 use Rattle.deno_graph_source.specs.declared.tree.node.Node.{Node}
 use Rattle.deno_graph_analysis.specs.Dependency.{dependency_rules, is_dependency}
-use Rattle.deno_graph_analysis.specs.Dependencies.{AreDependencies, item_at, items_below}
+use Rattle.deno_graph_analysis.specs.Dependencies.{AreDependencies, items_below}
 use Rattle.deno_graph_analysis.specs.Dependency.{item_of_kind, item_of_node}
-use Rattle.deno_graph_analysis.specs.Item.{Item}
 use Rattle.deno_graph_analysis.specs.Listing.{Rules}
 use Rattle.deno_graph_analysis.specs.NodePath.{NodePath, node_below, node_at}
 use Rattle.deno_graph_analysis.specs.Recursion.{entries_at}

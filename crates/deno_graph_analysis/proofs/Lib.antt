@@ -5,3 +5,4 @@ pub mod Listed
 pub mod Listings
 pub mod NodePaths
 pub mod Nodes
+pub mod Scripts

@@ -1,15 +1,15 @@
 -- A body has exactly one listing, and of two different paths exactly one precedes the other.
-use Rattle.std.proofs.Common.{◌≡◌, ℕ, zero, suc, ◌<◌, List, [], ◌∷◌, ◌++◌, Bool, true, false, Option, Some, None, map, ◌⊎◌, inl, inr, ⊎_elim, ◌↔◌, ◌≢◌, sym, ap, ◌∙◌, refl, subst, arith}
-use Rattle.std.specs.Prelude.{slice_get, option_map, IsSome, IsSomeAnd, IsTrue, Contains, AllPairs}
+use Rattle.std.proofs.Common.{◌≡◌, ℕ, List, [], ◌∷◌, Bool, true, Option, Some, None, map, ◌⊎◌, inl, inr, ⊎_elim, ◌≢◌, sym, ap, ◌∙◌, refl, subst}
+use Rattle.std.specs.Prelude.{slice_get, option_map, IsSome, IsSomeAnd, IsTrue}
 use Rattle.std.proofs.lemmas.Bool.{false≢true, false_from_ne_true}
 use Rattle.deno_graph_source.specs.Node.{children_of}
 use Rattle.deno_graph_source.specs.declared.tree.node.Node.{Node}
 use Rattle.deno_graph_analysis.specs.Listing as listing
 use Rattle.deno_graph_analysis.specs.Listing.{Rules, IsReachable, IsReported, IsAfterInside, Precedes, IsListing}
-use Rattle.deno_graph_analysis.specs.NodePath.{NodePath, node_below, node_at, LeadsTo, GoesOn, PartsBelow}
-use Rattle.deno_graph_analysis.proofs.Ascending.{Member, Ascending, Ascending-unique, Ascending-weaker, Contains-from_Member, Member-from_Contains, AllPairs-from_Ascending, Ascending-from_AllPairs, Member-map, Member-mapped}
-use Rattle.deno_graph_analysis.proofs.Listed.{Found, Found-from_Member, Member-from_Found, is_after, listed_paths, paths_at, Ascending-listed_paths, under, Member-under, Member-of_under, got_map}
-use Rattle.deno_graph_analysis.proofs.NodePaths.{Below, Apart, Below-from_GoesOn, GoesOn-from_Below, Apart-from_PartsBelow, PartsBelow-from_Apart, Before, apart, outer, inner, Before-asymmetric, Before-total}
+use Rattle.deno_graph_analysis.specs.NodePath.{NodePath, node_below, node_at}
+use Rattle.deno_graph_analysis.proofs.Ascending.{Member, Ascending, Ascending-unique, Ascending-weaker, Contains-from_Member, Member-from_Contains, AllPairs-from_Ascending, Ascending-from_AllPairs}
+use Rattle.deno_graph_analysis.proofs.Listed.{Found, Found-from_Member, Member-from_Found, is_after, listed_paths, paths_at, Ascending-listed_paths, Member-under, Member-of_under, got_map}
+use Rattle.deno_graph_analysis.proofs.NodePaths.{Below, Below-from_GoesOn, GoesOn-from_Below, Apart-from_PartsBelow, PartsBelow-from_Apart, Before, apart, outer, inner, Before-asymmetric, Before-total, Before-transitive}
 use Rattle.std.proofs.lemmas.Option.{slice_get-map}
 
 after_true : (rules : Rules) (o : Option Node) → IsSomeAnd o (λ node. IsTrue (rules.is_after_inside node)) → is_after rules o ≡ true
@@ -51,6 +51,12 @@ Precedes-total rules body p q ne =
     (λ (w : Before (after_at rules body) p q ⊎ Before (after_at rules body) q p).
     ⊎_elim (λ h. inl (Precedes-from_Before rules body p q h)) (λ h. inr (Precedes-from_Before rules body q p h)) w)
     (Before-total (after_at rules body) p q)
+
+-- and it is transitive
+pub Precedes-transitive : (rules : Rules) (body : List Node) (p q r : NodePath) → Precedes rules body p q → Precedes rules body q r → Precedes rules body p r
+Precedes-transitive rules body p q r a b =
+    Precedes-from_Before rules body p r
+    (Before-transitive (after_at rules body) p q r (Before-from_Precedes rules body p q a) (Before-from_Precedes rules body q r b))
 
 -- a body has one listing at most
 pub IsListing-unique : (rules : Rules) (body : List Node) (ps qs : List NodePath) → IsListing rules body ps → IsListing rules body qs → ps ≡ qs

@@ -1,6 +1,6 @@
 -- How two paths stand to one another, by recursion on both.
-use Rattle.std.proofs.Common.{◌≡◌, ℕ, zero, suc, ◌<◌, List, [], ◌∷◌, ◌++◌, Bool, true, false, ◌⊎◌, inl, inr, ⊎_elim, sym, ap, ◌∙◌, refl, subst, arith}
-use Rattle.std.proofs.lemmas.Bool.{cases_order}
+use Rattle.std.proofs.Common.{◌≡◌, ℕ, ◌<◌, [], ◌∷◌, ◌++◌, Bool, true, false, ◌⊎◌, inl, inr, ⊎_elim, sym, ap, ◌∙◌, refl, subst, arith}
+use Rattle.std.proofs.lemmas.Bool.{cases_order, false≢true}
 use Rattle.deno_graph_analysis.specs.NodePath.{NodePath, GoesOn, PartsBelow}
 
 -- q goes on from p
@@ -138,6 +138,87 @@ Before-total after p q = way (compared p q)
     way (high a) = inr (inr (apart a))
     way (above b) = inr (by_front (after p) refl b)
     way (under b) = inr (by_rest (after q) refl b)
+
+Below-transitive : (p q r : NodePath) → Below p q → Below q r → Below p r
+Below-transitive [] [] r a b = absurd a
+Below-transitive [] (n ∷ q) [] a b = absurd b
+Below-transitive [] (n ∷ q) (k ∷ r) a b = tt
+Below-transitive (m ∷ p) [] r a b = absurd a
+Below-transitive (m ∷ p) (n ∷ q) [] a b = absurd b
+Below-transitive (m ∷ p) (n ∷ q) (k ∷ r) a b = (a.0 ∙ b.0, Below-transitive p q r a.1 b.1)
+
+Apart-transitive : (p q r : NodePath) → Apart p q → Apart q r → Apart p r
+Apart-transitive [] q r a b = absurd a
+Apart-transitive (m ∷ p) [] r a b = absurd a
+Apart-transitive (m ∷ p) (n ∷ q) [] a b = absurd b
+Apart-transitive (m ∷ p) (n ∷ q) (k ∷ r) (inl a) (inl b) = inl (omega arith)
+Apart-transitive (m ∷ p) (n ∷ q) (k ∷ r) (inl a) (inr b) = inl (omega (arith, b.0))
+Apart-transitive (m ∷ p) (n ∷ q) (k ∷ r) (inr a) (inl b) = inl (omega (arith, a.0))
+Apart-transitive (m ∷ p) (n ∷ q) (k ∷ r) (inr a) (inr b) = inr (a.0 ∙ b.0, Apart-transitive p q r a.1 b.1)
+
+-- what is apart from a path is apart from those that go on from it
+Apart-below : (p q r : NodePath) → Apart p q → Below q r → Apart p r
+Apart-below [] q r a b = absurd a
+Apart-below (m ∷ p) [] r a b = absurd a
+Apart-below (m ∷ p) (n ∷ q) [] a b = absurd b
+Apart-below (m ∷ p) (n ∷ q) (k ∷ r) (inl a) b = inl (omega (arith, b.0))
+Apart-below (m ∷ p) (n ∷ q) (k ∷ r) (inr a) b = inr (a.0 ∙ b.0, Apart-below p q r a.1 b.1)
+
+Below-apart : (p q r : NodePath) → Below q p → Apart q r → Apart p r
+Below-apart p [] r b a = absurd a
+Below-apart [] (n ∷ q) r b a = absurd b
+Below-apart (m ∷ p) (n ∷ q) [] b a = absurd a
+Below-apart (m ∷ p) (n ∷ q) (k ∷ r) b (inl a) = inl (omega (arith, b.0))
+Below-apart (m ∷ p) (n ∷ q) (k ∷ r) b (inr a) = inr (sym b.0 ∙ a.0, Below-apart p q r b.1 a.1)
+
+-- a front of the second of two paths that are apart
+Apart-front : (p q r : NodePath) → Apart p q → Below r q → Apart p r ⊎ Below r p
+Apart-front [] q r a b = absurd a
+Apart-front (m ∷ p) [] r a b = absurd a
+Apart-front (m ∷ p) (n ∷ q) [] a b = inr tt
+Apart-front (m ∷ p) (n ∷ q) (k ∷ r) (inl a) b = inl (inl (omega (arith, b.0)))
+Apart-front (m ∷ p) (n ∷ q) (k ∷ r) (inr a) b =
+    let e : m ≡ k = a.0 ∙ sym b.0 in
+    ⊎_elim (λ h. inl (inr (e, h))) (λ h. inr (sym e, h)) (Apart-front p q r a.1 b.1)
+
+-- a front of the first
+Front-apart : (p q r : NodePath) → Below p q → Apart q r → Apart p r ⊎ Below p r
+Front-apart p [] r b a = absurd a
+Front-apart p (n ∷ q) [] b a = absurd a
+Front-apart [] (n ∷ q) (k ∷ r) b a = inr tt
+Front-apart (m ∷ p) (n ∷ q) (k ∷ r) b (inl a) = inl (inl (omega (arith, b.0)))
+Front-apart (m ∷ p) (n ∷ q) (k ∷ r) b (inr a) =
+    let e : m ≡ k = b.0 ∙ a.0 in
+    ⊎_elim (λ h. inl (inr (e, h))) (λ h. inr (e, h)) (Front-apart p q r b.1 a.1)
+
+-- two fronts of one path
+Fronts : (p q r : NodePath) → Below p q → Below r q → (p ≡ r) ⊎ (Below p r ⊎ Below r p)
+Fronts [] q [] a b = inl refl
+Fronts [] q (k ∷ r) a b = inr (inl tt)
+Fronts (m ∷ p) q [] a b = inr (inr tt)
+Fronts (m ∷ p) [] (k ∷ r) a b = absurd a
+Fronts (m ∷ p) (n ∷ q) (k ∷ r) a b =
+    let e : m ≡ k = a.0 ∙ sym b.0 in
+    ⊎_elim (λ (s : p ≡ r). let t : m ∷ p ≡ k ∷ r = cc in inl t)
+    (λ w. inr (⊎_elim (λ h. inl (e, h)) (λ h. inr (sym e, h)) w))
+    (Fronts p q r a.1 b.1)
+
+-- and it is transitive
+pub Before-transitive : (after : NodePath → Bool) (p q r : NodePath) → Before after p q → Before after q r → Before after p r
+Before-transitive after p q r (apart a) (apart b) = apart (Apart-transitive p q r a b)
+Before-transitive after p q r (apart a) (outer b f) = apart (Apart-below p q r a b)
+Before-transitive after p q r (apart a) (inner b t) =
+    ⊎_elim (λ h. apart h) (λ h. inner h t) (Apart-front p q r a b)
+Before-transitive after p q r (outer a f) (apart b) =
+    ⊎_elim (λ h. apart h) (λ h. outer h f) (Front-apart p q r a b)
+Before-transitive after p q r (outer a f) (outer b g) = outer (Below-transitive p q r a b) f
+Before-transitive after p q r (outer a f) (inner b t) =
+    ⊎_elim (λ (e : p ≡ r). let same : after p ≡ after r = ap after e in absurd (false≢true (sym f ∙ (same ∙ t))))
+    (λ w. ⊎_elim (λ h. outer h f) (λ h. inner h t) w)
+    (Fronts p q r a b)
+Before-transitive after p q r (inner a t) (apart b) = apart (Below-apart p q r a b)
+Before-transitive after p q r (inner a t) (outer b f) = absurd (false≢true (sym f ∙ t))
+Before-transitive after p q r (inner a t) (inner b u) = inner (Below-transitive r q p b a) u
 
 -- the order below one number
 pub Before-cons : (after : NodePath → Bool) (n : ℕ) (p q : NodePath) → Before (λ r. after (n ∷ r)) p q → Before after (n ∷ p) (n ∷ q)

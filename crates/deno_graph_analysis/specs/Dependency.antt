@@ -1,6 +1,7 @@
 -- Which nodes of a tree are dependencies, where they are listed, and what each states.
 use Rattle.std.specs.Prelude.{ℕ, List, [], Bool, true, false, not, Option, Some, None, is_some, option_map, unwrap_or, if◌then◌else◌}
-use Rattle.deno_graph_source.specs.Comments.{FiledComments, filed_at}
+use Rattle.deno_graph_source.specs.ByPosition.{value_at}
+use Rattle.deno_graph_source.specs.Comments.{FiledComments}
 use Rattle.deno_graph_source.specs.JsString.{lossy_text}
 use Rattle.deno_graph_source.specs.Node.{kind_of, range_of, children_of}
 use Rattle.deno_graph_source.specs.declared.text.position.SourceRange.{SourceRange}
@@ -61,7 +62,7 @@ export_kind false = Export
 
 -- the comments that are filed as leading at a position
 abbrev pub leading_at : FiledComments → ℕ → List DependencyComment
-leading_at comments pos = unwrap_or (filed_at comments.leading pos) []
+leading_at comments pos = unwrap_or (value_at comments.leading pos) []
 
 -- the dependency that a node at this range states, whose specifier is this literal
 abbrev pub stated_item : FiledComments → SourceRange → StaticDependencyKind → StrLit → Bool → Item

@@ -1,5 +1,6 @@
 -- What a dependency says, by values alone.
 use Rattle.std.specs.Prelude.{ℕ, List, Bool}
+use Rattle.deno_graph_source.specs.SourceRange.{IsTextRange}
 use Rattle.deno_graph_source.specs.declared.text.position.SourceRange.{SourceRange}
 use Rattle.deno_graph_source.specs.declared.tree.comments.DependencyComment.{DependencyComment}
 use Rattle.deno_graph_info.specs.declared.analysis.static_dependency.StaticDependencyKind.{StaticDependencyKind}
@@ -32,3 +33,7 @@ static_item_of descriptor = record {
 -- what a descriptor says, with what its borrows point to in their place
 abbrev pub item_of : DependencyDescriptor → Item
 item_of (Static descriptor) = static_item (static_item_of descriptor)
+
+-- the ranges that a dependency is read at are ranges of the text
+abbrev pub HasTextRanges : List ℕ → Item → Type 0
+HasTextRanges text (static_item item) = IsTextRange text item.specifier_range

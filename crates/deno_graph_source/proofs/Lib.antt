@@ -1,10 +1,11 @@
+pub mod FrontLemmas
 pub mod Judgements
 pub mod LossyText
 pub mod NodeRanges
-pub mod FrontLemmas
 pub mod PlaceLemmas
 pub mod PositionLemmas
 pub mod PositionOrder
 pub mod SourceFaults
 pub mod TextEntries
 pub mod Units
+pub mod ValidSource

@@ -7,7 +7,10 @@ pub mod Place
 pub mod ParsedSource
 pub mod Position
 pub mod Source
+pub mod Place
+pub mod Position
 pub mod PositionRange
+pub mod Source
 pub mod SourceRange
 pub mod TextMap
 pub mod formers

@@ -15,10 +15,11 @@ pub fn one_listing()
     ensures only { (rules : Rules) (body : List Node) (paths others : List NodePath) → IsListing rules body paths → IsListing rules body others → paths ≡ others }
 {}
 
-/// Of two different paths exactly one precedes the other.
-pub fn one_precedes()
+/// The tree order is a strict total order: of two different paths exactly one precedes the other.
+pub fn tree_order()
     ensures one { (rules : Rules) (body : List Node) (p q : NodePath) → p ≢ q → Precedes rules body p q ⊎ Precedes rules body q p }
     ensures not_both { (rules : Rules) (body : List Node) (p q : NodePath) → Precedes rules body p q → ¬ Precedes rules body q p }
+    ensures transitive { (rules : Rules) (body : List Node) (p q r : NodePath) → Precedes rules body p q → Precedes rules body q r → Precedes rules body p r }
 {}
 
 /// The nodes that are listed are those that state a dependency.

@@ -7,9 +7,9 @@ use std::alloc::{AllocError, Global};
 /// What is known of the first argument of a dynamic dependency.
 #[derive(Debug, PartialEq, Eq, Drop)]
 pub enum DynamicArgument {
-    /// A string.
+    /// A string, with U+FFFD for each lone surrogate.
     String(Text),
-    /// A text with parts of which nothing is known.
+    /// A text of several parts, in order; of some nothing may be known.
     Template(Items<DynamicTemplatePart>),
     /// An expression of which nothing is known.
     Expr,

@@ -58,8 +58,9 @@ pub struct DynamicDependencyDescriptor {
     pub kind: DynamicDependencyKind,
     /// What is known of the first argument.
     pub argument: DynamicArgument,
-    /// Where the first argument stands.
+    /// Where the first argument stands: lines and characters from zero.
     pub argument_range: PositionRange,
+    /// The attributes that the second argument states.
     pub import_attributes: ImportAttributes,
 }
 

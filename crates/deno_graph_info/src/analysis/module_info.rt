@@ -13,12 +13,13 @@ use std::alloc::{AllocError, Global};
 pub struct ModuleInfo {
     /// Whether the source may be run as a script.
     pub is_script: bool,
-    /// The dependencies, in the order of the source.
+    /// The dependencies, in the order of the tree, a call after those inside it.
     pub dependencies: Items<DependencyDescriptor>,
 }
 
 impl ModuleInfo {
-    /// The JSON form. The only error is that memory was refused.
+    /// The JSON form: members that have their default are left out. The only error is that memory was
+    /// refused.
     pub fn to_value(&self, alloc: Global) -> Result<Value, AllocError>
         ensures { IfOk result (λ value. view value ≡ json_of_info self.now) }
     {

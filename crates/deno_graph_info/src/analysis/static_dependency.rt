@@ -52,12 +52,13 @@ impl StaticDependencyKind {
 #[derive(Debug, PartialEq, Eq, Drop)]
 pub struct StaticDependencyDescriptor {
     pub kind: StaticDependencyKind,
-    /// The specifier as it is written, without its quotes.
+    /// The value of the string, with U+FFFD for each lone surrogate.
     pub specifier: Text,
-    /// Where the specifier stands, with its quotes.
+    /// Where the string stands, with its quotes: lines and characters from zero.
     pub specifier_range: PositionRange,
     /// Whether this is an import that binds no name, as `import "..";`.
     pub is_side_effect: bool,
+    /// The attributes of the `with` or `assert` clause.
     pub import_attributes: ImportAttributes,
 }
 

@@ -7,14 +7,16 @@ ghost use Rattle.deno_graph_source.specs.declared.text.position.SourceRange.{Sou
 use crate::text::place::Place;
 use crate::text::source_text_info::SourceTextInfo;
 
-/// A range of a text in bytes from zero: `end` is the first byte after it.
+/// A range of a text in bytes from zero: `end` is the first byte behind it.
 #[derive(Clone, Copy, Debug, PartialEq, Eq)]
 pub struct SourceRange {
     pub start: usize,
     pub end: usize,
 }
 
-/// A place in a text: a line from zero, and characters from zero since the line began.
+/// A place in a text: the number of line feeds (U+000A) before it, and the number of characters
+/// (Unicode scalar values) since the last of them. Both count from zero. No other character ends a
+/// line, not even a carriage return.
 #[derive(Clone, Copy, Debug, PartialEq, Eq, PartialOrd, Ord)]
 pub struct Position {
     pub line: usize,
@@ -33,7 +35,8 @@ impl Position {
         }
     }
 
-    /// The position of `pos`, a character boundary of the text, in bytes from its start.
+    /// The position of `pos`, which is a character boundary of the text, in bytes from its start.
+    /// Takes no memory, and a time that doesn't grow with the length of the line.
     pub fn from_source_pos(pos: usize, text_info: &SourceTextInfo) -> Position
         requires { IsCharBoundary text_info.now pos }
         ensures { result ≡ position_at text_info.now pos }
@@ -43,7 +46,7 @@ impl Position {
     }
 
     /// The boundary of the text that has this position, in bytes from the text's start. None where
-    /// no boundary has it.
+    /// no boundary has it. Takes no memory, and a time that doesn't grow with the length of the line.
     pub fn as_source_pos(&self, text_info: &SourceTextInfo) -> Option<usize>
         ensures some { IfSome result (IsAt text_info.now self.now) }
         ensures none { IsNone result ↔ ¬ (HasPosition text_info.now self.now) }
@@ -59,6 +62,7 @@ impl Position {
         }
     }
 
+    /// Whether this position comes first: by line, and in one line by character.
     pub(crate) fn is_before(self, other: Position) -> bool
         ensures test { result ≡ is_before self other }
         ensures fact { IsTrue result ↔ IsBefore self other }
@@ -136,6 +140,7 @@ impl PositionRange {
             end: Position::from_source_pos(range.end, text_info),
         }
     }
+
     /// The range of the text whose ends have these positions. None where an end has a position
     /// that no boundary of the text has.
     pub fn as_source_range(&self, text_info: &SourceTextInfo) -> Option<SourceRange>

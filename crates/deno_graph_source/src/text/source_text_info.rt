@@ -14,7 +14,7 @@ use std::alloc::{AllocError, Global};
 use std::marker::Model;
 use std::rc::{Rc, RcStr};
 
-/// A text, with what finds its lines.
+/// A text, with what finds positions in it. Contracts see its bytes alone.
 #[derive(Debug, Drop)]
 pub struct SourceTextInfo {
     text: RcStr,
@@ -38,7 +38,8 @@ impl Model for SourceTextInfo {
 }
 
 impl SourceTextInfo {
-    /// The text with its lines, or an error where memory was refused.
+    /// Reads `text` once, and keeps about a tenth of its size besides. An error where memory was
+    /// refused.
     pub fn new(alloc: Global, text: RcStr) -> Result<SourceTextInfo, AllocError>
         ensures { IfOk result (λ info. info ≡ rc_str_bytes text) }
     {

@@ -1,4 +1,4 @@
-use Rattle.std.proofs.Common.{◌≡◌, ◌∙◌, sym, ap, subst, map, List, take}
+use Rattle.std.proofs.Common.{◌≡◌, ◌∙◌, sym, ap, subst, map, List}
 use Rattle.std.proofs.lemmas.List.{take_all}
 use Rattle.deno_graph_analysis.specs.Dependencies.{AreDependencies, items_below}
 use Rattle.deno_graph_analysis.specs.Item.{Item, item_of}

@@ -1,10 +1,10 @@
-use Rattle.std.proofs.Common.{◌≡◌, ◌++◌, [], map, take, cond, not, Bool, true, false, List, ◌∷◌, sym, ap, ◌∙◌, refl, OnOk}
+use Rattle.std.proofs.Common.{◌≡◌, ◌++◌, [], map, cond, not, Bool, true, false, List, sym, ap, ◌∙◌, refl}
 use Rattle.std.specs.Option.{option_to_list}
 use Rattle.std.proofs.lemmas.List.{append-nil, take_all}
 use Rattle.std.proofs.lemmas.Result.{on_ok_weaker}
 use Rattle.deno_graph_source.specs.Comments.{FiledComments}
 use Rattle.deno_graph_source.specs.Node.{kind_of, children_of}
-use Rattle.deno_graph_source.specs.declared.tree.node.Node.{Node, out-Node}
+use Rattle.deno_graph_source.specs.declared.tree.node.Node.{Node}
 use Rattle.deno_graph_analysis.specs.Dependency.{dependency_rules, children_to_visit, is_closed, is_listed_after_inside}
 use Rattle.deno_graph_analysis.specs.Dependencies.{items_at, items_below}
 use Rattle.deno_graph_analysis.specs.Dependency.{item_of_node}

@@ -1,0 +1,84 @@
+-- What validity says of each part of a source: the ranges of a node at any depth, of its literal and
+-- of each comment are ranges of the text.
+use Rattle.std.proofs.Common.{◌≡◌, ℕ, zero, suc, ◌+◌, ◌<◌, true, false, Bool, List, [], ◌∷◌, ◌++◌, map, Option, Some, None, refl, sym, ap, arith}
+use Rattle.std.specs.List.{Contains, All}
+use Rattle.std.proofs.lemmas.List.Elements.{All-contains, Contains-append_left, Contains-append_right, Contains-get_or}
+use Rattle.std.specs.Map.{values_of}
+use Rattle.std.proofs.lemmas.Map.Entries.{place_from_lookup}
+use Rattle.std.proofs.lemmas.Map.Made.{Contains-values_of}
+use Rattle.std.proofs.lemmas.Option.{slice_get_within, get_or_from_slice_get}
+use Rattle.deno_graph_source.specs.ByPosition.{value_at, all_items}
+use Rattle.deno_graph_source.specs.Comments.{FiledComments, comments_of}
+use Rattle.deno_graph_source.specs.Node.{kind_of, range_of, children_of, literal_of, ranges_in_kind, node_ranges, program_ranges}
+use Rattle.deno_graph_source.specs.Source.{IsValid, ranges_of}
+use Rattle.deno_graph_source.specs.SourceRange.{IsTextRange}
+use Rattle.deno_graph_source.specs.declared.text.position.SourceRange.{SourceRange}
+use Rattle.deno_graph_source.specs.declared.tree.comments.DependencyComment.{DependencyComment}
+use Rattle.deno_graph_source.specs.declared.tree.node.Node.{Node}
+use Rattle.deno_graph_source.specs.declared.tree.node.Program.{Program}
+use Rattle.deno_graph_source.specs.declared.tree.node.StrLit.{StrLit}
+use Rattle.deno_graph_source.proofs.NodeRanges.{Contains-own_range, Contains-kind_range, Contains-child_range, Contains-flat_map, Contains-map}
+
+-- what holds of all elements of a list holds of those of each list that has no others
+pub All-within : {X : Type 0} (P : X → Type 0) (xs ys : List X) → ((x : X) → Contains ys x → Contains xs x) → All P xs → All P ys
+All-within P xs ys within all k d below = All-contains P xs _ all (within _ (Contains-get_or ys k d below))
+
+-- what holds of the ranges of a program holds of those of each item
+pub All-item_ranges : (P : SourceRange → Type 0) (program : Program) (node : Node) → Contains program.body node → All P (program_ranges program) → All P (node_ranges node)
+unfolding program_ranges
+All-item_ranges P program node at all =
+    All-within P (program_ranges program) _ (λ range h. Contains-append_right (program.range ∷ []) _ range (Contains-flat_map node_ranges program.body node range at h)) all
+
+-- what holds of the ranges of a node holds of those of each child
+pub All-child_ranges : (P : SourceRange → Type 0) (node child : Node) → Contains (children_of node) child → All P (node_ranges node) → All P (node_ranges child)
+All-child_ranges P node child at all =
+    All-within P (node_ranges node) _ (λ range. Contains-child_range node child range at) all
+
+-- so of the node's own range
+pub node_range-holds : (P : SourceRange → Type 0) (node : Node) → All P (node_ranges node) → P (range_of node)
+node_range-holds P node all = All-contains P (node_ranges node) _ all (Contains-own_range node)
+
+-- of those that its kind holds
+pub All-kind_ranges : (P : SourceRange → Type 0) (node : Node) → All P (node_ranges node) → All P (ranges_in_kind (kind_of node))
+All-kind_ranges P node all = All-within P (node_ranges node) _ (Contains-kind_range node) all
+
+-- and of that of its literal
+pub literal_range-holds : (P : SourceRange → Type 0) (node : Node) (literal : StrLit) → literal_of (kind_of node) ≡ Some literal → All P (node_ranges node) → P literal.range
+literal_range-holds P node literal is all =
+    All-contains P _ _ (All-kind_ranges P node all) (rw is (0, omega arith, refl))
+
+-- the ranges of the program of a valid source are ranges of its text
+pub valid_program : (text : List ℕ) (program : Program) (comments : FiledComments) → IsValid text program comments → All (IsTextRange text) (program_ranges program)
+unfolding ranges_of
+valid_program text program comments valid =
+    All-within (IsTextRange text) (ranges_of program comments) _ (λ range. Contains-append_left (program_ranges program) _ range) valid.ranges
+
+-- so are those of each item and of all nodes below it
+pub valid_item : (text : List ℕ) (program : Program) (comments : FiledComments) (node : Node) → IsValid text program comments → Contains program.body node → All (IsTextRange text) (node_ranges node)
+valid_item text program comments node valid at =
+    All-item_ranges (IsTextRange text) program node at (valid_program text program comments valid)
+
+-- and that of each comment
+pub valid_comment : (text : List ℕ) (program : Program) (comments : FiledComments) (comment : DependencyComment) → IsValid text program comments → Contains (comments_of comments) comment → IsTextRange text comment.range
+unfolding ranges_of
+valid_comment text program comments comment valid at =
+    All-contains (IsTextRange text) (ranges_of program comments) _ valid.ranges (Contains-append_right (program_ranges program) _ comment.range (Contains-map (λ c. c.range) (comments_of comments) comment at))
+
+-- what stands in the list at a position is among the items at all positions
+Contains-at_position : {T : Type 0} (entries : List (ℕ × List T)) (pos : ℕ) (items : List T) (item : T) → value_at entries pos ≡ Some items → Contains items item → Contains (all_items entries) item
+Contains-at_position entries pos items item found at =
+    let place = place_from_lookup _ entries items found in
+    let entry : Contains entries (place.1, items) = (place.0, slice_get_within entries place.0 _ place.2, get_or_from_slice_get entries place.0 _ _ place.2) in
+    Contains-flat_map (λ list. list) (values_of entries) items item (Contains-values_of entries place.1 items entry) at
+
+-- a comment that is filed as leading somewhere is one of all comments
+pub Contains-leading : (comments : FiledComments) (pos : ℕ) (filed : List DependencyComment) (comment : DependencyComment) → value_at comments.leading pos ≡ Some filed → Contains filed comment → Contains (comments_of comments) comment
+unfolding comments_of
+Contains-leading comments pos filed comment found at =
+    Contains-append_left (all_items comments.leading) (all_items comments.trailing) comment (Contains-at_position comments.leading pos filed comment found at)
+
+-- so is one that is filed as trailing
+pub Contains-trailing : (comments : FiledComments) (pos : ℕ) (filed : List DependencyComment) (comment : DependencyComment) → value_at comments.trailing pos ≡ Some filed → Contains filed comment → Contains (comments_of comments) comment
+unfolding comments_of
+Contains-trailing comments pos filed comment found at =
+    Contains-append_right (all_items comments.leading) (all_items comments.trailing) comment (Contains-at_position comments.trailing pos filed comment found at)
