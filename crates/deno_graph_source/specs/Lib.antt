@@ -3,10 +3,7 @@ pub mod Comments
 pub mod JsString
 pub mod MediaType
 pub mod Node
-pub mod Place
 pub mod ParsedSource
-pub mod Position
-pub mod Source
 pub mod Place
 pub mod Position
 pub mod PositionRange
