@@ -7,7 +7,7 @@ use Rattle.deno_graph_source.specs.declared.text.position.SourceRange.{SourceRan
 use Rattle.deno_graph_source.specs.declared.tree.node.Program.{Program}
 use Rattle.deno_graph_info.specs.declared.analysis.dependency.DependencyDescriptor.{DependencyDescriptor}
 use Rattle.deno_graph_info.specs.declared.analysis.dependency.DependencyDescriptor.TheVariants.{Static}
-use Rattle.deno_graph_info.specs.declared.analysis.attributes.ImportAttributes.TheVariants as attributes
+use Rattle.deno_graph_info.specs.declared.analysis.import_attributes.ImportAttributes.TheVariants as attributes
 use Rattle.deno_graph_info.specs.declared.analysis.module_info.ModuleInfo.{ModuleInfo}
 use Rattle.deno_graph_info.specs.declared.analysis.static_dependency.StaticDependencyDescriptor.{StaticDependencyDescriptor}
 use Rattle.deno_graph_analysis.specs.Dependencies.{AreDependencies}
@@ -21,12 +21,12 @@ positions_of text range = record { start = position_at text range.start; end = p
 -- a static dependency with the positions of its specifier
 abbrev pub static_dependency_of : List ℕ → StaticItem → StaticDependencyDescriptor
 static_dependency_of text item = record {
-    kind = item.kind;
-    specifier = item.specifier;
-    specifier_range = positions_of text item.specifier_range;
-    is_side_effect = item.is_side_effect;
-    import_attributes = attributes.None;
-  }
+  kind = item.kind;
+  specifier = item.specifier;
+  specifier_range = positions_of text item.specifier_range;
+  is_side_effect = item.is_side_effect;
+  import_attributes = attributes.None;
+}
 
 -- a dependency with its positions in the text
 abbrev pub dependency_of : List ℕ → Item → DependencyDescriptor

@@ -1,10 +1,10 @@
 -- Boundaries of a text, and the characters before and behind them.
-use Rattle.std.proofs.Common.{◌≡◌, ℕ, ◌+◌, ◌-◌, ◌<◌, ◌≤◌, ◌⊎◌, inl, inr, List, [], ◌∷◌, ◌++◌, length, take, drop, get_or, zero, suc, All, true, not, refl, sym, ap, ◌∙◌, subst, arith, length-append, length-drop, append_assoc}
+use Rattle.std.proofs.Common.{◌≡◌, ℕ, ◌+◌, ◌-◌, ◌<◌, ◌≤◌, inl, inr, List, [], ◌∷◌, ◌++◌, length, take, drop, get_or, zero, suc, All, not, refl, sym, ap, ◌∙◌, subst, arith, length-append, length-drop, append_assoc}
 use Rattle.std.proofs.lemmas.Bool.{cases_lt, cases_Bool, false≢true}
 use Rattle.std.proofs.lemmas.List.{length-take-le, take-append-drop, take-append-le, take_all, append-nil}
 use Rattle.std.proofs.lemmas.List.Elements.{All-append}
 use Rattle.std.proofs.lemmas.List.Sorted.{IsNonDecreasingBy-push}
-use Rattle.std.proofs.lemmas.Str.{IsCharBoundary-start, IsCharBoundary-past_char, IsUtf8-take, IsUtf8-drop, IsUtf8-between, IsUtf8-encode, chars-append, chars_past_char, chars-nil, encodes-chars, drop_past_char, encode_same, length-encode, length-le-encodes}
+use Rattle.std.proofs.lemmas.Str.{IsCharBoundary-start, IsCharBoundary-past_char, IsUtf8-take, IsUtf8-drop, IsUtf8-between, chars-append, chars_past_char, chars-nil, encodes-chars, encode_same, length-encode, length-le-encodes}
 use Rattle.std.proofs.Math.Seq.{take-add}
 use Rattle.std.specs.Char.{len_utf8}
 use Rattle.std.specs.Cmp.{nat_cmp_is}
@@ -123,43 +123,6 @@ not_found text start place wanted utf8 first stop reaches before end other (pos,
     ]
   ]
 ]
-
--- the places that aren't beyond `wanted` come first
-pub partitioned : (text : List ℕ) (places : List Place) (wanted : Position) → IsUtf8 text → ArePlaces text places → IsPartitionedBy (λ place. not (is_before wanted place.position)) places
-partitioned text places wanted utf8 are i j d order within later =
-    let first = are.all i d (omega arith) in
-    let second = are.all j d within in
-    elim (cases_Bool (is_before wanted (get_or places i d).position)) [
-      | inr reached ↦ ap not reached
-      | inl missed ↦
-          let beyond : ¬ (IsBefore wanted (get_or places j d).position) = λ before. false≢true (ap not (sym (is_before-from wanted (get_or places j d).position before)) ∙ later) in
-          let reaches = is_before-true wanted (get_or places i d).position missed in
-          absurd (elim (cases_lt (get_or places i d).pos (get_or places j d).pos) [
-            | inl less ↦
-                let more = before_from_lt text _ _ utf8 first.boundary second.boundary less in
-                beyond (IsBefore-trans _ _ _ reaches (subst (λ p. IsBefore (get_or places i d).position p) (sym second.position) (subst (λ p. IsBefore p (position_at text (get_or places j d).pos)) (sym first.position) more)))
-            | inr no_less ↦
-                let up = are.ascending i j d order within in
-                let here : (get_or places i d).pos ≡ (get_or places j d).pos = omega arith in
-                beyond (subst (IsBefore wanted) (first.position ∙ ap (position_at text) here ∙ sym second.position) reaches)
-          ])
-    ]
-
-All-one : (P : Place → Type 0) (place : Place) → P place → All P (place ∷ [])
-All-one P place is zero d within = is
-All-one P place is (suc k) d within = absurd (omega (arith, within))
-
--- one more place, at or behind the others
-pub ArePlaces-push : (text : List ℕ) (places : List Place) (place : Place) (last : ℕ) → ArePlaces text places → IsPlace text place → All (λ p. p.pos ≤ last) places → last ≤ place.pos → ArePlaces text (places ++ place ∷ [])
-ArePlaces-push text places place last are is below behind = record {
-  all = All-append (IsPlace text) places (place ∷ []) are.all (All-one (IsPlace text) place is);
-  ascending = IsNonDecreasingBy-push (λ p. p.pos) places place are.ascending (λ d some. let near = below (length places - 1) d (omega arith) in omega arith);
-}
-
--- the new place is the last
-pub below_last : (places : List Place) (place : Place) (last : ℕ) → All (λ p. p.pos ≤ last) places → last ≤ place.pos → All (λ p. p.pos ≤ place.pos) (places ++ place ∷ [])
-below_last places place last below behind =
-    All-append (λ p. p.pos ≤ place.pos) places (place ∷ []) (λ k d within. let near = below k d within in omega arith) (All-one (λ p. p.pos ≤ place.pos) place (omega arith))
 
 -- positions compare as their boundaries
 pub position_cmp-position_at : (text : List ℕ) (a b : ℕ) → IsUtf8 text → IsCharBoundary text a → IsCharBoundary text b → position_cmp (position_at text a) (position_at text b) ≡ nat_cmp a b

@@ -4,7 +4,9 @@ ghost use Rattle.deno_graph_analysis.specs.Item.{item_of, static_item_of, HasTex
 ghost use Rattle.deno_graph_analysis.specs.ModuleInfo.{dependency_of, static_dependency_of};
 
 use crate::dep;
-use deno_graph_info::analysis::{DependencyDescriptor, ImportAttributes, StaticDependencyDescriptor};
+use deno_graph_info::analysis::{
+    DependencyDescriptor, ImportAttributes, StaticDependencyDescriptor,
+};
 use deno_graph_source::text::{PositionRange, SourceTextInfo};
 use deno_graph_source::values::{Items, Text};
 use std::alloc::{AllocError, Global};
@@ -15,7 +17,7 @@ pub(crate) fn dependencies(
     text_info: &SourceTextInfo,
     found: &[dep::DependencyDescriptor<'_>],
 ) -> Result<Items<DependencyDescriptor>, AllocError>
-    requires { All (HasTextRanges text_info.now) (map item_of found.now) }
+    requires { All (λ descriptor. HasTextRanges text_info.now (item_of descriptor)) found.now }
     ensures { IfOk result (λ dependencies. dependencies ≡ map (dependency_of text_info.now) (map item_of found.now)) }
 {
     let mut dependencies = Items::with_capacity(alloc, found.len())?;

@@ -1,8 +1,8 @@
-#![tactic(auto, unfolding(deno_graph_source::specs::Node::kind_of, deno_graph_source::specs::Node::children_of))]
+#![tactic(auto, unfolding(deno_graph_source::specs::Node::kind_of))]
 
-ghost use Rattle.std.specs.Prelude.{◌≡◌, ◌↔◌, IsTrue, All, false};
-ghost use Rattle.deno_graph_source.specs.Node.{kind_of, children_of};
-ghost use Rattle.deno_graph_analysis.specs.Script.{IsScript, MakesModule, is_module_item};
+ghost use Rattle.std.specs.Prelude.{◌≡◌, ◌↔◌, IsTrue};
+ghost use Rattle.deno_graph_source.specs.Node.{kind_of};
+ghost use Rattle.deno_graph_analysis.specs.Script.{IsScript, is_module_item};
 
 use deno_graph_source::tree::{Kind, Node, Program};
 
@@ -11,7 +11,7 @@ pub(crate) fn is_script(program: &Program) -> bool
     ensures { IsTrue result ↔ IsScript program.now.body }
 {
     for item in program.body.as_slice() {
-        if is_module_item(item) || makes_module(item, false) {
+        if is_module_item(item) {
             return false;
         }
     }
@@ -29,23 +29,4 @@ fn is_module_item(item: &Node) -> bool
             | Kind::ExportAll { .. }
             | Kind::ExportOther
     )
-}
-
-/// Whether a node or one below it makes the source a module: an `import.meta`, or an await that
-/// stands in no function.
-fn makes_module(node: &Node, inside_function: bool) -> bool
-    ensures { IsTrue result ↔ MakesModule inside_function node.now }
-{
-    let inside_children = match node.kind {
-        Kind::ImportMeta => return true,
-        Kind::Await if !inside_function => return true,
-        Kind::Function => true,
-        _ => inside_function,
-    };
-    for child in node.children.as_slice() {
-        if makes_module(child, inside_children) {
-            return true;
-        }
-    }
-    false
 }

@@ -50,8 +50,8 @@ impl JsString {
         })
     }
 
-    /// The code points of `units`, or an error where memory was refused: a high surrogate directly before a low one
-    /// joins with it to one code point, and other surrogates stand alone.
+    /// The code points of `units` of UTF-16, or an error where memory was refused. A high surrogate directly before a
+    /// low one joins with it to one code point, and every other surrogate stands alone.
     pub fn from_units(alloc: Global, units: &[u16]) -> Result<JsString, AllocError>
         ensures points { IfOk result (λ made. made ≡ points_of_units units.now) }
         ensures same_units { IfOk result (λ made. flat_map encode_utf16 made ≡ units.now) }
@@ -86,6 +86,7 @@ impl JsString {
         self.text.as_str()
     }
 
+    /// Whether there is no code point.
     pub fn is_empty(&self) -> bool
         ensures { IsTrue result ↔ (self.now ≡ []) }
     {

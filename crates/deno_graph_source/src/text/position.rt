@@ -55,11 +55,7 @@ impl Position {
         let place = text_info
             .place_up_to_position(*self)
             .first_not_before(*self, text_info.text());
-        if place.position == *self {
-            Some(place.pos)
-        } else {
-            None
-        }
+        (place.position == *self).then_some(place.pos)
     }
 
     /// Whether this position comes first: by line, and in one line by character.

@@ -1,9 +1,9 @@
-ghost use Rattle.std.specs.Prelude.{◌≡◌, ◌≤◌, ◌↔◌, IfOk, IfSome, IsSome, nat_eq};
+ghost use Rattle.std.specs.Prelude.{◌≡◌, ℕ, ◌+◌, ◌<◌, ◌≤◌, ◌↔◌, length, IfOk, IfSome, IsSome, nat_eq};
 ghost use Rattle.std.specs.Cmp.{partial_equiv_from_equiv};
 ghost use Rattle.std.specs.Cmp.Lexicographic.{pointwise, nat_list_eq_equiv};
 ghost use Rattle.std.specs.Rc.{rc_str_bytes};
-ghost use Rattle.deno_graph_source.specs.Place.{IsPlace};
-ghost use Rattle.deno_graph_source.specs.Position.{IsBefore};
+ghost use Rattle.deno_graph_source.specs.Place.{IsPlace, reach};
+ghost use Rattle.deno_graph_source.specs.Position.{IsAt, IsBefore};
 ghost use Rattle.deno_graph_source.specs.SourceRange.{IsTextRange, slice_of};
 
 use crate::text::checkpoints::checkpoints;
@@ -30,11 +30,11 @@ impl Model for SourceTextInfo {
 
     ghost coded = { coded_list coded_ℕ };
 
-    ghost use Rattle.deno_graph_source.specs.Place.{ArePlaces};
+    ghost use Rattle.deno_graph_source.specs.Place.{AreCheckpoints};
 
     ghost view = { λ t. rc_str_bytes t.text };
 
-    ghost invariant = { λ t. ArePlaces (rc_str_bytes t.text) t.checkpoints.value.items };
+    ghost invariant = { λ t. AreCheckpoints (rc_str_bytes t.text) t.checkpoints.value.items };
 }
 
 impl SourceTextInfo {
@@ -62,10 +62,11 @@ impl SourceTextInfo {
         &self.text
     }
 
-    /// A place at or before `pos`, from which `pos` is found in a few hundred steps.
+    /// A place at or before `pos`. Where `pos` lies in the text they are less than 260 bytes apart.
     pub(crate) fn place_up_to(&self, pos: usize) -> Place
         ensures place { IsPlace self.now result }
         ensures before { result.pos ≤ pos }
+        ensures near { pos ≤ length self.now → pos < result.pos + reach }
     {
         let places = self.checkpoints.as_slice();
         match places.partition_point(|place| place.pos <= pos) {
@@ -74,11 +75,12 @@ impl SourceTextInfo {
         }
     }
 
-    /// A place whose position is at or before `position`, from which the boundary that has it, if
-    /// there is one, is found in a few hundred steps.
+    /// A place whose position is at or before `position`. It is less than 260 bytes before the
+    /// boundary that has this position, if there is one.
     pub(crate) fn place_up_to_position(&self, position: Position) -> Place
         ensures place { IsPlace self.now result }
         ensures before { ¬ (IsBefore position result.position) }
+        ensures near { (pos : ℕ) → IsAt self.now position pos → pos < result.pos + reach }
     {
         let places = self.checkpoints.as_slice();
         match places.partition_point(|place| !position.is_before(place.position)) {

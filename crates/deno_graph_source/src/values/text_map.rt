@@ -64,13 +64,14 @@ impl<V> TextMap<V> {
         self.map.len()
     }
 
+    /// Whether there is no entry.
     pub fn is_empty(&self) -> bool
         ensures { IsTrue result ↔ (self.now ≡ []) }
     {
         self.map.is_empty()
     }
 
-    /// The value at `key`.
+    /// The value at `key`, or `None` where the map has no such key.
     pub fn get(&self, key: &str) -> Option<&V>
         ensures { option_copied result ≡ value_at self.now key.now }
     {

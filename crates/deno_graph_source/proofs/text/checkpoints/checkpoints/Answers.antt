@@ -1,12 +1,11 @@
-use Rattle.std.proofs.Common.{◌≡◌, ◌++◌, ◌∷◌, [], ◌≤◌, ℕ, List, All, drop, length, get_or, arith, ap, sym, ◌∙◌, subst}
-use Rattle.std.proofs.lemmas.List.Elements.{All-append}
-use Rattle.std.proofs.lemmas.List.Sorted.{IsNonDecreasingBy-push}
-use Rattle.std.proofs.lemmas.Str.{IsUtf8-drop, IsCharBoundary-past_char, drop_past_char}
+use Rattle.std.proofs.Common.{◌≡◌, ◌++◌, ◌∷◌, [], ◌+◌, ◌<◌, ◌≤◌, ℕ, List, All, length, length-drop, drop, arith, ap, sym, ◌∙◌, subst}
+use Rattle.std.proofs.lemmas.Str.{IsUtf8-drop, IsCharBoundary-past_char, drop_past_char, len_utf8_bounds}
 use Rattle.std.specs.Str.Iter.{chars_rest}
 use lib.Utf8.{encode}
-use Rattle.deno_graph_source.specs.Place.{IsPlace, ArePlaces}
+use Rattle.deno_graph_source.specs.Place.{ArePlaces, IsNear, reach}
 use Rattle.deno_graph_source.specs.declared.text.place.Place.{Place}
-use Rattle.deno_graph_source.proofs.PlaceLemmas.{line_le_pos, character_le_pos, IsPlace-past, ArePlaces-push, below_last}
+use Rattle.deno_graph_source.proofs.CheckpointLemmas.{ArePlaces-push, below_last, near_push}
+use Rattle.deno_graph_source.proofs.PlaceLemmas.{line_le_pos, character_le_pos, IsPlace-past}
 use Rattle.deno_graph_source.proofs.text.checkpoints.checkpoints.Goals as goal
 use Rattle.deno_graph_source.proofs.text.checkpoints.checkpoints.Goals.{then-place-last-ge-STRIDE+in_ok-push, else-place-last-ge-STRIDE}
 
@@ -26,9 +25,13 @@ past-place-requires-clause-character c =
     let next = IsCharBoundary-past_char text _ _ _ is.boundary.0 (IsUtf8-drop text _ c.utf8.text is.boundary) here in
     omega (arith, character_le_pos text _ c.utf8.text is, next.0)
 
--- these are the checkpoints up to `last`, which isn't behind `place`
-abbrev Reach : List ℕ → Place → List Place → ℕ → Type 0
-Reach text place places last = ArePlaces text places × (last ≤ place.pos) × All (λ p. p.pos ≤ last) places
+-- these are the checkpoints up to `last`, which isn't behind `place`, but less than the stride before it
+pub record Reach (text : List ℕ) (place : Place) (places : List Place) (last : ℕ) : Type 0 where
+  pub ordered : ArePlaces text places
+  pub behind : last ≤ place.pos
+  pub gap : place.pos < last + 256
+  pub near : (pos : ℕ) → pos < last + reach → IsNear places pos
+  pub before : All (λ p. p.pos ≤ last) places
 
 same_reach : (text : List ℕ) (place : Place) (places others : List Place) (last other : ℕ) → others ≡ places → other ≡ last → Reach text place places last → Reach text place others other
 same_reach text place places others last other e f is =
@@ -41,9 +44,21 @@ kept c =
     let inv = c.loop-c.invariant in
     elim c.if-place-last-ge-STRIDE.branch [
       | then-place-last-ge-STRIDE+in_ok-push w ↦
-          same_reach text c.loop-c.place (c.loop-c.places.items ++ c.loop-c.place ∷ []) _ c.loop-c.place.pos _ (ap (λ v. v.items) w.places-is ∙ w.in_ok-push.ensures.items) w.last-is (ArePlaces-push text _ _ c.loop-c.last inv.places inv.place inv.before inv.last, omega arith, below_last _ _ c.loop-c.last inv.before inv.last)
+          same_reach text c.loop-c.place (c.loop-c.places.items ++ c.loop-c.place ∷ []) _ c.loop-c.place.pos _ (ap (λ v. v.items) w.places-is ∙ w.in_ok-push.ensures.items) w.last-is record {
+            ordered = ArePlaces-push text _ _ c.loop-c.last inv.places inv.place inv.before inv.last;
+            behind = omega arith;
+            gap = omega arith;
+            near = near_push _ _ c.loop-c.last inv.near inv.gap;
+            before = below_last _ _ c.loop-c.last inv.before inv.last;
+          }
       | else-place-last-ge-STRIDE w ↦
-          same_reach text c.loop-c.place c.loop-c.places.items _ c.loop-c.last _ (ap (λ v. v.items) w.places-is) w.last-is (inv.places, inv.last, inv.before)
+          same_reach text c.loop-c.place c.loop-c.places.items _ c.loop-c.last _ (ap (λ v. v.items) w.places-is) w.last-is record {
+            ordered = inv.places;
+            behind = inv.last;
+            gap = omega arith;
+            near = inv.near;
+            before = inv.before;
+          }
     ]
 
 pub loop-c-preserved : goal.loop-c-preserved
@@ -54,7 +69,14 @@ loop-c-preserved c =
     record {
       place = IsPlace-past text _ c.loop-c.place c.past-place.result _ c.utf8.text is here c.past-place.ensures.pos c.past-place.ensures.position;
       rest = ap (λ n. drop n text) c.past-place.ensures.pos ∙ drop_past_char text _ _ _ here;
-      places = (kept c).0;
-      last = omega (arith, (kept c).1, c.past-place.ensures.pos);
-      before = (kept c).2;
+      places = (kept c).ordered;
+      last = omega (arith, (kept c).behind, c.past-place.ensures.pos);
+      gap = omega (arith, (kept c).gap, c.past-place.ensures.pos, len_utf8_bounds c.in-Some.c);
+      near = (kept c).near;
+      before = (kept c).before;
     }
+
+pub returns : goal.returns
+returns c =
+    let inv = c.loop-c.invariant in
+    record { ordered = inv.places; near = λ pos within. inv.near pos (omega (arith, length-drop c.loop-c.place.pos c.args.text.now, ap length inv.rest, c.in-None.ensures.steps.0.0)) }

@@ -1,6 +1,5 @@
-use Rattle.std.proofs.Common.{◌≡◌, ◌≤◌, ◌-◌, ◌++◌, List, ℕ, length, take, drop, sym, ap, ◌∙◌, arith, subst, length-drop}
+use Rattle.std.proofs.Common.{◌++◌, take, sym, ap, ◌∙◌, arith, subst}
 use Rattle.std.specs.Str.{chars}
-use Rattle.std.proofs.lemmas.List.{length-take-le}
 use Rattle.deno_graph_source.specs.Place.{IsPlace}
 use Rattle.deno_graph_source.specs.Position.{position_of, position_at}
 use Rattle.deno_graph_source.proofs.PlaceLemmas.{line_le_pos, character_le_pos, chars_between}
