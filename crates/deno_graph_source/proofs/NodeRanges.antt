@@ -46,7 +46,6 @@ pub Contains-child_range : (node child : Node) (range : SourceRange) → Contain
 Contains-child_range node child range at h =
     rw node_ranges-is (Contains-cons _ _ range (Contains-append_right (ranges_in_kind (kind_of node)) _ range (Contains-flat_map node_ranges (children_of node) child range at h)))
 
-
 -- what holds of a node's own range, of those of its kind and of those below holds of all its ranges
 pub All-node_ranges : (P : SourceRange → Type 0) (node : Node) → All P (range_of node ∷ []) → All P (ranges_in_kind (kind_of node)) → All P (flat_map node_ranges (children_of node)) → All P (node_ranges node)
 All-node_ranges P node own held below =

@@ -57,10 +57,7 @@ pub(crate) fn check_program(text: &str, program: &Program) -> Result<(), SourceF
 }
 
 /// Looks for a fault of the ranges of comments.
-pub(crate) fn check_comments(
-    text: &str,
-    comments: &[&DependencyComment],
-) -> Result<(), SourceFault>
+pub(crate) fn check_comments(text: &str, comments: &[&DependencyComment]) -> Result<(), SourceFault>
     ensures { JudgesRanges text.now
         (map (λ comment. comment.range) (map (λ comment. comment.now) comments.now)) result }
 {
