@@ -1,6 +1,8 @@
 pub mod Judgements
+pub mod Lists
 pub mod LossyText
 pub mod NodeRanges
+pub mod Nodes
 pub mod PositionLemmas
 pub mod PositionOrder
 pub mod SourceFaults

@@ -1,8 +1,8 @@
-ghost use Rattle.std.specs.Prelude.{◌≡◌};
+ghost use Rattle.std.specs.Prelude.{◌≡◌, IfOk};
 ghost use Rattle.std.specs.Option.{option_copied};
 
 use crate::text::{JsString, SourceRange};
-use crate::values::{Items, TryClone};
+use crate::values::{Items, Text, TryClone};
 use std::alloc::{AllocError, Global};
 
 /// A string literal: its value, and its range with the quotes.
@@ -29,6 +29,30 @@ pub enum ImportPhase {
     Defer,
 }
 
+/// What is called.
+#[derive(Clone, Copy, Debug, PartialEq, Eq)]
+pub enum Callee {
+    /// `import(..)`, `import.source(..)` or `import.defer(..)`.
+    Import(ImportPhase),
+    /// An expression, which is the first child of the call.
+    Expr,
+    /// `super(..)`.
+    Super,
+}
+
+/// An argument of a call: whether it is spread, and its range with the dots.
+#[derive(Clone, Copy, Debug, PartialEq, Eq)]
+pub struct Arg {
+    pub spread: bool,
+    pub range: SourceRange,
+}
+
+impl TryClone for Arg {
+    fn try_clone(&self, _alloc: Global) -> Result<Arg, AllocError> {
+        Ok(*self)
+    }
+}
+
 /// What a node is, with what the analysis reads of it.
 #[derive(Debug, PartialEq, Eq, Drop)]
 pub enum Kind {
@@ -51,21 +75,65 @@ pub enum Kind {
     },
     /// `export` of a declaration, and `export default`.
     ExportOther,
+    /// `import name = ..`; `external` is the literal of `require("..")`.
+    ImportEquals {
+        type_only: bool,
+        is_export: bool,
+        external: Option<StrLit>,
+    },
+    /// TypeScript's type `import("..")`.
+    ImportType {
+        arg: StrLit,
+    },
+    /// A module or namespace declaration; `name` where it is a string.
+    ModuleDecl {
+        name: Option<StrLit>,
+    },
+    /// A call, but no optional one and no `new`. Its first children are the callee, where that is
+    /// an expression, and then the arguments in order.
+    Call {
+        callee: Callee,
+        args: Items<Arg>,
+    },
+    /// A string literal.
+    Str(JsString),
+    /// An identifier.
+    Ident(Text),
+    /// An await expression, a `for await` loop or an `await using` declaration.
+    Await,
+    /// A function, arrow, method, getter, setter or constructor.
+    Function,
+    /// `import.meta`.
+    ImportMeta,
     /// Everything else.
     Other,
 }
 
 impl Kind {
-    ghost use Rattle.deno_graph_source.specs.Node.{literal_of};
+    ghost use Rattle.deno_graph_source.specs.Node.{args_of, literal_of};
 
-    /// The string literal that this kind holds: the specifier of an import or an export.
+    /// The string literal that this kind holds: the specifier of an import or an export, or the
+    /// name of a module.
     pub fn literal(&self) -> Option<&StrLit>
         ensures { option_copied result ≡ literal_of self.now }
     {
         match self {
             Kind::ImportDecl { src, .. } | Kind::ExportAll { src, .. } => Some(src),
             Kind::NamedExport { src, .. } => src.as_ref(),
-            Kind::ExportOther | Kind::Other => None,
+            Kind::ImportEquals { external, .. } => external.as_ref(),
+            Kind::ImportType { arg } => Some(arg),
+            Kind::ModuleDecl { name } => name.as_ref(),
+            _ => None,
+        }
+    }
+
+    /// The arguments of a call; none for every other kind.
+    pub fn args(&self) -> &[Arg]
+        ensures { result.now ≡ args_of self.now }
+    {
+        match self {
+            Kind::Call { args, .. } => args.as_slice(),
+            _ => &[],
         }
     }
 }
@@ -86,18 +154,48 @@ impl TryClone for Kind {
             },
             Kind::NamedExport { type_only, src } => Kind::NamedExport {
                 type_only: *type_only,
-                src: match src {
-                    Some(src) => Some(src.try_clone(alloc)?),
-                    None => None,
-                },
+                src: try_clone_literal(alloc, src)?,
             },
             Kind::ExportAll { type_only, src } => Kind::ExportAll {
                 type_only: *type_only,
                 src: src.try_clone(alloc)?,
             },
             Kind::ExportOther => Kind::ExportOther,
+            Kind::ImportEquals {
+                type_only,
+                is_export,
+                external,
+            } => Kind::ImportEquals {
+                type_only: *type_only,
+                is_export: *is_export,
+                external: try_clone_literal(alloc, external)?,
+            },
+            Kind::ImportType { arg } => Kind::ImportType {
+                arg: arg.try_clone(alloc)?,
+            },
+            Kind::ModuleDecl { name } => Kind::ModuleDecl {
+                name: try_clone_literal(alloc, name)?,
+            },
+            Kind::Call { callee, args } => Kind::Call {
+                callee: *callee,
+                args: args.try_clone(alloc)?,
+            },
+            Kind::Str(value) => Kind::Str(value.try_clone(alloc)?),
+            Kind::Ident(name) => Kind::Ident(name.try_clone(alloc)?),
+            Kind::Await => Kind::Await,
+            Kind::Function => Kind::Function,
+            Kind::ImportMeta => Kind::ImportMeta,
             Kind::Other => Kind::Other,
         })
+    }
+}
+
+fn try_clone_literal(alloc: Global, literal: &Option<StrLit>) -> Result<Option<StrLit>, AllocError>
+    ensures { IfOk result (λ copy. copy ≡ literal.now) }
+{
+    match literal {
+        Some(literal) => Ok(Some(literal.try_clone(alloc)?)),
+        None => Ok(None),
     }
 }
 
