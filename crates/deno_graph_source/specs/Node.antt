@@ -1,5 +1,5 @@
 -- A node of a syntax tree, read by its parts.
-use Rattle.std.specs.Prelude.{ℕ, ◌+◌, ◌≤◌, ⊤, length, List, [], ◌∷◌, ◌++◌, map, Option, Some, None}
+use Rattle.std.specs.Prelude.{◌≡◌, ℕ, ◌+◌, ◌≤◌, ◌<◌, ⊤, Bool, true, false, IsTrue, length, List, [], ◌∷◌, ◌++◌, map, Option, Some, None, IsSomeAnd, slice_get}
 use Rattle.std.specs.List.{flat_map}
 use Rattle.std.specs.Option.{option_to_list}
 use Rattle.deno_graph_source.specs.declared.text.position.SourceRange.{SourceRange}
@@ -8,7 +8,7 @@ use Rattle.deno_graph_source.specs.declared.tree.node.Callee.{Callee}
 use Rattle.deno_graph_source.specs.declared.tree.node.Callee.TheVariants.{Expr}
 use Rattle.deno_graph_source.specs.declared.tree.node.StrLit.{StrLit}
 use Rattle.deno_graph_source.specs.declared.tree.node.Kind.{Kind}
-use Rattle.deno_graph_source.specs.declared.tree.node.Kind.TheVariants.{ImportDecl, NamedExport, ExportAll, ImportEquals, ImportType, ModuleDecl, Call}
+use Rattle.deno_graph_source.specs.declared.tree.node.Kind.TheVariants.{ImportDecl, NamedExport, ExportAll, ImportEquals, ImportType, ModuleDecl, Call, Template, Binary, Object, KeyValue}
 use Rattle.deno_graph_source.specs.declared.tree.node.Node.{Node, out-Node, roll-Node}
 use Rattle.deno_graph_source.specs.declared.tree.node.Program.{Program}
 use Rattle.deno_graph_source.specs.declared.tree.node.Node.TheOpen.{Node-F}
@@ -28,11 +28,11 @@ children_of node = (out-Node node).children
 
 -- the string literal that a kind holds, if it holds one
 abbrev pub literal_of : Kind → Option StrLit
-literal_of (ImportDecl type_only phase src has_specifiers) = Some src
-literal_of (NamedExport type_only src) = src
-literal_of (ExportAll type_only src) = Some src
+literal_of (ImportDecl type_only phase src has_specifiers has_with) = Some src
+literal_of (NamedExport type_only src has_with) = src
+literal_of (ExportAll type_only src has_with) = Some src
 literal_of (ImportEquals type_only is_export external) = external
-literal_of (ImportType arg) = Some arg
+literal_of (ImportType arg has_with) = Some arg
 literal_of (ModuleDecl name) = name
 literal_of _ = None
 
@@ -76,12 +76,33 @@ abbrev pub callee_count : Callee → ℕ
 callee_count Expr = 1
 callee_count _ = 0
 
--- the children that a kind needs: a call has its callee, where that is an expression, and then its
--- arguments among them
-unfoldable pub HasShape : Kind → List Node → Type 0
-HasShape (Call callee args) children = callee_count callee + length args ≤ length children
-HasShape _ children = ⊤
+abbrev pub is_object : Kind → Bool
+is_object Object = true
+is_object _ = false
+
+-- the kind has a `with` clause
+abbrev pub has_with : Kind → Bool
+has_with (ImportDecl type_only phase src has_specifiers with_clause) = with_clause
+has_with (NamedExport type_only src with_clause) = with_clause
+has_with (ExportAll type_only src with_clause) = with_clause
+has_with (ImportType arg with_clause) = with_clause
+has_with _ = false
+
+-- where there is a `with` clause, its object literal is the first child
+abbrev pub HasClause : Bool → List Node → Type 0
+HasClause true children = IsSomeAnd (slice_get children 0) (λ clause. IsTrue (is_object (kind_of clause)))
+HasClause false children = ⊤
+
+-- how many children a kind needs: a template has one quasi more than expressions, a binary expression two
+-- operands, a property its value, and a call its callee, where that is an expression, and its arguments
+unfoldable pub HasCount : Kind → ℕ → Type 0
+HasCount (Template quasis) count = length quasis ≡ count + 1
+HasCount (Binary op) count = count ≡ 2
+HasCount (KeyValue key) count = 0 < count
+HasCount (Call callee args) count = callee_count callee + length args ≤ count
+HasCount _ count = ⊤
 
 -- the node has the children that its kind needs
-abbrev pub IsShaped : Node → Type 0
-IsShaped node = HasShape (kind_of node) (children_of node)
+pub record IsShaped (node : Node) : Type 0 where
+  pub clause : HasClause (has_with (kind_of node)) (children_of node)
+  pub count : HasCount (kind_of node) (length (children_of node))

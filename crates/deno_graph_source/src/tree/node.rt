@@ -53,7 +53,36 @@ impl TryClone for Arg {
     }
 }
 
-/// What a node is, with what the analysis reads of it.
+/// The operator of a binary expression.
+#[derive(Clone, Copy, Debug, PartialEq, Eq)]
+pub enum BinaryOp {
+    /// `+`
+    Add,
+    /// Every other operator.
+    Other,
+}
+
+/// The key of a property.
+#[derive(Debug, PartialEq, Eq, Drop)]
+pub enum PropKey {
+    Str(JsString),
+    Ident(Text),
+    /// A computed or a numeric key.
+    Other,
+}
+
+impl TryClone for PropKey {
+    fn try_clone(&self, alloc: Global) -> Result<PropKey, AllocError> {
+        Ok(match self {
+            PropKey::Str(value) => PropKey::Str(value.try_clone(alloc)?),
+            PropKey::Ident(name) => PropKey::Ident(name.try_clone(alloc)?),
+            PropKey::Other => PropKey::Other,
+        })
+    }
+}
+
+/// What a node is, with what the analysis reads of it. With `has_with`, the first child is the
+/// object literal of a `with` clause.
 #[derive(Debug, PartialEq, Eq, Drop)]
 pub enum Kind {
     /// An import declaration.
@@ -62,16 +91,19 @@ pub enum Kind {
         phase: ImportPhase,
         src: StrLit,
         has_specifiers: bool,
+        has_with: bool,
     },
     /// `export { .. }` with or without `from`, and `export * as name from`.
     NamedExport {
         type_only: bool,
         src: Option<StrLit>,
+        has_with: bool,
     },
     /// `export * from`.
     ExportAll {
         type_only: bool,
         src: StrLit,
+        has_with: bool,
     },
     /// `export` of a declaration, and `export default`.
     ExportOther,
@@ -84,6 +116,7 @@ pub enum Kind {
     /// TypeScript's type `import("..")`.
     ImportType {
         arg: StrLit,
+        has_with: bool,
     },
     /// A module or namespace declaration; `name` where it is a string.
     ModuleDecl {
@@ -97,8 +130,16 @@ pub enum Kind {
     },
     /// A string literal.
     Str(JsString),
+    /// An untagged template: its cooked quasis. Its children are its expressions.
+    Template(Items<JsString>),
+    /// A binary expression: its children are the left and the right operand.
+    Binary(BinaryOp),
     /// An identifier.
     Ident(Text),
+    /// An object literal, also of a `with` clause: its children are its properties.
+    Object,
+    /// A property `key: value`: its last child is the value.
+    KeyValue(PropKey),
     /// An await expression, a `for await` loop or an `await using` declaration.
     Await,
     /// A function, arrow, method, getter, setter or constructor.
@@ -110,7 +151,7 @@ pub enum Kind {
 }
 
 impl Kind {
-    ghost use Rattle.deno_graph_source.specs.Node.{args_of, literal_of};
+    ghost use Rattle.deno_graph_source.specs.Node.{args_of, has_with, literal_of};
 
     /// The string literal that this kind holds: the specifier of an import or an export, or the
     /// name of a module.
@@ -121,9 +162,22 @@ impl Kind {
             Kind::ImportDecl { src, .. } | Kind::ExportAll { src, .. } => Some(src),
             Kind::NamedExport { src, .. } => src.as_ref(),
             Kind::ImportEquals { external, .. } => external.as_ref(),
-            Kind::ImportType { arg } => Some(arg),
+            Kind::ImportType { arg, .. } => Some(arg),
             Kind::ModuleDecl { name } => name.as_ref(),
             _ => None,
+        }
+    }
+
+    /// Whether there is a `with` clause, which is the first child then.
+    pub fn has_with(&self) -> bool
+        ensures { result ≡ has_with self.now }
+    {
+        match self {
+            Kind::ImportDecl { has_with, .. }
+            | Kind::NamedExport { has_with, .. }
+            | Kind::ExportAll { has_with, .. }
+            | Kind::ImportType { has_with, .. } => *has_with,
+            _ => false,
         }
     }
 
@@ -146,19 +200,31 @@ impl TryClone for Kind {
                 phase,
                 src,
                 has_specifiers,
+                has_with,
             } => Kind::ImportDecl {
                 type_only: *type_only,
                 phase: *phase,
                 src: src.try_clone(alloc)?,
                 has_specifiers: *has_specifiers,
+                has_with: *has_with,
             },
-            Kind::NamedExport { type_only, src } => Kind::NamedExport {
+            Kind::NamedExport {
+                type_only,
+                src,
+                has_with,
+            } => Kind::NamedExport {
                 type_only: *type_only,
                 src: try_clone_literal(alloc, src)?,
+                has_with: *has_with,
             },
-            Kind::ExportAll { type_only, src } => Kind::ExportAll {
+            Kind::ExportAll {
+                type_only,
+                src,
+                has_with,
+            } => Kind::ExportAll {
                 type_only: *type_only,
                 src: src.try_clone(alloc)?,
+                has_with: *has_with,
             },
             Kind::ExportOther => Kind::ExportOther,
             Kind::ImportEquals {
@@ -170,8 +236,9 @@ impl TryClone for Kind {
                 is_export: *is_export,
                 external: try_clone_literal(alloc, external)?,
             },
-            Kind::ImportType { arg } => Kind::ImportType {
+            Kind::ImportType { arg, has_with } => Kind::ImportType {
                 arg: arg.try_clone(alloc)?,
+                has_with: *has_with,
             },
             Kind::ModuleDecl { name } => Kind::ModuleDecl {
                 name: try_clone_literal(alloc, name)?,
@@ -181,7 +248,11 @@ impl TryClone for Kind {
                 args: args.try_clone(alloc)?,
             },
             Kind::Str(value) => Kind::Str(value.try_clone(alloc)?),
+            Kind::Template(quasis) => Kind::Template(quasis.try_clone(alloc)?),
+            Kind::Binary(op) => Kind::Binary(*op),
             Kind::Ident(name) => Kind::Ident(name.try_clone(alloc)?),
+            Kind::Object => Kind::Object,
+            Kind::KeyValue(key) => Kind::KeyValue(key.try_clone(alloc)?),
             Kind::Await => Kind::Await,
             Kind::Function => Kind::Function,
             Kind::ImportMeta => Kind::ImportMeta,

@@ -1,6 +1,8 @@
-ghost use Rattle.std.specs.Prelude.{◌↔◌, map, IsTrue};
+#![tactic(auto, unfolding(crate::specs::Node::kind_of, crate::specs::Node::children_of, crate::specs::Node::HasCount))]
+
+ghost use Rattle.std.specs.Prelude.{◌≡◌, ◌↔◌, map, IsTrue};
 ghost use Rattle.deno_graph_source.specs.Check.{JudgesNode, JudgesNodes, JudgesRanges};
-ghost use Rattle.deno_graph_source.specs.Node.{nodes_in, nodes_of, ranges_in_kind, IsShaped};
+ghost use Rattle.deno_graph_source.specs.Node.{kind_of, nodes_in, nodes_of, ranges_in_kind, is_object, HasClause, HasCount, IsShaped};
 
 use crate::text::SourceRange;
 use crate::tree::fault::SourceFault;
@@ -64,12 +66,42 @@ fn check_args(text: &str, args: &[Arg]) -> Result<(), SourceFault>
 fn is_shaped(node: &Node) -> bool
     ensures { IsTrue result ↔ IsShaped node.now }
 {
-    match &node.kind {
+    let children = node.children.as_slice();
+    has_clause(node.kind.has_with(), children) && has_count(&node.kind, children.len())
+}
+
+/// Whether a kind may have this number of children.
+fn has_count(kind: &Kind, count: usize) -> bool
+    ensures { IsTrue result ↔ HasCount kind.now count }
+{
+    match kind {
+        Kind::Template(quasis) => count < quasis.len() && quasis.len() - count == 1,
+        Kind::Binary(_) => count == 2,
+        Kind::KeyValue(_) => count > 0,
         Kind::Call {
             callee: Callee::Expr,
             args,
-        } => node.children.len() > args.len(),
-        Kind::Call { args, .. } => node.children.len() >= args.len(),
+        } => count > args.len(),
+        Kind::Call { args, .. } => count >= args.len(),
         _ => true,
     }
+}
+
+/// Whether the first child is the object literal of a `with` clause, where there is to be one.
+fn has_clause(has_with: bool, children: &[Node]) -> bool
+    ensures { IsTrue result ↔ HasClause has_with children.now }
+{
+    if !has_with {
+        return true;
+    }
+    match children.first() {
+        Some(clause) => is_object(clause),
+        None => false,
+    }
+}
+
+fn is_object(node: &Node) -> bool
+    ensures { result ≡ is_object (kind_of node.now) }
+{
+    matches!(node.kind, Kind::Object)
 }
