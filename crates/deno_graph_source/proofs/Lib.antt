@@ -1,9 +1,11 @@
 pub mod Judgements
 pub mod Lists
 pub mod LossyText
+pub mod Neighbours
 pub mod NodeRanges
 pub mod Nodes
 pub mod PositionLemmas
 pub mod PositionOrder
 pub mod SourceFaults
+pub mod Spelling
 pub mod ValidSource

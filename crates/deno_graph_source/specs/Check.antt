@@ -1,8 +1,9 @@
 -- What the checks of a source answer: `Ok`, or a fault that stands.
-use Rattle.std.specs.Prelude.{◌≡◌, ◌≢◌, ℕ, ◌+◌, ◌<◌, List, Any, All, Contains, ◌⊎◌, length, slice_index_or, Result, MatchResult}
+use Rattle.std.specs.Prelude.{◌≡◌, ◌≢◌, ℕ, ◌+◌, ◌<◌, ◌≤◌, List, Any, All, ◌⊎◌, length, slice_index_or, Result, MatchResult}
+use Rattle.std.specs.List.{AllAdjacentBelow}
 use Rattle.deno_graph_source.specs.Comments.{FiledComments}
 use Rattle.deno_graph_source.specs.Node.{held_ranges, IsShaped}
-use Rattle.deno_graph_source.specs.Source.{IsReversed, IsOutside, IsOffBoundary, IsSpelled, IsValid, SharesByte, Stands}
+use Rattle.deno_graph_source.specs.Source.{IsReversed, IsOutside, IsOffBoundary, IsSpelled, IsValid, Stands}
 use Rattle.deno_graph_source.specs.SourceRange.{IsTextRange}
 use Rattle.deno_graph_source.specs.declared.text.position.SourceRange.{SourceRange}
 use Rattle.deno_graph_source.specs.declared.tree.comments.DependencyComment.{DependencyComment}
@@ -47,6 +48,20 @@ JudgesComment text comment result = MatchResult result (λ _. IsSpelled text com
 
 abbrev pub JudgesComments : List ℕ → List DependencyComment → Result (Unit {0}) SourceFault → Type 0
 JudgesComments text comments result = MatchResult result (λ _. All (IsSpelled text) comments) (λ fault. Any (CommentHas text fault) comments)
+
+-- b starts where a has ended, or is at the same range
+abbrev pub Passes : DependencyComment → DependencyComment → Type 0
+Passes a b = (a.range ≡ b.range) ⊎ (a.range.end ≤ b.range.start)
+
+-- b is at another range and starts before a has ended
+abbrev pub RunsInto : DependencyComment → DependencyComment → Type 0
+RunsInto a b = (a.range ≢ b.range) × (b.range.start < a.range.end)
+
+-- an answer about comments in ascending order: `Ok` where each passes the one before it
+abbrev pub JudgesNeighbours : List DependencyComment → Result (Unit {0}) SourceFault → Type 0
+JudgesNeighbours comments result =
+    MatchResult result (λ _. AllAdjacentBelow Passes comments (length comments))
+    (λ fault. (fault ≡ CommentsOverlap) × (k : ℕ) × (k + 1 < length comments) × ((d : DependencyComment) → RunsInto (slice_index_or comments k d) (slice_index_or comments (k + 1) d)))
 
 -- an answer about a source
 abbrev pub JudgesSource : List ℕ → Program → FiledComments → Result (Unit {0}) SourceFault → Type 0

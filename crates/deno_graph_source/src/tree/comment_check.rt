@@ -1,5 +1,6 @@
-ghost use Rattle.std.specs.Prelude.{map};
-ghost use Rattle.deno_graph_source.specs.Check.{JudgesComment, JudgesComments};
+ghost use Rattle.std.specs.Prelude.{◌≡◌, ◌≢◌, ℕ, List, map, MatchOption};
+ghost use Rattle.deno_graph_source.specs.Check.{JudgesComment, JudgesComments, JudgesNeighbours};
+ghost use Rattle.deno_graph_source.specs.Source.{spelling};
 
 use crate::tree::comments::{CommentKind, DependencyComment};
 use crate::tree::fault::SourceFault;
@@ -24,17 +25,35 @@ fn check_comment(text: &str, comment: &DependencyComment) -> Result<(), SourceFa
 {
     check_range(text, comment.range)?;
     let written = &text[comment.range.start..comment.range.end];
-    let inside = match comment.kind {
-        CommentKind::Line => written.strip_prefix("//"),
-        CommentKind::Block => inside_block(written),
-    };
-    match inside {
+    match inside(comment.kind, written) {
         Some(inside) if inside == comment.text.as_str() => Ok(()),
         _ => Err(SourceFault::CommentText),
     }
 }
 
-/// What stands between `/*` and `*/`.
-fn inside_block(written: &str) -> Option<&str> {
-    written.strip_prefix("/*")?.strip_suffix("*/")
+/// The text of a comment that is written so, without its marks. `None` where it is no such comment.
+fn inside(kind: CommentKind, written: &str) -> Option<&str>
+    ensures { MatchOption result
+        ((text : List ℕ) → written.now ≢ spelling kind text)
+        (λ text. written.now ≡ spelling kind text.now) }
+{
+    match kind {
+        CommentKind::Line => written.strip_prefix("//"),
+        CommentKind::Block => written.strip_prefix("/*")?.strip_suffix("*/"),
+    }
+}
+
+/// Looks for two comments that overlap, where they stand in ascending order of their starts: then
+/// two that overlap stand next to each other.
+pub(crate) fn check_neighbours(comments: &[&DependencyComment]) -> Result<(), SourceFault>
+    ensures { JudgesNeighbours (map (λ comment. comment.now) comments.now) result }
+{
+    for i in 1..comments.len() {
+        let before = comments[i - 1].range;
+        let after = comments[i].range;
+        if after.start < before.end && after != before {
+            return Err(SourceFault::CommentsOverlap);
+        }
+    }
+    Ok(())
 }

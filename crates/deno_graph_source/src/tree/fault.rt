@@ -4,7 +4,7 @@ ghost use Rattle.deno_graph_source.specs.Source.{IsValid, Stands};
 
 use crate::tree::comments::Comments;
 use crate::tree::node::Program;
-use crate::tree::comment_check::check_comments;
+use crate::tree::comment_check::{check_comments, check_neighbours};
 use crate::tree::node_check::check_nodes;
 use crate::tree::range_check::check_range;
 use std::alloc::{AllocError, Global};
@@ -68,6 +68,8 @@ pub(crate) fn check_source(
 {
     check_range(text, program.range)?;
     check_nodes(text, program)?;
-    let all = comments.iter_unstable(alloc)?;
-    check_comments(text, &all)
+    let mut all = comments.iter_unstable(alloc)?;
+    check_comments(text, &all)?;
+    all.sort_by_key(|comment| comment.range.start)?;
+    check_neighbours(&all)
 }
