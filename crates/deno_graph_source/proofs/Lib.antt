@@ -9,3 +9,5 @@ pub mod PositionOrder
 pub mod SourceFaults
 pub mod Spelling
 pub mod ValidSource
+pub mod TextEntries
+pub mod Units

@@ -8,4 +8,5 @@ pub mod ParsedSource
 pub mod Position
 pub mod Source
 pub mod SourceRange
+pub mod TextMap
 pub mod formers
