@@ -4,6 +4,9 @@ pub mod LossyText
 pub mod Neighbours
 pub mod NodeRanges
 pub mod Nodes
+pub mod CheckpointLemmas
+pub mod FrontLemmas
+pub mod PlaceLemmas
 pub mod PositionLemmas
 pub mod PositionOrder
 pub mod SourceFaults

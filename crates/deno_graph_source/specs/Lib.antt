@@ -7,6 +7,9 @@ pub mod Node
 pub mod ParsedSource
 pub mod Position
 pub mod Source
+pub mod Place
+pub mod Position
+pub mod PositionRange
 pub mod SourceRange
 pub mod TextMap
 pub mod formers
