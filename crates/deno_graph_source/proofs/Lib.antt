@@ -1,3 +1,4 @@
+pub mod FrontLemmas
 pub mod Judgements
 pub mod Lists
 pub mod LossyText
@@ -14,3 +15,4 @@ pub mod Spelling
 pub mod ValidSource
 pub mod TextEntries
 pub mod Units
+pub mod ValidSource
