@@ -41,18 +41,18 @@ valid_node text program comments (k ∷ path) node valid at =
 -- the ranges of an item are those that its kind holds
 kind_item_ranges : (text : List ℕ) (comments : FiledComments) (range : SourceRange) (kind : Kind) (item : Item)
     → item_of_kind comments range kind ≡ Some item → All (IsTextRange text) (ranges_in_kind kind) → HasTextRanges text item
-kind_item_ranges text comments range (ImportDecl type_only phase src has_specifiers) item is held =
+kind_item_ranges text comments range (ImportDecl type_only phase src has_specifiers has_with) item is held =
     of_some _ item is (All-head (IsTextRange text) src.range [] held)
   where
     of_some : (a b : Item) → Some a ≡ Some b → HasTextRanges text a → HasTextRanges text b
     of_some a b e h = let same : a ≡ b = cc in subst (HasTextRanges text) same h
-kind_item_ranges text comments range (NamedExport type_only None) item is held = cc
-kind_item_ranges text comments range (NamedExport type_only (Some src)) item is held =
+kind_item_ranges text comments range (NamedExport type_only None has_with) item is held = cc
+kind_item_ranges text comments range (NamedExport type_only (Some src) has_with) item is held =
     of_some _ item is (All-head (IsTextRange text) src.range [] held)
   where
     of_some : (a b : Item) → Some a ≡ Some b → HasTextRanges text a → HasTextRanges text b
     of_some a b e h = let same : a ≡ b = cc in subst (HasTextRanges text) same h
-kind_item_ranges text comments range (ExportAll type_only src) item is held =
+kind_item_ranges text comments range (ExportAll type_only src has_with) item is held =
     of_some _ item is (All-head (IsTextRange text) src.range [] held)
   where
     of_some : (a b : Item) → Some a ≡ Some b → HasTextRanges text a → HasTextRanges text b

@@ -91,10 +91,10 @@ module _ {A : Type 0} (rules : Rules) (f : Node → Option A) (listed : (node : 
 
 -- a node is a dependency where it states one
 kind_listed : (comments : FiledComments) (range : SourceRange) (kind : Kind) → is_dependency kind ≡ is_some (item_of_kind comments range kind)
-kind_listed comments range (ImportDecl type_only phase src has_specifiers) = refl
-kind_listed comments range (NamedExport type_only None) = refl
-kind_listed comments range (NamedExport type_only (Some src)) = refl
-kind_listed comments range (ExportAll type_only src) = refl
+kind_listed comments range (ImportDecl type_only phase src has_specifiers has_with) = refl
+kind_listed comments range (NamedExport type_only None has_with) = refl
+kind_listed comments range (NamedExport type_only (Some src) has_with) = refl
+kind_listed comments range (ExportAll type_only src has_with) = refl
 kind_listed comments range ExportOther = refl
 kind_listed comments range Other = refl
 

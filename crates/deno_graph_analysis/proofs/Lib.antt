@@ -1,8 +1,13 @@
 pub mod Ascending
 pub mod DependencyRanges
+pub mod Depth
 pub mod Entries
 pub mod Items
+pub mod LastClause
+pub mod LastGiven
 pub mod Listed
 pub mod Listings
 pub mod NodePaths
 pub mod Nodes
+pub mod Spelling
+pub mod Spine

@@ -19,9 +19,9 @@ use Rattle.deno_graph_analysis.specs.Listing.{Rules}
 
 -- nothing inside these kinds is read
 abbrev pub is_closed : Kind → Bool
-is_closed (ImportDecl type_only phase src has_specifiers) = true
-is_closed (NamedExport type_only src) = true
-is_closed (ExportAll type_only src) = true
+is_closed (ImportDecl type_only phase src has_specifiers has_with) = true
+is_closed (NamedExport type_only src has_with) = true
+is_closed (ExportAll type_only src has_with) = true
 is_closed ExportOther = false
 is_closed Other = false
 
@@ -31,9 +31,9 @@ children_to_visit node = if is_closed (kind_of node) then [] else children_of no
 
 -- the kinds that are dependencies: imports, and exports from a source
 abbrev pub is_dependency : Kind → Bool
-is_dependency (ImportDecl type_only phase src has_specifiers) = true
-is_dependency (NamedExport type_only src) = is_some src
-is_dependency (ExportAll type_only src) = true
+is_dependency (ImportDecl type_only phase src has_specifiers has_with) = true
+is_dependency (NamedExport type_only src has_with) = is_some src
+is_dependency (ExportAll type_only src has_with) = true
 is_dependency ExportOther = false
 is_dependency Other = false
 
@@ -77,11 +77,11 @@ stated_item comments range kind literal is_side_effect = static_item (record {
 
 -- the dependency that a node of this kind at this range states, if it states one
 abbrev pub item_of_kind : FiledComments → SourceRange → Kind → Option Item
-item_of_kind comments range (ImportDecl type_only phase src has_specifiers) =
+item_of_kind comments range (ImportDecl type_only phase src has_specifiers has_with) =
     Some (stated_item comments range (import_kind type_only phase) src (not has_specifiers))
-item_of_kind comments range (NamedExport type_only src) =
+item_of_kind comments range (NamedExport type_only src has_with) =
     option_map (λ literal. stated_item comments range (export_kind type_only) literal false) src
-item_of_kind comments range (ExportAll type_only src) =
+item_of_kind comments range (ExportAll type_only src has_with) =
     Some (stated_item comments range (export_kind type_only) src false)
 item_of_kind comments range ExportOther = None
 item_of_kind comments range Other = None

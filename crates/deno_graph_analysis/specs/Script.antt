@@ -7,9 +7,9 @@ use Rattle.deno_graph_source.specs.Node.{kind_of}
 
 -- the items that only a module has: imports and exports
 abbrev pub is_module_item : Kind → Bool
-is_module_item (ImportDecl type_only phase src has_specifiers) = true
-is_module_item (NamedExport type_only src) = true
-is_module_item (ExportAll type_only src) = true
+is_module_item (ImportDecl type_only phase src has_specifiers has_with) = true
+is_module_item (NamedExport type_only src has_with) = true
+is_module_item (ExportAll type_only src has_with) = true
 is_module_item ExportOther = true
 is_module_item _ = false
 
