@@ -1,13 +1,13 @@
 -- The properties of a call's second argument that are looked at, one property after another.
-use Rattle.std.proofs.Common.{◌≡◌, ◌≢◌, ℕ, ◌+◌, ◌<◌, ◌≤◌, Bool, true, false, ◌&&◌, ◌||◌, cond, List, length, get_or, codes, Option, Some, None, option_and_then, ◌⊎◌, inl, inr, ⊎_elim, ◌↔◌, IsTrue, refl, sym, ap, subst, ◌∙◌, arith, MatchBool}
+use Rattle.std.proofs.Common.{◌≡◌, ◌≢◌, ℕ, ◌+◌, ◌<◌, ◌≤◌, Bool, true, false, ◌&&◌, ◌||◌, cond, List, length, get_or, codes, Option, Some, None, option_and_then, ◌⊎◌, inl, inr, ⊎_elim, ◌↔◌, refl, sym, ap, subst, ◌∙◌, arith, MatchBool}
 use Rattle.std.specs.List.{slice_get}
-use Rattle.std.proofs.lemmas.Bool.{cases_lt, cond-true, false_from_ne_true, or_cases, or_parts, and_parts, both_ways}
+use Rattle.std.proofs.lemmas.Bool.{cases_lt, false_from_ne_true, or_cases, or_parts, and_parts, both_ways}
 use Rattle.std.proofs.lemmas.Option.{none-some, cond_some, slice_get_read, slice_get_past}
 use Rattle.deno_graph_source.specs.declared.tree.node.Node.{Node}
 use Rattle.deno_graph_source.specs.Node.{kind_of}
 use Rattle.deno_graph_info.specs.declared.analysis.import_attributes.ImportAttributes.{ImportAttributes}
 use Rattle.deno_graph_info.specs.declared.analysis.import_attributes.ImportAttributes.TheVariants as attributes
-use Rattle.deno_graph_analysis.specs.Attributes.{static_key, value_node, is_object, has_static_keys, known_object, ObjectGives, ValueGives, NumberGives, key_at, IsLookedAt, GreatestGives, LookedAtGive}
+use Rattle.deno_graph_analysis.specs.Attributes.{static_key, value_node, is_object, has_static_keys, known_object, ObjectGives, ValueGives, NumberGives, key_at, IsLookedAt, LookedAtGive}
 
 -- the value that is a known object
 known_value : (v : Option Node) (object : Node)

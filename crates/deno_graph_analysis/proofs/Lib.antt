@@ -1,4 +1,5 @@
 pub mod Ascending
+pub mod Calls
 pub mod DependencyRanges
 pub mod Depth
 pub mod Entries
@@ -9,5 +10,7 @@ pub mod Listed
 pub mod Listings
 pub mod NodePaths
 pub mod Nodes
+pub mod Scripts
 pub mod Spelling
 pub mod Spine
+pub mod Stating

@@ -8,4 +8,5 @@ pub mod ModuleInfo
 pub mod NodePath
 pub mod Recursion
 pub mod Script
+pub mod Stated
 pub mod Value

@@ -19,7 +19,7 @@ pub enum DynamicTemplatePart<'a> {
 }
 
 /// What is known of the first argument of a dynamic import or a `require`.
-#[derive(Debug, Drop)]
+#[derive(Debug, PartialEq, Eq, Drop)]
 pub enum DynamicArgument<'a> {
     String(&'a str),
     Template(Vec<DynamicTemplatePart<'a>>),

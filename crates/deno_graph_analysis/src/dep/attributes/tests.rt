@@ -136,6 +136,21 @@ fn call_gives(alloc: Global, clauses: &[Clause], expected: Expected) -> Result<b
     argument_gives(alloc, false, &node, expected)
 }
 
+/// The same of two clauses, each with a type.
+fn types_give(
+    alloc: Global,
+    keys: [Key; 2],
+    types: [&str; 2],
+    expected: Expected,
+) -> Result<bool, AllocError> {
+    let first = object_node(alloc, &[(TYPE, Some(types[0]))])?;
+    let first = property_node(alloc, keys[0], first)?;
+    let second = object_node(alloc, &[(TYPE, Some(types[1]))])?;
+    let second = property_node(alloc, keys[1], second)?;
+    let clauses = Items::from_vec(vec![in alloc; first, second]?);
+    argument_gives(alloc, false, &node(Kind::Object, clauses), expected)
+}
+
 fn declaration_gives(
     alloc: Global,
     properties: &[Property],
@@ -217,11 +232,10 @@ fn a_clause_may_have_unknown_values_but_no_unknown_keys(rt: HostRuntime) -> Resu
 #[test]
 fn an_assert_after_a_with_is_no_clause(rt: HostRuntime) -> Result<(), Fail> {
     let alloc = rt.alloc();
-    let (a, b) = ([(TYPE, Some("a"))], [(TYPE, Some("b"))]);
-    let clauses = [(WITH, Some(a.as_slice())), (ASSERT, Some(b.as_slice()))];
-    assert!(rt; call_gives(alloc, &clauses, Expected::KnownType("a"))?);
-    let number = [(WITH, Some(a.as_slice())), (ASSERT, None)];
-    assert!(rt; call_gives(alloc, &number, Expected::KnownType("a"))?);
+    assert!(rt; types_give(alloc, [WITH, ASSERT], ["a", "b"], Expected::KnownType("a"))?);
+    let json = [(TYPE, Some("json"))];
+    let number = [(WITH, Some(json.as_slice())), (ASSERT, None)];
+    assert!(rt; call_gives(alloc, &number, Expected::KnownType("json"))?);
     Ok(())
 }
 
@@ -235,11 +249,16 @@ fn an_assert_before_a_with_is_a_clause(rt: HostRuntime) -> Result<(), Fail> {
 #[test]
 fn the_last_clause_counts(rt: HostRuntime) -> Result<(), Fail> {
     let alloc = rt.alloc();
-    let (a, b) = ([(TYPE, Some("a"))], [(TYPE, Some("b"))]);
-    for key in [ASSERT, WITH] {
-        let clauses = [(key, Some(a.as_slice())), (key, Some(b.as_slice()))];
-        assert!(rt; call_gives(alloc, &clauses, Expected::KnownType("b"))?);
-    }
+    assert!(rt;
+        types_give(
+            alloc,
+            [ASSERT, ASSERT],
+            ["a", "b"],
+            Expected::KnownType("b")
+        )?
+    );
+    assert!(rt; types_give(alloc, [WITH, WITH], ["a", "b"], Expected::KnownType("b"))?);
+    assert!(rt; types_give(alloc, [ASSERT, WITH], ["a", "b"], Expected::KnownType("b"))?);
     Ok(())
 }
 

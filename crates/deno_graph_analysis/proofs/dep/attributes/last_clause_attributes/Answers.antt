@@ -1,11 +1,11 @@
 -- A clause with a known object is the last so far, and other properties are passed over.
-use Rattle.std.proofs.Common.{◌≡◌, Option, None, Some, ◌||◌, sym, ap, ◌∙◌, subst, ◌+◌}
+use Rattle.std.proofs.Common.{Option, ◌||◌, sym, ap, ◌∙◌, subst, ◌+◌}
 use Rattle.std.specs.Option.{option_copied}
 use Rattle.std.proofs.lemmas.Bool.{both_ways}
 use Rattle.std.proofs.lemmas.Result.{IfOk-weaker}
 use Rattle.deno_graph_source.specs.declared.tree.node.Node.{Node}
 use Rattle.deno_graph_analysis.specs.Attributes.{ObjectGives, LookedAtGive}
-use Rattle.deno_graph_analysis.proofs.LastClause.{LookedAtBelow, LookedAtBelow-skip, LookedAtBelow-clause, LookedAtGive-none, LookedAtGive-last}
+use Rattle.deno_graph_analysis.proofs.LastClause.{LookedAtBelow, LookedAtBelow-skip, LookedAtBelow-clause, LookedAtGive-unknown, LookedAtGive-none, LookedAtGive-last}
 use Rattle.deno_graph_analysis.proofs.dep.attributes.last_clause_attributes.Goals as goal
 use Rattle.deno_graph_analysis.proofs.dep.attributes.last_clause_attributes.Goals.{then-is_clause+in-Some, else-is_clause}
 
@@ -29,6 +29,12 @@ loop-property-preserved c =
           c.has_key-after_with.result c.has_key-after_with.ensures
           (λ clause. both_ways c.is_clause.result w.if-is_clause.false (c.is_clause.ensures.1 clause)))
     ]
+
+pub returns-in_default : goal.returns-in_default
+returns-in_default c =
+    LookedAtGive-unknown c.args.properties.now c.loop-property.property-index c.property-item.result c.loop-property-test.true c.property-item.is
+    c.loop-property.after_with (option_copied c.loop-property.last) c.loop-property.invariant
+    (c.is_clause.ensures.0 c.if-is_clause.true) (sym c.known_object.ensures ∙ ap option_copied c.in_default.is)
 
 pub returns-in-Some-last : goal.returns-in-Some-last
 returns-in-Some-last c =

@@ -1,5 +1,5 @@
 -- A property with a static key and a static value puts it at the key, and any other is skipped.
-use Rattle.std.proofs.Common.{◌≡◌, None, Some, [], sym, ap, ◌∙◌, subst, option_map, take, ◌+◌}
+use Rattle.std.proofs.Common.{Some, [], sym, subst, take, ◌+◌}
 use Rattle.deno_graph_analysis.specs.Attributes.{HoldsLast, attribute_of, declared}
 use Rattle.deno_graph_analysis.proofs.LastGiven.{HoldsLast-nil, HoldsLast-skip_more, HoldsLast-put_more}
 use Rattle.deno_graph_analysis.proofs.dep.attributes.parse_import_attributes.Goals as goal

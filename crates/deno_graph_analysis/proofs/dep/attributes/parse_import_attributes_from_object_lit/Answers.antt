@@ -3,7 +3,7 @@ use Rattle.std.proofs.Common.{◌≡◌, true, Some, [], sym, ap, ◌∙◌, sub
 use Rattle.std.specs.Option.{option_copied}
 use Rattle.std.proofs.lemmas.Bool.{and_from}
 use Rattle.std.proofs.lemmas.List.Folds.{list_all_more}
-use Rattle.deno_graph_analysis.specs.Attributes.{HoldsLast, Puts, attribute_of, stated, static_key}
+use Rattle.deno_graph_analysis.specs.Attributes.{HoldsLast, attribute_of, stated, static_key}
 use Rattle.deno_graph_analysis.proofs.LastGiven.{HoldsLast-nil, HoldsLast-put_more, stated-key}
 use Rattle.deno_graph_analysis.proofs.dep.attributes.parse_import_attributes_from_object_lit.Goals as goal
 
