@@ -1,3 +1,4 @@
+pub mod AddedItems
 pub mod Judgements
 pub mod Lists
 pub mod LossyText
