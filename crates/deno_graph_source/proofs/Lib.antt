@@ -1,4 +1,6 @@
 pub mod AddedItems
+pub mod CheckpointLemmas
+pub mod FrontLemmas
 pub mod Judgements
 pub mod Lists
 pub mod LossyText
@@ -9,4 +11,10 @@ pub mod PositionLemmas
 pub mod PositionOrder
 pub mod SourceFaults
 pub mod Spelling
+pub mod PlaceLemmas
+pub mod PositionLemmas
+pub mod PositionOrder
+pub mod SourceFaults
+pub mod TextEntries
+pub mod Units
 pub mod ValidSource

@@ -1,17 +1,17 @@
 -- Lossy texts: what they say of strings without surrogates, and of empty ones.
-use Rattle.std.proofs.Common.{◌≡◌, ℕ, ◌+◌, Bool, true, false, ◌&&◌, List, [], ◌∷◌, map, length, get_or, nat_eq, nat_le, nat_lt, encode_utf8_all, refl, sym, ap, ◌∙◌, ⊎_elim, arith}
+use Rattle.std.proofs.Common.{◌≡◌, ℕ, ◌+◌, ◌<◌, Bool, true, false, ◌&&◌, List, [], ◌∷◌, map, length, get_or, nat_eq, nat_le, nat_lt, encode_utf8_all, refl, sym, ap, subst, cond, ◌∙◌, ⊎_elim, arith}
 use Rattle.std.specs.Char.{IsScalar, len_utf8}
 use Rattle.std.specs.Char.Utf16.{is_high_surrogate}
 use Rattle.std.specs.List.{AllByRecursion}
 use Rattle.std.specs.Str.{chars, IsUtf8, all_scalars}
-use Rattle.std.proofs.lemmas.Bool.{and_parts, and_from, ltb-true, lt-ltb, le-ltb, lt-leb, false≢true, cases_lt, cases_Bool}
+use Rattle.std.proofs.lemmas.Bool.{and_parts, and_from, ltb-true, lt-ltb, le-ltb, lt-leb, false≢true, cases_lt, cases_Bool, eq-eqb, ne_eqb}
 use Rattle.std.proofs.lemmas.Bool.Decides.{same_from_decides, Decides-like, Decides-and, Decides-eqb}
 use Rattle.std.proofs.lemmas.List.{get_or_past}
 use Rattle.std.proofs.lemmas.Slice.Eq.{slice_eq-Decides, bytes_eq-Decides}
 use Rattle.std.specs.Bool.{Decides}
 use Rattle.std.specs.Cmp.Lexicographic.{pointwise}
 use Rattle.std.proofs.lemmas.List.Elements.{All-from_recursion, recursion_from_All}
-use Rattle.std.proofs.lemmas.Str.{chars-nil, encodes-chars, scalars-chars}
+use Rattle.std.proofs.lemmas.Str.{chars-nil, chars-encodes, encodes-chars, scalars-chars, len_utf8_bounds}
 use Rattle.std.proofs.Math.Utf8.{scalar_cases}
 use Rattle.deno_graph_source.specs.JsString.{is_surrogate, lossy_char, lossy_text, IsReadable, IsPaired, lone_from, points_from, points_of, IsStored}
 
@@ -109,6 +109,44 @@ encoded_stored text lone u s e = lossy_text-stored text lone u s ∙ lossy_text-
 
 pub stored_readable : (text : List ℕ) (lone : List (ℕ × ℕ)) → IsStored text lone → IsReadable (points_of text lone) → lone ≡ []
 stored_readable text lone s r = s.places ∙ lone_from-readable 0 _ r
+
+-- a list of code points is what its lossy text and its lone surrogates stand for
+abbrev IsLater : ℕ → List (ℕ × ℕ) → Type 0
+IsLater at [] = Unit {0}
+IsLater at (l ∷ lone) = nat_eq at l.0 ≡ false
+
+IsLater-lone_from : (at from : ℕ) (ps : List ℕ) → at < from → IsLater at (lone_from from ps)
+IsLater-lone_from at from [] h = tt
+IsLater-lone_from at from (p ∷ ps) h =
+    ⊎_elim (λ t. rw t (ne_eqb at from (λ e. omega arith)))
+    (λ f. rw f (IsLater-lone_from at (from + len_utf8 p) ps (omega arith))) (cases_Bool (is_surrogate p))
+
+points_from-later : (at c : ℕ) (cs : List ℕ) (lone : List (ℕ × ℕ)) → IsLater at lone → points_from at (c ∷ cs) lone ≡ c ∷ points_from (at + len_utf8 c) cs lone
+points_from-later at c cs [] h = ap (λ l. c ∷ l) (sym (points_from-none_lone (at + len_utf8 c) cs))
+points_from-later at c cs (l ∷ lone) h = rw h refl
+
+points_from-at : (at c p : ℕ) (cs : List ℕ) (lone : List (ℕ × ℕ)) → points_from at (c ∷ cs) ((at, p) ∷ lone) ≡ p ∷ points_from (at + len_utf8 c) cs lone
+points_from-at at c p cs lone =
+    ap (λ b. cond b (p ∷ points_from (at + len_utf8 c) cs lone) (c ∷ points_from (at + len_utf8 c) cs ((at, p) ∷ lone))) (eq-eqb at at refl)
+
+pub points_from-lone_from : (at : ℕ) (ps : List ℕ) → points_from at (map lossy_char ps) (lone_from at ps) ≡ ps
+points_from-lone_from at [] = refl
+points_from-lone_from at (p ∷ ps) =
+    ⊎_elim (λ t. rw t (points_from-at at 0xFFFD p (map lossy_char ps) (lone_from (at + 3) ps) ∙ ap (λ l. p ∷ l) (points_from-lone_from (at + 3) ps)))
+    (λ f. rw f (points_from-later at p (map lossy_char ps) (lone_from (at + len_utf8 p) ps) (IsLater-lone_from at (at + len_utf8 p) ps (omega (arith, len_utf8_bounds p)))
+    ∙ ap (λ l. p ∷ l) (points_from-lone_from (at + len_utf8 p) ps))) (cases_Bool (is_surrogate p))
+
+pub points_of-lossy_text : (ps : List ℕ) → all_scalars (map lossy_char ps) ≡ true → points_of (lossy_text ps) (lone_from 0 ps) ≡ ps
+points_of-lossy_text ps s = rw (chars-encodes (map lossy_char ps) s) (points_from-lone_from 0 ps)
+
+pub IsStored-lossy_text : (ps : List ℕ) → all_scalars (map lossy_char ps) ≡ true → IsPaired ps → IsStored (lossy_text ps) (lone_from 0 ps)
+IsStored-lossy_text ps s paired =
+    let same = points_of-lossy_text ps s in
+    record {
+      characters = chars-encodes (map lossy_char ps) s ∙ ap (map lossy_char) (sym same);
+      places = ap (lone_from 0) (sym same);
+      paired = subst IsPaired (sym same) paired;
+    }
 
 -- two strings are equal exactly where their texts and their lone surrogates are
 pair_Decides : (a b : ℕ × ℕ) → Decides (nat_eq a.0 b.0 && nat_eq a.1 b.1) (a ≡ b)

@@ -1,7 +1,7 @@
 -- JavaScript strings as lists of code points, of which some may be surrogates.
 use Rattle.std.specs.Prelude.{◌≡◌, ℕ, ◌+◌, Bool, false, ◌&&◌, List, [], ◌∷◌, ◌++◌, map, All, IsTrue, nat_le, nat_lt, nat_eq, slice_index, if◌then◌else◌, encode_utf8_all}
 use Rattle.std.specs.Char.{len_utf8}
-use Rattle.std.specs.Char.Utf16.{is_high_surrogate, is_low_surrogate}
+use Rattle.std.specs.Char.Utf16.{is_high_surrogate, is_low_surrogate, surrogate_pair_char}
 use Rattle.std.specs.Str.{chars}
 
 -- half of a pair of UTF-16, which is no character: 0xD800 to 0xDFFF
@@ -24,6 +24,13 @@ IsReadable points = All (λ p. is_surrogate p ≡ false) points
 abbrev pub IsPaired : List ℕ → Type 0
 IsPaired points =
     (k : ℕ) → IsTrue (is_high_surrogate (slice_index points k)) → IsTrue (is_low_surrogate (slice_index points (k + 1))) → ⊥
+
+-- the code points of units of UTF-16: a high unit directly before a low one joins with it, and every other unit stays
+unfoldable pub points_of_units : List ℕ → List ℕ
+points_of_units [] = []
+points_of_units (u ∷ []) = u ∷ []
+points_of_units (u ∷ v ∷ units) =
+    if is_high_surrogate u && is_low_surrogate v then surrogate_pair_char u v ∷ points_of_units units else u ∷ points_of_units (v ∷ units)
 
 -- the surrogates, each with the place of its U+FFFD in a lossy text, in bytes, where the first code point is at `at`
 abbrev pub lone_from : ℕ → List ℕ → List (ℕ × ℕ)

@@ -5,7 +5,10 @@ pub mod JsString
 pub mod MediaType
 pub mod Node
 pub mod ParsedSource
+pub mod Place
 pub mod Position
+pub mod PositionRange
 pub mod Source
 pub mod SourceRange
+pub mod TextMap
 pub mod formers

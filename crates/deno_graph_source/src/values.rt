@@ -2,8 +2,10 @@
 
 pub mod items;
 pub mod text;
+pub mod text_map;
 pub mod try_clone;
 
 pub use items::Items;
 pub use text::Text;
+pub use text_map::TextMap;
 pub use try_clone::TryClone;

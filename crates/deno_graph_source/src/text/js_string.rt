@@ -1,9 +1,14 @@
 ghost use Rattle.std.specs.Prelude.{◌≡◌, [], ◌↔◌, IsTrue, IsSome, IfSome, IfOk, nat_eq, encode_utf8_all};
+ghost use Rattle.std.specs.Char.Escape.{encode_utf16};
+ghost use Rattle.std.specs.List.{flat_map};
 ghost use Rattle.std.specs.Str.{chars};
 ghost use Rattle.std.specs.Cmp.{partial_equiv_from_equiv};
 ghost use Rattle.std.specs.Cmp.Lexicographic.{pointwise, nat_list_eq_equiv};
-ghost use Rattle.deno_graph_source.specs.JsString.{lossy_text, IsReadable};
+ghost use Rattle.deno_graph_source.specs.JsString.{lossy_text, points_of_units, IsPaired, IsReadable};
 
+mod units;
+
+use self::units::{first_point, push_point};
 use crate::values::try_clone::TryClone;
 use std::alloc::{AllocError, Global};
 use std::marker::Model;
@@ -45,6 +50,22 @@ impl JsString {
         })
     }
 
+    /// The code points of `units` of UTF-16, or an error where memory was refused. A high surrogate directly before a
+    /// low one joins with it to one code point, and every other surrogate stands alone.
+    pub fn from_units(alloc: Global, units: &[u16]) -> Result<JsString, AllocError>
+        ensures points { IfOk result (λ made. made ≡ points_of_units units.now) }
+        ensures same_units { IfOk result (λ made. flat_map encode_utf16 made ≡ units.now) }
+    {
+        let mut text = String::with_capacity(alloc, units.len())?;
+        let mut lone = Vec::new(alloc);
+        let mut rest = units;
+        while let Some((point, after)) = first_point(rest) {
+            push_point(&mut text, &mut lone, point)?;
+            rest = after;
+        }
+        Ok(JsString { text, lone })
+    }
+
     /// The text, or `None` where a surrogate stands alone.
     pub fn as_str(&self) -> Option<&str>
         ensures readable { IsSome result ↔ IsReadable self.now }
@@ -65,10 +86,18 @@ impl JsString {
         self.text.as_str()
     }
 
+    /// Whether there is no code point.
     pub fn is_empty(&self) -> bool
         ensures { IsTrue result ↔ (self.now ≡ []) }
     {
         self.text.is_empty()
+    }
+
+    /// A law of all strings: no high surrogate stands directly before a low one.
+    pub fn law_of_pairs(&self)
+        ensures { IsPaired self.now }
+    {
+        let _text = &self.text;
     }
 }
 
@@ -94,3 +123,6 @@ impl PartialEq for JsString {
 impl Eq for JsString {
     ghost laws = { nat_list_eq_equiv };
 }
+
+#[cfg(test)]
+mod tests;

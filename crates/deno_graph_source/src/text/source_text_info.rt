@@ -1,19 +1,24 @@
-ghost use Rattle.std.specs.Prelude.{◌≡◌, ◌↔◌, IfOk, IfSome, IsSome, nat_eq};
+ghost use Rattle.std.specs.Prelude.{◌≡◌, ℕ, ◌+◌, ◌<◌, ◌≤◌, ◌↔◌, length, IfOk, IfSome, IsSome, nat_eq};
 ghost use Rattle.std.specs.Cmp.{partial_equiv_from_equiv};
 ghost use Rattle.std.specs.Cmp.Lexicographic.{pointwise, nat_list_eq_equiv};
 ghost use Rattle.std.specs.Rc.{rc_str_bytes};
+ghost use Rattle.deno_graph_source.specs.Place.{IsPlace, reach};
+ghost use Rattle.deno_graph_source.specs.Position.{IsAt, IsBefore};
 ghost use Rattle.deno_graph_source.specs.SourceRange.{IsTextRange, slice_of};
 
-use crate::text::position::SourceRange;
+use crate::text::checkpoints::checkpoints;
+use crate::text::place::Place;
+use crate::text::position::{Position, SourceRange};
 use crate::values::TryClone;
 use std::alloc::{AllocError, Global};
 use std::marker::Model;
-use std::rc::RcStr;
+use std::rc::{Rc, RcStr};
 
-/// A text, with what finds its lines.
+/// A text, with what finds positions in it. Contracts see its bytes alone.
 #[derive(Debug, Drop)]
 pub struct SourceTextInfo {
     text: RcStr,
+    checkpoints: Rc<Vec<Place>>,
 }
 
 impl Model for SourceTextInfo {
@@ -25,16 +30,24 @@ impl Model for SourceTextInfo {
 
     ghost coded = { coded_list coded_ℕ };
 
+    ghost use Rattle.deno_graph_source.specs.Place.{AreCheckpoints};
+
     ghost view = { λ t. rc_str_bytes t.text };
+
+    ghost invariant = { λ t. AreCheckpoints (rc_str_bytes t.text) t.checkpoints.value.items };
 }
 
 impl SourceTextInfo {
-    /// The text with its lines, or an error where memory was refused.
+    /// Reads `text` once, and keeps about a tenth of its size besides. An error where memory was
+    /// refused.
     pub fn new(alloc: Global, text: RcStr) -> Result<SourceTextInfo, AllocError>
         ensures { IfOk result (λ info. info ≡ rc_str_bytes text) }
     {
-        let _ = alloc;
-        Ok(SourceTextInfo { text })
+        let checkpoints = checkpoints(alloc, text.as_str())?;
+        Ok(SourceTextInfo {
+            text,
+            checkpoints: Rc::new(alloc, checkpoints)?,
+        })
     }
 
     pub fn text(&self) -> &str
@@ -47,6 +60,33 @@ impl SourceTextInfo {
         ensures { rc_str_bytes result.now ≡ self.now }
     {
         &self.text
+    }
+
+    /// A place at or before `pos`. Where `pos` lies in the text they are less than 260 bytes apart.
+    pub(crate) fn place_up_to(&self, pos: usize) -> Place
+        ensures place { IsPlace self.now result }
+        ensures before { result.pos ≤ pos }
+        ensures near { pos ≤ length self.now → pos < result.pos + reach }
+    {
+        let places = self.checkpoints.as_slice();
+        match places.partition_point(|place| place.pos <= pos) {
+            0 => Place::start(),
+            passed => places[passed - 1],
+        }
+    }
+
+    /// A place whose position is at or before `position`. It is less than 260 bytes before the
+    /// boundary that has this position, if there is one.
+    pub(crate) fn place_up_to_position(&self, position: Position) -> Place
+        ensures place { IsPlace self.now result }
+        ensures before { ¬ (IsBefore position result.position) }
+        ensures near { (pos : ℕ) → IsAt self.now position pos → pos < result.pos + reach }
+    {
+        let places = self.checkpoints.as_slice();
+        match places.partition_point(|place| !position.is_before(place.position)) {
+            0 => Place::start(),
+            passed => places[passed - 1],
+        }
     }
 
     /// The part of the text at `range`, which is in bytes from its start. None where the range is
@@ -67,6 +107,7 @@ impl TryClone for SourceTextInfo {
         let _ = alloc;
         Ok(SourceTextInfo {
             text: self.text.clone()?,
+            checkpoints: self.checkpoints.clone()?,
         })
     }
 }

@@ -1,6 +1,5 @@
-use Rattle.std.proofs.Common.{sym, ap, ◌∙◌, rules, tests, arith, eq-eqb}
+use Rattle.std.proofs.Common.{arith, eq-eqb}
 use Rattle.std.proofs.lemmas.Bool.Decides.{nat_tests}
-use Rattle.deno_graph_source.specs.Position.{position_of}
 use Rattle.deno_graph_source.proofs.PositionLemmas.{position_of-line_feed, position_of-other}
 use Rattle.deno_graph_source.proofs.text.position.Position.past.Goals as goal
 

@@ -1,0 +1,10 @@
+-- The JSON form, a file for each kind of value.
+pub mod Dependency
+pub mod DynamicArgument
+pub mod DynamicDependency
+pub mod ImportAttributes
+pub mod Info
+pub mod Object
+pub mod Position
+pub mod StaticDependency
+pub mod Writer

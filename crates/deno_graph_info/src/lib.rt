@@ -1,0 +1,4 @@
+//! What the analysis of one module finds, and its JSON form.
+#![tactic(auto)]
+
+pub mod analysis;
