@@ -1,4 +1,5 @@
 -- The ranges of a tree: which there are.
+pub use Rattle.deno_graph_source.proofs.Lists.{Contains-map}
 use Rattle.std.proofs.Common.{◌≡◌, List, ◌∷◌, ◌++◌, [], ap, ◌∙◌, refl, arith}
 use Rattle.std.specs.List.{flat_map, Contains}
 use Rattle.std.proofs.lemmas.List.Elements.{Contains-append_left, Contains-append_right}

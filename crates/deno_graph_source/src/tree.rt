@@ -15,3 +15,6 @@ pub use fault::{SourceFault, source_fault};
 pub use media_type::MediaType;
 pub use node::{Arg, Callee, ImportPhase, Kind, Node, Program, StrLit};
 pub use parsed_source::ParsedSource;
+
+#[cfg(test)]
+mod tests;
