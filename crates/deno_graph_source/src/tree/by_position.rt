@@ -61,7 +61,7 @@ impl<T> ByPosition<Items<T>> {
     pub(crate) fn push_items<'a>(&'a self, all: &mut Vec<&'a T>) -> Result<(), AllocError>
         ensures { OnOk result
             (map (λ item. item.now) all.new.items
-                ≡ map (λ item. item.now) all.old.items ++ all_items self.now) }
+            ≡ map (λ item. item.now) all.old.items ++ all_items self.now) }
     {
         for items in self.map.values() {
             push_each(all, items.as_slice())?;
@@ -73,7 +73,7 @@ impl<T> ByPosition<Items<T>> {
 fn push_each<'a, T>(all: &mut Vec<&'a T>, items: &'a [T]) -> Result<(), AllocError>
     ensures { OnOk result
         (map (λ item. item.now) all.new.items
-            ≡ map (λ item. item.now) all.old.items ++ items.now) }
+        ≡ map (λ item. item.now) all.old.items ++ items.now) }
 {
     for item in items {
         all.push(item)?;
