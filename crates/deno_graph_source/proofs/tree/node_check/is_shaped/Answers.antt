@@ -1,4 +1,4 @@
-use Rattle.std.proofs.Common.{rules, arith}
+use Rattle.std.proofs.Common.{rules}
 use Rattle.deno_graph_source.specs.Node.{kind_of, children_of, HasShape}
 use Rattle.deno_graph_source.proofs.tree.node_check.is_shaped.Goals as goal
 
