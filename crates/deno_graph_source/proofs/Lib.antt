@@ -1,3 +1,4 @@
+pub mod AddedItems
 pub mod CheckpointLemmas
 pub mod FrontLemmas
 pub mod Judgements

@@ -1,5 +1,6 @@
 -- The ranges of a tree: which there are.
-use Rattle.std.proofs.Common.{◌≡◌, List, ◌∷◌, ◌++◌, [], ap, ◌∙◌, refl, arith}
+pub use Rattle.deno_graph_source.proofs.Lists.{Contains-map}
+use Rattle.std.proofs.Common.{◌≡◌, ◌∷◌, ◌++◌, ap, ◌∙◌, refl, arith}
 use Rattle.std.specs.List.{flat_map, Contains}
 use Rattle.std.proofs.lemmas.List.Elements.{Contains-append_left, Contains-append_right}
 use Rattle.deno_graph_source.specs.Node.{kind_of, range_of, children_of, ranges_in_kind, held_ranges, nodes_in, node_ranges}

@@ -1,15 +1,12 @@
 -- All nodes of a tree: which there are.
-use Rattle.std.proofs.Common.{◌≡◌, ℕ, zero, suc, ◌+◌, ◌<◌, ◌≤◌, List, [], ◌∷◌, ◌++◌, map, length, take, get_or, refl, sym, ap, ◌∙◌, subst, arith}
+use Rattle.std.proofs.Common.{◌≡◌, List, [], ◌∷◌, map, refl, sym, ap, ◌∙◌, subst, arith}
 use Rattle.std.specs.List.{flat_map, Contains, All}
-use Rattle.std.proofs.lemmas.List.{take_more, take_all, append-nil}
-use Rattle.std.proofs.lemmas.List.Concat.{flat_map-append}
-use Rattle.std.proofs.lemmas.List.Elements.{Contains-append_left, Contains-append_right, All-cons}
-use Rattle.deno_graph_source.specs.Node.{children_of, nodes_in, nodes_of, nodes_step}
+use Rattle.std.proofs.lemmas.List.Elements.{Contains-append_right, All-cons}
+use Rattle.deno_graph_source.specs.Node.{children_of, nodes_in, nodes_step}
 use Rattle.deno_graph_source.specs.declared.tree.node.Node.{Node}
 use Rattle.deno_graph_source.specs.declared.tree.node.Node.TheOpen.{Node-F}
 use Rattle.deno_graph_source.specs.declared.tree.node.Node.TheViews.{out-Node, roll-Node}
 use Rattle.deno_graph_source.specs.declared.tree.node.Node.TheFolds.{fold-Node, fold-roll-Node, fold_out-Node, ind-Node}
-use Rattle.deno_graph_source.specs.declared.tree.node.Program.{Program}
 use Rattle.deno_graph_source.proofs.Lists.{flat_map-map, Contains-flat_map}
 
 -- a node with all its nodes, as the fold makes them

@@ -1,14 +1,13 @@
 -- Faults of a source, and validity, by their parts.
-use Rattle.std.proofs.Common.{◌≡◌, ℕ, ◌+◌, ◌<◌, ◌≤◌, List, ◌∷◌, ◌++◌, map, length, Result, Ok, Err, inl, inr, refl, arith}
-use Rattle.std.specs.List.{flat_map, Contains, All, Any}
+use Rattle.std.proofs.Common.{ℕ, List, map, Result, Ok, Err, inr, refl, arith}
+use Rattle.std.specs.List.{Contains, All, Any}
 use Rattle.std.specs.List.Sorted.{IsNonDecreasingBy, IsPermutation}
-use Rattle.std.specs.Result.{IsErrAnd}
 use Rattle.std.proofs.lemmas.List.Elements.{All-append, All-cons, All-contains, All-map, All-weaker, Contains-append_left, Contains-append_right}
 use Rattle.std.proofs.lemmas.List.Sorted.{All-permutation, Contains-permutation, IsPermutation-map, IsPermutation-sym, IsPermutation-trans}
 use Rattle.deno_graph_source.specs.Check.{CommentHas, IsSound, JudgesNeighbours, JudgesSource, NodeHas, RangeHas}
 use Rattle.deno_graph_source.specs.Comments.{FiledComments, comments_of}
 use Rattle.deno_graph_source.specs.Node.{held_ranges, nodes_of, program_ranges, IsShaped}
-use Rattle.deno_graph_source.specs.Source.{HasOverlap, IsSpelled, IsValid, Stands, ranges_of}
+use Rattle.deno_graph_source.specs.Source.{HasOverlap, IsSpelled, Stands, ranges_of}
 use Rattle.deno_graph_source.specs.SourceRange.{IsTextRange}
 use Rattle.deno_graph_source.specs.declared.text.position.SourceRange.{SourceRange}
 use Rattle.deno_graph_source.specs.declared.tree.comments.DependencyComment.{DependencyComment}
@@ -16,7 +15,7 @@ use Rattle.deno_graph_source.specs.declared.tree.fault.SourceFault.{SourceFault}
 use Rattle.deno_graph_source.specs.declared.tree.fault.SourceFault.TheVariants.{RangeReversed, RangeOutside, RangeOffBoundary, CommentText, CommentsOverlap, Shape, OutOfMemory}
 use Rattle.deno_graph_source.specs.declared.tree.node.Node.{Node}
 use Rattle.deno_graph_source.specs.declared.tree.node.Program.{Program}
-use Rattle.deno_graph_source.proofs.Judgements.{Any-from, Any-within}
+use Rattle.deno_graph_source.proofs.Judgements.{Any-from}
 use Rattle.deno_graph_source.proofs.Lists.{All-flat_map, Contains-cons, Contains-flat_map, Contains-map}
 use Rattle.deno_graph_source.proofs.Neighbours.{IsNonDecreasingBy-map, apart_from_neighbours, overlap_from_neighbours}
 

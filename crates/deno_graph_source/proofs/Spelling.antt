@@ -1,5 +1,5 @@
 -- How comments are written: a text has one comment at a range.
-use Rattle.std.proofs.Common.{◌≡◌, ℕ, List, ◌++◌, ◌∷◌, sym, ap, ◌∙◌, refl, codes, get_or, arith}
+use Rattle.std.proofs.Common.{◌≡◌, ℕ, List, ◌++◌, sym, ap, ◌∙◌, refl, codes, get_or, arith}
 use Rattle.std.proofs.lemmas.List.{append_cancel_left, append_cancel_right}
 use Rattle.deno_graph_source.specs.Source.{IsSpelled, spelling}
 use Rattle.deno_graph_source.specs.SourceRange.{slice_of}

@@ -1,15 +1,15 @@
 -- What validity says of each part of a source: the ranges of a node at any depth, of its literal and
 -- of each comment are ranges of the text.
-use Rattle.std.proofs.Common.{◌≡◌, ℕ, zero, suc, ◌+◌, ◌<◌, true, false, Bool, List, [], ◌∷◌, ◌++◌, map, Option, Some, None, refl, sym, ap, arith}
+use Rattle.std.proofs.Common.{◌≡◌, ℕ, List, [], ◌∷◌, Some, refl, arith}
 use Rattle.std.specs.List.{Contains, All, flat_map}
-use Rattle.std.proofs.lemmas.List.Elements.{All-contains, Contains-append_left, Contains-append_right, Contains-get_or}
+use Rattle.std.proofs.lemmas.List.Elements.{All-contains, Contains-append_left, Contains-append_right}
 use Rattle.std.specs.Map.{values_of}
 use Rattle.std.proofs.lemmas.Map.Entries.{place_from_lookup}
 use Rattle.std.proofs.lemmas.Map.Made.{Contains-values_of}
 use Rattle.std.proofs.lemmas.Option.{slice_get_within, get_or_from_slice_get}
 use Rattle.deno_graph_source.specs.ByPosition.{value_at, all_items}
 use Rattle.deno_graph_source.specs.Comments.{FiledComments, comments_of}
-use Rattle.deno_graph_source.specs.Node.{kind_of, range_of, children_of, literal_of, ranges_in_kind, held_ranges, nodes_in, nodes_of, node_ranges, program_ranges, IsShaped}
+use Rattle.deno_graph_source.specs.Node.{kind_of, range_of, children_of, literal_of, ranges_in_kind, held_ranges, nodes_in, nodes_of, node_ranges, program_ranges}
 use Rattle.deno_graph_source.specs.Source.{IsValid, ranges_of}
 use Rattle.deno_graph_source.specs.SourceRange.{IsTextRange}
 use Rattle.deno_graph_source.specs.declared.text.position.SourceRange.{SourceRange}

@@ -17,3 +17,6 @@ pub use node::{
     Arg, BinaryOp, Callee, ImportPhase, Kind, Node, Program, PropKey, StrLit,
 };
 pub use parsed_source::ParsedSource;
+
+#[cfg(test)]
+mod tests;

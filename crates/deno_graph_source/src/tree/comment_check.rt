@@ -7,10 +7,7 @@ use crate::tree::fault::SourceFault;
 use crate::tree::range_check::check_range;
 
 /// Looks for a comment that isn't written in the text at its range.
-pub(crate) fn check_comments(
-    text: &str,
-    comments: &[&DependencyComment],
-) -> Result<(), SourceFault>
+pub(crate) fn check_comments(text: &str, comments: &[&DependencyComment]) -> Result<(), SourceFault>
     ensures { JudgesComments text.now (map (λ comment. comment.now) comments.now) result }
 {
     for comment in comments {

@@ -2,9 +2,9 @@ ghost use Rattle.std.specs.Prelude.{◌≡◌, ◌↔◌, IfOk, IfSome, IsNone};
 ghost use Rattle.deno_graph_source.specs.Check.{JudgesSource};
 ghost use Rattle.deno_graph_source.specs.Source.{IsValid, Stands};
 
+use crate::tree::comment_check::{check_comments, check_neighbours};
 use crate::tree::comments::Comments;
 use crate::tree::node::Program;
-use crate::tree::comment_check::{check_comments, check_neighbours};
 use crate::tree::node_check::check_nodes;
 use crate::tree::range_check::check_range;
 use std::alloc::{AllocError, Global};

@@ -36,21 +36,21 @@ impl Model for ParsedSource {
     ghost use Rattle.deno_graph_source.specs.Source.{IsValid};
 
     ghost view = { λ source. record {
-        specifier = source.specifier;
-        text = source.text_info;
-        media_type = source.media_type;
-        program = source.program;
-        comments = source.comments;
-        scope_analysis = source.scope_analysis
+      specifier = source.specifier;
+      text = source.text_info;
+      media_type = source.media_type;
+      program = source.program;
+      comments = source.comments;
+      scope_analysis = source.scope_analysis;
     } };
 
     ghost inverse = { λ value. record {
-        specifier = value.specifier;
-        text_info = value.text;
-        media_type = value.media_type;
-        program = value.program;
-        comments = value.comments;
-        scope_analysis = value.scope_analysis
+      specifier = value.specifier;
+      text_info = value.text;
+      media_type = value.media_type;
+      program = value.program;
+      comments = value.comments;
+      scope_analysis = value.scope_analysis;
     } };
 
     ghost invariant = { λ source. IsValid source.text_info source.program source.comments };
@@ -70,12 +70,12 @@ impl ParsedSource {
     ) -> Result<ParsedSource, SourceFault>
         ensures valid { OnOk result (IsValid (rc_str_bytes text) program comments) }
         ensures ok { IfOk result (λ source. source ≡ record {
-            specifier = specifier;
-            text = rc_str_bytes text;
-            media_type = media_type;
-            program = program;
-            comments = comments;
-            scope_analysis = scope_analysis
+          specifier = specifier;
+          text = rc_str_bytes text;
+          media_type = media_type;
+          program = program;
+          comments = comments;
+          scope_analysis = scope_analysis;
         }) }
         ensures accepted { IsValid (rc_str_bytes text) program comments
             → IfErr result (λ fault. fault ≡ SourceFault.OutOfMemory) }

@@ -1,4 +1,4 @@
-use Rattle.std.proofs.Common.{◌≡◌, ◌+◌, ◌-◌, map, get_or, refl, arith}
+use Rattle.std.proofs.Common.{◌≡◌, ◌+◌, ◌-◌, get_or, refl, arith}
 use Rattle.std.proofs.lemmas.List.{length-map}
 use Rattle.deno_graph_source.proofs.Neighbours.{AllAdjacentBelow-map, differs, runs_into_at}
 use Rattle.deno_graph_source.specs.Check.{Passes}

@@ -1,6 +1,5 @@
 use Rattle.std.proofs.Common.{◌∷◌, [], refl}
 use Rattle.std.proofs.lemmas.List.Elements.{All-append}
-use Rattle.std.specs.List.{Any}
 use Rattle.std.proofs.lemmas.List.Elements.{Contains-append_left, Contains-append_right}
 use Rattle.deno_graph_source.proofs.Judgements.{Any-within, returned, range_fault_in_node}
 use Rattle.deno_graph_source.specs.Check.{NodeHas, RangeHas}

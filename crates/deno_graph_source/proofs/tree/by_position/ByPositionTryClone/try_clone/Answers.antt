@@ -1,8 +1,5 @@
-use Rattle.std.proofs.Common.{◌≡◌, [], ◌∷◌, ◌++◌, ◌∙◌, ap, subst, sym, append_assoc}
-use Rattle.std.specs.List.Sorted.{IsStrictlySortedBy}
-use Rattle.std.specs.Map.{keys_of}
+use Rattle.std.proofs.Common.{◌++◌, ◌∙◌, ap, sym, append_assoc}
 use Rattle.std.specs.Map.Iter.{deref_pair}
-use Rattle.std.specs.Ordering.{nat_cmp}
 use Rattle.std.proofs.lemmas.Map.Iter.{rest_more}
 use Rattle.deno_graph_source.proofs.PositionOrder.{insert_entry_last}
 use Rattle.deno_graph_source.proofs.tree.by_position.ByPositionTryClone.try_clone.Goals as goal

@@ -1,4 +1,3 @@
-use Rattle.std.proofs.Common.{map, subst, ◌∙◌, sym, ap, ◌++◌, ◌≡◌}
 use Rattle.std.proofs.lemmas.List.Sorted.{IsPermutation-refl}
 use Rattle.deno_graph_source.specs.Comments.{comments_of}
 use Rattle.deno_graph_source.proofs.tree.comments.Comments.iter_unstable.Goals as goal

@@ -1,0 +1,7 @@
+mod analyses;
+mod notation;
+mod runs;
+mod streams;
+mod texts;
+mod trees;
+mod values;

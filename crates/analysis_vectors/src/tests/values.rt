@@ -1,0 +1,60 @@
+//! The lists, texts and maps of values, each call once.
+
+use deno_graph_source::values::{Items, Text, TextMap, TryClone};
+use std::test::Fail;
+
+#[test]
+fn lists_of_items(rt: HostRuntime) -> Result<(), Fail> {
+    let alloc = rt.alloc();
+    let mut items = Items::new(alloc);
+    assert!(rt; items.is_empty());
+    for text in ["a", "b", "c"] {
+        items.push(Text::from_str(alloc, text)?)?;
+    }
+    assert_eq!(rt; items.len(), 3);
+    assert_eq!(rt; items.get(1).map(Text::as_str), Some("b"));
+    assert_eq!(rt; items.get(3).map(Text::as_str), None);
+    assert_eq!(rt; items.first().map(Text::as_str), Some("a"));
+    assert_eq!(rt; items.last().map(Text::as_str), Some("c"));
+    assert_eq!(rt; items.iter().count(), 3);
+    let copy = items.try_clone(alloc)?;
+    assert!(rt; copy == items);
+    let again = Items::from_vec(copy.into_vec());
+    assert_eq!(rt; again.as_slice().len(), 3);
+    assert!(rt; again != Items::with_capacity(alloc, 3)?);
+    Ok(())
+}
+
+#[test]
+fn texts(rt: HostRuntime) -> Result<(), Fail> {
+    let alloc = rt.alloc();
+    assert!(rt; Text::new(alloc).is_empty());
+    let text = Text::from_str(alloc, "größe")?;
+    assert_eq!(rt; text.len(), 7);
+    assert_eq!(rt; text.as_str(), "größe");
+    let copy = text.try_clone(alloc)?;
+    assert!(rt; copy == text);
+    assert!(rt; copy != Text::new(alloc));
+    let again = Text::from_string(copy.into_string());
+    assert!(rt; again == text);
+    Ok(())
+}
+
+#[test]
+fn maps_from_texts(rt: HostRuntime) -> Result<(), Fail> {
+    let alloc = rt.alloc();
+    let mut map = TextMap::new(alloc);
+    assert!(rt; map.is_empty());
+    for (key, value) in [("b", "1"), ("a", "2"), ("b", "3")] {
+        drop(map.insert(Text::from_str(alloc, key)?, Text::from_str(alloc, value)?)?);
+    }
+    assert_eq!(rt; map.len(), 2);
+    assert_eq!(rt; map.get("b").map(Text::as_str), Some("3"));
+    assert_eq!(rt; map.get("c").map(Text::as_str), None);
+    assert_eq!(rt; map.iter().next().map(|(key, _)| key), Some("a"));
+    let copy = map.try_clone(alloc)?;
+    assert!(rt; copy == map);
+    let again = TextMap::from_map(copy.into_map());
+    assert!(rt; again == map);
+    Ok(())
+}

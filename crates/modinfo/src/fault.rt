@@ -1,0 +1,80 @@
+use crate::notation::NotationFault;
+use deno_graph_source::tree::SourceFault;
+use std::alloc::{AllocError, AllocFailed};
+use thiserror::Error;
+use url::ParseError;
+
+/// Why the program gave no answer. Each prints as its name.
+#[derive(Debug, PartialEq, Eq, Drop, Error)]
+pub enum Fault {
+    /// A read failed, or the input isn't UTF-8.
+    #[error("Input")]
+    Input,
+    /// The input is no JSON, or nests deeper than 127.
+    #[error("Json")]
+    Json,
+    /// The JSON isn't in the notation.
+    #[error("Tree")]
+    Tree,
+    /// The specifier is no URL.
+    #[error("Specifier")]
+    Specifier,
+    /// The tree or the comments don't fit the source.
+    #[error("{0}")]
+    Source(SourceFault),
+    /// A write failed.
+    #[error("Output")]
+    Output,
+    /// Memory was refused.
+    #[error("OutOfMemory")]
+    OutOfMemory,
+}
+
+impl From<AllocError> for Fault {
+    fn from(_refused: AllocError) -> Fault {
+        Fault::OutOfMemory
+    }
+}
+
+impl<T: Drop> From<AllocFailed<T>> for Fault {
+    fn from(_refused: AllocFailed<T>) -> Fault {
+        Fault::OutOfMemory
+    }
+}
+
+impl From<serde_json::Error> for Fault {
+    fn from(error: serde_json::Error) -> Fault {
+        if error.is_memory() {
+            Fault::OutOfMemory
+        } else {
+            Fault::Json
+        }
+    }
+}
+
+impl From<NotationFault> for Fault {
+    fn from(fault: NotationFault) -> Fault {
+        match fault {
+            NotationFault::Tree => Fault::Tree,
+            NotationFault::OutOfMemory => Fault::OutOfMemory,
+        }
+    }
+}
+
+impl From<ParseError> for Fault {
+    fn from(error: ParseError) -> Fault {
+        match error {
+            ParseError::OutOfMemory => Fault::OutOfMemory,
+            _ => Fault::Specifier,
+        }
+    }
+}
+
+impl From<SourceFault> for Fault {
+    fn from(fault: SourceFault) -> Fault {
+        match fault {
+            SourceFault::OutOfMemory => Fault::OutOfMemory,
+            fault => Fault::Source(fault),
+        }
+    }
+}

@@ -1,0 +1,40 @@
+//! From the input to a source.
+
+use crate::fault::Fault;
+use crate::notation::read_document;
+use deno_graph_source::tree::ParsedSource;
+use serde_json::Value;
+use std::alloc::Global;
+use std::io::{ErrorKind, Read};
+
+const CHUNK: usize = 65536;
+
+/// Reads a document in the notation, whose tree has to fit its source.
+pub fn read_source<R: Read>(alloc: Global, input: &mut R) -> Result<ParsedSource, Fault> {
+    let value = read_json(alloc, input)?;
+    read_document(alloc, &value)?.into_source(alloc)
+}
+
+/// Reads one JSON value, up to the end of the input.
+pub fn read_json<R: Read>(alloc: Global, input: &mut R) -> Result<Value, Fault> {
+    let bytes = read_to_end(alloc, input)?;
+    let Ok(text) = str::from_utf8(bytes.as_slice()) else {
+        return Err(Fault::Input);
+    };
+    Ok(Value::from_str(alloc, text)?)
+}
+
+// A refused growth is told from a failed read here, which an `io::Error` doesn't do.
+fn read_to_end<R: Read>(alloc: Global, input: &mut R) -> Result<Vec<u8>, Fault> {
+    let mut bytes = Vec::new(alloc);
+    let mut chunk = [0u8; CHUNK];
+    for _ in 0..u64::MAX {
+        match input.read(&mut chunk) {
+            Ok(0) => return Ok(bytes),
+            Ok(count) => bytes.extend_from_slice(&chunk[..count])?,
+            Err(error) if error.kind() == ErrorKind::Interrupted => {}
+            Err(_) => return Err(Fault::Input),
+        }
+    }
+    Err(Fault::Input)
+}

@@ -1,0 +1,12 @@
+//! What the program `modinfo` does: it reads a module from JSON, analyzes it, and prints what it
+//! found as JSON.
+#![tactic(auto)]
+
+pub mod fault;
+mod input;
+pub mod notation;
+mod output;
+mod program;
+
+pub use fault::Fault;
+pub use program::serve;

@@ -1,0 +1,14 @@
+//! The notation in which a module comes to the program: its specifier, source, syntax tree and
+//! comments, as one JSON value. docs/FORMATS.md describes it.
+
+pub mod comments;
+pub mod document;
+pub mod fault;
+pub mod kind;
+pub mod literal;
+pub mod media_type;
+pub mod member;
+pub mod node;
+
+pub use document::{Document, read_document};
+pub use fault::NotationFault;

@@ -1,0 +1,52 @@
+//! Syntax trees.
+
+use crate::notation::fault::NotationFault;
+use crate::notation::kind::read_kind;
+use crate::notation::member::{flag, members_of, range, required};
+use deno_graph_source::tree::{Node, Program};
+use deno_graph_source::values::Items;
+use serde_json::Value;
+use std::alloc::Global;
+
+/// A program, `{"range":[START,END],"body":[NODE ..],"shebang":BOOL}`.
+pub fn read_program(alloc: Global, value: &Value) -> Result<Program, NotationFault> {
+    let members = members_of(value)?;
+    let range = range(members)?;
+    let has_shebang = flag(members, "shebang")?;
+    let body = read_nodes(alloc, required(members, "body")?)?;
+    Ok(Program {
+        range,
+        body,
+        has_shebang,
+    })
+}
+
+#[cycle(read)]
+fn read_nodes(alloc: Global, value: &Value) -> Result<Items<Node>, NotationFault> {
+    let Value::Array(values) = value else {
+        return Err(NotationFault::Tree);
+    };
+    let mut nodes = Vec::with_capacity(alloc, values.len())?;
+    for value in values {
+        nodes.push(read_node(alloc, value)?)?;
+    }
+    Ok(Items::from_vec(nodes))
+}
+
+#[cycle(read)]
+fn read_node(alloc: Global, value: &Value) -> Result<Node, NotationFault> {
+    let Value::Object(members) = value else {
+        return Err(NotationFault::Tree);
+    };
+    let range = range(members)?;
+    let kind = read_kind(alloc, members)?;
+    let children = match members.get("children") {
+        None => Items::new(alloc),
+        Some(children) => read_nodes(alloc, children)?,
+    };
+    Ok(Node {
+        range,
+        kind,
+        children,
+    })
+}
