@@ -1,21 +1,52 @@
--- What an answer about some ranges says of more ranges.
-use Rattle.std.proofs.Common.{◌≡◌, ℕ, ◌+◌, ◌<◌, List, [], ◌∷◌, ◌++◌, length, take, get_or, Result, Err, refl, sym, arith}
-use Rattle.std.specs.List.{flat_map, Contains, All, Any}
-use Rattle.std.specs.Result.{IsErrAnd}
-use Rattle.std.proofs.lemmas.List.{flat_map_more}
-use Rattle.std.proofs.lemmas.List.Elements.{All-append}
+-- A fault that a `?` returns.
+use Rattle.std.proofs.Common.{◌≡◌, ℕ, ◌+◌, ◌<◌, zero, suc, List, [], ◌∷◌, Result, subst, sym, arith}
+use Rattle.std.specs.List.{Contains, Any}
+use Rattle.std.specs.Result.{IsErrAnd, MatchResult}
 use Rattle.std.proofs.lemmas.Result.{err_from_is_err_and}
-use Rattle.deno_graph_source.specs.Source.{HasFault, JudgesRanges}
+use Rattle.deno_graph_source.specs.Check.{RangeHas, NodeHas, CommentHas}
+use Rattle.deno_graph_source.specs.Node.{held_ranges}
 use Rattle.deno_graph_source.specs.declared.text.position.SourceRange.{SourceRange}
+use Rattle.deno_graph_source.specs.declared.tree.comments.DependencyComment.{DependencyComment}
 use Rattle.deno_graph_source.specs.declared.tree.fault.SourceFault.{SourceFault}
+use Rattle.deno_graph_source.specs.declared.tree.fault.SourceFault.TheVariants.{RangeReversed, RangeOutside, RangeOffBoundary, CommentText, CommentsOverlap, Shape, OutOfMemory}
+use Rattle.deno_graph_source.specs.declared.tree.node.Node.{Node}
 
--- a fault of some ranges is one of more ranges
-pub fault_within : (text : List ℕ) (fault : SourceFault) (xs ys : List SourceRange) → ((range : SourceRange) → Contains xs range → Contains ys range) → Any (HasFault text fault) xs → Any (HasFault text fault) ys
-fault_within text fault xs ys within h =
+-- what holds of some element of a list holds of some element of each list that has these
+pub Any-within : {X : Type 0} (P : X → Type 0) (xs ys : List X) → ((x : X) → Contains xs x → Contains ys x) → Any P xs → Any P ys
+Any-within P xs ys within h =
     let at = within h.1 (h.0, h.2, h.3) in (at.0, h.1, at.1, at.2, h.4)
 
--- so where a `?` returns it
-pub fault_returned : (text : List ℕ) (fault : SourceFault) (xs ys : List SourceRange) (result : Result (Unit {0}) SourceFault) → IsErrAnd result (λ other. other ≡ fault) → ((range : SourceRange) → Contains xs range → Contains ys range) → Any (HasFault text fault) xs → JudgesRanges text ys result
-fault_returned text fault xs ys result is within h =
+-- what holds of an element of a list
+pub Any-from : {X : Type 0} (P : X → Type 0) (xs : List X) (x : X) → Contains xs x → P x → Any P xs
+Any-from P xs x at h = (at.0, x, at.1, at.2, h)
+
+-- the element of a list of one
+pub Any-only : {X : Type 0} (P : X → Type 0) (x : X) → Any P (x ∷ []) → P x
+Any-only P x (zero, y, below, is, h) = subst P (sym is) h
+Any-only P x (suc k, y, below, is, h) = absurd (omega arith)
+
+-- a fault of a range that a node holds is one of the node
+pub range_fault_in_node : (text : List ℕ) (fault : SourceFault) (node : Node) → Any (RangeHas text fault) (held_ranges node) → NodeHas text fault node
+range_fault_in_node text Shape node h = absurd h.4
+range_fault_in_node text RangeReversed node h = h
+range_fault_in_node text RangeOutside node h = h
+range_fault_in_node text RangeOffBoundary node h = h
+range_fault_in_node text CommentText node h = h
+range_fault_in_node text CommentsOverlap node h = h
+range_fault_in_node text OutOfMemory node h = h
+
+-- a fault of a comment's range is one of the comment
+pub range_fault_in_comment : (text : List ℕ) (fault : SourceFault) (comment : DependencyComment) → RangeHas text fault comment.range → CommentHas text fault comment
+range_fault_in_comment text CommentText comment h = absurd h
+range_fault_in_comment text Shape comment h = h
+range_fault_in_comment text RangeReversed comment h = h
+range_fault_in_comment text RangeOutside comment h = h
+range_fault_in_comment text RangeOffBoundary comment h = h
+range_fault_in_comment text CommentsOverlap comment h = h
+range_fault_in_comment text OutOfMemory comment h = h
+
+-- the answer where a `?` returns a fault
+pub returned : (Q : Type 0) (G : SourceFault → Type 0) (fault : SourceFault) (result : Result (Unit {0}) SourceFault) → IsErrAnd result (λ other. other ≡ fault) → G fault → MatchResult result (λ _. Q) G
+returned Q G fault result is h =
     let p = err_from_is_err_and result is in
-    rw (p.1, p.2) (fault_within text fault xs ys within h)
+    rw (p.1, p.2) h

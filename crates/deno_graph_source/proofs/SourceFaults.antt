@@ -1,65 +1,103 @@
 -- Faults of a source, and validity, by their parts.
-use Rattle.std.proofs.Common.{◌≡◌, ℕ, ◌+◌, ◌<◌, ◌≤◌, List, ◌++◌, map, length, Result, Ok, Err, inl, inr, arith}
-use Rattle.std.specs.List.{Contains, All, Any}
-use Rattle.std.proofs.lemmas.List.Elements.{All-append, All-contains, Contains-append_left, Contains-append_right}
-use Rattle.std.proofs.lemmas.List.Sorted.{All-permutation, Contains-permutation, IsPermutation-map, IsPermutation-sym}
-use Rattle.std.specs.List.Sorted.{IsPermutation}
+use Rattle.std.proofs.Common.{◌≡◌, ℕ, ◌+◌, ◌<◌, ◌≤◌, List, ◌∷◌, ◌++◌, map, length, Result, Ok, Err, inl, inr, refl, arith}
+use Rattle.std.specs.List.{flat_map, Contains, All, Any}
+use Rattle.std.specs.List.Sorted.{IsNonDecreasingBy, IsPermutation}
 use Rattle.std.specs.Result.{IsErrAnd}
-use Rattle.std.proofs.lemmas.Result.{err_from_is_err_and}
+use Rattle.std.proofs.lemmas.List.Elements.{All-append, All-cons, All-contains, All-map, All-weaker, Contains-append_left, Contains-append_right}
+use Rattle.std.proofs.lemmas.List.Sorted.{All-permutation, Contains-permutation, IsPermutation-map, IsPermutation-sym, IsPermutation-trans}
+use Rattle.deno_graph_source.specs.Check.{CommentHas, IsSound, JudgesNeighbours, JudgesSource, NodeHas, RangeHas}
 use Rattle.deno_graph_source.specs.Comments.{FiledComments, comments_of}
-use Rattle.deno_graph_source.specs.Node.{program_ranges}
-use Rattle.deno_graph_source.specs.Source.{HasFault, IsValid, JudgesRanges, JudgesSource, Stands, ranges_of}
+use Rattle.deno_graph_source.specs.Node.{held_ranges, nodes_of, program_ranges, IsShaped}
+use Rattle.deno_graph_source.specs.Source.{HasOverlap, IsSpelled, IsValid, Stands, ranges_of}
 use Rattle.deno_graph_source.specs.SourceRange.{IsTextRange}
 use Rattle.deno_graph_source.specs.declared.text.position.SourceRange.{SourceRange}
 use Rattle.deno_graph_source.specs.declared.tree.comments.DependencyComment.{DependencyComment}
 use Rattle.deno_graph_source.specs.declared.tree.fault.SourceFault.{SourceFault}
-use Rattle.deno_graph_source.specs.declared.tree.fault.SourceFault.TheVariants.{RangeReversed, RangeOutside, RangeOffBoundary, OutOfMemory}
+use Rattle.deno_graph_source.specs.declared.tree.fault.SourceFault.TheVariants.{RangeReversed, RangeOutside, RangeOffBoundary, CommentText, CommentsOverlap, Shape, OutOfMemory}
+use Rattle.deno_graph_source.specs.declared.tree.node.Node.{Node}
 use Rattle.deno_graph_source.specs.declared.tree.node.Program.{Program}
-use Rattle.deno_graph_source.proofs.Judgements.{fault_within}
+use Rattle.deno_graph_source.proofs.Judgements.{Any-from, Any-within}
+use Rattle.deno_graph_source.proofs.Lists.{All-flat_map, Contains-cons, Contains-flat_map, Contains-map}
+use Rattle.deno_graph_source.proofs.Neighbours.{IsNonDecreasingBy-map, apart_from_neighbours, overlap_from_neighbours}
 
--- a fault of the ranges of the program is one of the source
-pub in_program : (text : List ℕ) (program : Program) (comments : FiledComments) (fault : SourceFault) → Any (HasFault text fault) (program_ranges program) → Stands text program comments fault
-unfolding ranges_of
-in_program text program comments fault h =
-    fault_within text fault (program_ranges program) (program_ranges program ++ map (λ comment. comment.range) (comments_of comments)) (λ range. Contains-append_left _ _ range) h
+module _ (text : List ℕ) (program : Program) (comments : FiledComments) where
+  -- a fault of a range is one of the source
+  range_stands : (fault : SourceFault) (range : SourceRange) → Contains (ranges_of program comments) range → RangeHas text fault range → Stands text program comments fault
+  range_stands RangeReversed range at h = Any-from _ _ range at h
+  range_stands RangeOutside range at h = Any-from _ _ range at h
+  range_stands RangeOffBoundary range at h = Any-from _ _ range at h
+  range_stands CommentText range at h = absurd h
+  range_stands CommentsOverlap range at h = absurd h
+  range_stands Shape range at h = absurd h
+  range_stands OutOfMemory range at h = h
 
--- a fault of the ranges of the comments, in any order, is one of the source
-pub in_comments : (text : List ℕ) (program : Program) (comments : FiledComments) (all : List DependencyComment) (fault : SourceFault) → IsPermutation (comments_of comments) all → Any (HasFault text fault) (map (λ comment. comment.range) all) → Stands text program comments fault
-unfolding ranges_of
-in_comments text program comments all fault same h =
-    let moved = IsPermutation-sym _ _ (IsPermutation-map (λ comment. comment.range) _ _ same) in
-    fault_within text fault _ (program_ranges program ++ map (λ comment. comment.range) (comments_of comments)) (λ range at. Contains-append_right (program_ranges program) _ range (Contains-permutation _ _ range moved at)) h
+  -- so is one of the program's range
+  pub program_range_stands : (fault : SourceFault) → RangeHas text fault program.range → Stands text program comments fault
+  unfolding ranges_of program_ranges
+  program_range_stands fault h = range_stands fault program.range (0, omega arith, refl) h
 
--- what holds of both holds of all ranges
-pub all_ranges : (P : SourceRange → Type 0) (program : Program) (comments : FiledComments) (all : List DependencyComment) → IsPermutation (comments_of comments) all → All P (program_ranges program) → All P (map (λ comment. comment.range) all) → All P (ranges_of program comments)
-unfolding ranges_of
-all_ranges P program comments all same in_tree in_all =
-    let moved = IsPermutation-sym _ _ (IsPermutation-map (λ comment. comment.range) _ _ same) in
-    All-append P (program_ranges program) _ in_tree (All-permutation P _ _ moved in_all)
+  held_range_at : (node : Node) (range : SourceRange) → Contains (nodes_of program) node → Contains (held_ranges node) range → Contains (ranges_of program comments) range
+  unfolding ranges_of program_ranges
+  held_range_at node range at h =
+      Contains-append_left (program_ranges program) (map (λ comment. comment.range) (comments_of comments)) range (Contains-cons program.range _ range (Contains-flat_map held_ranges (nodes_of program) node range at h))
 
--- a range of the text has no fault
-fault_free : (text : List ℕ) (fault : SourceFault) (range : SourceRange) → IsTextRange text range → HasFault text fault range → ⊥
-fault_free text RangeReversed range is h = omega (arith, is.ordered)
-fault_free text RangeOutside range is (inl h) = omega (arith, is.start.0)
-fault_free text RangeOutside range is (inr h) = omega (arith, is.end.0)
-fault_free text RangeOffBoundary range is (inl h) = h.1 is.start
-fault_free text RangeOffBoundary range is (inr h) = h.1 is.end
-fault_free text OutOfMemory range is h = h
+  held_range_stands : (fault : SourceFault) (node : Node) → Contains (nodes_of program) node → Any (RangeHas text fault) (held_ranges node) → Stands text program comments fault
+  held_range_stands fault node at h = range_stands fault h.1 (held_range_at node h.1 at (h.0, h.2, h.3)) h.4
 
--- a valid source has no fault
-pub valid_has_none : (text : List ℕ) (program : Program) (comments : FiledComments) (fault : SourceFault) → IsValid text program comments → Stands text program comments fault → ⊥
-valid_has_none text program comments fault valid h =
-    fault_free text fault h.1 (All-contains (IsTextRange text) _ h.1 valid.ranges (h.0, h.2, h.3)) h.4
+  -- so is one of a node
+  pub node_stands : (fault : SourceFault) → Any (NodeHas text fault) (nodes_of program) → Stands text program comments fault
+  node_stands Shape h = h
+  node_stands RangeReversed h = held_range_stands RangeReversed h.1 (h.0, h.2, h.3) h.4
+  node_stands RangeOutside h = held_range_stands RangeOutside h.1 (h.0, h.2, h.3) h.4
+  node_stands RangeOffBoundary h = held_range_stands RangeOffBoundary h.1 (h.0, h.2, h.3) h.4
+  node_stands CommentText h = held_range_stands CommentText h.1 (h.0, h.2, h.3) h.4
+  node_stands CommentsOverlap h = held_range_stands CommentsOverlap h.1 (h.0, h.2, h.3) h.4
+  node_stands OutOfMemory h = held_range_stands OutOfMemory h.1 (h.0, h.2, h.3) h.4
 
--- the answer about the comments, where the tree has no fault, is one about the source
-pub judged_source : (text : List ℕ) (program : Program) (comments : FiledComments) (all : List DependencyComment) (result : Result (Unit {0}) SourceFault) → IsPermutation (comments_of comments) all → All (IsTextRange text) (program_ranges program) → JudgesRanges text (map (λ comment. comment.range) all) result → JudgesSource text program comments result
-judged_source text program comments all (Ok done) same in_tree h =
-    record { ranges = all_ranges (IsTextRange text) program comments all same in_tree h }
-judged_source text program comments all (Err fault) same in_tree h =
-    inr (in_comments text program comments all fault same h)
+  comment_range_stands : (fault : SourceFault) (comment : DependencyComment) → Contains (comments_of comments) comment → RangeHas text fault comment.range → Stands text program comments fault
+  unfolding ranges_of
+  comment_range_stands fault comment at h =
+      range_stands fault comment.range (Contains-append_right (program_ranges program) _ comment.range (Contains-map (λ c. c.range) (comments_of comments) comment at)) h
 
--- so is a fault of the tree, where a `?` returns it
-pub program_fault_returned : (text : List ℕ) (program : Program) (comments : FiledComments) (fault : SourceFault) (result : Result (Unit {0}) SourceFault) → IsErrAnd result (λ other. other ≡ fault) → Any (HasFault text fault) (program_ranges program) → JudgesSource text program comments result
-program_fault_returned text program comments fault result is h =
-    let p = err_from_is_err_and result is in
-    rw (p.1, p.2) (inr (in_program text program comments fault h))
+  one_comment_stands : (fault : SourceFault) (comment : DependencyComment) → Contains (comments_of comments) comment → CommentHas text fault comment → Stands text program comments fault
+  one_comment_stands CommentText comment at h = Any-from _ (comments_of comments) comment at h
+  one_comment_stands RangeReversed comment at h = comment_range_stands RangeReversed comment at h
+  one_comment_stands RangeOutside comment at h = comment_range_stands RangeOutside comment at h
+  one_comment_stands RangeOffBoundary comment at h = comment_range_stands RangeOffBoundary comment at h
+  one_comment_stands CommentsOverlap comment at h = absurd h
+  one_comment_stands Shape comment at h = absurd h
+  one_comment_stands OutOfMemory comment at h = h
+
+  module _ (all : List DependencyComment) (same : IsPermutation (comments_of comments) all) where
+    back : (comment : DependencyComment) → Contains all comment → Contains (comments_of comments) comment
+    back comment at = Contains-permutation _ _ comment (IsPermutation-sym _ _ same) at
+
+    -- so is one of a comment, in any order of the comments
+    pub comment_stands : (fault : SourceFault) → Any (CommentHas text fault) all → Stands text program comments fault
+    comment_stands fault h = one_comment_stands fault h.1 (back h.1 (h.0, h.2, h.3)) h.4
+
+    overlap_stands : HasOverlap all → HasOverlap (comments_of comments)
+    overlap_stands h = (h.0, h.1, back h.0 h.2, back h.1 h.3, h.4, h.5)
+
+    -- the answer about neighbours, where the rest has no fault, is one about the source
+    pub judged_source : (result : Result (Unit {0}) SourceFault) → IsTextRange text program.range → All (IsSound text) (nodes_of program) → All (IsSpelled text) all → IsNonDecreasingBy (λ c. c.range.start) all → JudgesNeighbours all result → JudgesSource text program comments result
+    unfolding ranges_of program_ranges
+    judged_source (Ok done) in_range sound spelled rising passes =
+        let moved = IsPermutation-sym _ _ same in
+        let written = All-permutation (IsSpelled text) _ _ moved spelled in
+        let held = All-flat_map (IsTextRange text) held_ranges (nodes_of program) (λ node at. (All-contains (IsSound text) (nodes_of program) node sound at).0) in
+        let commented = All-map (IsTextRange text) (λ c. c.range) (comments_of comments) (All-weaker (IsSpelled text) (λ c. IsTextRange text c.range) (λ c is. is.range) _ written) in
+        record {
+          ranges = All-append (IsTextRange text) (program_ranges program) _ (All-cons (IsTextRange text) program.range _ in_range held) commented;
+          shapes = All-weaker (IsSound text) IsShaped (λ node is. is.1) (nodes_of program) sound;
+          spelled = written;
+          apart = λ a b at bt. apart_from_neighbours text all spelled rising passes a b (Contains-permutation _ _ a same at) (Contains-permutation _ _ b same bt);
+        }
+    judged_source (Err fault) in_range sound spelled rising into =
+        inr (rw into.0 (overlap_stands (overlap_from_neighbours text all spelled rising into.1 into.2 into.3)))
+
+  -- the same where the comments are sorted, as references
+  pub judged_sorted : {R : Type 0} (now : R → DependencyComment) (all sorted : List R) (result : Result (Unit {0}) SourceFault) → IsPermutation (comments_of comments) (map now all) → IsPermutation all sorted → IsTextRange text program.range → All (IsSound text) (nodes_of program) → All (IsSpelled text) (map now all) → IsNonDecreasingBy (λ r. (now r).range.start) sorted → JudgesNeighbours (map now sorted) result → JudgesSource text program comments result
+  judged_sorted now all sorted result same moved in_range sound spelled rising h =
+      let mapped = IsPermutation-map now all sorted moved in
+      judged_source (map now sorted) (IsPermutation-trans _ _ _ same mapped) result in_range sound (All-permutation (IsSpelled text) _ _ mapped spelled) (IsNonDecreasingBy-map now (λ c. c.range.start) sorted rising) h

@@ -1,7 +1,7 @@
 -- What validity says of each part of a source: the ranges of a node at any depth, of its literal and
 -- of each comment are ranges of the text.
 use Rattle.std.proofs.Common.{◌≡◌, ℕ, zero, suc, ◌+◌, ◌<◌, true, false, Bool, List, [], ◌∷◌, ◌++◌, map, Option, Some, None, refl, sym, ap, arith}
-use Rattle.std.specs.List.{Contains, All}
+use Rattle.std.specs.List.{Contains, All, flat_map}
 use Rattle.std.proofs.lemmas.List.Elements.{All-contains, Contains-append_left, Contains-append_right, Contains-get_or}
 use Rattle.std.specs.Map.{values_of}
 use Rattle.std.proofs.lemmas.Map.Entries.{place_from_lookup}
@@ -9,7 +9,7 @@ use Rattle.std.proofs.lemmas.Map.Made.{Contains-values_of}
 use Rattle.std.proofs.lemmas.Option.{slice_get_within, get_or_from_slice_get}
 use Rattle.deno_graph_source.specs.ByPosition.{value_at, all_items}
 use Rattle.deno_graph_source.specs.Comments.{FiledComments, comments_of}
-use Rattle.deno_graph_source.specs.Node.{kind_of, range_of, children_of, literal_of, ranges_in_kind, node_ranges, program_ranges}
+use Rattle.deno_graph_source.specs.Node.{kind_of, range_of, children_of, literal_of, ranges_in_kind, held_ranges, nodes_in, nodes_of, node_ranges, program_ranges, IsShaped}
 use Rattle.deno_graph_source.specs.Source.{IsValid, ranges_of}
 use Rattle.deno_graph_source.specs.SourceRange.{IsTextRange}
 use Rattle.deno_graph_source.specs.declared.text.position.SourceRange.{SourceRange}
@@ -17,17 +17,15 @@ use Rattle.deno_graph_source.specs.declared.tree.comments.DependencyComment.{Dep
 use Rattle.deno_graph_source.specs.declared.tree.node.Node.{Node}
 use Rattle.deno_graph_source.specs.declared.tree.node.Program.{Program}
 use Rattle.deno_graph_source.specs.declared.tree.node.StrLit.{StrLit}
-use Rattle.deno_graph_source.proofs.NodeRanges.{Contains-own_range, Contains-kind_range, Contains-child_range, Contains-flat_map, Contains-map}
-
--- what holds of all elements of a list holds of those of each list that has no others
-pub All-within : {X : Type 0} (P : X → Type 0) (xs ys : List X) → ((x : X) → Contains ys x → Contains xs x) → All P xs → All P ys
-All-within P xs ys within all k d below = All-contains P xs _ all (within _ (Contains-get_or ys k d below))
+use Rattle.deno_graph_source.proofs.Lists.{All-within, Contains-flat_map, Contains-map, flat_map-flat_map}
+use Rattle.deno_graph_source.proofs.NodeRanges.{Contains-own_range, Contains-kind_range, Contains-child_range}
+use Rattle.deno_graph_source.proofs.Nodes.{Contains-child_node, Contains-own_node}
 
 -- what holds of the ranges of a program holds of those of each item
 pub All-item_ranges : (P : SourceRange → Type 0) (program : Program) (node : Node) → Contains program.body node → All P (program_ranges program) → All P (node_ranges node)
-unfolding program_ranges
+unfolding program_ranges node_ranges nodes_of
 All-item_ranges P program node at all =
-    All-within P (program_ranges program) _ (λ range h. Contains-append_right (program.range ∷ []) _ range (Contains-flat_map node_ranges program.body node range at h)) all
+    All-within P (program_ranges program) _ (λ range h. Contains-append_right (program.range ∷ []) _ range (rw (flat_map-flat_map held_ranges nodes_in program.body) (Contains-flat_map (λ n. flat_map held_ranges (nodes_in n)) program.body node range at h))) all
 
 -- what holds of the ranges of a node holds of those of each child
 pub All-child_ranges : (P : SourceRange → Type 0) (node child : Node) → Contains (children_of node) child → All P (node_ranges node) → All P (node_ranges child)
@@ -82,3 +80,17 @@ pub Contains-trailing : (comments : FiledComments) (pos : ℕ) (filed : List Dep
 unfolding comments_of
 Contains-trailing comments pos filed comment found at =
     Contains-append_right (all_items comments.leading) (all_items comments.trailing) comment (Contains-at_position comments.trailing pos filed comment found at)
+
+-- what holds of all nodes of a program holds of those of each item
+pub All-item_nodes : (P : Node → Type 0) (program : Program) (node : Node) → Contains program.body node → All P (nodes_of program) → All P (nodes_in node)
+unfolding nodes_of
+All-item_nodes P program node at all =
+    All-within P (nodes_of program) _ (λ n. Contains-flat_map nodes_in program.body node n at) all
+
+-- what holds of all nodes of a node holds of those of each child
+pub All-child_nodes : (P : Node → Type 0) (node child : Node) → Contains (children_of node) child → All P (nodes_in node) → All P (nodes_in child)
+All-child_nodes P node child at all = All-within P (nodes_in node) _ (λ n. Contains-child_node node child n at) all
+
+-- and of the node itself
+pub node-holds : (P : Node → Type 0) (node : Node) → All P (nodes_in node) → P node
+node-holds P node all = All-contains P (nodes_in node) node all (Contains-own_node node)

@@ -1,4 +1,5 @@
 pub mod ByPosition
+pub mod Check
 pub mod Comments
 pub mod JsString
 pub mod MediaType

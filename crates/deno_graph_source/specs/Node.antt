@@ -1,15 +1,18 @@
 -- A node of a syntax tree, read by its parts.
-use Rattle.std.specs.Prelude.{List, ◌∷◌, ◌++◌, map, Option, Some, None}
+use Rattle.std.specs.Prelude.{◌≡◌, ℕ, ◌+◌, ◌≤◌, ◌<◌, ⊤, Bool, true, false, IsTrue, length, List, [], ◌∷◌, ◌++◌, map, Option, Some, None, IsSomeAnd, slice_get}
 use Rattle.std.specs.List.{flat_map}
 use Rattle.std.specs.Option.{option_to_list}
 use Rattle.deno_graph_source.specs.declared.text.position.SourceRange.{SourceRange}
+use Rattle.deno_graph_source.specs.declared.tree.node.Arg.{Arg}
+use Rattle.deno_graph_source.specs.declared.tree.node.Callee.{Callee}
+use Rattle.deno_graph_source.specs.declared.tree.node.Callee.TheVariants.{Expr}
 use Rattle.deno_graph_source.specs.declared.tree.node.StrLit.{StrLit}
 use Rattle.deno_graph_source.specs.declared.tree.node.Kind.{Kind}
-use Rattle.deno_graph_source.specs.declared.tree.node.Kind.TheVariants.{ImportDecl, NamedExport, ExportAll, ExportOther, Other}
-use Rattle.deno_graph_source.specs.declared.tree.node.Node.{Node, out-Node}
+use Rattle.deno_graph_source.specs.declared.tree.node.Kind.TheVariants.{ImportDecl, NamedExport, ExportAll, ImportEquals, ImportType, ModuleDecl, Call, Template, Binary, Object, KeyValue}
+use Rattle.deno_graph_source.specs.declared.tree.node.Node.{Node, out-Node, roll-Node}
 use Rattle.deno_graph_source.specs.declared.tree.node.Program.{Program}
 use Rattle.deno_graph_source.specs.declared.tree.node.Node.TheOpen.{Node-F}
-use Rattle.deno_graph_source.specs.declared.tree.node.Node.TheFolds.{fold-Node}
+use Rattle.deno_graph_source.specs.declared.tree.node.Node.TheFolds.{fold-Node, map-Node}
 
 -- what the node is
 unfoldable pub kind_of : Node → Kind
@@ -25,24 +28,81 @@ children_of node = (out-Node node).children
 
 -- the string literal that a kind holds, if it holds one
 abbrev pub literal_of : Kind → Option StrLit
-literal_of (ImportDecl type_only phase src has_specifiers) = Some src
-literal_of (NamedExport type_only src) = src
-literal_of (ExportAll type_only src) = Some src
-literal_of ExportOther = None
-literal_of Other = None
+literal_of (ImportDecl type_only phase src has_specifiers has_with) = Some src
+literal_of (NamedExport type_only src has_with) = src
+literal_of (ExportAll type_only src has_with) = Some src
+literal_of (ImportEquals type_only is_export external) = external
+literal_of (ImportType arg has_with) = Some arg
+literal_of (ModuleDecl name) = name
+literal_of _ = None
 
--- the ranges that a kind holds: that of its string literal
+-- the arguments of a call
+abbrev pub args_of : Kind → List Arg
+args_of (Call callee args) = args
+args_of _ = []
+
+-- the ranges that a kind holds: those of its string literal and of its arguments
 abbrev pub ranges_in_kind : Kind → List SourceRange
-ranges_in_kind kind = map (λ literal. literal.range) (option_to_list (literal_of kind))
+ranges_in_kind kind = map (λ literal. literal.range) (option_to_list (literal_of kind)) ++ map (λ arg. arg.range) (args_of kind)
 
--- one node, with the ranges of each child in its place
-abbrev pub node_ranges_step : Node-F (List SourceRange) → List SourceRange
-node_ranges_step node = node.range ∷ ranges_in_kind node.kind ++ flat_map (λ ranges. ranges) node.children
+-- one node, with each child and all its nodes in its place
+abbrev pub nodes_step : Node-F (Node × List Node) → Node × List Node
+nodes_step layer =
+    let node = roll-Node (map-Node (Node × List Node) Node (λ child. child.0) layer) in
+    (node, node ∷ flat_map (λ child. child.1) layer.children)
 
--- the ranges of a node, of what its kind holds, and of all nodes below it
+-- a node and all nodes below it, each before those below it
+unfoldable pub nodes_in : Node → List Node
+nodes_in node = (fold-Node (Node × List Node) nodes_step node).1
+
+-- all nodes of a program
+unfoldable pub nodes_of : Program → List Node
+nodes_of program = flat_map nodes_in program.body
+
+-- the ranges of a node and of what its kind holds
+abbrev pub held_ranges : Node → List SourceRange
+held_ranges node = range_of node ∷ ranges_in_kind (kind_of node)
+
+-- the ranges of a node and of all nodes below it
 unfoldable pub node_ranges : Node → List SourceRange
-node_ranges = fold-Node (List SourceRange) node_ranges_step
+node_ranges node = flat_map held_ranges (nodes_in node)
 
--- the ranges of a program, and of all its nodes
+-- the ranges of a program and of all its nodes
 unfoldable pub program_ranges : Program → List SourceRange
-program_ranges program = program.range ∷ flat_map node_ranges program.body
+program_ranges program = program.range ∷ flat_map held_ranges (nodes_of program)
+
+-- how many of a call's children are its callee
+abbrev pub callee_count : Callee → ℕ
+callee_count Expr = 1
+callee_count _ = 0
+
+abbrev pub is_object : Kind → Bool
+is_object Object = true
+is_object _ = false
+
+-- the kind has a `with` clause
+abbrev pub has_with : Kind → Bool
+has_with (ImportDecl type_only phase src has_specifiers with_clause) = with_clause
+has_with (NamedExport type_only src with_clause) = with_clause
+has_with (ExportAll type_only src with_clause) = with_clause
+has_with (ImportType arg with_clause) = with_clause
+has_with _ = false
+
+-- where there is a `with` clause, its object literal is the first child
+abbrev pub HasClause : Bool → List Node → Type 0
+HasClause true children = IsSomeAnd (slice_get children 0) (λ clause. IsTrue (is_object (kind_of clause)))
+HasClause false children = ⊤
+
+-- how many children a kind needs: a template has one quasi more than expressions, a binary expression two
+-- operands, a property its value, and a call its callee, where that is an expression, and its arguments
+unfoldable pub HasCount : Kind → ℕ → Type 0
+HasCount (Template quasis) count = length quasis ≡ count + 1
+HasCount (Binary op) count = count ≡ 2
+HasCount (KeyValue key) count = 0 < count
+HasCount (Call callee args) count = callee_count callee + length args ≤ count
+HasCount _ count = ⊤
+
+-- the node has the children that its kind needs
+pub record IsShaped (node : Node) : Type 0 where
+  pub clause : HasClause (has_with (kind_of node)) (children_of node)
+  pub count : HasCount (kind_of node) (length (children_of node))

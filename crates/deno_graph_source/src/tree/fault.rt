@@ -1,9 +1,12 @@
 ghost use Rattle.std.specs.Prelude.{◌≡◌, ◌↔◌, IfOk, IfSome, IsNone};
-ghost use Rattle.deno_graph_source.specs.Source.{IsValid, JudgesSource, Stands};
+ghost use Rattle.deno_graph_source.specs.Check.{JudgesSource};
+ghost use Rattle.deno_graph_source.specs.Source.{IsValid, Stands};
 
 use crate::tree::comments::Comments;
 use crate::tree::node::Program;
-use crate::tree::range_check::{check_comments, check_program};
+use crate::tree::comment_check::{check_comments, check_neighbours};
+use crate::tree::node_check::check_nodes;
+use crate::tree::range_check::check_range;
 use std::alloc::{AllocError, Global};
 use thiserror::Error;
 
@@ -16,6 +19,12 @@ pub enum SourceFault {
     RangeOutside,
     #[error("RangeOffBoundary")]
     RangeOffBoundary,
+    #[error("CommentText")]
+    CommentText,
+    #[error("CommentsOverlap")]
+    CommentsOverlap,
+    #[error("Shape")]
+    Shape,
     #[error("OutOfMemory")]
     OutOfMemory,
 }
@@ -57,7 +66,10 @@ pub(crate) fn check_source(
 ) -> Result<(), SourceFault>
     ensures { JudgesSource text.now program.now comments.now result }
 {
-    check_program(text, program)?;
-    let all = comments.iter_unstable(alloc)?;
-    check_comments(text, &all)
+    check_range(text, program.range)?;
+    check_nodes(text, program)?;
+    let mut all = comments.iter_unstable(alloc)?;
+    check_comments(text, &all)?;
+    all.sort_by_key(|comment| comment.range.start)?;
+    check_neighbours(&all)
 }

@@ -1,8 +1,8 @@
-ghost use Rattle.std.specs.Prelude.{◌≡◌};
+ghost use Rattle.std.specs.Prelude.{◌≡◌, IfOk};
 ghost use Rattle.std.specs.Option.{option_copied};
 
 use crate::text::{JsString, SourceRange};
-use crate::values::{Items, TryClone};
+use crate::values::{Items, Text, TryClone};
 use std::alloc::{AllocError, Global};
 
 /// A string literal: its value, and its range with the quotes.
@@ -29,7 +29,60 @@ pub enum ImportPhase {
     Defer,
 }
 
-/// What a node is, with what the analysis reads of it.
+/// What is called.
+#[derive(Clone, Copy, Debug, PartialEq, Eq)]
+pub enum Callee {
+    /// `import(..)`, `import.source(..)` or `import.defer(..)`.
+    Import(ImportPhase),
+    /// An expression, which is the first child of the call.
+    Expr,
+    /// `super(..)`.
+    Super,
+}
+
+/// An argument of a call: whether it is spread, and its range with the dots.
+#[derive(Clone, Copy, Debug, PartialEq, Eq)]
+pub struct Arg {
+    pub spread: bool,
+    pub range: SourceRange,
+}
+
+impl TryClone for Arg {
+    fn try_clone(&self, _alloc: Global) -> Result<Arg, AllocError> {
+        Ok(*self)
+    }
+}
+
+/// The operator of a binary expression.
+#[derive(Clone, Copy, Debug, PartialEq, Eq)]
+pub enum BinaryOp {
+    /// `+`
+    Add,
+    /// Every other operator.
+    Other,
+}
+
+/// The key of a property.
+#[derive(Debug, PartialEq, Eq, Drop)]
+pub enum PropKey {
+    Str(JsString),
+    Ident(Text),
+    /// A computed or a numeric key.
+    Other,
+}
+
+impl TryClone for PropKey {
+    fn try_clone(&self, alloc: Global) -> Result<PropKey, AllocError> {
+        Ok(match self {
+            PropKey::Str(value) => PropKey::Str(value.try_clone(alloc)?),
+            PropKey::Ident(name) => PropKey::Ident(name.try_clone(alloc)?),
+            PropKey::Other => PropKey::Other,
+        })
+    }
+}
+
+/// What a node is, with what the analysis reads of it. With `has_with`, the first child is the
+/// object literal of a `with` clause.
 #[derive(Debug, PartialEq, Eq, Drop)]
 pub enum Kind {
     /// An import declaration.
@@ -38,34 +91,103 @@ pub enum Kind {
         phase: ImportPhase,
         src: StrLit,
         has_specifiers: bool,
+        has_with: bool,
     },
     /// `export { .. }` with or without `from`, and `export * as name from`.
     NamedExport {
         type_only: bool,
         src: Option<StrLit>,
+        has_with: bool,
     },
     /// `export * from`.
     ExportAll {
         type_only: bool,
         src: StrLit,
+        has_with: bool,
     },
     /// `export` of a declaration, and `export default`.
     ExportOther,
+    /// `import name = ..`; `external` is the literal of `require("..")`.
+    ImportEquals {
+        type_only: bool,
+        is_export: bool,
+        external: Option<StrLit>,
+    },
+    /// TypeScript's type `import("..")`.
+    ImportType {
+        arg: StrLit,
+        has_with: bool,
+    },
+    /// A module or namespace declaration; `name` where it is a string.
+    ModuleDecl {
+        name: Option<StrLit>,
+    },
+    /// A call, but no optional one and no `new`. Its first children are the callee, where that is
+    /// an expression, and then the arguments in order.
+    Call {
+        callee: Callee,
+        args: Items<Arg>,
+    },
+    /// A string literal.
+    Str(JsString),
+    /// An untagged template: its cooked quasis. Its children are its expressions.
+    Template(Items<JsString>),
+    /// A binary expression: its children are the left and the right operand.
+    Binary(BinaryOp),
+    /// An identifier.
+    Ident(Text),
+    /// An object literal, also of a `with` clause: its children are its properties.
+    Object,
+    /// A property `key: value`: its last child is the value.
+    KeyValue(PropKey),
+    /// An await expression, a `for await` loop or an `await using` declaration.
+    Await,
+    /// A function, arrow, method, getter, setter or constructor.
+    Function,
+    /// `import.meta`.
+    ImportMeta,
     /// Everything else.
     Other,
 }
 
 impl Kind {
-    ghost use Rattle.deno_graph_source.specs.Node.{literal_of};
+    ghost use Rattle.deno_graph_source.specs.Node.{args_of, has_with, literal_of};
 
-    /// The string literal that this kind holds: the specifier of an import or an export.
+    /// The string literal that this kind holds: the specifier of an import or an export, or the
+    /// name of a module.
     pub fn literal(&self) -> Option<&StrLit>
         ensures { option_copied result ≡ literal_of self.now }
     {
         match self {
             Kind::ImportDecl { src, .. } | Kind::ExportAll { src, .. } => Some(src),
             Kind::NamedExport { src, .. } => src.as_ref(),
-            Kind::ExportOther | Kind::Other => None,
+            Kind::ImportEquals { external, .. } => external.as_ref(),
+            Kind::ImportType { arg, .. } => Some(arg),
+            Kind::ModuleDecl { name } => name.as_ref(),
+            _ => None,
+        }
+    }
+
+    /// Whether there is a `with` clause, which is the first child then.
+    pub fn has_with(&self) -> bool
+        ensures { result ≡ has_with self.now }
+    {
+        match self {
+            Kind::ImportDecl { has_with, .. }
+            | Kind::NamedExport { has_with, .. }
+            | Kind::ExportAll { has_with, .. }
+            | Kind::ImportType { has_with, .. } => *has_with,
+            _ => false,
+        }
+    }
+
+    /// The arguments of a call; none for every other kind.
+    pub fn args(&self) -> &[Arg]
+        ensures { result.now ≡ args_of self.now }
+    {
+        match self {
+            Kind::Call { args, .. } => args.as_slice(),
+            _ => &[],
         }
     }
 }
@@ -78,26 +200,73 @@ impl TryClone for Kind {
                 phase,
                 src,
                 has_specifiers,
+                has_with,
             } => Kind::ImportDecl {
                 type_only: *type_only,
                 phase: *phase,
                 src: src.try_clone(alloc)?,
                 has_specifiers: *has_specifiers,
+                has_with: *has_with,
             },
-            Kind::NamedExport { type_only, src } => Kind::NamedExport {
+            Kind::NamedExport {
+                type_only,
+                src,
+                has_with,
+            } => Kind::NamedExport {
                 type_only: *type_only,
-                src: match src {
-                    Some(src) => Some(src.try_clone(alloc)?),
-                    None => None,
-                },
+                src: try_clone_literal(alloc, src)?,
+                has_with: *has_with,
             },
-            Kind::ExportAll { type_only, src } => Kind::ExportAll {
+            Kind::ExportAll {
+                type_only,
+                src,
+                has_with,
+            } => Kind::ExportAll {
                 type_only: *type_only,
                 src: src.try_clone(alloc)?,
+                has_with: *has_with,
             },
             Kind::ExportOther => Kind::ExportOther,
+            Kind::ImportEquals {
+                type_only,
+                is_export,
+                external,
+            } => Kind::ImportEquals {
+                type_only: *type_only,
+                is_export: *is_export,
+                external: try_clone_literal(alloc, external)?,
+            },
+            Kind::ImportType { arg, has_with } => Kind::ImportType {
+                arg: arg.try_clone(alloc)?,
+                has_with: *has_with,
+            },
+            Kind::ModuleDecl { name } => Kind::ModuleDecl {
+                name: try_clone_literal(alloc, name)?,
+            },
+            Kind::Call { callee, args } => Kind::Call {
+                callee: *callee,
+                args: args.try_clone(alloc)?,
+            },
+            Kind::Str(value) => Kind::Str(value.try_clone(alloc)?),
+            Kind::Template(quasis) => Kind::Template(quasis.try_clone(alloc)?),
+            Kind::Binary(op) => Kind::Binary(*op),
+            Kind::Ident(name) => Kind::Ident(name.try_clone(alloc)?),
+            Kind::Object => Kind::Object,
+            Kind::KeyValue(key) => Kind::KeyValue(key.try_clone(alloc)?),
+            Kind::Await => Kind::Await,
+            Kind::Function => Kind::Function,
+            Kind::ImportMeta => Kind::ImportMeta,
             Kind::Other => Kind::Other,
         })
+    }
+}
+
+fn try_clone_literal(alloc: Global, literal: &Option<StrLit>) -> Result<Option<StrLit>, AllocError>
+    ensures { IfOk result (λ copy. copy ≡ literal.now) }
+{
+    match literal {
+        Some(literal) => Ok(Some(literal.try_clone(alloc)?)),
+        None => Ok(None),
     }
 }
 
