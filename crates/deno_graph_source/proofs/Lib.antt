@@ -1,3 +1,4 @@
+pub mod AddedItems
 pub mod CheckpointLemmas
 pub mod FrontLemmas
 pub mod Judgements
@@ -6,6 +7,10 @@ pub mod LossyText
 pub mod Neighbours
 pub mod NodeRanges
 pub mod Nodes
+pub mod PositionLemmas
+pub mod PositionOrder
+pub mod SourceFaults
+pub mod Spelling
 pub mod PlaceLemmas
 pub mod PositionLemmas
 pub mod PositionOrder

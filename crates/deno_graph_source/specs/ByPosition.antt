@@ -1,5 +1,5 @@
 -- Values by a position: a list of positions with their values.
-use Rattle.std.specs.Prelude.{ℕ, List, Option}
+use Rattle.std.specs.Prelude.{◌≡◌, ◌≢◌, ℕ, List, [], ◌∷◌, ◌++◌, Option, Some, IsPermutation, unwrap_or}
 use Rattle.std.specs.List.{flat_map}
 use Rattle.std.specs.Map.{lookup, values_of}
 use Rattle.std.specs.BTreeMap.{is_at}
@@ -12,3 +12,9 @@ value_at entries pos = lookup (is_at (nat_cmp pos)) entries
 -- the items of the lists at all positions
 abbrev pub all_items : {T : Type 0} → List (ℕ × List T) → List T
 all_items entries = flat_map (λ items. items) (values_of entries)
+
+-- the new entries have one item more, as the last at a position
+pub record AddsItem {T : Type 0} (old new : List (ℕ × List T)) (pos : ℕ) (item : T) : Type 0 where
+  pub added : value_at new pos ≡ Some (unwrap_or (value_at old pos) [] ++ item ∷ [])
+  pub others : (q : ℕ) → q ≢ pos → value_at new q ≡ value_at old q
+  pub items : IsPermutation (item ∷ all_items old) (all_items new)

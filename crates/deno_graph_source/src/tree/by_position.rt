@@ -1,4 +1,8 @@
-ghost use Rattle.std.specs.Prelude.{◌≡◌, [], ◌++◌, map, IfOk, OnOk};
+ghost use Rattle.std.specs.Prelude.{◌≡◌, [], ◌++◌, map, IfOk, OnOk, OnErr};
+ghost use Rattle.std.specs.List.Sorted.{IsStrictlySortedBy};
+ghost use Rattle.std.specs.Map.{keys_of};
+ghost use Rattle.std.specs.Ordering.{nat_cmp};
+ghost use Rattle.deno_graph_source.specs.ByPosition.{AddsItem};
 ghost use Rattle.std.specs.Option.{option_copied};
 
 use crate::values::{Items, TryClone};
@@ -11,6 +15,7 @@ use std::marker::Model;
 #[derive(Debug, Drop)]
 pub(crate) struct ByPosition<V> {
     map: BTreeMap<usize, V>,
+    alloc: Global,
 }
 
 impl<V> Model for ByPosition<V> {
@@ -38,6 +43,7 @@ impl<V> ByPosition<V> {
     {
         ByPosition {
             map: BTreeMap::new(alloc),
+            alloc,
         }
     }
 
@@ -75,13 +81,43 @@ fn push_each<'a, T>(all: &mut Vec<&'a T>, items: &'a [T]) -> Result<(), AllocErr
     Ok(())
 }
 
+impl<T: Drop> ByPosition<Items<T>> {
+    /// Adds `item` as the last of those at `pos`. Where memory is refused all stays as it was, and
+    /// `item` is dropped.
+    pub(crate) fn add(&mut self, pos: usize, item: T) -> Result<(), AllocError>
+        ensures ok { OnOk result (AddsItem self.old self.new pos item) }
+        ensures err { OnErr result (self.new ≡ self.old) }
+    {
+        add_item(&mut self.map, self.alloc, pos, item)
+    }
+}
+
+fn add_item<T: Drop>(
+    map: &mut BTreeMap<usize, Items<T>>,
+    alloc: Global,
+    pos: usize,
+    item: T,
+) -> Result<(), AllocError>
+    ensures ok { OnOk result (AddsItem map.old.entries map.new.entries pos item) }
+    ensures err { OnErr result (map.new.entries ≡ map.old.entries) }
+    ensures ordered { IsStrictlySortedBy nat_cmp (keys_of map.new.entries) }
+{
+    if let Some(items) = map.get_mut(&pos) {
+        return items.push(item);
+    }
+    let mut items = Items::new(alloc);
+    items.push(item)?;
+    drop(map.insert(pos, items)?);
+    Ok(())
+}
+
 impl<V: TryClone + Drop> TryClone for ByPosition<V> {
     fn try_clone(&self, alloc: Global) -> Result<ByPosition<V>, AllocError> {
         let mut map = BTreeMap::new(alloc);
         for (pos, value) in &self.map {
             drop(map.insert(*pos, value.try_clone(alloc)?)?);
         }
-        Ok(ByPosition { map })
+        Ok(ByPosition { map, alloc })
     }
 }
 

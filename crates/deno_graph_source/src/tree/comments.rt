@@ -1,4 +1,4 @@
-ghost use Rattle.std.specs.Prelude.{◌≡◌, [], map, IfOk};
+ghost use Rattle.std.specs.Prelude.{◌≡◌, [], ◌∷◌, map, IfOk, OnOk, OnErr};
 ghost use Rattle.std.specs.List.Sorted.{IsPermutation};
 ghost use Rattle.std.specs.Option.{option_copied};
 
@@ -54,7 +54,7 @@ impl Model for Comments {
 }
 
 impl Comments {
-    ghost use Rattle.deno_graph_source.specs.ByPosition.{value_at};
+    ghost use Rattle.deno_graph_source.specs.ByPosition.{AddsItem, value_at};
     ghost use Rattle.deno_graph_source.specs.Comments.{comments_of};
 
     /// No comments. Takes no memory.
@@ -66,6 +66,30 @@ impl Comments {
             leading: ByPosition::new(alloc),
             trailing: ByPosition::new(alloc),
         }
+    }
+
+    /// Files a comment as leading at `pos`, after those that are there. Where memory is refused all
+    /// stays as it was, and the comment is dropped.
+    pub fn add_leading(&mut self, pos: usize, comment: DependencyComment) -> Result<(), AllocError>
+        ensures leading { OnOk result (AddsItem self.old.leading self.new.leading pos comment) }
+        ensures trailing { OnOk result (self.new.trailing ≡ self.old.trailing) }
+        ensures all { OnOk result
+            (IsPermutation (comment ∷ comments_of self.old) (comments_of self.new)) }
+        ensures err { OnErr result (self.new ≡ self.old) }
+    {
+        self.leading.add(pos, comment)
+    }
+
+    /// Files a comment as trailing at `pos`, after those that are there. Where memory is refused all
+    /// stays as it was, and the comment is dropped.
+    pub fn add_trailing(&mut self, pos: usize, comment: DependencyComment) -> Result<(), AllocError>
+        ensures trailing { OnOk result (AddsItem self.old.trailing self.new.trailing pos comment) }
+        ensures leading { OnOk result (self.new.leading ≡ self.old.leading) }
+        ensures all { OnOk result
+            (IsPermutation (comment ∷ comments_of self.old) (comments_of self.new)) }
+        ensures err { OnErr result (self.new ≡ self.old) }
+    {
+        self.trailing.add(pos, comment)
     }
 
     /// The comments filed as leading at `pos`, in the order of filing. `None` where there are none.
