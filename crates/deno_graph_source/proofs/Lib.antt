@@ -12,10 +12,6 @@ pub mod PositionOrder
 pub mod SourceFaults
 pub mod Spelling
 pub mod PlaceLemmas
-pub mod PositionLemmas
-pub mod PositionOrder
-pub mod SourceFaults
-pub mod Spelling
 pub mod TextEntries
 pub mod Units
 pub mod ValidSource
