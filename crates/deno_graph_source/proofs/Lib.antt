@@ -7,11 +7,11 @@ pub mod LossyText
 pub mod Neighbours
 pub mod NodeRanges
 pub mod Nodes
+pub mod PlaceLemmas
 pub mod PositionLemmas
 pub mod PositionOrder
 pub mod SourceFaults
 pub mod Spelling
-pub mod PlaceLemmas
 pub mod TextEntries
 pub mod Units
 pub mod ValidSource
