@@ -1,11 +1,31 @@
-use crate::analyses::{ANALYSES, analyze};
+use crate::analyses::{ANALYSES, Analysis, CALLS, DECLARATIONS, SCRIPTS, analyze};
+use std::process::Abort;
 use std::test::Fail;
 
-#[test]
-fn analyses_find_what_they_state(rt: HostRuntime) -> Result<(), Fail> {
-    for row in &ANALYSES {
+fn assert_analyses(rt: &HostRuntime, rows: &[Analysis]) -> Result<(), Fail> {
+    for row in rows {
         let info = analyze(rt.alloc(), row.document)?;
         assert_eq!(rt; info.as_str(), row.info, "{}", row.name);
     }
     Ok(())
+}
+
+#[test]
+fn analyses_find_what_they_state(rt: HostRuntime) -> Result<(), Fail> {
+    assert_analyses(&rt, &ANALYSES)
+}
+
+#[test]
+fn calls_are_found(rt: HostRuntime) -> Result<(), Fail> {
+    assert_analyses(&rt, &CALLS)
+}
+
+#[test]
+fn declarations_are_found(rt: HostRuntime) -> Result<(), Fail> {
+    assert_analyses(&rt, &DECLARATIONS)
+}
+
+#[test]
+fn scripts_are_told_from_modules(rt: HostRuntime) -> Result<(), Fail> {
+    assert_analyses(&rt, &SCRIPTS)
 }

@@ -7,6 +7,7 @@ use deno_graph_source::tree::{ImportPhase, Kind};
 use serde_json::{Map, Value};
 use std::alloc::Global;
 
+/// An import declaration.
 pub fn read_import_decl(
     alloc: Global,
     members: &Map<String, Value>,
@@ -37,6 +38,7 @@ fn import_phase(members: &Map<String, Value>) -> Result<ImportPhase, NotationFau
     }
 }
 
+/// An export of names, with or without a source.
 pub fn read_named_export(
     alloc: Global,
     members: &Map<String, Value>,
@@ -51,6 +53,7 @@ pub fn read_named_export(
     })
 }
 
+/// An export of all names of another module.
 pub fn read_export_all(
     alloc: Global,
     members: &Map<String, Value>,
@@ -65,6 +68,7 @@ pub fn read_export_all(
     })
 }
 
+/// An import-equals declaration.
 pub fn read_import_equals(
     alloc: Global,
     members: &Map<String, Value>,
@@ -79,6 +83,7 @@ pub fn read_import_equals(
     })
 }
 
+/// An import type.
 pub fn read_import_type(
     alloc: Global,
     members: &Map<String, Value>,
