@@ -42,6 +42,6 @@ pub static CALLS: [Analysis; 8] = [
     Analysis {
         name: "a_call_in_a_further_argument",
         document: r#"{"mediaType":"JavaScript","program":{"body":[{"kind":"Other","range":[0,37],"children":[{"kind":"Call","range":[0,37],"callee":"expr","args":[{"range":[8,22]},{"range":[24,36]}],"children":[{"kind":"Ident","range":[0,7],"value":"require"},{"kind":"Template","range":[8,22],"quasis":["./",".js"],"children":[{"kind":"Ident","range":[13,17],"value":"name"}]},{"kind":"Call","range":[24,36],"callee":"expr","args":[{"range":[32,35]}],"children":[{"kind":"Ident","range":[24,31],"value":"require"},{"kind":"Str","range":[32,35],"value":"a"}]}]}]}],"range":[0,37]},"source":"require(`./${name}.js`, require(\"a\"))","specifier":"file:///a.js"}"#,
-        info: r#"{"dependencies":[{"argument":"a","argumentRange":[[0,32],[0,35]],"kind":"require","type":"dynamic"},{"argument":[{"type":"string","value":"./"},{"type":"expr"},{"type":"string","value":".js"}],"argumentRange":[[0,8],[0,22]],"kind":"require","type":"dynamic"}],"script":true}"#,
+        info: r#"{"dependencies":[{"argument":"a","argumentRange":[[0,32],[0,35]],"kind":"require","type":"dynamic"},{"argument":[{"type":"string","value":"./"},{"type":"expr"},{"type":"string","value":".js"}],"argumentRange":[[0,8],[0,22]],"importAttributes":"unknown","kind":"require","type":"dynamic"}],"script":true}"#,
     },
 ];

@@ -1,5 +1,7 @@
 use crate::analyses::{ANALYSES, Analysis, CALLS, DECLARATIONS, SCRIPTS};
 use crate::faults::{FAULTY, fault_of, refusal_of};
+use std::alloc::Global;
+use std::process::Abort;
 use std::test::Fail;
 
 #[test]
@@ -20,9 +22,9 @@ fn faulty_sources_are_refused(rt: HostRuntime) -> Result<(), Fail> {
     Ok(())
 }
 
-fn assert_faultless(rt: &HostRuntime, rows: &[Analysis]) -> Result<(), Fail> {
+fn assert_faultless(rt: &impl Abort, alloc: Global, rows: &[Analysis]) -> Result<(), Fail> {
     for row in rows {
-        let found = fault_of(rt.alloc(), row.document)?;
+        let found = fault_of(alloc, row.document)?;
         assert!(rt; found.is_none(), "{}: {found:?}", row.name);
     }
     Ok(())
@@ -30,8 +32,8 @@ fn assert_faultless(rt: &HostRuntime, rows: &[Analysis]) -> Result<(), Fail> {
 
 #[test]
 fn sources_without_a_fault(rt: HostRuntime) -> Result<(), Fail> {
-    assert_faultless(&rt, &ANALYSES)?;
-    assert_faultless(&rt, &CALLS)?;
-    assert_faultless(&rt, &DECLARATIONS)?;
-    assert_faultless(&rt, &SCRIPTS)
+    assert_faultless(&rt, rt.alloc(), &ANALYSES)?;
+    assert_faultless(&rt, rt.alloc(), &CALLS)?;
+    assert_faultless(&rt, rt.alloc(), &DECLARATIONS)?;
+    assert_faultless(&rt, rt.alloc(), &SCRIPTS)
 }

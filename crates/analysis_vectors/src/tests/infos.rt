@@ -10,6 +10,7 @@ use modinfo::Fault;
 use modinfo::notation::read_document;
 use serde_json::Value;
 use std::alloc::Global;
+use std::process::Abort;
 use std::test::Fail;
 
 fn source_of(alloc: Global, document: &str) -> Result<ParsedSource, Fault> {
@@ -17,8 +18,7 @@ fn source_of(alloc: Global, document: &str) -> Result<ParsedSource, Fault> {
     read_document(alloc, &value)?.into_source(alloc)
 }
 
-fn assert_copies(rt: &HostRuntime, rows: &[Analysis]) -> Result<(), Fail> {
-    let alloc = rt.alloc();
+fn assert_copies(rt: &impl Abort, alloc: Global, rows: &[Analysis]) -> Result<(), Fail> {
     for row in rows {
         let source = source_of(alloc, row.document)?;
         let program = source.program().try_clone(alloc)?;
@@ -34,14 +34,13 @@ fn assert_copies(rt: &HostRuntime, rows: &[Analysis]) -> Result<(), Fail> {
 
 #[test]
 fn copies_are_equal(rt: HostRuntime) -> Result<(), Fail> {
-    assert_copies(&rt, &ANALYSES)?;
-    assert_copies(&rt, &CALLS)?;
-    assert_copies(&rt, &DECLARATIONS)?;
-    assert_copies(&rt, &SCRIPTS)
+    assert_copies(&rt, rt.alloc(), &ANALYSES)?;
+    assert_copies(&rt, rt.alloc(), &CALLS)?;
+    assert_copies(&rt, rt.alloc(), &DECLARATIONS)?;
+    assert_copies(&rt, rt.alloc(), &SCRIPTS)
 }
 
-fn assert_same_answers(rt: &HostRuntime, rows: &[Analysis]) -> Result<(), Fail> {
-    let alloc = rt.alloc();
+fn assert_same_answers(rt: &impl Abort, alloc: Global, rows: &[Analysis]) -> Result<(), Fail> {
     for row in rows {
         let source = source_of(alloc, row.document)?;
         let info = module_info(alloc, &source)?;
@@ -61,10 +60,10 @@ fn assert_same_answers(rt: &HostRuntime, rows: &[Analysis]) -> Result<(), Fail> 
 
 #[test]
 fn the_parts_of_a_source_suffice(rt: HostRuntime) -> Result<(), Fail> {
-    assert_same_answers(&rt, &ANALYSES)?;
-    assert_same_answers(&rt, &CALLS)?;
-    assert_same_answers(&rt, &DECLARATIONS)?;
-    assert_same_answers(&rt, &SCRIPTS)
+    assert_same_answers(&rt, rt.alloc(), &ANALYSES)?;
+    assert_same_answers(&rt, rt.alloc(), &CALLS)?;
+    assert_same_answers(&rt, rt.alloc(), &DECLARATIONS)?;
+    assert_same_answers(&rt, rt.alloc(), &SCRIPTS)
 }
 
 /// The first dependency of the module of this name.
