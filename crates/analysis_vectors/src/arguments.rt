@@ -123,8 +123,12 @@ pub static ARGUMENTS: [Argument; 15] = [
 /// Whether `argument_of` finds what the row states.
 pub fn is_known(alloc: Global, row: &Argument) -> Result<bool, Fault> {
     let source = module_of(alloc, row)?;
+    Ok(is_known_of(alloc, &source, &row.known)?)
+}
+
+fn is_known_of(alloc: Global, source: &ParsedSource, known: &Known) -> Result<bool, AllocError> {
     match source.program().body.first() {
-        Some(node) => Ok(row.known.is(&argument_of(alloc, node)?)),
+        Some(node) => Ok(known.is(&argument_of(alloc, node)?)),
         None => Ok(false),
     }
 }
