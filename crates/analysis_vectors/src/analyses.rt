@@ -1,5 +1,13 @@
 //! Documents, and what the analysis of their modules finds.
 
+pub mod calls;
+pub mod declarations;
+pub mod scripts;
+
+pub use calls::CALLS;
+pub use declarations::DECLARATIONS;
+pub use scripts::SCRIPTS;
+
 use deno_graph_analysis::ast::module_info;
 use modinfo::Fault;
 use modinfo::notation::read_document;

@@ -2,6 +2,9 @@
 #![tactic(auto)]
 
 pub mod analyses;
+pub mod arguments;
+pub mod attributes;
+pub mod faults;
 pub mod runs;
 #[cfg(test)]
 mod tests;

@@ -14,7 +14,7 @@ pub struct ProgramRun {
 
 const USAGE: &str = "modinfo: usage: modinfo analyze or modinfo convert\n";
 
-pub static RUNS: [ProgramRun; 11] = [
+pub static RUNS: [ProgramRun; 15] = [
     ProgramRun {
         name: "side_effect_import",
         words: &["analyze"],
@@ -46,6 +46,38 @@ pub static RUNS: [ProgramRun; 11] = [
         status: 1,
         output: "",
         errors: "modinfo: RangeOffBoundary\n",
+    },
+    ProgramRun {
+        name: "comment_text",
+        words: &["analyze"],
+        input: r#"{"mediaType":"JavaScript","program":{"body":[],"range":[0,6]},"leading":[{"pos":0,"comments":[{"kind":"line","range":[0,6],"text":" a"}]}],"source":"<!-- a","specifier":"file:///a.js"}"#,
+        status: 1,
+        output: "",
+        errors: "modinfo: CommentText\n",
+    },
+    ProgramRun {
+        name: "comments_overlap",
+        words: &["analyze"],
+        input: r#"{"mediaType":"JavaScript","program":{"body":[],"range":[0,6]},"leading":[{"pos":0,"comments":[{"kind":"block","range":[0,6],"text":"//"},{"kind":"line","range":[2,6],"text":"*/"}]}],"source":"/*//*/","specifier":"file:///a.js"}"#,
+        status: 1,
+        output: "",
+        errors: "modinfo: CommentsOverlap\n",
+    },
+    ProgramRun {
+        name: "shape",
+        words: &["analyze"],
+        input: r#"{"mediaType":"JavaScript","program":{"body":[{"kind":"Call","range":[0,4],"callee":"expr","args":[{"range":[2,3]}],"children":[{"kind":"Ident","range":[0,1],"value":"f"}]}],"range":[0,4]},"source":"f(a)","specifier":"file:///a.js"}"#,
+        status: 1,
+        output: "",
+        errors: "modinfo: Shape\n",
+    },
+    ProgramRun {
+        name: "calls",
+        words: &["analyze"],
+        input: r#"{"mediaType":"JavaScript","program":{"body":[{"kind":"Other","range":[0,20],"children":[{"kind":"Call","range":[0,20],"callee":"import","args":[{"range":[7,19]}],"children":[{"kind":"Call","range":[7,19],"callee":"expr","args":[{"range":[15,18]}],"children":[{"kind":"Ident","range":[7,14],"value":"require"},{"kind":"Str","range":[15,18],"value":"a"}]}]}]}],"range":[0,20]},"source":"import(require(\"a\"))","specifier":"file:///a.js"}"#,
+        status: 0,
+        output: "{\"dependencies\":[{\"argument\":\"a\",\"argumentRange\":[[0,15],[0,18]],\"kind\":\"require\",\"type\":\"dynamic\"},{\"argumentRange\":[[0,7],[0,19]],\"type\":\"dynamic\"}],\"script\":true}\n",
+        errors: "",
     },
     ProgramRun {
         name: "specifier_that_is_no_url",

@@ -1,4 +1,10 @@
 mod analyses;
+mod arguments;
+mod attributes;
+mod comments;
+mod faults;
+mod infos;
+mod nesting;
 mod notation;
 mod runs;
 mod streams;

@@ -1,7 +1,9 @@
 //! The notation in which a module comes to the program: its specifier, source, syntax tree and
 //! comments, as one JSON value. docs/FORMATS.md describes it.
 
+pub mod call;
 pub mod comments;
+pub mod declaration;
 pub mod document;
 pub mod fault;
 pub mod kind;
@@ -9,6 +11,7 @@ pub mod literal;
 pub mod media_type;
 pub mod member;
 pub mod node;
+pub mod property;
 
 pub use document::{Document, read_document};
 pub use fault::NotationFault;

@@ -141,3 +141,24 @@ fn strings_keep_their_text(rt: HostRuntime) -> Result<(), Fail> {
     }
     Ok(())
 }
+
+#[test]
+fn strings_of_units(rt: HostRuntime) -> Result<(), Fail> {
+    for (units, text, lossy) in [
+        ([0xD83D].as_slice(), None, "\u{fffd}"),
+        ([0xD83D, 0xDE00].as_slice(), Some("\u{1f600}"), "\u{1f600}"),
+        ([0xDE00, 0xD83D].as_slice(), None, "\u{fffd}\u{fffd}"),
+        ([0x61, 0xD83D, 0xE9].as_slice(), None, "a\u{fffd}é"),
+        ([].as_slice(), Some(""), ""),
+    ] {
+        let string = JsString::from_units(rt.alloc(), units)?;
+        assert_eq!(rt; string.as_str(), text);
+        assert_eq!(rt; string.to_str_lossy(), lossy);
+        assert_eq!(rt; string.is_empty(), units.is_empty());
+        let copy = string.try_clone(rt.alloc())?;
+        assert!(rt; copy == string);
+    }
+    let lone = JsString::from_units(rt.alloc(), &[0xD83D])?;
+    assert!(rt; lone != JsString::from_str(rt.alloc(), "\u{fffd}")?);
+    Ok(())
+}

@@ -33,6 +33,7 @@ fn side_effect_import(alloc: Global, literal: SourceRange) -> Result<Program, Al
             phase: ImportPhase::Evaluation,
             src,
             has_specifiers: false,
+            has_with: false,
         },
         children: Items::new(alloc),
     })?;
@@ -113,17 +114,6 @@ fn copies_of_trees_are_equal(rt: HostRuntime) -> Result<(), Fail> {
     assert!(rt; copy == program);
     let other = side_effect_import(alloc, range(7, 14))?;
     assert!(rt; copy != other);
-    Ok(())
-}
-
-#[test]
-fn no_comments_are_filed_at_first(rt: HostRuntime) -> Result<(), Fail> {
-    let comments = Comments::new(rt.alloc());
-    assert!(rt; comments.get_leading(0).is_none());
-    assert!(rt; comments.get_trailing(0).is_none());
-    assert!(rt; comments.iter_unstable(rt.alloc())?.is_empty());
-    let copy = comments.try_clone(rt.alloc())?;
-    assert!(rt; copy == comments);
     Ok(())
 }
 

@@ -9,6 +9,14 @@ pub fn members_of(value: &Value) -> Result<&Map<String, Value>, NotationFault> {
     value.as_object().ok_or(NotationFault::Tree)
 }
 
+/// The elements of `value`, which has to be an array.
+pub fn elements_of(value: &Value) -> Result<&[Value], NotationFault> {
+    match value {
+        Value::Array(elements) => Ok(elements.as_slice()),
+        _ => Err(NotationFault::Tree),
+    }
+}
+
 /// The member `name`, which has to be there.
 pub fn required<'a>(
     members: &'a Map<String, Value>,
@@ -35,12 +43,20 @@ pub fn flag(members: &Map<String, Value>, name: &str) -> Result<bool, NotationFa
     }
 }
 
+/// The elements of the member `name`: none where it is missing.
+pub fn array<'a>(
+    members: &'a Map<String, Value>,
+    name: &str,
+) -> Result<&'a [Value], NotationFault> {
+    match members.get(name) {
+        None => Ok(&[]),
+        Some(value) => elements_of(value),
+    }
+}
+
 /// The member `range`: two offsets in bytes.
 pub fn range(members: &Map<String, Value>) -> Result<SourceRange, NotationFault> {
-    let ends = required(members, "range")?
-        .as_array()
-        .ok_or(NotationFault::Tree)?;
-    match ends.as_slice() {
+    match elements_of(required(members, "range")?)? {
         [start, end] => Ok(SourceRange {
             start: offset(start)?,
             end: offset(end)?,
@@ -49,7 +65,8 @@ pub fn range(members: &Map<String, Value>) -> Result<SourceRange, NotationFault>
     }
 }
 
-fn offset(value: &Value) -> Result<usize, NotationFault> {
+/// An offset in bytes.
+pub fn offset(value: &Value) -> Result<usize, NotationFault> {
     match value.as_u64() {
         Some(offset) => Ok(offset as usize),
         None => Err(NotationFault::Tree),

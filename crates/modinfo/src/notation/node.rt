@@ -33,8 +33,9 @@ fn read_nodes(alloc: Global, value: &Value) -> Result<Items<Node>, NotationFault
     Ok(Items::from_vec(nodes))
 }
 
+/// A node, with all nodes below it.
 #[cycle(read)]
-fn read_node(alloc: Global, value: &Value) -> Result<Node, NotationFault> {
+pub fn read_node(alloc: Global, value: &Value) -> Result<Node, NotationFault> {
     let Value::Object(members) = value else {
         return Err(NotationFault::Tree);
     };

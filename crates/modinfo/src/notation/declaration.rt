@@ -1,0 +1,94 @@
+//! The members of imports and exports.
+
+use crate::notation::fault::NotationFault;
+use crate::notation::literal::{optional_literal, read_literal};
+use crate::notation::member::{flag, required, text};
+use deno_graph_source::tree::{ImportPhase, Kind};
+use serde_json::{Map, Value};
+use std::alloc::Global;
+
+/// An import declaration.
+pub fn read_import_decl(
+    alloc: Global,
+    members: &Map<String, Value>,
+) -> Result<Kind, NotationFault> {
+    let type_only = flag(members, "typeOnly")?;
+    let phase = import_phase(members)?;
+    let has_specifiers = flag(members, "hasSpecifiers")?;
+    let has_with = flag(members, "hasWith")?;
+    let src = read_literal(alloc, required(members, "src")?)?;
+    Ok(Kind::ImportDecl {
+        type_only,
+        phase,
+        src,
+        has_specifiers,
+        has_with,
+    })
+}
+
+fn import_phase(members: &Map<String, Value>) -> Result<ImportPhase, NotationFault> {
+    if !members.contains_key("phase") {
+        return Ok(ImportPhase::Evaluation);
+    }
+    match text(members, "phase")? {
+        "evaluation" => Ok(ImportPhase::Evaluation),
+        "source" => Ok(ImportPhase::Source),
+        "defer" => Ok(ImportPhase::Defer),
+        _ => Err(NotationFault::Tree),
+    }
+}
+
+/// An export of names, with or without a source.
+pub fn read_named_export(
+    alloc: Global,
+    members: &Map<String, Value>,
+) -> Result<Kind, NotationFault> {
+    let type_only = flag(members, "typeOnly")?;
+    let has_with = flag(members, "hasWith")?;
+    let src = optional_literal(alloc, members, "src")?;
+    Ok(Kind::NamedExport {
+        type_only,
+        src,
+        has_with,
+    })
+}
+
+/// An export of all names of another module.
+pub fn read_export_all(
+    alloc: Global,
+    members: &Map<String, Value>,
+) -> Result<Kind, NotationFault> {
+    let type_only = flag(members, "typeOnly")?;
+    let has_with = flag(members, "hasWith")?;
+    let src = read_literal(alloc, required(members, "src")?)?;
+    Ok(Kind::ExportAll {
+        type_only,
+        src,
+        has_with,
+    })
+}
+
+/// An import-equals declaration.
+pub fn read_import_equals(
+    alloc: Global,
+    members: &Map<String, Value>,
+) -> Result<Kind, NotationFault> {
+    let type_only = flag(members, "typeOnly")?;
+    let is_export = flag(members, "isExport")?;
+    let external = optional_literal(alloc, members, "external")?;
+    Ok(Kind::ImportEquals {
+        type_only,
+        is_export,
+        external,
+    })
+}
+
+/// An import type.
+pub fn read_import_type(
+    alloc: Global,
+    members: &Map<String, Value>,
+) -> Result<Kind, NotationFault> {
+    let has_with = flag(members, "hasWith")?;
+    let arg = read_literal(alloc, required(members, "arg")?)?;
+    Ok(Kind::ImportType { arg, has_with })
+}
