@@ -18,19 +18,19 @@ none_past (x ∷ xs) (suc k) is = let below = none_past xs k is in omega arith
 
 -- a call with an argument has a node for it
 pub first_argument_is : (node : Node) (callee : Callee) (args : List Arg) (arg : Arg) → kind_of node ≡ Call callee args
-  → All IsShaped (nodes_in node) → slice_get args 0 ≡ Some arg → argument_node callee (children_of node) 0 ≡ None → ⊥
+    → All IsShaped (nodes_in node) → slice_get args 0 ≡ Some arg → argument_node callee (children_of node) 0 ≡ None → ⊥
 unfolding HasCount
 first_argument_is node callee args arg is shaped at none =
-  let count : callee_count callee + length args ≤ length (children_of node) =
+    let count : callee_count callee + length args ≤ length (children_of node) =
     subst (λ kind. HasCount kind (length (children_of node))) is (node-holds IsShaped node shaped).count in
-  let some = slice_get_within args 0 arg at in
-  let past = none_past (children_of node) (callee_count callee + 0) none in
-  omega arith
+    let some = slice_get_within args 0 arg at in
+    let past = none_past (children_of node) (callee_count callee + 0) none in
+    omega arith
 
 -- the node of an argument has, with all below it, the children that it needs
 pub argument_shaped : (node : Node) (callee : Callee) (number : ℕ) (argument : Node) → All IsShaped (nodes_in node)
-  → argument_node callee (children_of node) number ≡ Some argument → All IsShaped (nodes_in argument)
+    → argument_node callee (children_of node) number ≡ Some argument → All IsShaped (nodes_in argument)
 argument_shaped node callee number argument shaped at =
-  let k = callee_count callee + number in
-  All-child_nodes IsShaped node argument
+    let k = callee_count callee + number in
+    All-child_nodes IsShaped node argument
     (k, slice_get_within (children_of node) k argument at, get_or_from_slice_get (children_of node) k argument argument at) shaped

@@ -13,5 +13,5 @@ most_at μ (y ∷ ys) (suc k) x is = let h : μ x ≤ most μ ys = most_at μ ys
 pub child_smaller : (node child : Node) (k : ℕ) → slice_get (children_of node) k ≡ Some child → size-Node child < size-Node node
 unfolding children_of
 child_smaller node child k is =
-  let m = most_at size-Node (out-Node node).children k child is in
-  omega (arith, size_is-Node node, m)
+    let m = most_at size-Node (out-Node node).children k child is in
+    omega (arith, size_is-Node node, m)

@@ -14,7 +14,7 @@ both : (a b : Bool) → a ≡ true → b ≡ true → (a && b) ≡ true
 both a b e f = rw (e, f)
 
 kind_from_states : (comments : FiledComments) (node : Node) (kind : Kind) (item : Item) → StatesAt comments node kind item
-  → is_dependency kind (children_of node) ≡ true
+    → is_dependency kind (children_of node) ≡ true
 kind_from_states comments node (ImportDecl type_only phase src has_specifiers has_with) item states = refl
 kind_from_states comments node (NamedExport type_only None has_with) item states = absurd states
 kind_from_states comments node (NamedExport type_only (Some src) has_with) item states = refl
@@ -25,7 +25,7 @@ kind_from_states comments node (ImportType arg has_with) item states = refl
 kind_from_states comments node (ModuleDecl None) item states = absurd states
 kind_from_states comments node (ModuleDecl (Some name)) item states = states.0
 kind_from_states comments node (Call callee args) item states =
-  both (is_some (call_kind callee (children_of node))) (is_some (slice_get args 0)) (ap is_some states.is_kind) (ap is_some states.is_arg)
+    both (is_some (call_kind callee (children_of node))) (is_some (slice_get args 0)) (ap is_some states.is_kind) (ap is_some states.is_arg)
 kind_from_states comments node _ item states = absurd states
 
 pub listed_from_states : (comments : FiledComments) (node : Node) (item : Item) → States comments node item → is_listed node ≡ true

@@ -76,7 +76,7 @@ Step = BinaryOp × Node
 abbrev pub LeftSpine : Node → List Step → Node → Type 0
 LeftSpine node [] first = (node ≡ first) × (is_binary (kind_of node) ≡ false)
 LeftSpine node (step ∷ below) first =
-  (kind_of node ≡ Binary step.0) × ((left : Node) × (children_of node ≡ left ∷ step.1 ∷ []) × LeftSpine left below first)
+    (kind_of node ≡ Binary step.0) × ((left : Node) × (children_of node ≡ left ∷ step.1 ∷ []) × LeftSpine left below first)
 
 -- the operands of a spine from left to right: the first, and then the right children from the innermost out
 abbrev pub operands_of : List Step → Node → List Node
@@ -95,8 +95,8 @@ part_of node = part_of_kind (kind_of node)
 -- one part for each operand, from left to right
 abbrev pub sum_form : List Step → Node → Form
 sum_form steps first =
-  if is_string (kind_of first) && list_all (λ step. is_add step.0) steps
-  then parts (map part_of (operands_of steps first)) else expression
+    if is_string (kind_of first) && list_all (λ step. is_add step.0) steps
+    then parts (map part_of (operands_of steps first)) else expression
 
 -- the form of a node of a kind
 abbrev pub HasFormAt : Kind → Node → Form → Type 0

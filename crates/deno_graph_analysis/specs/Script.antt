@@ -54,7 +54,7 @@ pub record IsBareAwait (node : Node) (path : NodePath) : Type 0 where
 -- the node or one below it makes a module: an `import.meta`, or a bare await where no function stands round the node
 abbrev pub MakesModule : Bool → Node → Type 0
 MakesModule inside_function node =
-  (path : NodePath) × (LeadsBelow IsImportMeta node path ⊎ ((inside_function ≡ false) × IsBareAwait node path))
+    (path : NodePath) × (LeadsBelow IsImportMeta node path ⊎ ((inside_function ≡ false) × IsBareAwait node path))
 
 -- the node itself makes a module
 abbrev pub MakesModuleItself : Bool → Node → Type 0

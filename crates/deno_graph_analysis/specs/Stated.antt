@@ -44,15 +44,15 @@ TypeGives (Some object) result = ObjectGives object result
 -- the comments leading the node, and attributes as the node gives them.
 abbrev pub StatesSpecifier : FiledComments → Node → StaticDependencyKind → SourceRange → StrLit → Bool → (ImportAttributes → Type 0) → Item → Type 0
 StatesSpecifier comments node kind range literal is_side_effect Gives item =
-  (given : ImportAttributes) × Gives given × (item ≡ static_item (record {
-    kind = kind;
-    leading_comments = leading_at comments (range_of node).start;
-    range = range;
-    specifier = lossy_text literal.value;
-    specifier_range = literal.range;
-    is_side_effect = is_side_effect;
-    import_attributes = given;
-  }))
+    (given : ImportAttributes) × Gives given × (item ≡ static_item (record {
+      kind = kind;
+      leading_comments = leading_at comments (range_of node).start;
+      range = range;
+      specifier = lossy_text literal.value;
+      specifier_range = literal.range;
+      is_side_effect = is_side_effect;
+      import_attributes = given;
+    }))
 
 -- the node of an argument of a call, by its number
 abbrev pub argument_node : Callee → List Node → ℕ → Option Node
@@ -61,7 +61,7 @@ argument_node callee children number = slice_get children (callee_count callee +
 -- the second argument of a call, where it has one: whether it is spread, and its node
 abbrev pub second_argument : Callee → List Arg → List Node → Option (Arg × Node)
 second_argument callee args children =
-  option_and_then (λ arg. option_map (λ node. (arg, node)) (argument_node callee children 1)) (slice_get args 1)
+    option_and_then (λ arg. option_map (λ node. (arg, node)) (argument_node callee children 1)) (slice_get args 1)
 
 -- The item is that of a call of this kind: what is known of its first argument's node, the first argument's
 -- range, and the attributes that its second argument gives.
@@ -77,29 +77,29 @@ pub record StatesCall (comments : FiledComments) (node : Node) (callee : Callee)
   pub given : ImportAttributes
   pub gives : CallGives (second_argument callee args (children_of node)) given
   pub says : item ≡ dynamic_item (record {
-      kind = kind;
-      leading_comments = leading_at comments (range_of node).start;
-      range = range_of node;
-      argument = form;
-      argument_range = arg.range;
-      import_attributes = given;
-    })
+    kind = kind;
+    leading_comments = leading_at comments (range_of node).start;
+    range = range_of node;
+    argument = form;
+    argument_range = arg.range;
+    import_attributes = given;
+  })
 
 -- the item is what a node of this kind states
 abbrev pub StatesAt : FiledComments → Node → Kind → Item → Type 0
 StatesAt comments node (ImportDecl type_only phase src has_specifiers has_with) item =
-  StatesSpecifier comments node (import_kind type_only phase) (range_of node) src (not has_specifiers) (DeclarationGives (clause_of has_with node)) item
+    StatesSpecifier comments node (import_kind type_only phase) (range_of node) src (not has_specifiers) (DeclarationGives (clause_of has_with node)) item
 StatesAt comments node (NamedExport type_only (Some src) has_with) item =
-  StatesSpecifier comments node (export_kind type_only) (range_of node) src false (DeclarationGives (clause_of has_with node)) item
+    StatesSpecifier comments node (export_kind type_only) (range_of node) src false (DeclarationGives (clause_of has_with node)) item
 StatesAt comments node (ExportAll type_only src has_with) item =
-  StatesSpecifier comments node (export_kind type_only) (range_of node) src false (DeclarationGives (clause_of has_with node)) item
+    StatesSpecifier comments node (export_kind type_only) (range_of node) src false (DeclarationGives (clause_of has_with node)) item
 StatesAt comments node (ImportEquals type_only is_export (Some external)) item =
-  StatesSpecifier comments node (import_equals_kind type_only is_export) (range_of node) external false NoneGiven item
+    StatesSpecifier comments node (import_equals_kind type_only is_export) (range_of node) external false NoneGiven item
 StatesAt comments node (ImportType arg has_with) item =
-  StatesSpecifier comments node static_kind.ImportType (range_of node) arg false (TypeGives (clause_of has_with node)) item
+    StatesSpecifier comments node static_kind.ImportType (range_of node) arg false (TypeGives (clause_of has_with node)) item
 StatesAt comments node (ModuleDecl (Some name)) item =
-  IsTrue (may_name_module (lossy_text name.value))
-  × StatesSpecifier comments node static_kind.MaybeTsModuleAugmentation name.range name false NoneGiven item
+    IsTrue (may_name_module (lossy_text name.value))
+    × StatesSpecifier comments node static_kind.MaybeTsModuleAugmentation name.range name false NoneGiven item
 StatesAt comments node (Call callee args) item = StatesCall comments node callee args item
 StatesAt comments node _ item = ⊥
 

@@ -21,7 +21,7 @@ abbrev pub template_text : Assignment → NodePath → ℕ → List (List ℕ) �
 template_text given path n [] = []
 template_text given path n (quasi ∷ []) = lossy_text quasi
 template_text given path n (quasi ∷ next ∷ rest) =
-  lossy_text quasi ++ (given (path ++ n ∷ []) ++ template_text given path (n + 1) (next ∷ rest))
+    lossy_text quasi ++ (given (path ++ n ∷ []) ++ template_text given path (n + 1) (next ∷ rest))
 
 -- what an operand contributes: a readable string literal its own text, any other the text given to it
 abbrev pub ContributesAt : Assignment → NodePath → Kind → List ℕ → Type 0
@@ -32,13 +32,13 @@ ContributesAt given path _ contributed = contributed ≡ given path
 -- and a sum whose left child has a text, followed by what the right child contributes. Nothing else has one.
 pub data HasText (given : Assignment) : NodePath → Node → List ℕ → Type 0 where
   of_string : (path : NodePath) (node : Node) (points : List ℕ) → kind_of node ≡ Str points → IsReadable points
-    → HasText given path node (lossy_text points)
+      → HasText given path node (lossy_text points)
   of_template : (path : NodePath) (node : Node) (quasis : List (List ℕ)) → kind_of node ≡ Template quasis → All IsReadable quasis
-    → HasText given path node (template_text given path 0 quasis)
+      → HasText given path node (template_text given path 0 quasis)
   of_sum : (path : NodePath) (node left right : Node) (front back : List ℕ) → kind_of node ≡ Binary Add
-    → children_of node ≡ left ∷ right ∷ []
-    → HasText given (path ++ 0 ∷ []) left front → ContributesAt given (path ++ 1 ∷ []) (kind_of right) back
-    → HasText given path node (front ++ back)
+      → children_of node ≡ left ∷ right ∷ []
+      → HasText given (path ++ 0 ∷ []) left front → ContributesAt given (path ++ 1 ∷ []) (kind_of right) back
+      → HasText given path node (front ++ back)
 
 -- the parts joined, with the k-th unknown replaced by the k-th of the texts
 abbrev pub joined : List Part → List (List ℕ) → List ℕ
@@ -60,13 +60,13 @@ unknown_path path node = if is_string (kind_of node) then [] else path ∷ []
 abbrev pub unknown_operands : NodePath → List Step → Node → List NodePath
 unknown_operands path [] first = unknown_path path first
 unknown_operands path (step ∷ below) first =
-  unknown_operands (path ++ 0 ∷ []) below first ++ unknown_path (path ++ 1 ∷ []) step.1
+    unknown_operands (path ++ 0 ∷ []) below first ++ unknown_path (path ++ 1 ∷ []) step.1
 
 -- the unknowns of a node of a kind: a template's children, or the operands of a sum that are no string literals
 abbrev pub AreUnknownsAt : Kind → Node → List NodePath → Type 0
 AreUnknownsAt (Template quasis) node paths = paths ≡ child_paths 0 (children_of node)
 AreUnknownsAt (Binary op) node paths =
-  (steps : List Step) × (first : Node) × (LeftSpine node steps first) × (paths ≡ unknown_operands [] steps first)
+    (steps : List Step) × (first : Node) × (LeftSpine node steps first) × (paths ≡ unknown_operands [] steps first)
 AreUnknownsAt _ node paths = paths ≡ []
 
 abbrev pub AreUnknowns : Node → List NodePath → Type 0
@@ -82,7 +82,7 @@ abbrev pub HasReadableLiteralsAt : Kind → Node → Type 0
 HasReadableLiteralsAt (Str points) node = IsReadable points
 HasReadableLiteralsAt (Template quasis) node = All IsReadable quasis
 HasReadableLiteralsAt (Binary op) node =
-  (steps : List Step) (first : Node) → LeftSpine node steps first → All (λ operand. IsReadableAt (kind_of operand)) (operands_of steps first)
+    (steps : List Step) (first : Node) → LeftSpine node steps first → All (λ operand. IsReadableAt (kind_of operand)) (operands_of steps first)
 HasReadableLiteralsAt _ node = Unit {0}
 
 abbrev pub HasReadableLiterals : Node → Type 0
@@ -92,7 +92,7 @@ HasReadableLiterals node = HasReadableLiteralsAt (kind_of node) node
 abbrev pub Spells : Assignment → Node → Form → Type 0
 Spells given node (text known_text) = HasText given [] node known_text
 Spells given node (parts ps) =
-  (unknowns : List NodePath) × (AreUnknowns node unknowns) × (HasText given [] node (joined ps (map given unknowns)))
+    (unknowns : List NodePath) × (AreUnknowns node unknowns) × (HasText given [] node (joined ps (map given unknowns)))
 Spells given node expression = Unit {0}
 
 -- whatever the unknown parts are, a form with readable literals spells the node's text

@@ -10,7 +10,8 @@ pub mod walk;
 
 pub use argument::{DynamicArgument, DynamicTemplatePart, argument_of};
 pub use attributes::{
-    parse_dynamic_import_attributes, parse_import_attributes, parse_import_attributes_from_object_lit,
+    parse_dynamic_import_attributes, parse_import_attributes,
+    parse_import_attributes_from_object_lit,
 };
 pub use descriptor::{
     DependencyDescriptor, DynamicDependencyDescriptor, StaticDependencyDescriptor,

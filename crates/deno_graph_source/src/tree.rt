@@ -13,9 +13,7 @@ mod range_check;
 pub use comments::{CommentKind, Comments, DependencyComment};
 pub use fault::{SourceFault, source_fault};
 pub use media_type::MediaType;
-pub use node::{
-    Arg, BinaryOp, Callee, ImportPhase, Kind, Node, Program, PropKey, StrLit,
-};
+pub use node::{Arg, BinaryOp, Callee, ImportPhase, Kind, Node, Program, PropKey, StrLit};
 pub use parsed_source::ParsedSource;
 
 #[cfg(test)]

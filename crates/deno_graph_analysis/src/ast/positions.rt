@@ -80,7 +80,10 @@ fn dynamic_dependency(
     })
 }
 
-fn owned_argument(alloc: Global, argument: &dep::DynamicArgument<'_>) -> Result<DynamicArgument, AllocError>
+fn owned_argument(
+    alloc: Global,
+    argument: &dep::DynamicArgument<'_>,
+) -> Result<DynamicArgument, AllocError>
     ensures { IfOk result (λ owned. owned ≡ argument_of_form (form_seen argument.now)) }
 {
     match argument {
@@ -107,7 +110,10 @@ fn owned_parts(
     Ok(owned)
 }
 
-fn owned_part(alloc: Global, part: &dep::DynamicTemplatePart<'_>) -> Result<DynamicTemplatePart, AllocError>
+fn owned_part(
+    alloc: Global,
+    part: &dep::DynamicTemplatePart<'_>,
+) -> Result<DynamicTemplatePart, AllocError>
     ensures { IfOk result (λ owned. owned ≡ template_part_of (part_seen part.now)) }
 {
     match part {

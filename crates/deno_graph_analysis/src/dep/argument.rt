@@ -5,7 +5,6 @@ ghost use Rattle.deno_graph_source.specs.Node.{kind_of, children_of, nodes_in, I
 ghost use Rattle.deno_graph_analysis.specs.Argument.{HasForm, form_seen, part_seen, part_of, quasi_part, template_form, template_parts, is_sum, is_binary, is_string};
 ghost use Rattle.deno_graph_analysis.specs.Value.{SpellsItsText};
 
-
 use deno_graph_source::text::JsString;
 use deno_graph_source::tree::{BinaryOp, Kind, Node};
 use std::alloc::{AllocError, Global};

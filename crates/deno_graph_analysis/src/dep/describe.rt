@@ -35,26 +35,85 @@ pub(crate) fn describe<'a>(
     ensures { IfOk result (λ found. States comments.now node.now (item_of found)) }
 {
     match &node.kind {
-        Kind::ImportDecl { type_only, phase, src, has_specifiers, has_with } => {
+        Kind::ImportDecl {
+            type_only,
+            phase,
+            src,
+            has_specifiers,
+            has_with,
+        } => {
             let kind = import_kind(*type_only, *phase);
             let attributes = parse_import_attributes(alloc, clause_of(*has_with, node))?;
-            Ok(stated(comments, node, kind, node.range, src, !*has_specifiers, attributes))
+            Ok(stated(
+                comments,
+                node,
+                kind,
+                node.range,
+                src,
+                !*has_specifiers,
+                attributes,
+            ))
         }
-        Kind::NamedExport { type_only, src: Some(src), has_with } | Kind::ExportAll { type_only, src, has_with } => {
+        Kind::NamedExport {
+            type_only,
+            src: Some(src),
+            has_with,
+        }
+        | Kind::ExportAll {
+            type_only,
+            src,
+            has_with,
+        } => {
             let attributes = parse_import_attributes(alloc, clause_of(*has_with, node))?;
-            Ok(stated(comments, node, export_kind(*type_only), node.range, src, false, attributes))
+            Ok(stated(
+                comments,
+                node,
+                export_kind(*type_only),
+                node.range,
+                src,
+                false,
+                attributes,
+            ))
         }
-        Kind::ImportEquals { type_only, is_export, external: Some(external) } => {
+        Kind::ImportEquals {
+            type_only,
+            is_export,
+            external: Some(external),
+        } => {
             let kind = import_equals_kind(*type_only, *is_export);
-            Ok(stated(comments, node, kind, node.range, external, false, ImportAttributes::None))
+            Ok(stated(
+                comments,
+                node,
+                kind,
+                node.range,
+                external,
+                false,
+                ImportAttributes::None,
+            ))
         }
         Kind::ImportType { arg, has_with } => {
             let attributes = type_attributes(alloc, clause_of(*has_with, node))?;
-            Ok(stated(comments, node, StaticDependencyKind::ImportType, node.range, arg, false, attributes))
+            Ok(stated(
+                comments,
+                node,
+                StaticDependencyKind::ImportType,
+                node.range,
+                arg,
+                false,
+                attributes,
+            ))
         }
         Kind::ModuleDecl { name: Some(name) } => {
             let kind = StaticDependencyKind::MaybeTsModuleAugmentation;
-            Ok(stated(comments, node, kind, name.range, name, false, ImportAttributes::None))
+            Ok(stated(
+                comments,
+                node,
+                kind,
+                name.range,
+                name,
+                false,
+                ImportAttributes::None,
+            ))
         }
         Kind::Call { callee, args } => call(alloc, comments, node, *callee, args.as_slice()),
         _ => unreachable!(),

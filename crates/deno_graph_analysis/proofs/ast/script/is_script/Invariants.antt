@@ -7,6 +7,6 @@ use Rattle.deno_graph_analysis.proofs.ast.script.is_script.Given as goal
 
 abbrev pub invariant-loop-item : goal.invariant-loop-item
 invariant-loop-item l = record {
-    items : All (λ item. is_module_item (kind_of item) ≡ false) (take l.item-index l.item-items);
-    make_none : (k : ℕ) (item : Node) → k < l.item-index → slice_get l.item-items k ≡ Some item → ¬ MakesModule false item;
-  }
+  items : All (λ item. is_module_item (kind_of item) ≡ false) (take l.item-index l.item-items);
+  make_none : (k : ℕ) (item : Node) → k < l.item-index → slice_get l.item-items k ≡ Some item → ¬ MakesModule false item;
+}

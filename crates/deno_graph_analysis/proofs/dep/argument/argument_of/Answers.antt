@@ -8,6 +8,6 @@ use Rattle.deno_graph_analysis.proofs.dep.argument.argument_of.Goals as goal
 
 pub returns-clause-spells : goal.returns-clause-spells
 returns-clause-spells c =
-  let node = c.args.node.now in
-  IfOk-weaker c.form_argument.result (λ a. HasForm node (form_seen a)) (λ a. SpellsItsText node (form_seen a))
+    let node = c.args.node.now in
+    IfOk-weaker c.form_argument.result (λ a. HasForm node (form_seen a)) (λ a. SpellsItsText node (form_seen a))
     (λ a has. spells node (form_seen a) (keeps_here node c.requires) has) c.form_argument.ensures

@@ -8,7 +8,7 @@ use Rattle.deno_graph_analysis.proofs.dep.argument.sum_argument.Given as goal
 
 abbrev pub invariant-loop-operand : goal.invariant-loop-operand
 invariant-loop-operand l =
-  (above : List Step) × (Descends l.node above l.operand) × (All IsShaped (nodes_in l.operand)) × (map part_seen l.parts.items ≡ map part_of (rights_of above))
+    (above : List Step) × (Descends l.node above l.operand) × (All IsShaped (nodes_in l.operand)) × (map part_seen l.parts.items ≡ map part_of (rights_of above))
 
 abbrev pub decreases-loop-operand : goal.decreases-loop-operand
 decreases-loop-operand l = size-Node l.operand

@@ -5,4 +5,4 @@ use Rattle.deno_graph_analysis.proofs.dep.walk.DependencyCollector.+visit.Given 
 
 abbrev pub invariant-visit_inside-loop-child : goal.invariant-visit_inside-loop-child
 invariant-visit_inside-loop-child l =
-  nodes_seen l.self.nodes.items ≡ nodes_seen l.initial.self.nodes.items ++ listed_below (take l.child-index l.child-items)
+    nodes_seen l.self.nodes.items ≡ nodes_seen l.initial.self.nodes.items ++ listed_below (take l.child-index l.child-items)
