@@ -70,11 +70,13 @@ near_passed places passed test pos d ascending failed passes bound (inr (k, x, w
     let before : k < passed = elim (cases_lt k passed) [
       | inl under ↦ under
       | inr over ↦ absurd (false≢true (sym (failed k x over within) ∙ passes k x within from))
-    ] in
-    (λ none. absurd (omega arith), λ some.
-      let order = ascending k (passed - 1) d (omega arith) (omega arith) in
-      let same : (get_or places k x).pos ≡ (get_or places k d).pos = ap (λ (p : Place). p.pos) (get_or_default places k x d within) in
-      omega arith)
+    ] in (
+      λ none. absurd (omega arith),
+      λ some.
+          let order = ascending k (passed - 1) d (omega arith) (omega arith) in
+          let same : (get_or places k x).pos ≡ (get_or places k d).pos = ap (λ (p : Place). p.pos) (get_or_default places k x d within) in
+          omega arith,
+    )
 
 -- no place up to the boundary that has `wanted` is beyond `wanted`
 pub passes_up_to : (text : List ℕ) (places : List Place) (wanted : Position) (pos : ℕ) → IsUtf8 text → ArePlaces text places → IsAt text wanted pos → (k : ℕ) (e : Place) → k < length places → (get_or places k e).pos ≤ pos → not (is_before wanted (get_or places k e).position) ≡ true

@@ -1,23 +1,20 @@
 -- Boundaries of a text, and the characters before and behind them.
-use Rattle.std.proofs.Common.{◌≡◌, ℕ, ◌+◌, ◌-◌, ◌<◌, ◌≤◌, inl, inr, List, [], ◌∷◌, ◌++◌, length, take, drop, get_or, zero, suc, All, not, refl, sym, ap, ◌∙◌, subst, arith, length-append, length-drop, append_assoc}
-use Rattle.std.proofs.lemmas.Bool.{cases_lt, cases_Bool, false≢true}
+use Rattle.std.proofs.Common.{◌≡◌, ℕ, ◌+◌, ◌-◌, ◌<◌, ◌≤◌, inl, inr, List, [], ◌∷◌, ◌++◌, length, take, drop, refl, sym, ap, ◌∙◌, subst, arith, length-append, length-drop, append_assoc}
+use Rattle.std.proofs.lemmas.Bool.{cases_lt}
 use Rattle.std.proofs.lemmas.List.{length-take-le, take-append-drop, take-append-le, take_all, append-nil}
-use Rattle.std.proofs.lemmas.List.Elements.{All-append}
-use Rattle.std.proofs.lemmas.List.Sorted.{IsNonDecreasingBy-push}
 use Rattle.std.proofs.lemmas.Str.{IsCharBoundary-start, IsCharBoundary-past_char, IsUtf8-take, IsUtf8-drop, IsUtf8-between, chars-append, chars_past_char, chars-nil, encodes-chars, encode_same, length-encode, length-le-encodes}
 use Rattle.std.proofs.Math.Seq.{take-add}
 use Rattle.std.specs.Char.{len_utf8}
 use Rattle.std.specs.Cmp.{nat_cmp_is}
 use Rattle.std.specs.Ordering.{nat_cmp}
 use Rattle.std.specs.declared.cmp.Ordering.TheVariants.{Less, Equal, Greater}
-use Rattle.std.specs.List.Sorted.{IsPartitionedBy}
 use Rattle.std.specs.Str.{IsCharBoundary, IsUtf8, chars}
 use lib.Utf8.{encodes, encode}
-use Rattle.deno_graph_source.specs.Place.{IsPlace, ArePlaces}
-use Rattle.deno_graph_source.specs.Position.{HasPosition, IsBefore, is_before, position_at, position_of}
+use Rattle.deno_graph_source.specs.Place.{IsPlace}
+use Rattle.deno_graph_source.specs.Position.{HasPosition, IsBefore, position_at, position_of}
 use Rattle.deno_graph_source.specs.declared.text.place.Place.{Place}
 use Rattle.deno_graph_source.specs.declared.text.position.Position.{Position}
-use Rattle.deno_graph_source.proofs.PositionLemmas.{line_of-le, character_of-le, before_longer, IsBefore-trans, IsBefore-irreflexive, is_before-true, is_before-from, position_cmp, position_cmp-before, position_cmp-behind, position_cmp-same}
+use Rattle.deno_graph_source.proofs.PositionLemmas.{line_of-le, character_of-le, before_longer, IsBefore-irreflexive, position_cmp, position_cmp-before, position_cmp-behind, position_cmp-same}
 
 -- a boundary has at most as many characters before it as bytes
 pub chars_le : (text : List ℕ) (pos : ℕ) → IsUtf8 text → IsCharBoundary text pos → length (chars (take pos text)) ≤ pos

@@ -4,6 +4,7 @@ use crate::fault::Fault;
 use crate::notation::read_document;
 use deno_graph_source::tree::ParsedSource;
 use serde_json::Value;
+use simdutf8::basic;
 use std::alloc::Global;
 use std::io::{ErrorKind, Read};
 
@@ -18,7 +19,7 @@ pub fn read_source<R: Read>(alloc: Global, input: &mut R) -> Result<ParsedSource
 /// Reads one JSON value, up to the end of the input.
 pub fn read_json<R: Read>(alloc: Global, input: &mut R) -> Result<Value, Fault> {
     let bytes = read_to_end(alloc, input)?;
-    let Ok(text) = str::from_utf8(bytes.as_slice()) else {
+    let Ok(text) = basic::from_utf8(bytes.as_slice()) else {
         return Err(Fault::Input);
     };
     Ok(Value::from_str(alloc, text)?)

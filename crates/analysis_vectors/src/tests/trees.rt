@@ -1,6 +1,6 @@
 //! Trees that are written by hand.
 
-use deno_graph_analysis::ast::module_info;
+use deno_graph_analysis::ast::{module_info, module_info_from_program};
 use deno_graph_analysis::dep::analyze_program_dependencies;
 use deno_graph_source::text::{JsString, SourceRange};
 use deno_graph_source::tree::{
@@ -72,6 +72,14 @@ fn a_tree_by_hand_is_analyzed(rt: HostRuntime) -> Result<(), Fail> {
     let info = module_info(rt.alloc(), &source)?;
     assert!(rt; !info.is_script);
     assert_eq!(rt; info.dependencies.len(), 1);
+    let by_parts = module_info_from_program(
+        rt.alloc(),
+        source.media_type(),
+        source.program(),
+        source.text_info_lazy(),
+        source.comments(),
+    )?;
+    assert!(rt; by_parts == info);
     Ok(())
 }
 

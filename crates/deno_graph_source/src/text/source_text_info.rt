@@ -14,7 +14,8 @@ use std::alloc::{AllocError, Global};
 use std::marker::Model;
 use std::rc::{Rc, RcStr};
 
-/// A text, with what finds positions in it. Contracts see its bytes alone.
+/// A text, with what finds positions in it: a look-up counts on from the nearest of some places that
+/// are kept, and never through a whole line. Contracts see the text's bytes alone.
 #[derive(Debug, Drop)]
 pub struct SourceTextInfo {
     text: RcStr,
@@ -50,12 +51,14 @@ impl SourceTextInfo {
         })
     }
 
+    /// The text itself.
     pub fn text(&self) -> &str
         ensures { result.now ≡ self.now }
     {
         self.text.as_str()
     }
 
+    /// The text, to be shared.
     pub(crate) fn rc_text(&self) -> &RcStr
         ensures { rc_str_bytes result.now ≡ self.now }
     {
@@ -102,9 +105,9 @@ impl SourceTextInfo {
     }
 }
 
+/// A copy shares the text and what finds positions in it.
 impl TryClone for SourceTextInfo {
-    fn try_clone(&self, alloc: Global) -> Result<SourceTextInfo, AllocError> {
-        let _ = alloc;
+    fn try_clone(&self, _alloc: Global) -> Result<SourceTextInfo, AllocError> {
         Ok(SourceTextInfo {
             text: self.text.clone()?,
             checkpoints: self.checkpoints.clone()?,

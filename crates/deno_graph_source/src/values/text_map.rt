@@ -1,4 +1,4 @@
-ghost use Rattle.std.specs.Prelude.{◌≡◌, [], ℕ, List, ◌↔◌, ◌&&◌, ◌^◌, ◌<◌, IsTrue, IfOk, OnOk, OnErr, Some, length, nat_eq, if◌then◌else◌};
+ghost use Rattle.std.specs.Prelude.{◌≡◌, [], ℕ, List, ◌↔◌, ◌&&◌, IsTrue, IfOk, OnOk, OnErr, Some, length, nat_eq, if◌then◌else◌};
 ghost use Rattle.std.specs.Cmp.{on_per, and_per, on_equiv, and_equiv, partial_equiv_from_equiv};
 ghost use Rattle.std.specs.Cmp.Lexicographic.{pointwise, lists_per, lists_equiv, nat_list_eq_equiv};
 ghost use Rattle.std.specs.Iterator.{at_most};

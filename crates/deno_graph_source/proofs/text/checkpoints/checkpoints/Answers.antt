@@ -1,4 +1,4 @@
-use Rattle.std.proofs.Common.{◌≡◌, ◌++◌, ◌∷◌, [], ◌+◌, ◌<◌, ◌≤◌, ℕ, List, All, length, length-drop, drop, arith, ap, sym, ◌∙◌, subst}
+use Rattle.std.proofs.Common.{◌≡◌, ◌++◌, ◌∷◌, [], ◌+◌, ◌*◌, ◌<◌, ◌≤◌, vec_len, ℕ, List, All, length, length-drop, drop, arith, ap, sym, ◌∙◌, subst}
 use Rattle.std.proofs.lemmas.Str.{IsUtf8-drop, IsCharBoundary-past_char, drop_past_char, len_utf8_bounds}
 use Rattle.std.specs.Str.Iter.{chars_rest}
 use lib.Utf8.{encode}
@@ -61,6 +61,12 @@ kept c =
           }
     ]
 
+few : (c : goal.After-past-place) → 256 * vec_len c.if-place-last-ge-STRIDE.places ≤ c.if-place-last-ge-STRIDE.last
+few c = elim c.if-place-last-ge-STRIDE.branch [
+  | then-place-last-ge-STRIDE+in_ok-push w ↦ omega (arith, ap (λ v. vec_len v) w.places-is, w.in_ok-push.ensures.len)
+  | else-place-last-ge-STRIDE w ↦ omega (arith, ap (λ v. vec_len v) w.places-is)
+]
+
 pub loop-c-preserved : goal.loop-c-preserved
 loop-c-preserved c =
     let text = c.args.text.now in
@@ -73,10 +79,11 @@ loop-c-preserved c =
       last = omega (arith, (kept c).behind, c.past-place.ensures.pos);
       gap = omega (arith, (kept c).gap, c.past-place.ensures.pos, len_utf8_bounds c.in-Some.c);
       near = (kept c).near;
+      few = few c;
       before = (kept c).before;
     }
 
-pub returns : goal.returns
-returns c =
+pub returns-clause-checkpoints : goal.returns-clause-checkpoints
+returns-clause-checkpoints c =
     let inv = c.loop-c.invariant in
     record { ordered = inv.places; near = λ pos within. inv.near pos (omega (arith, length-drop c.loop-c.place.pos c.args.text.now, ap length inv.rest, c.in-None.ensures.steps.0.0)) }
