@@ -4,7 +4,6 @@ ghost use Rattle.std.specs.Prelude.{◌≡◌, ◌↔◌, map, IsTrue};
 ghost use Rattle.deno_graph_source.specs.Check.{JudgesNode, JudgesNodes, JudgesRanges};
 ghost use Rattle.deno_graph_source.specs.Node.{kind_of, nodes_in, nodes_of, ranges_in_kind, is_object, HasClause, HasCount, IsShaped};
 
-use crate::text::SourceRange;
 use crate::tree::fault::SourceFault;
 use crate::tree::node::{Arg, Callee, Kind, Node, Program};
 use crate::tree::range_check::check_range;
