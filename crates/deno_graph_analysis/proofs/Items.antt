@@ -5,15 +5,10 @@ use Rattle.std.specs.List.{flat_map}
 use Rattle.std.specs.Option.{option_to_list}
 use Rattle.std.proofs.lemmas.Bool.{false≢true}
 use Rattle.std.proofs.lemmas.List.{map-append}
-use Rattle.deno_graph_source.specs.Comments.{FiledComments}
 use Rattle.deno_graph_source.specs.Node.{kind_of, range_of, children_of}
-use Rattle.deno_graph_source.specs.declared.text.position.SourceRange.{SourceRange}
-use Rattle.deno_graph_source.specs.declared.tree.node.Kind.{Kind}
-use Rattle.deno_graph_source.specs.declared.tree.node.Kind.TheVariants.{ImportDecl, NamedExport, ExportAll, ExportOther, Other}
 use Rattle.deno_graph_source.specs.declared.tree.node.Node.{Node}
-use Rattle.deno_graph_analysis.specs.Dependency.{dependency_rules, is_dependency}
-use Rattle.deno_graph_analysis.specs.Dependencies.{AreDependencies, items_below}
-use Rattle.deno_graph_analysis.specs.Dependency.{item_of_kind, item_of_node}
+use Rattle.deno_graph_analysis.specs.Dependency.{dependency_rules, is_listed}
+use Rattle.deno_graph_analysis.specs.Dependencies.{AreListed, listed_below, listed_node}
 use Rattle.deno_graph_analysis.specs.Listing.{Rules}
 use Rattle.deno_graph_analysis.specs.NodePath.{NodePath, node_below, node_at}
 use Rattle.deno_graph_analysis.specs.Recursion.{entries_at}
@@ -89,25 +84,20 @@ module _ {A : Type 0} (rules : Rules) (f : Node → Option A) (listed : (node : 
   unfolding listed_paths below
   body_same body = inside_same body (λ n. n) (λ p. option_and_then f (node_at body p)) (λ n child e p. ap (λ o. option_and_then f (node_below o p)) e) (λ n child e. node_same child)
 
--- a node is a dependency where it states one
-kind_listed : (comments : FiledComments) (range : SourceRange) (kind : Kind) → is_dependency kind ≡ is_some (item_of_kind comments range kind)
-kind_listed comments range (ImportDecl type_only phase src has_specifiers) = refl
-kind_listed comments range (NamedExport type_only None) = refl
-kind_listed comments range (NamedExport type_only (Some src)) = refl
-kind_listed comments range (ExportAll type_only src) = refl
-kind_listed comments range ExportOther = refl
-kind_listed comments range Other = refl
+-- a node is listed where it is one of the listed
+listed_is : (node : Node) → is_listed node ≡ is_some (listed_node node)
+unfolding listed_node
+listed_is node = by_test (is_listed node)
+  where
+    by_test : (b : Bool) → b ≡ is_some (cond b (Some node) None)
+    by_test true = refl
+    by_test false = refl
 
--- and it is listed where it does
-pub node_listed : (comments : FiledComments) (node : Node) → is_dependency (kind_of node) ≡ is_some (item_of_node comments node)
-unfolding item_of_node
-node_listed comments node = kind_listed comments (range_of node) (kind_of node)
-
--- the items of a body are those at the paths of its listing
-pub AreDependencies-items_below : (comments : FiledComments) (body : List Node) → AreDependencies comments body (items_below comments body)
+-- the nodes that plain recursion lists are those at the paths of the listing
+pub AreListed-listed_below : (body : List Node) → AreListed body (listed_below body)
 unfolding own
-AreDependencies-items_below comments body = record {
+AreListed-listed_below body = record {
   paths = listed_paths dependency_rules body;
   is_listing = IsListing-listed_paths dependency_rules body;
-  are_items = body_same dependency_rules (item_of_node comments) (node_listed comments) body;
+  at_paths = body_same dependency_rules listed_node listed_is body;
 }

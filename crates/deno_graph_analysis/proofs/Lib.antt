@@ -1,8 +1,16 @@
 pub mod Ascending
+pub mod Calls
 pub mod DependencyRanges
+pub mod Depth
 pub mod Entries
 pub mod Items
+pub mod LastClause
+pub mod LastGiven
 pub mod Listed
 pub mod Listings
 pub mod NodePaths
 pub mod Nodes
+pub mod Scripts
+pub mod Spelling
+pub mod Spine
+pub mod Stating

@@ -1,33 +1,49 @@
 -- The dependencies of a body: by its listing, and by plain recursion.
-use Rattle.std.specs.Prelude.{◌≡◌, List, map, Option, Some, option_and_then}
+use Rattle.std.specs.Prelude.{◌≡◌, List, [], ◌∷◌, map, Option, Some, None, option_and_then, if◌then◌else◌}
+use Rattle.std.specs.Borrow.{Bor}
 use Rattle.std.specs.List.{flat_map}
 use Rattle.std.specs.Option.{option_to_list}
 use Rattle.deno_graph_source.specs.Comments.{FiledComments}
 use Rattle.deno_graph_source.specs.declared.tree.node.Node.{Node}
-use Rattle.deno_graph_analysis.specs.Dependency.{dependency_rules, item_of_node}
+use Rattle.deno_graph_analysis.specs.Dependency.{dependency_rules, is_listed}
 use Rattle.deno_graph_analysis.specs.Item.{Item}
 use Rattle.deno_graph_analysis.specs.Listing.{IsListing}
 use Rattle.deno_graph_analysis.specs.NodePath.{NodePath, node_at}
 use Rattle.deno_graph_analysis.specs.Recursion.{entries_at}
+use Rattle.deno_graph_analysis.specs.Stated.{AllStated}
 
--- the dependency that the node at a path states
-abbrev pub item_at : FiledComments → List Node → NodePath → Option Item
-item_at comments body path = option_and_then (item_of_node comments) (node_at body path)
+-- the node, if it is listed
+unfoldable pub listed_node : Node → Option Node
+listed_node node = if is_listed node then Some node else None
 
--- The items are those of the nodes at the paths of the listing, in its order.
-pub record AreDependencies (comments : FiledComments) (body : List Node) (items : List Item) : Type 0 where
+-- the node at a path, if it is listed
+abbrev pub listed_at : List Node → NodePath → Option Node
+listed_at body path = option_and_then listed_node (node_at body path)
+
+-- the nodes are those at the paths of the listing, in its order
+pub record AreListed (body : List Node) (nodes : List Node) : Type 0 where
   pub paths : List NodePath
   pub is_listing : IsListing dependency_rules body paths
-  pub are_items : map Some items ≡ map (item_at comments body) paths
+  pub at_paths : map Some nodes ≡ map (listed_at body) paths
 
--- the dependency that a node states, as a list of one or none
-abbrev pub own_items : FiledComments → Node → List Item
-own_items comments node = option_to_list (item_of_node comments node)
+-- each item is what the node in its place in the listing states
+pub record AreDependencies (comments : FiledComments) (body : List Node) (items : List Item) : Type 0 where
+  pub nodes : List Node
+  pub are_listed : AreListed body nodes
+  pub stated : AllStated comments nodes items
 
--- the dependencies that a node and what is inside it state, by plain recursion
-abbrev pub items_at : FiledComments → Node → List Item
-items_at comments = entries_at dependency_rules (own_items comments)
+-- the node itself, as a list of one or none
+abbrev pub own_nodes : Node → List Node
+own_nodes node = option_to_list (listed_node node)
 
--- the dependencies that several nodes state, one node after another
-abbrev pub items_below : FiledComments → List Node → List Item
-items_below comments nodes = flat_map (items_at comments) nodes
+-- the listed ones of a node and of all that is inside it, by plain recursion
+abbrev pub listed_in : Node → List Node
+listed_in = entries_at dependency_rules own_nodes
+
+-- the same of several nodes, one node after another
+abbrev pub listed_below : List Node → List Node
+listed_below nodes = flat_map listed_in nodes
+
+-- what references point to
+abbrev pub nodes_seen : List (Bor Node) → List Node
+nodes_seen nodes = map (λ node. node.now) nodes

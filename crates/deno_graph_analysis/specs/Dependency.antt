@@ -1,91 +1,104 @@
--- Which nodes of a tree are dependencies, where they are listed, and what each states.
-use Rattle.std.specs.Prelude.{ℕ, List, [], Bool, true, false, not, Option, Some, None, is_some, option_map, unwrap_or, if◌then◌else◌}
-use Rattle.deno_graph_source.specs.ByPosition.{value_at}
-use Rattle.deno_graph_source.specs.Comments.{FiledComments}
+-- Which nodes of a tree are dependencies, and where they are listed.
+use Rattle.std.specs.Prelude.{ℕ, ◌+◌, List, [], ◌∷◌, Bool, true, false, not, ◌&&◌, ◌||◌, Option, Some, None, is_some, option_map, option_and_then, unwrap_or, slice_get, if◌then◌else◌, codes, nat_eq, ◌==◌}
+use Rattle.std.specs.List.{list_any, starts_with}
+use Rattle.std.specs.Str.{bytes_eq}
 use Rattle.deno_graph_source.specs.JsString.{lossy_text}
-use Rattle.deno_graph_source.specs.Node.{kind_of, range_of, children_of}
-use Rattle.deno_graph_source.specs.declared.text.position.SourceRange.{SourceRange}
-use Rattle.deno_graph_source.specs.declared.tree.comments.DependencyComment.{DependencyComment}
+use Rattle.deno_graph_source.specs.Node.{kind_of, children_of, callee_count}
+use Rattle.deno_graph_source.specs.declared.tree.node.Arg.{Arg}
+use Rattle.deno_graph_source.specs.declared.tree.node.Callee.{Callee}
+use Rattle.deno_graph_source.specs.declared.tree.node.Callee.TheVariants as callee
 use Rattle.deno_graph_source.specs.declared.tree.node.ImportPhase.{ImportPhase}
 use Rattle.deno_graph_source.specs.declared.tree.node.ImportPhase.TheVariants.{Evaluation, Source, Defer}
 use Rattle.deno_graph_source.specs.declared.tree.node.Kind.{Kind}
-use Rattle.deno_graph_source.specs.declared.tree.node.Kind.TheVariants.{ImportDecl, NamedExport, ExportAll, ExportOther, Other}
+use Rattle.deno_graph_source.specs.declared.tree.node.Kind.TheVariants.{ImportDecl, NamedExport, ExportAll, ImportEquals, ImportType, ModuleDecl, Call, Ident}
 use Rattle.deno_graph_source.specs.declared.tree.node.Node.{Node}
 use Rattle.deno_graph_source.specs.declared.tree.node.StrLit.{StrLit}
+use Rattle.deno_graph_info.specs.declared.analysis.dynamic_dependency.DynamicDependencyKind.{DynamicDependencyKind}
+use Rattle.deno_graph_info.specs.declared.analysis.dynamic_dependency.DynamicDependencyKind.TheVariants as dynamic_kind
 use Rattle.deno_graph_info.specs.declared.analysis.static_dependency.StaticDependencyKind.{StaticDependencyKind}
-use Rattle.deno_graph_info.specs.declared.analysis.static_dependency.StaticDependencyKind.TheVariants.{Import, ImportDefer, ImportSource, ImportType, Export, ExportType}
-use Rattle.deno_graph_analysis.specs.Item.{Item, static_item}
+use Rattle.deno_graph_info.specs.declared.analysis.static_dependency.StaticDependencyKind.TheVariants as static_kind
 use Rattle.deno_graph_analysis.specs.Listing.{Rules}
 
 -- nothing inside these kinds is read
 abbrev pub is_closed : Kind → Bool
-is_closed (ImportDecl type_only phase src has_specifiers) = true
-is_closed (NamedExport type_only src) = true
-is_closed (ExportAll type_only src) = true
-is_closed ExportOther = false
-is_closed Other = false
+is_closed (ImportDecl type_only phase src has_specifiers has_with) = true
+is_closed (NamedExport type_only src has_with) = true
+is_closed (ExportAll type_only src has_with) = true
+is_closed (ImportEquals type_only is_export external) = true
+is_closed _ = false
 
 -- the nodes directly inside, unless these are left unread
 unfoldable pub children_to_visit : Node → List Node
 children_to_visit node = if is_closed (kind_of node) then [] else children_of node
 
--- the kinds that are dependencies: imports, and exports from a source
-abbrev pub is_dependency : Kind → Bool
-is_dependency (ImportDecl type_only phase src has_specifiers) = true
-is_dependency (NamedExport type_only src) = is_some src
-is_dependency (ExportAll type_only src) = true
-is_dependency ExportOther = false
-is_dependency Other = false
+-- a name that is a relative path
+abbrev pub is_relative : List ℕ → Bool
+is_relative name = starts_with nat_eq name (codes "./") || starts_with nat_eq name (codes "../") || starts_with nat_eq name (codes "/")
 
--- the kinds that are listed after what is inside them
+-- a module declaration of this name may add to a module: a name with `*` is a pattern, unless it is a relative path
+abbrev pub may_name_module : List ℕ → Bool
+may_name_module name = not (list_any (λ byte. byte == 42) name) || is_relative name
+
+-- the identifier `require`
+abbrev pub is_require : Option Kind → Bool
+is_require (Some (Ident name)) = bytes_eq name (codes "require")
+is_require _ = false
+
+-- what an import by this phase is, as a call
+abbrev pub phase_kind : ImportPhase → DynamicDependencyKind
+phase_kind Evaluation = dynamic_kind.Import
+phase_kind Source = dynamic_kind.ImportSource
+phase_kind Defer = dynamic_kind.ImportDefer
+
+-- what a call with this callee is, where the first of the children is the callee if that is an expression
+abbrev pub call_kind : Callee → List Node → Option DynamicDependencyKind
+call_kind (callee.Import phase) children = Some (phase_kind phase)
+call_kind callee.Expr children = if is_require (option_map kind_of (slice_get children 0)) then Some dynamic_kind.Require else None
+call_kind callee.Super children = None
+
+-- The kinds that are dependencies, with these children: imports, exports from a source, `require("..")` by
+-- an import-equals, module declarations whose name may be a module's, and calls of `import` and `require`
+-- with an argument.
+abbrev pub is_dependency : Kind → List Node → Bool
+is_dependency (ImportDecl type_only phase src has_specifiers has_with) children = true
+is_dependency (NamedExport type_only src has_with) children = is_some src
+is_dependency (ExportAll type_only src has_with) children = true
+is_dependency (ImportEquals type_only is_export external) children = is_some external
+is_dependency (ImportType arg has_with) children = true
+is_dependency (ModuleDecl None) children = false
+is_dependency (ModuleDecl (Some name)) children = may_name_module (lossy_text name.value)
+is_dependency (Call callee args) children = is_some (call_kind callee children) && is_some (slice_get args 0)
+is_dependency _ children = false
+
+-- the kinds that are listed after what is inside them: calls
 abbrev pub is_listed_after_inside : Kind → Bool
-is_listed_after_inside kind = false
+is_listed_after_inside (Call callee args) = true
+is_listed_after_inside _ = false
+
+unfoldable pub is_listed : Node → Bool
+is_listed node = is_dependency (kind_of node) (children_of node)
 
 abbrev pub dependency_rules : Rules
 dependency_rules = record {
   is_closed = λ node. is_closed (kind_of node);
-  is_listed = λ node. is_dependency (kind_of node);
+  is_listed = is_listed;
   is_after_inside = λ node. is_listed_after_inside (kind_of node);
 }
 
 -- what an import declaration is
 abbrev pub import_kind : Bool → ImportPhase → StaticDependencyKind
-import_kind true phase = ImportType
-import_kind false Evaluation = Import
-import_kind false Source = ImportSource
-import_kind false Defer = ImportDefer
+import_kind true phase = static_kind.ImportType
+import_kind false Evaluation = static_kind.Import
+import_kind false Source = static_kind.ImportSource
+import_kind false Defer = static_kind.ImportDefer
 
 -- what an export from a source is
 abbrev pub export_kind : Bool → StaticDependencyKind
-export_kind true = ExportType
-export_kind false = Export
+export_kind true = static_kind.ExportType
+export_kind false = static_kind.Export
 
--- the comments that are filed as leading at a position
-abbrev pub leading_at : FiledComments → ℕ → List DependencyComment
-leading_at comments pos = unwrap_or (value_at comments.leading pos) []
-
--- the dependency that a node at this range states, whose specifier is this literal
-abbrev pub stated_item : FiledComments → SourceRange → StaticDependencyKind → StrLit → Bool → Item
-stated_item comments range kind literal is_side_effect = static_item (record {
-  kind = kind;
-  leading_comments = leading_at comments range.start;
-  range = range;
-  specifier = lossy_text literal.value;
-  specifier_range = literal.range;
-  is_side_effect = is_side_effect;
-})
-
--- the dependency that a node of this kind at this range states, if it states one
-abbrev pub item_of_kind : FiledComments → SourceRange → Kind → Option Item
-item_of_kind comments range (ImportDecl type_only phase src has_specifiers) =
-    Some (stated_item comments range (import_kind type_only phase) src (not has_specifiers))
-item_of_kind comments range (NamedExport type_only src) =
-    option_map (λ literal. stated_item comments range (export_kind type_only) literal false) src
-item_of_kind comments range (ExportAll type_only src) =
-    Some (stated_item comments range (export_kind type_only) src false)
-item_of_kind comments range ExportOther = None
-item_of_kind comments range Other = None
-
--- the dependency that a node states, if it states one
-unfoldable pub item_of_node : FiledComments → Node → Option Item
-item_of_node comments node = item_of_kind comments (range_of node) (kind_of node)
+-- what an import-equals is, by whether it is of types and whether it is exported
+abbrev pub import_equals_kind : Bool → Bool → StaticDependencyKind
+import_equals_kind true is_export = static_kind.ImportType
+import_equals_kind false true = static_kind.ExportEquals
+import_equals_kind false false = static_kind.ImportEquals

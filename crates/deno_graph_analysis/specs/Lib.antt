@@ -1,3 +1,5 @@
+pub mod Argument
+pub mod Attributes
 pub mod Dependencies
 pub mod Dependency
 pub mod Item
@@ -6,3 +8,5 @@ pub mod ModuleInfo
 pub mod NodePath
 pub mod Recursion
 pub mod Script
+pub mod Stated
+pub mod Value

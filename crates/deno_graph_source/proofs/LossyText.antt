@@ -1,10 +1,10 @@
 -- Lossy texts: what they say of strings without surrogates, and of empty ones.
-use Rattle.std.proofs.Common.{◌≡◌, ℕ, ◌+◌, ◌<◌, Bool, true, false, ◌&&◌, List, [], ◌∷◌, map, length, get_or, nat_eq, nat_le, nat_lt, encode_utf8_all, refl, sym, ap, subst, cond, ◌∙◌, ⊎_elim, arith}
+use Rattle.std.proofs.Common.{◌≡◌, ℕ, ◌+◌, ◌<◌, Bool, true, false, not, ◌&&◌, List, [], ◌∷◌, map, length, get_or, nat_eq, nat_le, nat_lt, encode_utf8_all, Some, None, refl, sym, ap, subst, cond, ◌∙◌, ⊎_elim, arith}
 use Rattle.std.specs.Char.{IsScalar, len_utf8}
 use Rattle.std.specs.Char.Utf16.{is_high_surrogate}
-use Rattle.std.specs.List.{AllByRecursion}
+use Rattle.std.specs.List.{AllByRecursion, list_all}
 use Rattle.std.specs.Str.{chars, IsUtf8, all_scalars}
-use Rattle.std.proofs.lemmas.Bool.{and_parts, and_from, ltb-true, lt-ltb, le-ltb, lt-leb, false≢true, cases_lt, cases_Bool, eq-eqb, ne_eqb}
+use Rattle.std.proofs.lemmas.Bool.{and_parts, and_from, ltb-true, lt-ltb, le-ltb, lt-leb, false≢true, cases_lt, cases_Bool, eq-eqb, ne_eqb, not-true, false_from_ne_true}
 use Rattle.std.proofs.lemmas.Bool.Decides.{same_from_decides, Decides-like, Decides-and, Decides-eqb}
 use Rattle.std.proofs.lemmas.List.{get_or_past}
 use Rattle.std.proofs.lemmas.Slice.Eq.{slice_eq-Decides, bytes_eq-Decides}
@@ -13,7 +13,7 @@ use Rattle.std.specs.Cmp.Lexicographic.{pointwise}
 use Rattle.std.proofs.lemmas.List.Elements.{All-from_recursion, recursion_from_All}
 use Rattle.std.proofs.lemmas.Str.{chars-nil, chars-encodes, encodes-chars, scalars-chars, len_utf8_bounds}
 use Rattle.std.proofs.Math.Utf8.{scalar_cases}
-use Rattle.deno_graph_source.specs.JsString.{is_surrogate, lossy_char, lossy_text, IsReadable, IsPaired, lone_from, points_from, points_of, IsStored}
+use Rattle.deno_graph_source.specs.JsString.{is_surrogate, lossy_char, lossy_text, readable_text, IsReadable, IsPaired, lone_from, points_from, points_of, IsStored}
 
 -- a character is no surrogate
 pub is_surrogate-scalar : (c : ℕ) → IsScalar c → is_surrogate c ≡ false
@@ -47,6 +47,23 @@ map-lossy_char-readable ps r = map-lossy_char ps (recursion_from_All _ ps r)
 
 pub lossy_text-readable : (ps : List ℕ) → IsReadable ps → lossy_text ps ≡ encode_utf8_all ps
 lossy_text-readable ps r = ap encode_utf8_all (map-lossy_char-readable ps r)
+
+-- the test of a string without surrogates
+readable_test : (ps : List ℕ) → NoSurrogates ps → list_all (λ p. not (is_surrogate p)) ps ≡ true
+readable_test [] n = refl
+readable_test (p ∷ ps) n = rw n.0 (readable_test ps n.1)
+
+test_readable : (ps : List ℕ) → list_all (λ p. not (is_surrogate p)) ps ≡ true → NoSurrogates ps
+test_readable [] e = tt
+test_readable (p ∷ ps) e =
+    let both = and_parts (not (is_surrogate p)) (list_all (λ q. not (is_surrogate q)) ps) e in (not-true _ both.0, test_readable ps both.1)
+
+pub readable_text-readable : (ps : List ℕ) → IsReadable ps → readable_text ps ≡ Some (lossy_text ps)
+readable_text-readable ps r = ap (λ b. cond b (Some (lossy_text ps)) None) (readable_test ps (recursion_from_All _ ps r))
+
+pub readable_text-unreadable : (ps : List ℕ) → (IsReadable ps → ⊥) → readable_text ps ≡ None
+readable_text-unreadable ps r =
+    ap (λ b. cond b (Some (lossy_text ps)) None) (false_from_ne_true _ (λ e. r (All-from_recursion _ ps (test_readable ps e))))
 
 -- a string has no lone surrogate exactly where it is readable
 none_lone : (at : ℕ) (ps : List ℕ) → NoSurrogates ps → lone_from at ps ≡ []

@@ -1,7 +1,8 @@
 -- JavaScript strings as lists of code points, of which some may be surrogates.
-use Rattle.std.specs.Prelude.{◌≡◌, ℕ, ◌+◌, Bool, false, ◌&&◌, List, [], ◌∷◌, ◌++◌, map, All, IsTrue, nat_le, nat_lt, nat_eq, slice_index, if◌then◌else◌, encode_utf8_all}
+use Rattle.std.specs.Prelude.{◌≡◌, ℕ, ◌+◌, Bool, false, not, ◌&&◌, List, [], ◌∷◌, ◌++◌, map, All, IsTrue, nat_le, nat_lt, nat_eq, slice_index, if◌then◌else◌, encode_utf8_all, Option, Some, None}
 use Rattle.std.specs.Char.{len_utf8}
 use Rattle.std.specs.Char.Utf16.{is_high_surrogate, is_low_surrogate, surrogate_pair_char}
+use Rattle.std.specs.List.{list_all}
 use Rattle.std.specs.Str.{chars}
 
 -- half of a pair of UTF-16, which is no character: 0xD800 to 0xDFFF
@@ -19,6 +20,10 @@ lossy_text points = encode_utf8_all (map lossy_char points)
 -- no code point is a surrogate
 abbrev pub IsReadable : List ℕ → Type 0
 IsReadable points = All (λ p. is_surrogate p ≡ false) points
+
+-- the text of a readable string
+abbrev pub readable_text : List ℕ → Option (List ℕ)
+readable_text points = if list_all (λ p. not (is_surrogate p)) points then Some (lossy_text points) else None
 
 -- no high surrogate stands directly before a low one
 abbrev pub IsPaired : List ℕ → Type 0

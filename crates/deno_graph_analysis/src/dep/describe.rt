@@ -1,61 +1,168 @@
-ghost use Rattle.std.specs.Prelude.{◌≡◌};
-ghost use Rattle.std.specs.Option.{option_map};
-ghost use Rattle.deno_graph_analysis.specs.Dependency.{export_kind, import_kind, item_of_node, leading_at, stated_item};
+#![tactic(auto, unfolding(deno_graph_source::specs::Node::kind_of, deno_graph_source::specs::Node::children_of, deno_graph_source::specs::Node::range_of, crate::specs::Stated::States, crate::specs::Dependency::is_listed))]
+
+ghost use Rattle.std.specs.Prelude.{◌≡◌, ◌<◌, true, IfOk, All};
+ghost use Rattle.std.specs.Option.{option_copied, option_map};
+ghost use Rattle.deno_graph_source.specs.Node.{children_of, kind_of, nodes_in, IsShaped};
+ghost use Rattle.deno_graph_source.specs.declared.tree.node.Kind.TheVariants.{Call};
+ghost use Rattle.deno_graph_analysis.specs.Dependency.{export_kind, import_equals_kind, import_kind, is_listed};
 ghost use Rattle.deno_graph_analysis.specs.Item.{item_of};
+ghost use Rattle.deno_graph_analysis.specs.Stated.{argument_node, clause_of, leading_at, second_argument, States, StatesCall, StatesSpecifier, TypeGives};
 
-use crate::dep::descriptor::{DependencyDescriptor, StaticDependencyDescriptor};
-use deno_graph_info::analysis::StaticDependencyKind;
+use crate::dep::argument::argument_of;
+use crate::dep::attributes::{
+    parse_dynamic_import_attributes, parse_import_attributes,
+    parse_import_attributes_from_object_lit,
+};
+use crate::dep::descriptor::{
+    DependencyDescriptor, DynamicDependencyDescriptor, StaticDependencyDescriptor,
+};
+use crate::dep::listed::call_kind;
+use deno_graph_info::analysis::{ImportAttributes, StaticDependencyKind};
 use deno_graph_source::text::SourceRange;
-use deno_graph_source::tree::{Comments, DependencyComment, ImportPhase, Kind, Node, StrLit};
+use deno_graph_source::tree::{
+    Arg, Callee, Comments, DependencyComment, ImportPhase, Kind, Node, StrLit,
+};
+use std::alloc::{AllocError, Global};
 
-/// The dependency that a node states, or `None` where it states none.
-#[tactic(auto, unfolding(crate::specs::Dependency::item_of_node, deno_graph_source::specs::Node::kind_of, deno_graph_source::specs::Node::range_of))]
+/// The dependency that a listed node states. The only error is that memory was refused.
 pub(crate) fn describe<'a>(
+    alloc: Global,
     comments: &'a Comments,
     node: &'a Node,
-) -> Option<DependencyDescriptor<'a>>
-    ensures { option_map item_of result ≡ item_of_node comments.now node.now }
+) -> Result<DependencyDescriptor<'a>, AllocError>
+    requires listed { is_listed node.now ≡ true }
+    requires shaped { All IsShaped (nodes_in node.now) }
+    ensures { IfOk result (λ found. States comments.now node.now (item_of found)) }
 {
     match &node.kind {
-        Kind::ImportDecl {
-            type_only,
-            phase,
-            src,
-            has_specifiers,
-        } => {
+        Kind::ImportDecl { type_only, phase, src, has_specifiers, has_with } => {
             let kind = import_kind(*type_only, *phase);
-            Some(stated(comments, node.range, kind, src, !*has_specifiers))
+            let attributes = parse_import_attributes(alloc, clause_of(*has_with, node))?;
+            Ok(stated(comments, node, kind, node.range, src, !*has_specifiers, attributes))
         }
-        Kind::NamedExport { type_only, src } => {
-            let src = src.as_ref()?;
-            Some(stated(comments, node.range, export_kind(*type_only), src, false))
+        Kind::NamedExport { type_only, src: Some(src), has_with } | Kind::ExportAll { type_only, src, has_with } => {
+            let attributes = parse_import_attributes(alloc, clause_of(*has_with, node))?;
+            Ok(stated(comments, node, export_kind(*type_only), node.range, src, false, attributes))
         }
-        Kind::ExportAll { type_only, src } => {
-            Some(stated(comments, node.range, export_kind(*type_only), src, false))
+        Kind::ImportEquals { type_only, is_export, external: Some(external) } => {
+            let kind = import_equals_kind(*type_only, *is_export);
+            Ok(stated(comments, node, kind, node.range, external, false, ImportAttributes::None))
         }
-        Kind::ExportOther | Kind::Other => None,
+        Kind::ImportType { arg, has_with } => {
+            let attributes = type_attributes(alloc, clause_of(*has_with, node))?;
+            Ok(stated(comments, node, StaticDependencyKind::ImportType, node.range, arg, false, attributes))
+        }
+        Kind::ModuleDecl { name: Some(name) } => {
+            let kind = StaticDependencyKind::MaybeTsModuleAugmentation;
+            Ok(stated(comments, node, kind, name.range, name, false, ImportAttributes::None))
+        }
+        Kind::Call { callee, args } => call(alloc, comments, node, *callee, args.as_slice()),
+        _ => unreachable!(),
     }
 }
 
-/// The dependency that a node at this range states, whose specifier is this literal.
+/// The dependency of a node with a specifier.
 fn stated<'a>(
     comments: &'a Comments,
-    range: SourceRange,
+    node: &'a Node,
     kind: StaticDependencyKind,
-    src: &'a StrLit,
+    range: SourceRange,
+    literal: &'a StrLit,
     is_side_effect: bool,
+    import_attributes: ImportAttributes,
 ) -> DependencyDescriptor<'a>
-    ensures { item_of result ≡ stated_item comments.now range kind src.now is_side_effect }
+    ensures { StatesSpecifier comments.now node.now kind range literal.now is_side_effect (λ given. given ≡ import_attributes) (item_of result) }
 {
     let descriptor = StaticDependencyDescriptor {
         kind,
-        leading_comments: leading_comments(comments, range.start),
+        leading_comments: leading_comments(comments, node.range.start),
         range,
-        specifier: src.value.to_str_lossy(),
-        specifier_range: src.range,
+        specifier: literal.value.to_str_lossy(),
+        specifier_range: literal.range,
         is_side_effect,
+        import_attributes,
     };
     descriptor.into()
+}
+
+/// The dependency of a call of `import` or `require`.
+fn call<'a>(
+    alloc: Global,
+    comments: &'a Comments,
+    node: &'a Node,
+    callee: Callee,
+    args: &'a [Arg],
+) -> Result<DependencyDescriptor<'a>, AllocError>
+    requires is_call { kind_of node.now ≡ Call callee args.now }
+    requires listed { is_listed node.now ≡ true }
+    requires shaped { All IsShaped (nodes_in node.now) }
+    ensures { IfOk result (λ found. StatesCall comments.now node.now callee args.now (item_of found)) }
+{
+    let children = node.children.as_slice();
+    let Some(kind) = call_kind(callee, children) else {
+        unreachable!()
+    };
+    let Some(arg) = args.first() else {
+        unreachable!()
+    };
+    let Some(argument) = argument_node(callee, children, 0) else {
+        unreachable!()
+    };
+    let second = second_argument(callee, args, children);
+    let descriptor = DynamicDependencyDescriptor {
+        kind,
+        leading_comments: leading_comments(comments, node.range.start),
+        range: node.range,
+        argument: argument_of(alloc, argument)?,
+        argument_range: arg.range,
+        import_attributes: parse_dynamic_import_attributes(alloc, second)?,
+    };
+    Ok(descriptor.into())
+}
+
+/// The node of an argument of a call, by its number.
+fn argument_node(callee: Callee, children: &[Node], number: usize) -> Option<&Node>
+    requires { number < 2 }
+    ensures { option_copied result ≡ argument_node callee children.now number }
+{
+    match callee {
+        Callee::Expr => children.get(1 + number),
+        _ => children.get(number),
+    }
+}
+
+/// The second argument of a call with its node, where it has one.
+fn second_argument<'a>(
+    callee: Callee,
+    args: &'a [Arg],
+    children: &'a [Node],
+) -> Option<(&'a Arg, &'a Node)>
+    ensures { option_map (λ second. (second.0.now, second.1.now)) result ≡ second_argument callee args.now children.now }
+{
+    let arg = args.get(1)?;
+    let node = argument_node(callee, children, 1)?;
+    Some((arg, node))
+}
+
+/// The attributes of an import type, by the object literal of its clause.
+fn type_attributes(alloc: Global, clause: Option<&Node>) -> Result<ImportAttributes, AllocError>
+    ensures { IfOk result (TypeGives (option_copied clause.entry)) }
+{
+    match clause {
+        Some(object) => parse_import_attributes_from_object_lit(alloc, object),
+        None => Ok(ImportAttributes::None),
+    }
+}
+
+/// The object literal of a `with` clause, where there is one: the first child.
+fn clause_of(has_with: bool, node: &Node) -> Option<&Node>
+    ensures { option_copied result ≡ clause_of has_with node.now }
+{
+    if has_with {
+        node.children.as_slice().first()
+    } else {
+        None
+    }
 }
 
 fn import_kind(type_only: bool, phase: ImportPhase) -> StaticDependencyKind
@@ -76,6 +183,16 @@ fn export_kind(type_only: bool) -> StaticDependencyKind
         StaticDependencyKind::ExportType
     } else {
         StaticDependencyKind::Export
+    }
+}
+
+fn import_equals_kind(type_only: bool, is_export: bool) -> StaticDependencyKind
+    ensures { result ≡ import_equals_kind type_only is_export }
+{
+    match (type_only, is_export) {
+        (true, _) => StaticDependencyKind::ImportType,
+        (false, true) => StaticDependencyKind::ExportEquals,
+        (false, false) => StaticDependencyKind::ImportEquals,
     }
 }
 

@@ -1,11 +1,13 @@
 //! The laws of listings, and of the tree order that they stand in.
 
-ghost use Rattle.std.specs.Prelude.{◌≡◌, ◌≢◌, ◌⊎◌, ◌↔◌, ◌++◌, List, [], if◌then◌else◌, IsTrue, IsSome};
+ghost use Rattle.std.specs.Prelude.{◌≡◌, ◌≢◌, ◌⊎◌, ◌↔◌, ◌++◌, List, [], if◌then◌else◌, true};
 ghost use Rattle.deno_graph_source.specs.declared.tree.node.Node.{Node};
 ghost use Rattle.deno_graph_source.specs.Comments.{FiledComments};
 ghost use Rattle.deno_graph_source.specs.Node.{kind_of};
-ghost use Rattle.deno_graph_analysis.specs.Dependencies.{items_at, items_below, own_items};
-ghost use Rattle.deno_graph_analysis.specs.Dependency.{children_to_visit, dependency_rules, is_listed_after_inside, item_of_node};
+ghost use Rattle.deno_graph_analysis.specs.Dependencies.{listed_below, listed_in, own_nodes};
+ghost use Rattle.deno_graph_analysis.specs.Dependency.{children_to_visit, is_listed, is_listed_after_inside};
+ghost use Rattle.deno_graph_analysis.specs.Item.{Item};
+ghost use Rattle.deno_graph_analysis.specs.Stated.{States};
 ghost use Rattle.deno_graph_analysis.specs.Listing.{IsListing, Precedes, Rules};
 ghost use Rattle.deno_graph_analysis.specs.NodePath.{NodePath};
 
@@ -22,12 +24,12 @@ pub fn tree_order()
     ensures transitive { (rules : Rules) (body : List Node) (p q r : NodePath) → Precedes rules body p q → Precedes rules body q r → Precedes rules body p r }
 {}
 
-/// The nodes that are listed are those that state a dependency.
-pub fn listed_nodes_state()
-    ensures { (comments : FiledComments) (node : Node) → IsTrue (dependency_rules.is_listed node) ↔ IsSome (item_of_node comments node) }
+/// Only listed nodes state a dependency.
+pub fn only_listed_nodes_state()
+    ensures { (comments : FiledComments) (node : Node) (item : Item) → States comments node item → is_listed node ≡ true }
 {}
 
-/// What a node states stands before what the nodes inside it state, or after it.
-pub fn own_items_and_inside()
-    ensures { (comments : FiledComments) (node : Node) → let after = is_listed_after_inside (kind_of node) in let own = own_items comments node in items_at comments node ≡ (if after then [] else own) ++ items_below comments (children_to_visit node) ++ (if after then own else []) }
+/// A node that is listed stands before the listed ones inside it, or after them.
+pub fn own_nodes_and_inside()
+    ensures { (node : Node) → let after = is_listed_after_inside (kind_of node) in let own = own_nodes node in listed_in node ≡ (if after then [] else own) ++ listed_below (children_to_visit node) ++ (if after then own else []) }
 {}

@@ -1,48 +1,64 @@
-ghost use Rattle.std.specs.Prelude.{◌≡◌, ◌++◌, [], map, if◌then◌else◌, IfOk, OnOk};
-ghost use Rattle.deno_graph_analysis.specs.Dependencies.{AreDependencies, items_at, items_below, own_items};
+ghost use Rattle.std.specs.Prelude.{◌≡◌, ◌++◌, [], map, if◌then◌else◌, IfOk, OnOk, All};
+ghost use Rattle.deno_graph_source.specs.Node.{nodes_of, IsShaped};
+ghost use Rattle.deno_graph_analysis.specs.Dependencies.{AreDependencies, AreListed, listed_below, listed_in, nodes_seen, own_nodes};
 ghost use Rattle.deno_graph_analysis.specs.Dependency.{children_to_visit, is_closed, is_listed_after_inside};
 ghost use Rattle.deno_graph_analysis.specs.Item.{item_of};
+ghost use Rattle.deno_graph_analysis.specs.Stated.{AllStated};
 
 use crate::dep::describe::describe;
 use crate::dep::descriptor::DependencyDescriptor;
+use crate::dep::listed::is_listed;
 use deno_graph_source::tree::{Comments, Kind, Node, Program};
 use std::alloc::{AllocError, Global};
 
-/// The dependencies of a module in tree order, each exactly once. What is inside imports and
-/// exports with a specifier is not read. The only error is that memory was refused.
+/// The dependencies of a module in tree order, each exactly once: a call after those inside it, every
+/// other before them. What is inside imports and exports is not read. The only error is that memory
+/// was refused.
 pub fn analyze_program_dependencies<'a>(
     alloc: Global,
     program: &'a Program,
     comments: &'a Comments,
 ) -> Result<Vec<DependencyDescriptor<'a>>, AllocError>
-    // They are the items of the nodes at the paths of the listing, in its order.
+    requires { All IsShaped (nodes_of program.now) }
+
+    // They are what the nodes at the paths of the listing state, in its order.
     ensures listing { IfOk result (λ found. AreDependencies comments.now program.now.body (map item_of found.items)) }
-    // They are what plain recursion gives.
-    ensures recursive { IfOk result (λ found. map item_of found.items ≡ items_below comments.now program.now.body) }
+
+    // These nodes are those that plain recursion lists.
+    ensures recursive { IfOk result (λ found. AllStated comments.now (listed_below program.now.body) (map item_of found.items)) }
+{
+    let nodes = listed_nodes(alloc, program)?;
+    let mut found = Vec::with_capacity(alloc, nodes.len())?;
+    for node in &nodes {
+        found.push(describe(alloc, comments, node)?)?;
+    }
+    Ok(found)
+}
+
+/// The nodes that are dependencies, in tree order.
+fn listed_nodes<'a>(alloc: Global, program: &'a Program) -> Result<Vec<&'a Node>, AllocError>
+    ensures { IfOk result (λ nodes. nodes_seen nodes.items ≡ listed_below program.now.body) }
 {
     let mut collector = DependencyCollector {
-        comments,
-        items: Vec::new(alloc),
+        nodes: Vec::new(alloc),
     };
     for node in program.body.as_slice() {
         collector.visit_node(node)?;
     }
-    let DependencyCollector { comments: _, items } = collector;
-    Ok(items)
+    let DependencyCollector { nodes } = collector;
+    Ok(nodes)
 }
 
 #[derive(Drop)]
 struct DependencyCollector<'a> {
-    comments: &'a Comments,
-    items: Vec<DependencyDescriptor<'a>>,
+    nodes: Vec<&'a Node>,
 }
 
 impl<'a> DependencyCollector<'a> {
-    /// Adds the dependencies that a node and what is inside it state.
+    /// Adds the listed ones of a node and of what is inside it.
     #[cycle(visit)]
     fn visit_node(&mut self, node: &'a Node) -> Result<(), AllocError>
-        ensures comments { self.new.comments ≡ self.old.comments }
-        ensures items { OnOk result (map item_of self.new.items.items ≡ map item_of self.old.items.items ++ items_at self.old.comments.now node.now) }
+        ensures { OnOk result (nodes_seen self.new.nodes.items ≡ nodes_seen self.old.nodes.items ++ listed_in node.now) }
     {
         let after_inside = is_listed_after_inside(&node.kind);
         self.push_if(!after_inside, node)?;
@@ -50,11 +66,10 @@ impl<'a> DependencyCollector<'a> {
         self.push_if(after_inside, node)
     }
 
-    /// Adds the dependencies that stand inside a node, unless it is closed.
+    /// Adds the listed ones of what stands inside a node, unless it is closed.
     #[cycle(visit)]
     fn visit_inside(&mut self, node: &'a Node) -> Result<(), AllocError>
-        ensures comments { self.new.comments ≡ self.old.comments }
-        ensures items { OnOk result (map item_of self.new.items.items ≡ map item_of self.old.items.items ++ items_below self.old.comments.now (children_to_visit node.now)) }
+        ensures { OnOk result (nodes_seen self.new.nodes.items ≡ nodes_seen self.old.nodes.items ++ listed_below (children_to_visit node.now)) }
     {
         if is_closed(&node.kind) {
             return Ok(());
@@ -65,13 +80,24 @@ impl<'a> DependencyCollector<'a> {
         Ok(())
     }
 
-    /// Adds the dependency that the node states, if it is wanted and there is one.
+    /// Adds the node, if it is wanted and listed.
     fn push_if(&mut self, wanted: bool, node: &'a Node) -> Result<(), AllocError>
-        ensures comments { self.new.comments ≡ self.old.comments }
-        ensures items { OnOk result (map item_of self.new.items.items ≡ map item_of self.old.items.items ++ (if wanted then own_items self.old.comments.now node.now else [])) }
+        ensures { OnOk result (nodes_seen self.new.nodes.items ≡ nodes_seen self.old.nodes.items ++ (if wanted then own_nodes node.now else [])) }
     {
-        if wanted && let Some(descriptor) = describe(self.comments, node) {
-            self.items.push(descriptor)?;
+        if wanted {
+            self.push_listed(node)
+        } else {
+            Ok(())
+        }
+    }
+
+    /// Adds the node, if it is listed.
+    #[tactic(auto, unfolding(crate::specs::Dependencies::listed_node))]
+    fn push_listed(&mut self, node: &'a Node) -> Result<(), AllocError>
+        ensures { OnOk result (nodes_seen self.new.nodes.items ≡ nodes_seen self.old.nodes.items ++ own_nodes node.now) }
+    {
+        if is_listed(node) {
+            self.nodes.push(node)?;
         }
         Ok(())
     }
@@ -81,21 +107,18 @@ impl<'a> DependencyCollector<'a> {
 fn is_closed(kind: &Kind) -> bool
     ensures { result ≡ is_closed kind.now }
 {
-    match kind {
-        Kind::ImportDecl { .. } | Kind::NamedExport { .. } | Kind::ExportAll { .. } => true,
-        Kind::ExportOther | Kind::Other => false,
-    }
+    matches!(
+        kind,
+        Kind::ImportDecl { .. }
+            | Kind::NamedExport { .. }
+            | Kind::ExportAll { .. }
+            | Kind::ImportEquals { .. }
+    )
 }
 
 /// Whether a node is listed after what is inside it.
 fn is_listed_after_inside(kind: &Kind) -> bool
     ensures { result ≡ is_listed_after_inside kind.now }
 {
-    match kind {
-        Kind::ImportDecl { .. }
-        | Kind::NamedExport { .. }
-        | Kind::ExportAll { .. }
-        | Kind::ExportOther
-        | Kind::Other => false,
-    }
+    matches!(kind, Kind::Call { .. })
 }

@@ -1,10 +1,11 @@
 ghost use Rattle.std.specs.Prelude.{◌≡◌, [], ◌↔◌, IsTrue, IsSome, IfSome, IfOk, nat_eq, encode_utf8_all};
 ghost use Rattle.std.specs.Char.Escape.{encode_utf16};
 ghost use Rattle.std.specs.List.{flat_map};
+ghost use Rattle.std.specs.Option.{option_copied};
 ghost use Rattle.std.specs.Str.{chars};
 ghost use Rattle.std.specs.Cmp.{partial_equiv_from_equiv};
 ghost use Rattle.std.specs.Cmp.Lexicographic.{pointwise, nat_list_eq_equiv};
-ghost use Rattle.deno_graph_source.specs.JsString.{lossy_text, points_of_units, IsPaired, IsReadable};
+ghost use Rattle.deno_graph_source.specs.JsString.{lossy_text, points_of_units, readable_text, IsPaired, IsReadable};
 
 mod units;
 
@@ -71,6 +72,7 @@ impl JsString {
         ensures readable { IsSome result ↔ IsReadable self.now }
         ensures text { IfSome result (λ t. t.now ≡ encode_utf8_all self.now) }
         ensures lossy { IfSome result (λ t. t.now ≡ lossy_text self.now) }
+        ensures value { option_copied result ≡ readable_text self.now }
     {
         if self.lone.is_empty() {
             Some(self.text.as_str())

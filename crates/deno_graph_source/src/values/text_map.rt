@@ -96,6 +96,7 @@ impl<V: Drop> TextMap<V> {
         ensures ok { OnOk result (self.new ≡ insert_entry self.old key value) }
         ensures replaced { IfOk result (λ old. old ≡ value_at self.old key) }
         ensures err { OnErr result (self.new ≡ self.old) }
+        ensures ordered { IsAscending self.new }
 
         // Each other key keeps its value.
         ensures values { OnOk result ((other : List ℕ)

@@ -4,7 +4,7 @@ use Rattle.std.specs.Str.{bytes_eq}
 use Rattle.std.proofs.lemmas.Map.Text.{btree_map_updates_text}
 use Rattle.std.specs.String.{string_bytes}
 use Rattle.deno_graph_source.specs.TextMap.{value_at, insert_entry, entry_of}
-use Rattle.deno_graph_source.proofs.TextEntries.{lookup-entries, map-inserted}
+use Rattle.deno_graph_source.proofs.TextEntries.{lookup-entries, map-inserted, IsAscending-entries}
 use Rattle.deno_graph_source.proofs.values.text_map.TextMap.insert.Goals as goal
 
 pub returns-clause-ok : goal.returns-clause-ok
@@ -12,6 +12,12 @@ returns-clause-ok g c =
     ap (map entry_of) c.in_ok-insert.ensures.entries
     ∙ map-inserted c.self.inside.map.entries c.into_string.result c.args.value
     ∙ (λ i. insert_entry (c.self.view_is i) (c.into_string.ensures i) c.args.value)
+
+pub returns-clause-ordered : goal.returns-clause-ordered
+returns-clause-ordered g c = IsAscending-entries c.insert.new.self.entries c.in_ok-insert.ensures.ordered
+
+pub returns-in_err-insert-clause-ordered : goal.returns-in_err-insert-clause-ordered
+returns-in_err-insert-clause-ordered g c = IsAscending-entries c.insert.new.self.entries c.in_err-insert.ensures.ordered
 
 pub returns-clause-replaced : goal.returns-clause-replaced
 returns-clause-replaced g c =
