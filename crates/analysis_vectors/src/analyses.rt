@@ -6,11 +6,10 @@ pub mod scripts;
 
 pub use calls::CALLS;
 pub use declarations::DECLARATIONS;
-pub use scripts::SCRIPTS;
-
 use deno_graph_analysis::ast::module_info;
 use modinfo::Fault;
 use modinfo::notation::read_document;
+pub use scripts::SCRIPTS;
 use serde_json::Value;
 use std::alloc::Global;
 

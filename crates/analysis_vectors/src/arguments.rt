@@ -32,7 +32,11 @@ pub static ARGUMENTS: [Argument; 15] = [
         name: "a_sum_that_begins_with_a_string",
         source: r#""a" + x + "b""#,
         node: r#"{"kind":"Binary","range":[0,13],"op":"add","children":[{"kind":"Binary","range":[0,7],"op":"add","children":[{"kind":"Str","range":[0,3],"value":"a"},{"kind":"Ident","range":[6,7],"value":"x"}]},{"kind":"Str","range":[10,13],"value":"b"}]}"#,
-        known: Known::Template(&[DynamicTemplatePart::String("a"), DynamicTemplatePart::Expr, DynamicTemplatePart::String("b")]),
+        known: Known::Template(&[
+            DynamicTemplatePart::String("a"),
+            DynamicTemplatePart::Expr,
+            DynamicTemplatePart::String("b"),
+        ]),
     },
     Argument {
         name: "a_sum_that_begins_with_a_name",
@@ -56,7 +60,11 @@ pub static ARGUMENTS: [Argument; 15] = [
         name: "an_empty_string_in_a_sum",
         source: r#""a" + "" + "b""#,
         node: r#"{"kind":"Binary","range":[0,14],"op":"add","children":[{"kind":"Binary","range":[0,8],"op":"add","children":[{"kind":"Str","range":[0,3],"value":"a"},{"kind":"Str","range":[6,8],"value":""}]},{"kind":"Str","range":[11,14],"value":"b"}]}"#,
-        known: Known::Template(&[DynamicTemplatePart::String("a"), DynamicTemplatePart::String(""), DynamicTemplatePart::String("b")]),
+        known: Known::Template(&[
+            DynamicTemplatePart::String("a"),
+            DynamicTemplatePart::String(""),
+            DynamicTemplatePart::String("b"),
+        ]),
     },
     Argument {
         name: "a_string_in_parentheses",
@@ -92,7 +100,12 @@ pub static ARGUMENTS: [Argument; 15] = [
         name: "a_template_with_neighbouring_expressions",
         source: r#"`p${a}${b}q`"#,
         node: r#"{"kind":"Template","range":[0,12],"quasis":["p","","q"],"children":[{"kind":"Ident","range":[4,5],"value":"a"},{"kind":"Ident","range":[8,9],"value":"b"}]}"#,
-        known: Known::Template(&[DynamicTemplatePart::String("p"), DynamicTemplatePart::Expr, DynamicTemplatePart::Expr, DynamicTemplatePart::String("q")]),
+        known: Known::Template(&[
+            DynamicTemplatePart::String("p"),
+            DynamicTemplatePart::Expr,
+            DynamicTemplatePart::Expr,
+            DynamicTemplatePart::String("q"),
+        ]),
     },
     Argument {
         name: "a_template_of_a_lone_surrogate",
@@ -104,7 +117,10 @@ pub static ARGUMENTS: [Argument; 15] = [
         name: "surrogates_joined_by_a_sum",
         source: r#""\uD83D" + "\uDE00""#,
         node: r#"{"kind":"Binary","range":[0,19],"op":"add","children":[{"kind":"Str","range":[0,8],"value":[55357]},{"kind":"Str","range":[11,19],"value":[56832]}]}"#,
-        known: Known::Template(&[DynamicTemplatePart::String("\u{fffd}"), DynamicTemplatePart::String("\u{fffd}")]),
+        known: Known::Template(&[
+            DynamicTemplatePart::String("\u{fffd}"),
+            DynamicTemplatePart::String("\u{fffd}"),
+        ]),
     },
     Argument {
         name: "a_string",

@@ -59,7 +59,8 @@ fn comments_are_filed_in_turn(rt: HostRuntime) -> Result<(), Fail> {
     Ok(())
 }
 
-const COMMENTED: &str = r#"{"mediaType":"JavaScript","program":{"body":[],"range":[0,14]},"leading":[{"pos":14,"comments":[{"kind":"line","range":[0,4],"text":" a"},{"kind":"block","range":[5,11],"text":" b"}]},{"pos":0,"comments":[]}],"trailing":[{"pos":3,"comments":[{"kind":"line","range":[0,4],"text":" a"}]},{"pos":3,"comments":[{"kind":"line","range":[12,14],"text":""}]}],"source":"// a\n/* b*/\n//","specifier":"file:///a.js"}"#;
+const COMMENTED: &str =
+    r#"{"mediaType":"JavaScript","program":{"body":[],"range":[0,14]},"leading":[{"pos":14,"comments":[{"kind":"line","range":[0,4],"text":" a"},{"kind":"block","range":[5,11],"text":" b"}]},{"pos":0,"comments":[]}],"trailing":[{"pos":3,"comments":[{"kind":"line","range":[0,4],"text":" a"}]},{"pos":3,"comments":[{"kind":"line","range":[12,14],"text":""}]}],"source":"// a\n/* b*/\n//","specifier":"file:///a.js"}"#;
 
 #[test]
 fn comments_are_read_from_documents(rt: HostRuntime) -> Result<(), Fail> {

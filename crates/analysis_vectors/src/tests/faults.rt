@@ -8,7 +8,11 @@ use std::test::Fail;
 fn faults_are_found(rt: HostRuntime) -> Result<(), Fail> {
     for row in &FAULTY {
         let found = fault_of(rt.alloc(), row.document)?;
-        assert!(rt; found.as_ref() == Some(&row.fault), "{}: {found:?}", row.name);
+        assert!(rt;
+            found.as_ref() == Some(&row.fault),
+            "{}: {found:?}",
+            row.name
+        );
     }
     Ok(())
 }
@@ -17,7 +21,11 @@ fn faults_are_found(rt: HostRuntime) -> Result<(), Fail> {
 fn faulty_sources_are_refused(rt: HostRuntime) -> Result<(), Fail> {
     for row in &FAULTY {
         let fault = refusal_of(rt.alloc(), row.document)?;
-        assert!(rt; fault.as_ref() == Some(&row.fault), "{}: {fault:?}", row.name);
+        assert!(rt;
+            fault.as_ref() == Some(&row.fault),
+            "{}: {fault:?}",
+            row.name
+        );
     }
     Ok(())
 }

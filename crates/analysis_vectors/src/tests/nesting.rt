@@ -76,7 +76,10 @@ fn a_call_under_many_nodes_is_found(rt: HostRuntime) -> Result<(), Fail> {
     let info = module_info(rt.alloc(), &source)?;
     assert!(rt; info.is_script);
     assert_eq!(rt; info.dependencies.len(), 1);
-    let found = info.dependencies.first().and_then(|found| found.as_dynamic());
+    let found = info
+        .dependencies
+        .first()
+        .and_then(|found| found.as_dynamic());
     let text = found.and_then(|found| match &found.argument {
         DynamicArgument::String(text) => Some(text.as_str()),
         _ => None,

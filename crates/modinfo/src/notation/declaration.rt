@@ -54,10 +54,7 @@ pub fn read_named_export(
 }
 
 /// An export of all names of another module.
-pub fn read_export_all(
-    alloc: Global,
-    members: &Map<String, Value>,
-) -> Result<Kind, NotationFault> {
+pub fn read_export_all(alloc: Global, members: &Map<String, Value>) -> Result<Kind, NotationFault> {
     let type_only = flag(members, "typeOnly")?;
     let has_with = flag(members, "hasWith")?;
     let src = read_literal(alloc, required(members, "src")?)?;
