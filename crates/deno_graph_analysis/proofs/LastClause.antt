@@ -4,10 +4,10 @@ use Rattle.std.specs.List.{slice_get}
 use Rattle.std.proofs.lemmas.Bool.{cases_lt, false_from_ne_true, or_cases, or_parts, and_parts, both_ways}
 use Rattle.std.proofs.lemmas.Option.{none-some, cond_some, slice_get_read, slice_get_past}
 use Rattle.deno_graph_source.specs.declared.tree.node.Node.{Node}
-use Rattle.deno_graph_source.specs.Node.{kind_of}
+use Rattle.deno_graph_source.specs.Node.{kind_of, is_object}
 use Rattle.deno_graph_info.specs.declared.analysis.import_attributes.ImportAttributes.{ImportAttributes}
 use Rattle.deno_graph_info.specs.declared.analysis.import_attributes.ImportAttributes.TheVariants as attributes
-use Rattle.deno_graph_analysis.specs.Attributes.{static_key, value_node, is_object, has_static_keys, known_object, ObjectGives, ValueGives, NumberGives, key_at, IsLookedAt, LookedAtGive}
+use Rattle.deno_graph_analysis.specs.Attributes.{static_key, value_node, has_static_keys, known_object, ObjectGives, ValueGives, NumberGives, key_at, IsLookedAt, LookedAtGive}
 
 -- the value that is a known object
 known_value : (v : Option Node) (object : Node)

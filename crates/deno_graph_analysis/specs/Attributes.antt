@@ -4,12 +4,12 @@ use Rattle.std.specs.List.{list_all}
 use Rattle.std.specs.Str.{bytes_eq}
 use Rattle.deno_graph_source.specs.declared.tree.node.Arg.{Arg}
 use Rattle.deno_graph_source.specs.declared.tree.node.Kind.{Kind}
-use Rattle.deno_graph_source.specs.declared.tree.node.Kind.TheVariants.{Str, Object, KeyValue}
+use Rattle.deno_graph_source.specs.declared.tree.node.Kind.TheVariants.{Str, KeyValue}
 use Rattle.deno_graph_source.specs.declared.tree.node.Node.{Node}
 use Rattle.deno_graph_source.specs.declared.tree.node.PropKey.{PropKey}
 use Rattle.deno_graph_source.specs.declared.tree.node.PropKey.TheVariants as key
 use Rattle.deno_graph_source.specs.JsString.{readable_text}
-use Rattle.deno_graph_source.specs.Node.{kind_of, children_of}
+use Rattle.deno_graph_source.specs.Node.{kind_of, children_of, is_object}
 use Rattle.deno_graph_source.specs.TextMap.{value_at, IsAscending}
 use Rattle.deno_graph_info.specs.declared.analysis.import_attributes.ImportAttribute.{ImportAttribute}
 use Rattle.deno_graph_info.specs.declared.analysis.import_attributes.ImportAttribute.TheVariants as attribute
@@ -42,10 +42,6 @@ value_node property = slice_get (children_of property) (length (children_of prop
 -- the static value of a property: a string literal without lone surrogates
 abbrev pub static_value : Node → Option (List ℕ)
 static_value property = option_and_then (λ value. text_of_kind (kind_of value)) (value_node property)
-
-abbrev pub is_object : Kind → Bool
-is_object Object = true
-is_object _ = false
 
 -- each property of an object literal has a static key
 abbrev pub has_static_keys : Node → Bool

@@ -40,19 +40,23 @@ abbrev pub TypeGives : Option Node → ImportAttributes → Type 0
 TypeGives None result = result ≡ attributes.None
 TypeGives (Some object) result = ObjectGives object result
 
--- The item is that of a node with a specifier: this kind, at this range, with the literal as its specifier,
--- the comments leading the node, and attributes as the node gives them.
+-- what a node with a specifier says: this kind, at this range, with the literal as its specifier, and the
+-- comments that lead the node
+abbrev pub specified_item : FiledComments → Node → StaticDependencyKind → SourceRange → StrLit → Bool → ImportAttributes → StaticItem
+specified_item comments node kind range literal is_side_effect given = record {
+  kind = kind;
+  leading_comments = leading_at comments (range_of node).start;
+  range = range;
+  specifier = lossy_text literal.value;
+  specifier_range = literal.range;
+  is_side_effect = is_side_effect;
+  import_attributes = given;
+}
+
+-- the item is that of a node with a specifier, with attributes as the node gives them
 abbrev pub StatesSpecifier : FiledComments → Node → StaticDependencyKind → SourceRange → StrLit → Bool → (ImportAttributes → Type 0) → Item → Type 0
 StatesSpecifier comments node kind range literal is_side_effect Gives item =
-    (given : ImportAttributes) × Gives given × (item ≡ static_item (record {
-      kind = kind;
-      leading_comments = leading_at comments (range_of node).start;
-      range = range;
-      specifier = lossy_text literal.value;
-      specifier_range = literal.range;
-      is_side_effect = is_side_effect;
-      import_attributes = given;
-    }))
+    (given : ImportAttributes) × Gives given × (item ≡ static_item (specified_item comments node kind range literal is_side_effect given))
 
 -- the node of an argument of a call, by its number
 abbrev pub argument_node : Callee → List Node → ℕ → Option Node

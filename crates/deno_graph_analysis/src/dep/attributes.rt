@@ -2,8 +2,8 @@
 
 ghost use Rattle.std.specs.Prelude.{◌≡◌, ◌↔◌, ◌⊎◌, IfOk, OnOk, IsTrue, Some, false, codes, is_some, option_map};
 ghost use Rattle.std.specs.Option.{option_copied};
-ghost use Rattle.deno_graph_source.specs.Node.{kind_of, children_of};
-ghost use Rattle.deno_graph_analysis.specs.Attributes.{static_key, static_value, text_of_kind, is_object, has_static_keys, known_object, declared, attribute_of, Puts, DeclarationGives, ObjectGives, LookedAtGive, CallGives};
+ghost use Rattle.deno_graph_source.specs.Node.{kind_of, children_of, is_object};
+ghost use Rattle.deno_graph_analysis.specs.Attributes.{static_key, static_value, text_of_kind, has_static_keys, known_object, declared, attribute_of, Puts, DeclarationGives, ObjectGives, LookedAtGive, CallGives};
 
 use deno_graph_info::analysis::{ImportAttribute, ImportAttributes};
 use deno_graph_source::tree::{Arg, Kind, Node, PropKey};

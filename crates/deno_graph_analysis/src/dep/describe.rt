@@ -1,12 +1,12 @@
 #![tactic(auto, unfolding(deno_graph_source::specs::Node::kind_of, deno_graph_source::specs::Node::children_of, deno_graph_source::specs::Node::range_of, crate::specs::Stated::States, crate::specs::Dependency::is_listed))]
 
-ghost use Rattle.std.specs.Prelude.{◌≡◌, ◌<◌, true, IfOk, All};
+ghost use Rattle.std.specs.Prelude.{◌≡◌, ◌<◌, true, false, IfOk, All};
 ghost use Rattle.std.specs.Option.{option_copied, option_map};
-ghost use Rattle.deno_graph_source.specs.Node.{children_of, kind_of, nodes_in, IsShaped};
+ghost use Rattle.deno_graph_source.specs.Node.{children_of, kind_of, nodes_in, range_of, IsShaped};
 ghost use Rattle.deno_graph_source.specs.declared.tree.node.Kind.TheVariants.{Call};
 ghost use Rattle.deno_graph_analysis.specs.Dependency.{export_kind, import_equals_kind, import_kind, is_listed};
-ghost use Rattle.deno_graph_analysis.specs.Item.{item_of};
-ghost use Rattle.deno_graph_analysis.specs.Stated.{argument_node, clause_of, leading_at, second_argument, States, StatesCall, StatesSpecifier, TypeGives};
+ghost use Rattle.deno_graph_analysis.specs.Item.{item_of, static_item_of};
+ghost use Rattle.deno_graph_analysis.specs.Stated.{argument_node, clause_of, leading_at, second_argument, States, StatesCall, TypeGives, specified_item};
 
 use crate::dep::argument::argument_of;
 use crate::dep::attributes::{
@@ -18,7 +18,6 @@ use crate::dep::descriptor::{
 };
 use crate::dep::listed::call_kind;
 use deno_graph_info::analysis::{ImportAttributes, StaticDependencyKind};
-use deno_graph_source::text::SourceRange;
 use deno_graph_source::tree::{
     Arg, Callee, Comments, DependencyComment, ImportPhase, Kind, Node, StrLit,
 };
@@ -44,15 +43,9 @@ pub(crate) fn describe<'a>(
         } => {
             let kind = import_kind(*type_only, *phase);
             let attributes = parse_import_attributes(alloc, clause_of(*has_with, node))?;
-            Ok(stated(
-                comments,
-                node,
-                kind,
-                node.range,
-                src,
-                !*has_specifiers,
-                attributes,
-            ))
+            let mut found = specified(comments, node, kind, src, attributes);
+            found.is_side_effect = !*has_specifiers;
+            Ok(found.into())
         }
         Kind::NamedExport {
             type_only,
@@ -65,15 +58,7 @@ pub(crate) fn describe<'a>(
             has_with,
         } => {
             let attributes = parse_import_attributes(alloc, clause_of(*has_with, node))?;
-            Ok(stated(
-                comments,
-                node,
-                export_kind(*type_only),
-                node.range,
-                src,
-                false,
-                attributes,
-            ))
+            Ok(specified(comments, node, export_kind(*type_only), src, attributes).into())
         }
         Kind::ImportEquals {
             type_only,
@@ -81,67 +66,43 @@ pub(crate) fn describe<'a>(
             external: Some(external),
         } => {
             let kind = import_equals_kind(*type_only, *is_export);
-            Ok(stated(
-                comments,
-                node,
-                kind,
-                node.range,
-                external,
-                false,
-                ImportAttributes::None,
-            ))
+            Ok(specified(comments, node, kind, external, ImportAttributes::None).into())
         }
         Kind::ImportType { arg, has_with } => {
             let attributes = type_attributes(alloc, clause_of(*has_with, node))?;
-            Ok(stated(
-                comments,
-                node,
-                StaticDependencyKind::ImportType,
-                node.range,
-                arg,
-                false,
-                attributes,
-            ))
+            let kind = StaticDependencyKind::ImportType;
+            Ok(specified(comments, node, kind, arg, attributes).into())
         }
         Kind::ModuleDecl { name: Some(name) } => {
             let kind = StaticDependencyKind::MaybeTsModuleAugmentation;
-            Ok(stated(
-                comments,
-                node,
-                kind,
-                name.range,
-                name,
-                false,
-                ImportAttributes::None,
-            ))
+            let mut found = specified(comments, node, kind, name, ImportAttributes::None);
+            found.range = name.range;
+            Ok(found.into())
         }
         Kind::Call { callee, args } => call(alloc, comments, node, *callee, args.as_slice()),
         _ => unreachable!(),
     }
 }
 
-/// The dependency of a node with a specifier.
-fn stated<'a>(
+/// The dependency of a node with a specifier, which stands at the node's own range.
+fn specified<'a>(
     comments: &'a Comments,
     node: &'a Node,
     kind: StaticDependencyKind,
-    range: SourceRange,
     literal: &'a StrLit,
-    is_side_effect: bool,
     import_attributes: ImportAttributes,
-) -> DependencyDescriptor<'a>
-    ensures { StatesSpecifier comments.now node.now kind range literal.now is_side_effect (λ given. given ≡ import_attributes) (item_of result) }
+) -> StaticDependencyDescriptor<'a>
+    ensures { static_item_of result ≡ specified_item comments.now node.now kind (range_of node.now) literal.now false import_attributes }
 {
-    let descriptor = StaticDependencyDescriptor {
+    StaticDependencyDescriptor {
         kind,
         leading_comments: leading_comments(comments, node.range.start),
-        range,
+        range: node.range,
         specifier: literal.value.to_str_lossy(),
         specifier_range: literal.range,
-        is_side_effect,
+        is_side_effect: false,
         import_attributes,
-    };
-    descriptor.into()
+    }
 }
 
 /// The dependency of a call of `import` or `require`.

@@ -1,5 +1,5 @@
 use super::*;
-use deno_graph_info::analysis::StaticDependencyKind;
+use deno_graph_info::analysis::{DynamicDependencyKind, ImportAttributes, StaticDependencyKind};
 use deno_graph_source::text::{JsString, SourceRange};
 use deno_graph_source::tree::{Comments, ImportPhase, Kind, Node, Program, StrLit};
 use deno_graph_source::values::Items;
@@ -33,20 +33,24 @@ fn program(alloc: Global) -> Result<Program, AllocError> {
         phase: ImportPhase::Evaluation,
         src: literal(alloc, "./a", range(7, 12))?,
         has_specifiers: false,
+        has_with: false,
     };
     let second = Kind::ImportDecl {
         type_only: false,
         phase: ImportPhase::Defer,
         src: literal(alloc, "./b", range(41, 46))?,
         has_specifiers: true,
+        has_with: false,
     };
     let third = Kind::NamedExport {
         type_only: true,
         src: Some(literal(alloc, "./c", range(84, 89))?),
+        has_with: false,
     };
     let without_source = Kind::NamedExport {
         type_only: false,
         src: None,
+        has_with: false,
     };
     let mut inside = Items::new(alloc);
     inside.push(leaf(alloc, range(16, 47), second))?;
@@ -97,7 +101,10 @@ fn dependencies_in_tree_order(rt: HostRuntime) -> Result<(), Fail> {
     ];
     assert_eq!(rt; found.len(), wanted.len());
     for (descriptor, want) in found.iter().zip(&wanted) {
-        let DependencyDescriptor::Static(found) = descriptor;
+        let DependencyDescriptor::Static(found) = descriptor else {
+            assert!(rt; false);
+            continue;
+        };
         assert_eq!(rt; found.kind, want.0);
         assert_eq!(rt; found.specifier, want.1);
         assert_eq!(rt; found.range, want.2);
@@ -109,15 +116,34 @@ fn dependencies_in_tree_order(rt: HostRuntime) -> Result<(), Fail> {
 }
 
 #[test]
-fn a_descriptor_of_a_static_dependency(rt: HostRuntime) {
-    let made = DependencyDescriptor::from(StaticDependencyDescriptor {
+fn a_descriptor_of_either_kind(rt: HostRuntime) {
+    let fixed = StaticDependencyDescriptor {
         kind: StaticDependencyKind::Import,
         leading_comments: &[],
         range: range(0, 13),
         specifier: "./a",
         specifier_range: range(7, 12),
         is_side_effect: true,
-    });
-    let DependencyDescriptor::Static(found) = made;
-    assert_eq!(rt; found.specifier, "./a");
+        import_attributes: ImportAttributes::None,
+    };
+    let called = DynamicDependencyDescriptor {
+        kind: DynamicDependencyKind::Require,
+        leading_comments: &[],
+        range: range(0, 12),
+        argument: DynamicArgument::String("./b"),
+        argument_range: range(8, 11),
+        import_attributes: ImportAttributes::Unknown,
+    };
+    let made = [
+        DependencyDescriptor::from(fixed),
+        DependencyDescriptor::from(called),
+    ];
+    let found = match &made {
+        [
+            DependencyDescriptor::Static(first),
+            DependencyDescriptor::Dynamic(second),
+        ] => { Some((first.specifier, second.argument_range)) }
+        _ => None,
+    };
+    assert_eq!(rt; found, Some(("./a", range(8, 11))));
 }
