@@ -2,39 +2,38 @@
 
 import json
 
-SHAPES = {
-    "many lines": "\n",
-    "one line": " ",
-    "one text": None,
-}
-
-
-def document(shape, size):
-    """The bytes of a document of the shape, a little larger than `size` bytes."""
-    if SHAPES[shape] is None:
-        source, body = one_text(size)
-    else:
-        source, body = statements(size, SHAPES[shape])
-    length = len(source.encode())
-    value = {
-        "mediaType": "TypeScript",
-        "program": {"body": body, "range": [0, length]},
-        "source": source,
-        "specifier": "file:///generated.ts",
-    }
-    return encoded(value)
-
 
 def encoded(value):
     return json.dumps(value, ensure_ascii=False, separators=(",", ":")).encode()
 
 
+def document(source, body, **comments):
+    """The bytes of a document of the source, whose program has this body."""
+    value = {
+        "mediaType": "TypeScript",
+        "program": {"body": body, "range": [0, len(source.encode())]},
+        "source": source,
+        "specifier": "file:///generated.ts",
+    }
+    return encoded(value | comments)
+
+
+# Documents of about a size in bytes.
+
+
+def many_lines(size):
+    return statements(size, "\n")
+
+
+def one_line(size):
+    return statements(size, " ")
+
+
 def one_text(size):
     """A source that is one long comment without a line end, and then an import."""
     comment = "/* " + "é and some words " * (size // 18) + "*/ "
-    start = len(comment.encode())
-    statement, node = imported(0, start)
-    return comment + statement, [node]
+    statement, node = imported(0, len(comment.encode()))
+    return document(comment + statement, [node])
 
 
 def statements(size, separator):
@@ -48,7 +47,7 @@ def statements(size, separator):
         at += len((statement + separator).encode())
         written += len(statement) + len(encoded(node)) + 2
         number += 1
-    return separator.join(parts), body
+    return document(separator.join(parts), body)
 
 
 def literal(statement, specifier, at):
@@ -90,3 +89,101 @@ def other(number, at):
 
 
 MAKERS = [imported, exported, other]
+
+
+# Documents with a number of one thing, all in one line.
+
+
+def calls(count):
+    """Calls of `import`, each a statement of its own."""
+    parts, body, at = [], [], 0
+    for number in range(count):
+        specifier = f'"./{number}.js"'
+        parts.append(f"import({specifier});")
+        body.append(call(at, string(at + len("import("), specifier)))
+        at += len(parts[-1])
+    return document("".join(parts), body)
+
+
+def comments(count):
+    """Comments, each leading where it ends, handed in from the last to the first."""
+    texts = [f" {number} " for number in range(count)]
+    entries, at = [], 0
+    for text in texts:
+        end = at + len(text) + 4
+        entries.append(filed(end, "block", [at, end], text))
+        at = end
+    return document("".join(f"/*{text}*/" for text in texts), [], leading=entries[::-1])
+
+
+def filings(count):
+    """One comment that is filed again and again at one place."""
+    entry = filed(5, "block", [0, 5], "*")
+    return document("/***/", [], trailing=[entry] * count)
+
+
+def template_parts(count):
+    """A call of `import` with a template, in which texts and expressions take turns."""
+    source = "import(`" + "/${a}" * count + "`)"
+    template = [len("import("), len(source) - 1]
+    children = [{"kind": "Ident", "range": [start, start + 1], "value": "a"} for start in range(11, 11 + 5 * count, 5)]
+    node = {"children": children, "kind": "Template", "quasis": ["/"] * count + [""], "range": template}
+    return document(source, [call(0, node)])
+
+
+def different_keys(count):
+    """A call of `import` with attributes of different keys, in no order."""
+    return attributes([f'"{number * 7919 % count}"' for number in range(count)])
+
+
+def equal_keys(count):
+    """A call of `import` with as many attributes of one key."""
+    return attributes(['"type"'] * count)
+
+
+def attributes(keys):
+    start = 'import("a",{with:{'
+    parts, properties, at = [], [], len(start)
+    for key in keys:
+        value = string(at + len(key) + 1, '"b"')
+        parts.append(f'{key}:"b"')
+        properties.append(key_value(at, {"str": json.loads(key)}, value))
+        at += len(parts[-1]) + 1
+    source = start + ",".join(parts) + "}})"
+    clause = {"children": properties, "kind": "Object", "range": [len(start) - 1, len(source) - 2]}
+    property = key_value(len('import("a",{'), {"ident": "with"}, clause)
+    options = {"children": [property], "kind": "Object", "range": [len('import("a",'), len(source) - 1]}
+    return document(source, [call(0, string(7, '"a"'), options)])
+
+
+def call(at, *arguments):
+    return {
+        "args": [{"range": argument["range"]} for argument in arguments],
+        "callee": "import",
+        "children": list(arguments),
+        "kind": "Call",
+        "range": [at, arguments[-1]["range"][1] + 1],
+    }
+
+
+def string(at, spelled):
+    return {"kind": "Str", "range": [at, at + len(spelled)], "value": json.loads(spelled)}
+
+
+def key_value(at, key, value):
+    return {"children": [value], "key": key, "kind": "KeyValue", "range": [at, value["range"][1]]}
+
+
+def filed(pos, kind, place, text):
+    return {"comments": [{"kind": kind, "range": place, "text": text}], "pos": pos}
+
+
+BY_SIZE = {"many lines": many_lines, "one line": one_line, "one text": one_text}
+BY_COUNT = {
+    "calls": calls,
+    "comments": comments,
+    "filings": filings,
+    "parts": template_parts,
+    "keys": different_keys,
+    "equal keys": equal_keys,
+}
