@@ -17,6 +17,3 @@ pub use descriptor::{
     DependencyDescriptor, DynamicDependencyDescriptor, StaticDependencyDescriptor,
 };
 pub use walk::analyze_program_dependencies;
-
-#[cfg(test)]
-mod tests;
