@@ -1,7 +1,7 @@
 //! Trees that are written by hand.
 
 use deno_graph_analysis::ast::{module_info, module_info_from_program};
-use deno_graph_analysis::dep::analyze_program_dependencies;
+use deno_graph_analysis::dep::{DependencyDescriptor, analyze_program_dependencies};
 use deno_graph_source::text::{JsString, SourceRange};
 use deno_graph_source::tree::{
     Comments, ImportPhase, Kind, MediaType, Node, ParsedSource, Program, SourceFault, StrLit,
@@ -70,6 +70,11 @@ fn a_tree_by_hand_is_analyzed(rt: HostRuntime) -> Result<(), Fail> {
     let source = parsed(rt.alloc(), "file:///b.ts", SOURCE)?;
     let found = analyze_program_dependencies(rt.alloc(), source.program(), source.comments())?;
     assert_eq!(rt; found.len(), 1);
+    let specifier = found.first().and_then(|first| match first {
+        DependencyDescriptor::Static(first) => Some(first.specifier),
+        DependencyDescriptor::Dynamic(_) => None,
+    });
+    assert_eq!(rt; specifier, Some("./b.ts"));
     let info = module_info(rt.alloc(), &source)?;
     assert!(rt; !info.is_script);
     assert_eq!(rt; info.dependencies.len(), 1);
