@@ -13,7 +13,7 @@ use std::alloc::{AllocError, Global};
 #[derive(Clone, Copy, Debug, PartialEq, Eq)]
 pub enum DynamicTemplatePart<'a> {
     String(&'a str),
-    /// An expression that could not be analyzed.
+    /// An expression of which nothing is known.
     Expr,
 }
 
@@ -22,7 +22,7 @@ pub enum DynamicTemplatePart<'a> {
 pub enum DynamicArgument<'a> {
     String(&'a str),
     Template(Vec<DynamicTemplatePart<'a>>),
-    /// An expression that could not be analyzed.
+    /// An expression of which nothing is known.
     Expr,
 }
 
