@@ -1,0 +1,3 @@
+pub mod Finders
+pub mod Piece
+pub mod Split

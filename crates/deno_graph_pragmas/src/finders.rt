@@ -1,0 +1,3 @@
+//! Finders of pragmas in the text of a comment.
+
+mod letter;
