@@ -1,3 +1,4 @@
 pub mod Finders
 pub mod Piece
+pub mod Reading
 pub mod Split

@@ -1,0 +1,45 @@
+-- What is left of a text behind its front, where that is read from left to right, each piece as long as it can be.
+-- It says how the finders go about their work. No promise of a public call names it.
+use Rattle.std.specs.Prelude.{ℕ, ◌==◌, Bool, List, [], ◌∷◌, Option, Some, None, if◌then◌else◌, option_and_then}
+use Rattle.std.specs.Option.{option_map}
+use Rattle.unicode.specs.CaseFolding.{simple_fold}
+use Rattle.deno_graph_pragmas.specs.Piece.{Piece, one, any, some, run, exactly, keyword}
+
+-- behind the characters that pass
+abbrev pub skip_while : (ℕ → Bool) → List ℕ → List ℕ
+skip_while test [] = []
+skip_while test (c ∷ text) = if test c then skip_while test text else c ∷ text
+
+-- behind one character that passes
+abbrev pub after_one : (ℕ → Bool) → List ℕ → Option (List ℕ)
+after_one test [] = None
+after_one test (c ∷ text) = if test c then Some text else None
+
+-- behind at least one
+abbrev pub after_some : (ℕ → Bool) → List ℕ → Option (List ℕ)
+after_some test text = option_map (skip_while test) (after_one test text)
+
+-- behind these characters
+abbrev pub after_exactly : List ℕ → List ℕ → Option (List ℕ)
+after_exactly [] text = Some text
+after_exactly (d ∷ word) [] = None
+after_exactly (d ∷ word) (c ∷ text) = if c == d then after_exactly word text else None
+
+-- behind these characters in any case
+abbrev pub after_keyword : List ℕ → List ℕ → Option (List ℕ)
+after_keyword [] text = Some text
+after_keyword (d ∷ word) [] = None
+after_keyword (d ∷ word) (c ∷ text) = if simple_fold c == simple_fold d then after_keyword word text else None
+
+abbrev pub after_piece : Piece → List ℕ → Option (List ℕ)
+after_piece (one test) text = after_one test text
+after_piece (any test) text = Some (skip_while test text)
+after_piece (some test) text = after_some test text
+after_piece (run test) text = after_some test text
+after_piece (exactly word) text = after_exactly word text
+after_piece (keyword word) text = after_keyword word text
+
+-- behind the pieces in turn
+abbrev pub after_pieces : List Piece → List ℕ → Option (List ℕ)
+after_pieces [] text = Some text
+after_pieces (first ∷ others) text = option_and_then (after_pieces others) (after_piece first text)
