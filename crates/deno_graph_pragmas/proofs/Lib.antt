@@ -1,2 +1,4 @@
+mod Barriers
 mod Folding
 mod ReadPieces
+mod Splits

@@ -141,7 +141,7 @@ IsStopped-barrier test q piece rest barrier is =
     let first = barrier piece rest is in
     subst (λ text. IsStopped test (text ++ rest)) (sym first.2) first.3
 
-Ends-next : (p q : Piece) (piece rest : List ℕ) → IsApart p q → IsPiece q piece rest → Ends p (piece ++ rest)
+pub Ends-next : (p q : Piece) (piece rest : List ℕ) → IsApart p q → IsPiece q piece rest → Ends p (piece ++ rest)
 Ends-next (one test) q piece rest apart is = tt
 Ends-next (any test) q piece rest apart is = IsStopped-barrier test q piece rest apart is
 Ends-next (some test) q piece rest apart is = IsStopped-barrier test q piece rest apart is
