@@ -2,3 +2,4 @@ mod Barriers
 mod Folding
 mod ReadPieces
 mod Splits
+mod TextSteps

@@ -1,6 +1,6 @@
 -- The pieces that a finder's pattern is made of. A piece is a list of characters.
 use Rattle.std.specs.Prelude.{◌≡◌, ◌≢◌, ◌==◌, ◌||◌, ℕ, Bool, false, not, ⊤, List, [], ◌∷◌, map, IsTrue, codes}
-use Rattle.std.specs.Char.{is_whitespace, is_not_whitespace}
+use Rattle.std.specs.Char.{is_whitespace, is_not_whitespace, char_set_contains}
 use Rattle.std.specs.List.{list_all}
 use Rattle.unicode.specs.CaseFolding.{simple_fold}
 use Prim.Native.String.{String}
@@ -37,8 +37,9 @@ IsPiece (run test) text after = (text ≢ []) × IsTrue (list_all test text) × 
 IsPiece (exactly word) text after = text ≡ word
 IsPiece (keyword word) text after = IsInAnyCase text word
 
+-- `"` or `'`
 abbrev pub is_quote : ℕ → Bool
-is_quote c = (c == 34) || (c == 39)
+is_quote = char_set_contains (34 ∷ 39 ∷ [])
 
 abbrev pub is_unquoted : ℕ → Bool
 is_unquoted c = not (is_quote c)
@@ -47,7 +48,7 @@ abbrev pub is_white_or_star : ℕ → Bool
 is_white_or_star c = is_whitespace c || (c == 42)
 
 abbrev pub is_number_or_at : ℕ → Bool
-is_number_or_at c = (c == 35) || (c == 64)
+is_number_or_at = char_set_contains (codes "#@")
 
 abbrev pub is_in_line : ℕ → Bool
 is_in_line c = not (c == 10)
@@ -87,7 +88,3 @@ in_line = any is_in_line
 -- the characters that are written out
 abbrev pub sign : String → Piece
 sign text = exactly (codes text)
-
--- K: the word in any case
-abbrev pub word : String → Piece
-word text = keyword (codes text)

@@ -1,3 +1,7 @@
 //! Finders of pragmas in the text of a comment.
 
 mod letter;
+pub mod matches;
+mod scan;
+
+pub use matches::Match;

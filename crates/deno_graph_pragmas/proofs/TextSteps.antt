@@ -1,0 +1,123 @@
+-- What the methods of `str` answer, by the characters of the text.
+use Rattle.std.proofs.Common.{◌≡◌, ℕ, ◌<◌, ◌≤◌, ◌+◌, zero, Bool, true, false, ◌&&◌, ◌==◌, eq-eqb, eqb-true, not, IfSome, cond, List, [], ◌∷◌, ◌++◌, length, take, drop, Option, Some, None, Bor, MatchOption, refl, sym, ap, subst, ◌∙◌, arith, append_assoc}
+use Rattle.std.proofs.lemmas.Bool.{cond_both, cond-true, cond-false, and_parts, and_from, not-false, not-true}
+use Rattle.std.proofs.lemmas.List.{take-append-drop}
+use Rattle.std.proofs.lemmas.Str.{chars-nil, chars-encodes, encodes-chars, scalars-chars, chars-append, chars_past_char, IsUtf8-past_char, IsUtf8-drop, IsCharBoundary-from_take, length-encode, len_utf8_bounds, encode_ascii, chars_from_encodes}
+use Rattle.std.proofs.lemmas.Str.Pattern.{strip_prefix_char}
+use Rattle.std.specs.Bool.{MatchBool}
+use Rattle.std.specs.Char.{is_whitespace, IsScalar, len_utf8}
+use Rattle.std.specs.List.{list_all}
+use Rattle.std.specs.Option.{option_map}
+use Rattle.std.specs.Str.{chars, IsUtf8, skip_leading_whitespace, trim_start, NonePass, NoCharPasses, IsCharBoundary}
+use Rattle.std.specs.Str.Pattern.{FindsPrefixBy, FindsBy, HasPassingCharAt, HasCharAt, StripsPrefix, SplitsAroundMatch, FindsCharPrefix, CutsPrefixes, IsFullyTrimmed, IsTrimStartMatches}
+use lib.Utf8.{encode, encodes, scalar, scalars}
+use Rattle.deno_graph_pragmas.specs.Piece.{IsStopped}
+use Rattle.deno_graph_pragmas.specs.Reading.{skip_while, after_one, after_exactly}
+use Rattle.deno_graph_pragmas.proofs.ReadPieces.{skip_while-append}
+
+-- ---- the characters of a text that begins with one
+
+-- the bytes of a text, by its characters
+text_of : (bs cs : List ℕ) → IsUtf8 bs → chars bs ≡ cs → (bs ≡ encodes cs) × (scalars cs ≡ true)
+text_of bs cs utf8 is = (sym (encodes-chars bs utf8) ∙ ap encodes is, ap scalars (sym is) ∙ scalars-chars bs utf8)
+
+-- one character at the start
+after_one-none : (test : ℕ → Bool) (bs cs : List ℕ) → IsUtf8 bs → chars bs ≡ cs → FindsPrefixBy test bs None → after_one test cs ≡ None
+after_one-none test bs [] utf8 is none = refl
+after_one-none test bs (c ∷ cs) utf8 is none =
+    let text = text_of bs (c ∷ cs) utf8 is in
+    let parts = and_parts (scalar c) (scalars cs) text.1 in
+    cond-false (test c) (Some cs) None (none c (encodes cs) parts.0 text.0)
+
+after_sign-none : (sign : ℕ) (bs cs : List ℕ) → IsUtf8 bs → chars bs ≡ cs → FindsCharPrefix sign bs None → after_exactly (sign ∷ []) cs ≡ None
+after_sign-none sign bs [] utf8 is none = refl
+after_sign-none sign bs (c ∷ cs) utf8 is none =
+    let text = text_of bs (c ∷ cs) utf8 is in
+    cond_both (c == sign) (Some cs) None (λ o. o ≡ None) (λ same. absurd (none (encodes cs) (text.0 ∙ ap (λ d. encode d ++ encodes cs) (eqb-true c sign same)))) (λ _. refl)
+
+-- the characters behind one that passes
+chars-past : (test : ℕ → Bool) (bs : List ℕ) (i j : ℕ) → IsUtf8 (drop i bs) → HasPassingCharAt test bs i j → (c : ℕ) × (test c ≡ true) × (chars (drop i bs) ≡ c ∷ chars (drop j bs)) × (i < j)
+chars-past test bs i j utf8 (c, passes, at) =
+    (c, passes, chars_past_char (drop i bs) (drop j bs) c utf8 at.split, omega (arith, at.ends, len_utf8_bounds c))
+
+-- `strip_prefix` at a test
+pub strip_prefix_one : (P : (ℕ → Bool) → Type 0) (test : ℕ → Bool) (bs : List ℕ) (r : Option (Bor (List ℕ))) → IsUtf8 bs → P test → (let F : List ℕ → Option ℕ → Type 0 = λ s o. (k : ℕ → Bool) → P k → FindsPrefixBy k s o in MatchOption r (F bs None) (λ x. StripsPrefix F bs x.now)) → option_map (λ (x : Bor (List ℕ)). chars x.now) r ≡ after_one test (chars bs)
+strip_prefix_one P test bs None utf8 matches cases = sym (after_one-none test bs (chars bs) utf8 refl (cases test matches))
+strip_prefix_one P test bs (Some x) utf8 matches (n, found, is, sizes) =
+    let past = chars-past test bs 0 n utf8 (found test matches) in
+    ap (λ t. Some (chars t)) is ∙ sym (ap (after_one test) past.2 ∙ cond-true (test past.0) (Some (chars (drop n bs))) None past.1)
+
+-- `strip_prefix` at a character
+pub strip_prefix_sign : (c : ℕ) (bs : List ℕ) (r : Option (Bor (List ℕ))) → IsUtf8 bs → MatchOption r (FindsCharPrefix c bs None) (λ x. StripsPrefix (FindsCharPrefix c) bs x.now) → option_map (λ (x : Bor (List ℕ)). chars x.now) r ≡ after_exactly (c ∷ []) (chars bs)
+strip_prefix_sign c bs None utf8 cases = sym (after_sign-none c bs (chars bs) utf8 refl cases)
+strip_prefix_sign c bs (Some x) utf8 (n, found, is, sizes) =
+    let past : chars bs ≡ c ∷ chars (drop n bs) = chars_past_char bs (drop n bs) c utf8 found.split in
+    ap (λ t. Some (chars t)) is ∙ sym (ap (after_exactly (c ∷ [])) past ∙ cond-true (c == c) (Some (chars (drop n bs))) None (eq-eqb c c refl))
+
+-- `trim_start`
+skip_same : (cs : List ℕ) → skip_leading_whitespace cs ≡ skip_while is_whitespace cs
+skip_same [] = refl
+skip_same (c ∷ cs) = ap (λ rest. cond (is_whitespace c) rest (c ∷ cs)) (skip_same cs)
+
+scalars-skip_while : (test : ℕ → Bool) (cs : List ℕ) → scalars cs ≡ true → scalars (skip_while test cs) ≡ true
+scalars-skip_while test [] all = refl
+scalars-skip_while test (c ∷ cs) all =
+    cond_both (test c) (skip_while test cs) (c ∷ cs) (λ rest. scalars rest ≡ true) (λ _. scalars-skip_while test cs (and_parts (scalar c) (scalars cs) all).1) (λ _. all)
+
+pub trim_start_skips : (bs r : List ℕ) → IsUtf8 bs → r ≡ trim_start bs → chars r ≡ skip_while is_whitespace (chars bs)
+unfolding trim_start
+trim_start_skips bs r utf8 is =
+    ap chars is ∙ ap (λ cs. chars (encodes cs)) (skip_same (chars bs)) ∙ chars-encodes (skip_while is_whitespace (chars bs)) (scalars-skip_while is_whitespace (chars bs) (scalars-chars bs utf8))
+
+-- `trim_start_matches` at a test
+IsTrimmed : (ℕ → Bool) → List ℕ → List ℕ → Type 0
+IsTrimmed test bs r = (front : List ℕ) × (chars bs ≡ front ++ chars r) × (list_all test front ≡ true) × IsUtf8 r
+
+list_all-append : (test : ℕ → Bool) (xs ys : List ℕ) → list_all test xs ≡ true → list_all test ys ≡ true → list_all test (xs ++ ys) ≡ true
+list_all-append test [] ys one other = other
+list_all-append test (x ∷ xs) ys one other =
+    let parts = and_parts (test x) (list_all test xs) one in
+    and_from (test x) (list_all test (xs ++ ys)) parts.0 (list_all-append test xs ys parts.1 other)
+
+trimmed : (P : (ℕ → Bool) → Type 0) (test : ℕ → Bool) (bs r : List ℕ) (ns : List ℕ) → IsUtf8 bs → P test → (let F : List ℕ → Option ℕ → Type 0 = λ s o. (k : ℕ → Bool) → P k → FindsPrefixBy k s o in CutsPrefixes F bs ns r) → IsTrimmed test bs r
+unfolding IsTrimmed chars-past
+trimmed P test bs r [] utf8 matches cuts = ([], ap chars (sym cuts), refl, subst IsUtf8 (sym cuts) utf8)
+trimmed P test bs r (n ∷ ns) utf8 matches (m, cuts, found, is) =
+    let before = trimmed P test bs m ns utf8 matches cuts in
+    let past = chars-past test m 0 n before.3 (found test matches) in
+    let here : m ≡ encode past.0 ++ drop n m = (found test matches).2.split in
+    (before.0 ++ past.0 ∷ [], before.1 ∙ ap (λ cs. before.0 ++ cs) (past.2 ∙ ap (λ t. past.0 ∷ chars t) (sym is)) ∙ sym (append_assoc before.0 (past.0 ∷ []) (chars r)), list_all-append test before.0 (past.0 ∷ []) before.2 (and_from (test past.0) true past.1 refl), subst IsUtf8 (sym is) (IsUtf8-past_char m (drop n m) past.0 before.3 here))
+
+stopped : (test : ℕ → Bool) (r cs : List ℕ) (o : Option ℕ) → IsUtf8 r → chars r ≡ cs → FindsPrefixBy test r o → IfSome o (λ n. n ≡ 0) → IsStopped test cs
+stopped test r [] o utf8 is finds none = tt
+stopped test r (c ∷ cs) None utf8 is finds none =
+    let text = text_of r (c ∷ cs) utf8 is in
+    finds c (encodes cs) (and_parts (scalar c) (scalars cs) text.1).0 text.0
+stopped test r (c ∷ cs) (Some n) utf8 is finds none =
+    let past = chars-past test r 0 n utf8 finds in absurd (omega (arith, past.3, none))
+
+pub trim_start_matches_skips : (P : (ℕ → Bool) → Type 0) (test : ℕ → Bool) (bs r : List ℕ) → IsUtf8 bs → P test → (let F : List ℕ → Option ℕ → Type 0 = λ s o. (k : ℕ → Bool) → P k → FindsPrefixBy k s o in IsTrimStartMatches F bs r) → chars r ≡ skip_while test (chars bs)
+unfolding IsTrimmed
+trim_start_matches_skips P test bs r utf8 matches (cuts, full) =
+    let cut = trimmed P test bs r cuts.0 utf8 matches cuts.1 in
+    let stops = stopped test r (chars r) full.0 cut.3 refl (full.1 test matches) full.2 in
+    sym (ap (skip_while test) cut.1 ∙ skip_while-append test cut.0 (chars r) cut.2 stops)
+
+-- `split_once` at a test
+none_pass : (test : ℕ → Bool) (cs : List ℕ) → NonePass test cs → list_all (λ c. not (test c)) cs ≡ true
+none_pass test [] none = refl
+none_pass test (c ∷ cs) none = and_from (not (test c)) (list_all (λ c. not (test c)) cs) (ap not none.0) (none_pass test cs none.1)
+
+no_char_passes : (test : ℕ → Bool) (bs : List ℕ) → IsUtf8 bs → NoCharPasses test bs → list_all (λ c. not (test c)) (chars bs) ≡ true
+no_char_passes test bs utf8 (cs, is, none) = ap (list_all (λ c. not (test c))) (sym (chars_from_encodes cs bs utf8 is)) ∙ none_pass test cs none
+
+pub split_once_parts : (P : (ℕ → Bool) → Type 0) (test : ℕ → Bool) (bs : List ℕ) (r : Option (Bor (List ℕ) × Bor (List ℕ))) → IsUtf8 bs → MatchOption r (Unit {0}) (λ x. IsUtf8 x.0.now) → P test → (let F : List ℕ → Option (ℕ × ℕ) → Type 0 = λ s o. (k : ℕ → Bool) → P k → FindsBy k s o in MatchOption r (F bs None) (λ x. SplitsAroundMatch F bs x.0.now x.1.now)) → MatchOption r (list_all (λ c. not (test c)) (chars bs) ≡ true) (λ x. (c : ℕ) × (chars bs ≡ chars x.0.now ++ c ∷ chars x.1.now) × (test c ≡ true) × (list_all (λ c. not (test c)) (chars x.0.now) ≡ true))
+split_once_parts P test bs None utf8 text matches cases = no_char_passes test bs utf8 (cases test matches)
+split_once_parts P test bs (Some x) utf8 text matches (i, j, found, front, back, order, front_len, back_len) =
+    let finds = found test matches in
+    let front_text : IsUtf8 (take i bs) = subst IsUtf8 front text in
+    let boundary : IsCharBoundary bs i = IsCharBoundary-from_take bs i utf8 (omega (arith, back_len)) front_text in
+    let past = chars-past test bs i j (IsUtf8-drop bs i utf8 boundary) finds.1 in
+    let whole : chars bs ≡ chars (take i bs) ++ chars (drop i bs) = ap chars (sym (take-append-drop i bs)) ∙ chars-append (take i bs) (drop i bs) front_text in
+    let parts : chars bs ≡ chars x.0.now ++ past.0 ∷ chars x.1.now = whole ∙ ap (λ cs. chars (take i bs) ++ cs) past.2 ∙ ap (λ t. chars t ++ past.0 ∷ chars (drop j bs)) (sym front) ∙ ap (λ t. chars x.0.now ++ past.0 ∷ chars t) (sym back) in
+    (past.0, parts, past.1, no_char_passes test x.0.now text (subst (NoCharPasses test) (sym front) finds.0))

@@ -1,0 +1,6 @@
+-- What the finders answer, by values alone.
+use Rattle.deno_graph_pragmas.specs.Split.{Part}
+use Rattle.deno_graph_pragmas.specs.declared.finders.matches.Match.{Match}
+
+abbrev pub part_of : Match → Part
+part_of found = record { text = found.text.now; start = found.start; end = found.end }

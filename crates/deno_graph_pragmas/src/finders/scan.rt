@@ -1,0 +1,59 @@
+//! Steps over the front of a text, each over one piece. What is answered is the text behind it.
+
+ghost use Rattle.std.specs.Prelude.{◌≡◌, ◌<◌, ◌==◌, IsTrue, codes, nat_lt, option_map};
+ghost use Rattle.std.specs.Char.{is_whitespace};
+ghost use Rattle.std.specs.List.{list_all};
+ghost use Rattle.std.specs.Str.{chars};
+ghost use Rattle.deno_graph_pragmas.specs.Piece.{is_number_or_at, is_quote, is_white_or_star};
+ghost use Rattle.deno_graph_pragmas.specs.Reading.{after_exactly, after_keyword, after_one, skip_while};
+
+use crate::finders::letter::is_letter;
+
+/// White space, as much as there is.
+pub(super) fn skip_white_space(text: &str) -> &str
+    ensures { chars result.now ≡ skip_while is_whitespace (chars text.now) }
+{
+    text.trim_start()
+}
+
+/// White space and stars, as much as there is.
+pub(super) fn skip_white_space_and_stars(text: &str) -> &str
+    ensures { chars result.now ≡ skip_while is_white_or_star (chars text.now) }
+{
+    text.trim_start_matches(|c: char| c.is_whitespace() || c == '*')
+}
+
+/// One character of white space.
+pub(super) fn strip_white_space(text: &str) -> Option<&str>
+    ensures { option_map (λ rest. chars rest.now) result ≡ after_one is_whitespace (chars text.now) }
+{
+    text.strip_prefix(|c: char| c.is_whitespace())
+}
+
+/// A quote of either kind.
+pub(super) fn strip_quote(text: &str) -> Option<&str>
+    ensures { option_map (λ rest. chars rest.now) result ≡ after_one is_quote (chars text.now) }
+{
+    text.strip_prefix(['"', '\''])
+}
+
+/// A number sign or an at sign.
+pub(super) fn strip_number_or_at(text: &str) -> Option<&str>
+    ensures { option_map (λ rest. chars rest.now) result ≡ after_one is_number_or_at (chars text.now) }
+{
+    text.strip_prefix(['#', '@'])
+}
+
+/// The characters of `word` in any case.
+pub(super) fn strip_keyword<'a>(text: &'a str, word: &str) -> Option<&'a str>
+    requires { IsTrue (list_all (λ letter. nat_lt letter 128) word.now) }
+    ensures { option_map (λ rest. chars rest.now) result ≡ after_keyword word.now (chars text.now) }
+{
+    let mut rest = text.chars();
+    for letter in word.as_bytes() {
+        if !is_letter(rest.next()?, *letter as char) {
+            return None;
+        }
+    }
+    Some(rest.as_str())
+}
