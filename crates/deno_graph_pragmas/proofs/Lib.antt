@@ -1,5 +1,6 @@
 mod Barriers
 mod Folding
+mod Found
 mod ReadPieces
 mod Splits
 mod TextSteps

@@ -3,7 +3,7 @@
 use Rattle.std.specs.Prelude.{ℕ, ◌==◌, Bool, List, [], ◌∷◌, Option, Some, None, if◌then◌else◌, option_and_then}
 use Rattle.std.specs.Option.{option_map}
 use Rattle.unicode.specs.CaseFolding.{simple_fold}
-use Rattle.deno_graph_pragmas.specs.Piece.{Piece, one, any, some, run, exactly, keyword}
+use Rattle.deno_graph_pragmas.specs.Piece.{Piece, one, any, some, run, exactly, keyword, whites, sign}
 
 -- behind the characters that pass
 abbrev pub skip_while : (ℕ → Bool) → List ℕ → List ℕ
@@ -43,3 +43,7 @@ after_piece (keyword word) text = after_keyword word text
 abbrev pub after_pieces : List Piece → List ℕ → Option (List ℕ)
 after_pieces [] text = Some text
 after_pieces (first ∷ others) text = option_and_then (after_pieces others) (after_piece first text)
+
+-- K(name) W* `=` W*
+abbrev pub assignment : List ℕ → List Piece
+assignment name = keyword name ∷ whites ∷ sign "=" ∷ whites ∷ []

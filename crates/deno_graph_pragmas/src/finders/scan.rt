@@ -1,11 +1,11 @@
 //! Steps over the front of a text, each over one piece. What is answered is the text behind it.
 
-ghost use Rattle.std.specs.Prelude.{◌≡◌, ◌<◌, ◌==◌, IsTrue, codes, nat_lt, option_map};
+ghost use Rattle.std.specs.Prelude.{◌≡◌, ◌<◌, [], ◌∷◌, IsTrue, nat_lt, option_map};
 ghost use Rattle.std.specs.Char.{is_whitespace};
 ghost use Rattle.std.specs.List.{list_all};
 ghost use Rattle.std.specs.Str.{chars};
 ghost use Rattle.deno_graph_pragmas.specs.Piece.{is_number_or_at, is_quote, is_white_or_star};
-ghost use Rattle.deno_graph_pragmas.specs.Reading.{after_exactly, after_keyword, after_one, skip_while};
+ghost use Rattle.deno_graph_pragmas.specs.Reading.{after_exactly, after_keyword, after_one, after_pieces, assignment, skip_while};
 
 use crate::finders::letter::is_letter;
 
@@ -44,6 +44,13 @@ pub(super) fn strip_number_or_at(text: &str) -> Option<&str>
     text.strip_prefix(['#', '@'])
 }
 
+/// The character `sign`.
+pub(super) fn strip_sign(text: &str, sign: char) -> Option<&str>
+    ensures { option_map (λ rest. chars rest.now) result ≡ after_exactly (sign ∷ []) (chars text.now) }
+{
+    text.strip_prefix(sign)
+}
+
 /// The characters of `word` in any case.
 pub(super) fn strip_keyword<'a>(text: &'a str, word: &str) -> Option<&'a str>
     requires { IsTrue (list_all (λ letter. nat_lt letter 128) word.now) }
@@ -56,4 +63,14 @@ pub(super) fn strip_keyword<'a>(text: &'a str, word: &str) -> Option<&'a str>
         }
     }
     Some(rest.as_str())
+}
+
+/// The name in any case, and an equals sign with the white space round it.
+pub(super) fn strip_assignment<'a>(text: &'a str, name: &str) -> Option<&'a str>
+    requires { IsTrue (list_all (λ letter. nat_lt letter 128) name.now) }
+    ensures { option_map (λ rest. chars rest.now) result ≡ after_pieces (assignment name.now) (chars text.now) }
+{
+    let behind_name = strip_keyword(text, name)?;
+    let behind_sign = strip_sign(skip_white_space(behind_name), '=')?;
+    Some(skip_white_space(behind_sign))
 }

@@ -1,0 +1,96 @@
+-- From what reading leaves to what a finder answers.
+use Rattle.std.proofs.Common.{◌≡◌, ℕ, ◌+◌, ◌-◌, ◌≤◌, ◌<◌, true, false, List, [], ◌∷◌, ◌++◌, Option, Some, None, IsTrue, length, refl, sym, ap, subst, ◌∙◌, append_assoc, length-append, arith, zero-le}
+use Rattle.std.proofs.lemmas.List.{append_cancel_left, append_cancel_right}
+use Rattle.std.proofs.lemmas.Str.{encodes-chars, encodes-append}
+use Rattle.std.specs.Option.{option_and_then}
+use Rattle.std.specs.Str.{chars, IsUtf8}
+use lib.Utf8.{encodes}
+use Rattle.deno_graph_pragmas.specs.Piece.{Piece, IsPiece}
+use Rattle.deno_graph_pragmas.specs.Reading.{after_piece, after_pieces}
+use Rattle.deno_graph_pragmas.specs.Split.{Pattern, ArePieces, Split, IsFirst, Part, IsCaptured, byte_count}
+use Rattle.deno_graph_pragmas.proofs.ReadPieces.{after_piece-front, after_pieces-front}
+use Rattle.deno_graph_pragmas.proofs.Splits.{IsDetermined, behind_before, behind_front, front_read, captured_read, back_read}
+
+-- ---- where there is no split
+
+none_some : {A : Type 0} (o : Option A) (x : A) → o ≡ None → o ≡ Some x → ⊥
+none_some o x none some = cc
+
+-- an anchored split is at the start
+at_start : (pattern : Pattern) (text : List ℕ) → pattern.anchored ≡ true → (split : Split pattern text) → behind_before split ≡ text
+at_start pattern text anchored split =
+    ap (λ before. before ++ behind_before split) (sym (split.anchored anchored)) ∙ sym split.whole
+
+pub no_front : (pattern : Pattern) (text : List ℕ) → IsDetermined pattern → pattern.anchored ≡ true → after_pieces pattern.front text ≡ None → ¬ (Split pattern text)
+no_front pattern text determined anchored none split =
+    none_some _ _ none (ap (after_pieces pattern.front) (sym (at_start pattern text anchored split)) ∙ front_read pattern text determined split)
+
+-- what a split captures, with the pieces behind it, is read behind its front
+rest_read : (pattern : Pattern) (text : List ℕ) → IsDetermined pattern → (split : Split pattern text) → after_pieces (pattern.captured ∷ pattern.back) (behind_front split) ≡ Some split.after
+rest_read pattern text determined split =
+    ap (option_and_then (after_pieces pattern.back)) (captured_read pattern text determined split) ∙ back_read pattern text determined split
+
+pub no_rest : (pattern : Pattern) (text rest : List ℕ) → IsDetermined pattern → pattern.anchored ≡ true → after_pieces pattern.front text ≡ Some rest → after_pieces (pattern.captured ∷ pattern.back) rest ≡ None → ¬ (Split pattern text)
+no_rest pattern text rest determined anchored front none split =
+    let here : after_pieces pattern.front text ≡ Some (behind_front split) = ap (after_pieces pattern.front) (sym (at_start pattern text anchored split)) ∙ front_read pattern text determined split in
+    let same : rest ≡ behind_front split = cc in
+    none_some _ _ none (ap (after_pieces (pattern.captured ∷ pattern.back)) same ∙ rest_read pattern text determined split)
+
+-- ---- where there is one
+
+-- the part stands where `rest` begins, with which `text` ends, and reading goes on behind it
+pub record IsRead (pattern : Pattern) (text rest : List ℕ) (part : Part) : Type 0 where
+  pub behind : List ℕ
+  pub after : List ℕ
+  pub captured : after_piece pattern.captured (chars rest) ≡ Some behind
+  pub back : after_pieces pattern.back behind ≡ Some after
+  pub whole : chars rest ≡ chars part.text ++ behind
+  pub utf8 : IsUtf8 part.text
+  pub start : part.start ≡ length text - length rest
+  pub end : part.end ≡ part.start + length part.text
+
+made : (pattern : Pattern) (text rest before tail : List ℕ) (part : Part) → chars text ≡ before ++ tail → (IsTrue pattern.anchored → before ≡ []) → after_pieces pattern.front tail ≡ Some (chars rest) → IsRead pattern text rest part → Split pattern (chars text)
+made pattern text rest before tail part whole anchored front read =
+    let first = after_pieces-front pattern.front tail (chars rest) front in
+    let second = after_piece-front pattern.captured (chars rest) read.behind read.captured in
+    let third = after_pieces-front pattern.back read.behind read.after read.back in
+    let same : second.0 ≡ chars part.text = append_cancel_right second.0 (chars part.text) read.behind (sym second.1 ∙ read.whole) in
+    let all : chars rest ≡ chars part.text ++ (third.0 ++ read.after) = read.whole ∙ ap (λ t. chars part.text ++ t) third.1 in
+    record {
+      before = before;
+      front = first.0;
+      captured = chars part.text;
+      back = third.0;
+      after = read.after;
+      whole = whole ∙ ap (λ t. before ++ t) (first.1 ∙ ap (λ t. first.0 ++ t) all);
+      anchored = anchored;
+      front_pieces = subst (ArePieces pattern.front first.0) all first.2;
+      captured_piece = subst (IsPiece pattern.captured (chars part.text)) third.1 (subst (λ t. IsPiece pattern.captured t read.behind) same second.2);
+      back_pieces = third.2;
+    }
+
+-- a text is the bytes of the front of its characters and what they leave
+bytes_of : (text rest front : List ℕ) → IsUtf8 text → IsUtf8 rest → chars text ≡ front ++ chars rest → text ≡ encodes front ++ rest
+bytes_of text rest front text_utf8 rest_utf8 whole =
+    sym (encodes-chars text text_utf8) ∙ ap encodes whole ∙ encodes-append front (chars rest) ∙ ap (λ bytes. encodes front ++ bytes) (encodes-chars rest rest_utf8)
+
+pub IsCaptured-read : (pattern : Pattern) (text rest before tail : List ℕ) (part : Part) → IsUtf8 text → IsUtf8 rest → chars text ≡ before ++ tail → (IsTrue pattern.anchored → before ≡ []) → ((other : Split pattern (chars text)) → length before ≤ length other.before) → after_pieces pattern.front tail ≡ Some (chars rest) → IsRead pattern text rest part → IsCaptured pattern text part
+unfolding made
+IsCaptured-read pattern text rest before tail part text_utf8 rest_utf8 whole anchored first front read =
+    let split : Split pattern (chars text) = made pattern text rest before tail part whole anchored front read in
+    let head : chars text ≡ (before ++ split.front) ++ chars rest = whole ∙ ap (λ t. before ++ t) (after_pieces-front pattern.front tail (chars rest) front).1 ∙ sym (append_assoc before split.front (chars rest)) in
+    let bytes : text ≡ encodes (before ++ split.front) ++ rest = bytes_of text rest (before ++ split.front) text_utf8 rest_utf8 head in
+    let size : length text ≡ byte_count (before ++ split.front) + length rest = ap length bytes ∙ length-append (encodes (before ++ split.front)) rest in
+    let more : byte_count (before ++ split.front ++ chars part.text) ≡ byte_count (before ++ split.front) + length part.text = ap length (encodes-append (before ++ split.front) (chars part.text)) ∙ length-append (encodes (before ++ split.front)) (encodes (chars part.text)) ∙ ap (λ t. byte_count (before ++ split.front) + length t) (encodes-chars part.text read.utf8) in
+    record {
+      split = split;
+      first = first;
+      bytes = sym (encodes-chars part.text read.utf8);
+      start = omega (arith, read.start, size);
+      end = omega (arith, read.start, read.end, size, more);
+    }
+
+-- at the start of the text
+pub IsCaptured-at_start : (pattern : Pattern) (text rest : List ℕ) (part : Part) → IsUtf8 text → IsUtf8 rest → after_pieces pattern.front (chars text) ≡ Some (chars rest) → IsRead pattern text rest part → IsCaptured pattern text part
+IsCaptured-at_start pattern text rest part text_utf8 rest_utf8 front read =
+    IsCaptured-read pattern text rest [] (chars text) part text_utf8 rest_utf8 refl (λ _. refl) (λ other. zero-le) front read
