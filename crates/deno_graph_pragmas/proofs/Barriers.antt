@@ -1,13 +1,16 @@
 -- Pieces that end a run of characters.
-use Rattle.std.proofs.Common.{◌≡◌, ◌⊎◌, ℕ, ◌<◌, ◌≤◌, Bool, true, false, ◌&&◌, ◌||◌, List, [], ◌∷◌, ◌++◌, map, refl, sym, ap, subst, ◌∙◌, arith, inl, inr, ⊎_elim, eqb-true, ltb-true, not, nat_lt}
+use Rattle.std.proofs.Common.{◌≡◌, ◌⊎◌, ℕ, ◌<◌, ◌≤◌, Bool, true, false, ◌&&◌, ◌||◌, List, [], ◌∷◌, ◌++◌, map, refl, sym, ap, subst, ◌∙◌, arith, inl, inr, ⊎_elim, eqb-true, ltb-true, not, nat_lt, codes}
 use Rattle.std.proofs.lemmas.Bool.{or_cases, and_parts, cases_eq}
 use Rattle.std.proofs.lemmas.Bool.Decides.{nat_tests}
 use Rattle.std.specs.Char.{is_whitespace, is_not_whitespace, to_ascii_lowercase}
 use Rattle.std.specs.List.{list_all}
 use Rattle.unicode.specs.CaseFolding.{simple_fold}
+use Rattle.deno_graph_pragmas.specs.Finders.{attribute, quoted_pragma, quoteless_pragma, jsx_pragma, source_mapping_url}
 use Rattle.deno_graph_pragmas.specs.Piece.{Piece, one, run, exactly, keyword, is_quote, is_unquoted, is_white_or_star, IsPiece, IsInAnyCase}
+use Rattle.deno_graph_pragmas.specs.Reading.{begins_dark}
 use Rattle.deno_graph_pragmas.proofs.Folding.{same_fold-other}
 use Rattle.deno_graph_pragmas.proofs.ReadPieces.{IsBarrier}
+use Rattle.deno_graph_pragmas.proofs.Splits.{IsDetermined}
 
 -- ---- a word behind white space and stars
 
@@ -22,11 +25,6 @@ dark_fold c letter above ascii same =
       (λ another. dark_lower c letter above ascii (eqb-true _ _ ((same_fold-other c letter ascii other another).1 same)))
       (cases_eq c 8490))
     (cases_eq c 383)
-
--- the word is ASCII, and begins with a character above `*`
-abbrev pub begins_dark : List ℕ → Bool
-begins_dark [] = false
-begins_dark (letter ∷ word) = nat_lt 42 letter && nat_lt letter 128
 
 IsBarrier-keyword : (test : ℕ → Bool) (word : List ℕ) → ((c : ℕ) → is_white_or_star c ≡ false → test c ≡ false) → begins_dark word ≡ true → IsBarrier test (keyword word)
 IsBarrier-keyword test [] fails dark text after is = absurd (cc)
@@ -68,3 +66,23 @@ white-dark_run [] after (nonempty, all, stopped) = absurd (nonempty refl)
 white-dark_run (c ∷ text) after (nonempty, all, stopped) =
     let parts = and_parts (is_not_whitespace c) (list_all is_not_whitespace text) all in
     (c, text, refl, not_not (is_whitespace c) parts.0)
+
+-- ---- the patterns
+
+pub attribute_apart : (name : List ℕ) → IsDetermined (attribute name)
+attribute_apart name after = (tt, (tt, (white-equals, (tt, (white-quote, (tt, (unquoted-quote, tt)))))))
+
+pub quoted_pragma_apart : (name : List ℕ) → begins_dark name ≡ true → IsDetermined (quoted_pragma name)
+quoted_pragma_apart name dark after =
+    (white-keyword name dark, (tt, (white-equals, (tt, (white-quote, (tt, (unquoted-quote, tt)))))))
+
+pub quoteless_pragma_apart : (name : List ℕ) → begins_dark name ≡ true → IsDetermined (quoteless_pragma name)
+quoteless_pragma_apart name dark after =
+    (white-keyword name dark, (tt, (white-equals, (tt, (white-dark_run, tt)))))
+
+pub jsx_pragma_apart : (name : List ℕ) → begins_dark name ≡ true → IsDetermined (jsx_pragma name)
+jsx_pragma_apart name dark after = (white_or_star-keyword name dark, (tt, (white-dark_run, tt)))
+
+pub source_mapping_url_apart : IsDetermined source_mapping_url
+source_mapping_url_apart after =
+    (tt, (white-keyword (codes "sourceMappingURL") refl, (tt, (white-equals, (tt, (white-dark_run, tt))))))

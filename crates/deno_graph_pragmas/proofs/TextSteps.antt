@@ -1,8 +1,8 @@
 -- What the methods of `str` answer, by the characters of the text.
 use Rattle.std.proofs.Common.{◌≡◌, ℕ, ◌<◌, ◌≤◌, ◌+◌, zero, Bool, true, false, ◌&&◌, ◌==◌, eq-eqb, eqb-true, not, IfSome, cond, List, [], ◌∷◌, ◌++◌, length, take, drop, Option, Some, None, Bor, MatchOption, refl, sym, ap, subst, ◌∙◌, arith, append_assoc}
 use Rattle.std.proofs.lemmas.Bool.{cond_both, cond-true, cond-false, and_parts, and_from, not-false, not-true}
-use Rattle.std.proofs.lemmas.List.{take-append-drop}
-use Rattle.std.proofs.lemmas.Str.{chars-nil, chars-encodes, encodes-chars, scalars-chars, chars-append, chars_past_char, IsUtf8-past_char, IsUtf8-drop, IsCharBoundary-from_take, length-encode, len_utf8_bounds, encode_ascii, chars_from_encodes}
+use Rattle.std.proofs.lemmas.List.{take-append-drop, append-nil}
+use Rattle.std.proofs.lemmas.Str.{chars-nil, chars-encodes, encodes-chars, scalars-chars, chars-append, chars_past_char, IsUtf8-past_char, cons_from_encodes, length-encode, len_utf8_bounds, encode_ascii, chars_from_encodes}
 use Rattle.std.proofs.lemmas.Str.Pattern.{strip_prefix_char}
 use Rattle.std.specs.Bool.{MatchBool}
 use Rattle.std.specs.Char.{is_whitespace, IsScalar, len_utf8}
@@ -111,13 +111,49 @@ none_pass test (c ∷ cs) none = and_from (not (test c)) (list_all (λ c. not (t
 no_char_passes : (test : ℕ → Bool) (bs : List ℕ) → IsUtf8 bs → NoCharPasses test bs → list_all (λ c. not (test c)) (chars bs) ≡ true
 no_char_passes test bs utf8 (cs, is, none) = ap (list_all (λ c. not (test c))) (sym (chars_from_encodes cs bs utf8 is)) ∙ none_pass test cs none
 
-pub split_once_parts : (P : (ℕ → Bool) → Type 0) (test : ℕ → Bool) (bs : List ℕ) (r : Option (Bor (List ℕ) × Bor (List ℕ))) → IsUtf8 bs → MatchOption r (Unit {0}) (λ x. IsUtf8 x.0.now) → P test → (let F : List ℕ → Option (ℕ × ℕ) → Type 0 = λ s o. (k : ℕ → Bool) → P k → FindsBy k s o in MatchOption r (F bs None) (λ x. SplitsAroundMatch F bs x.0.now x.1.now)) → MatchOption r (list_all (λ c. not (test c)) (chars bs) ≡ true) (λ x. (c : ℕ) × (chars bs ≡ chars x.0.now ++ c ∷ chars x.1.now) × (test c ≡ true) × (list_all (λ c. not (test c)) (chars x.0.now) ≡ true))
-split_once_parts P test bs None utf8 text matches cases = no_char_passes test bs utf8 (cases test matches)
-split_once_parts P test bs (Some x) utf8 text matches (i, j, found, front, back, order, front_len, back_len) =
+scalars-parts : (xs ys : List ℕ) → scalars (xs ++ ys) ≡ true → (scalars xs ≡ true) × (scalars ys ≡ true)
+scalars-parts [] ys all = (refl, all)
+scalars-parts (c ∷ xs) ys all =
+    let parts = and_parts (scalar c) (scalars (xs ++ ys)) all in
+    let rest = scalars-parts xs ys parts.1 in
+    (and_from (scalar c) (scalars xs) parts.0 rest.0, rest.1)
+
+-- a text that begins with the bytes of these characters begins with these characters
+behind_encodes : (front all rest : List ℕ) → encodes all ≡ encodes front ++ rest → (behind : List ℕ) × (all ≡ front ++ behind) × (encodes behind ≡ rest)
+behind_encodes [] all rest is = (all, refl, is)
+behind_encodes (c ∷ front) all rest is =
+    let first = cons_from_encodes all (encodes front ++ rest) c (is ∙ append_assoc (encode c) (encodes front) rest) in
+    let others = behind_encodes front first.0 rest first.2 in
+    (others.0, first.1 ∙ ap (λ t. c ∷ t) others.1, others.2)
+
+pub split_once_parts : (P : (ℕ → Bool) → Type 0) (test : ℕ → Bool) (bs : List ℕ) (r : Option (Bor (List ℕ) × Bor (List ℕ))) → IsUtf8 bs → P test → (let F : List ℕ → Option (ℕ × ℕ) → Type 0 = λ s o. (k : ℕ → Bool) → P k → FindsBy k s o in MatchOption r (F bs None) (λ x. SplitsAroundMatch F bs x.0.now x.1.now)) → MatchOption r (list_all (λ c. not (test c)) (chars bs) ≡ true) (λ x. (c : ℕ) × (chars bs ≡ chars x.0.now ++ c ∷ chars x.1.now) × (test c ≡ true) × (list_all (λ c. not (test c)) (chars x.0.now) ≡ true))
+split_once_parts P test bs None utf8 matches cases = no_char_passes test bs utf8 (cases test matches)
+split_once_parts P test bs (Some x) utf8 matches (i, j, found, front, back, order, front_len, back_len) =
     let finds = found test matches in
-    let front_text : IsUtf8 (take i bs) = subst IsUtf8 front text in
-    let boundary : IsCharBoundary bs i = IsCharBoundary-from_take bs i utf8 (omega (arith, back_len)) front_text in
-    let past = chars-past test bs i j (IsUtf8-drop bs i utf8 boundary) finds.1 in
-    let whole : chars bs ≡ chars (take i bs) ++ chars (drop i bs) = ap chars (sym (take-append-drop i bs)) ∙ chars-append (take i bs) (drop i bs) front_text in
-    let parts : chars bs ≡ chars x.0.now ++ past.0 ∷ chars x.1.now = whole ∙ ap (λ cs. chars (take i bs) ++ cs) past.2 ∙ ap (λ t. chars t ++ past.0 ∷ chars (drop j bs)) (sym front) ∙ ap (λ t. chars x.0.now ++ past.0 ∷ chars t) (sym back) in
-    (past.0, parts, past.1, no_char_passes test x.0.now text (subst (NoCharPasses test) (sym front) finds.0))
+    let before = finds.0.0 in
+    let c = finds.1.0 in
+    let bytes : encodes (chars bs) ≡ encodes before ++ (encode c ++ drop j bs) = encodes-chars bs utf8 ∙ sym (take-append-drop i bs) ∙ ap (λ t. t ++ drop i bs) (sym finds.0.1) ∙ ap (λ t. encodes before ++ t) finds.1.2.split in
+    let behind = behind_encodes before (chars bs) (encode c ++ drop j bs) bytes in
+    let more = cons_from_encodes behind.0 (drop j bs) c behind.2 in
+    let whole : chars bs ≡ before ++ c ∷ more.0 = behind.1 ∙ ap (λ t. before ++ t) more.1 in
+    let all = scalars-parts before (c ∷ more.0) (ap scalars (sym whole) ∙ scalars-chars bs utf8) in
+    let front_is : before ≡ chars x.0.now = sym (chars-encodes before all.0) ∙ ap chars (finds.0.1 ∙ sym front) in
+    let back_is : more.0 ≡ chars x.1.now = sym (chars-encodes more.0 (and_parts (scalar c) (scalars more.0) all.1).1) ∙ ap chars (more.2 ∙ sym back) in
+    let parts : chars bs ≡ chars x.0.now ++ c ∷ chars x.1.now = whole ∙ ap (λ t. t ++ c ∷ more.0) front_is ∙ ap (λ t. chars x.0.now ++ c ∷ t) back_is in
+    (c, parts, finds.1.1, subst (λ t. list_all (λ d. not (test d)) t ≡ true) front_is (none_pass test before finds.0.2))
+
+-- what of the text comes before the first character that passes, and whether there is one
+pub split_once-none : (test : ℕ → Bool) (text : List ℕ) → list_all (λ c. not (test c)) text ≡ true → skip_while (λ c. not (test c)) text ≡ []
+split_once-none test text none =
+    ap (skip_while (λ c. not (test c))) (sym (append-nil text)) ∙ skip_while-append (λ c. not (test c)) text [] none tt
+
+pub split_once-some : (test : ℕ → Bool) (text front back : List ℕ) (c : ℕ) → text ≡ front ++ c ∷ back → test c ≡ true → list_all (λ c. not (test c)) front ≡ true → skip_while (λ c. not (test c)) text ≡ c ∷ back
+split_once-some test text front back c whole passes none =
+    ap (skip_while (λ c. not (test c))) whole ∙ skip_while-append (λ c. not (test c)) front (c ∷ back) none (ap not passes)
+
+pub split_once-all : (test : ℕ → Bool) (text : List ℕ) → list_all (λ c. not (test c)) text ≡ true → text ≡ text ++ skip_while (λ c. not (test c)) text
+split_once-all test text none = sym (append-nil text) ∙ ap (λ t. text ++ t) (sym (split_once-none test text none))
+
+pub split_once-front : (test : ℕ → Bool) (text front back : List ℕ) (c : ℕ) → text ≡ front ++ c ∷ back → test c ≡ true → list_all (λ c. not (test c)) front ≡ true → text ≡ front ++ skip_while (λ c. not (test c)) text
+split_once-front test text front back c whole passes none =
+    whole ∙ ap (λ t. front ++ t) (sym (split_once-some test text front back c whole passes none))

@@ -1,6 +1,7 @@
 -- What is left of a text behind its front, where that is read from left to right, each piece as long as it can be.
 -- It says how the finders go about their work. No promise of a public call names it.
-use Rattle.std.specs.Prelude.{ℕ, ◌==◌, Bool, List, [], ◌∷◌, Option, Some, None, if◌then◌else◌, option_and_then}
+use Rattle.std.specs.Prelude.{ℕ, ◌==◌, ◌&&◌, Bool, false, nat_lt, List, [], ◌∷◌, Option, Some, None, if◌then◌else◌, option_and_then}
+use Rattle.std.specs.List.{list_all}
 use Rattle.std.specs.Option.{option_map}
 use Rattle.unicode.specs.CaseFolding.{simple_fold}
 use Rattle.deno_graph_pragmas.specs.Piece.{Piece, one, any, some, run, exactly, keyword, whites, sign}
@@ -43,6 +44,15 @@ after_piece (keyword word) text = after_keyword word text
 abbrev pub after_pieces : List Piece → List ℕ → Option (List ℕ)
 after_pieces [] text = Some text
 after_pieces (first ∷ others) text = option_and_then (after_pieces others) (after_piece first text)
+
+-- a word of ASCII characters
+abbrev pub is_ascii : List ℕ → Bool
+is_ascii word = list_all (λ letter. nat_lt letter 128) word
+
+-- the word begins with a character above `*`, so with no white space and no star
+abbrev pub begins_dark : List ℕ → Bool
+begins_dark [] = false
+begins_dark (letter ∷ word) = nat_lt 42 letter && nat_lt letter 128
 
 -- K(name) W* `=` W*
 abbrev pub assignment : List ℕ → List Piece

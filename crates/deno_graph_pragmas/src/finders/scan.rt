@@ -1,11 +1,10 @@
 //! Steps over the front of a text, each over one piece. What is answered is the text behind it.
 
-ghost use Rattle.std.specs.Prelude.{◌≡◌, ◌<◌, [], ◌∷◌, IsTrue, nat_lt, option_map};
-ghost use Rattle.std.specs.Char.{is_whitespace};
-ghost use Rattle.std.specs.List.{list_all};
+ghost use Rattle.std.specs.Prelude.{◌≡◌, ◌<◌, [], ◌∷◌, ◌++◌, IfSome, IsNone, IsSome, IsTrue, option_map};
+ghost use Rattle.std.specs.Char.{is_whitespace, is_not_whitespace};
 ghost use Rattle.std.specs.Str.{chars};
-ghost use Rattle.deno_graph_pragmas.specs.Piece.{is_number_or_at, is_quote, is_white_or_star};
-ghost use Rattle.deno_graph_pragmas.specs.Reading.{after_exactly, after_keyword, after_one, after_pieces, assignment, skip_while};
+ghost use Rattle.deno_graph_pragmas.specs.Piece.{is_number_or_at, is_quote, is_unquoted, is_white_or_star};
+ghost use Rattle.deno_graph_pragmas.specs.Reading.{after_exactly, after_keyword, after_one, after_pieces, assignment, is_ascii, skip_while};
 
 use crate::finders::letter::is_letter;
 
@@ -53,7 +52,7 @@ pub(super) fn strip_sign(text: &str, sign: char) -> Option<&str>
 
 /// The characters of `word` in any case.
 pub(super) fn strip_keyword<'a>(text: &'a str, word: &str) -> Option<&'a str>
-    requires { IsTrue (list_all (λ letter. nat_lt letter 128) word.now) }
+    requires { IsTrue (is_ascii word.now) }
     ensures { option_map (λ rest. chars rest.now) result ≡ after_keyword word.now (chars text.now) }
 {
     let mut rest = text.chars();
@@ -67,10 +66,30 @@ pub(super) fn strip_keyword<'a>(text: &'a str, word: &str) -> Option<&'a str>
 
 /// The name in any case, and an equals sign with the white space round it.
 pub(super) fn strip_assignment<'a>(text: &'a str, name: &str) -> Option<&'a str>
-    requires { IsTrue (list_all (λ letter. nat_lt letter 128) name.now) }
+    requires { IsTrue (is_ascii name.now) }
     ensures { option_map (λ rest. chars rest.now) result ≡ after_pieces (assignment name.now) (chars text.now) }
 {
     let behind_name = strip_keyword(text, name)?;
     let behind_sign = strip_sign(skip_white_space(behind_name), '=')?;
     Some(skip_white_space(behind_sign))
+}
+
+/// The front of the text up to its first quote of either kind. None where it has no quote.
+pub(super) fn before_quote(text: &str) -> Option<&str>
+    ensures front { IfSome result (λ front. chars text.now ≡ chars front.now ++ skip_while is_unquoted (chars text.now)) }
+    ensures quote { IfSome result (λ _. IsSome (after_one is_quote (skip_while is_unquoted (chars text.now)))) }
+    ensures none { IsNone result → after_one is_quote (skip_while is_unquoted (chars text.now)) ≡ None }
+{
+    let (front, _) = text.split_once(['"', '\''])?;
+    Some(front)
+}
+
+/// The front of the text up to its first white space, or all of it where it has none.
+pub(super) fn before_white_space(text: &str) -> &str
+    ensures { chars text.now ≡ chars result.now ++ skip_while is_not_whitespace (chars text.now) }
+{
+    match text.split_once(|c: char| c.is_whitespace()) {
+        Some((front, _)) => front,
+        None => text,
+    }
 }
