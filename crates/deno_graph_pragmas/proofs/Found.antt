@@ -1,12 +1,13 @@
 -- From what reading leaves to what a finder answers.
-use Rattle.std.proofs.Common.{◌≡◌, ℕ, ◌+◌, ◌-◌, ◌≤◌, ◌<◌, true, false, List, [], ◌∷◌, ◌++◌, Option, Some, None, IsTrue, length, refl, sym, ap, subst, ◌∙◌, append_assoc, length-append, arith, zero-le}
+use Rattle.std.proofs.Common.{◌≡◌, ℕ, ◌+◌, ◌-◌, ◌≤◌, ◌<◌, true, false, List, [], ◌∷◌, ◌++◌, Option, Some, None, IsSome, IsNone, is_some, ◌↔◌, IsTrue, length, refl, sym, ap, subst, ◌∙◌, append_assoc, length-append, arith, zero-le}
+use Rattle.std.proofs.lemmas.Bool.{false≢true}
 use Rattle.std.proofs.lemmas.List.{append_cancel_left, append_cancel_right}
 use Rattle.std.proofs.lemmas.Str.{encodes-chars, encodes-append}
 use Rattle.std.specs.Option.{option_and_then}
 use Rattle.std.specs.Str.{chars, IsUtf8}
 use lib.Utf8.{encodes}
 use Rattle.deno_graph_pragmas.specs.Piece.{Piece, IsPiece}
-use Rattle.deno_graph_pragmas.specs.Reading.{after_piece, after_pieces}
+use Rattle.deno_graph_pragmas.specs.Reading.{after_piece, after_pieces, IsReadAt}
 use Rattle.deno_graph_pragmas.specs.Split.{Pattern, ArePieces, Split, IsFirst, Part, IsCaptured, byte_count}
 use Rattle.deno_graph_pragmas.proofs.ReadPieces.{after_piece-front, after_pieces-front}
 use Rattle.deno_graph_pragmas.proofs.Splits.{IsDetermined, behind_before, behind_front, front_read, captured_read, back_read}
@@ -36,32 +37,33 @@ no_rest pattern text rest determined anchored front none split =
     let same : rest ≡ behind_front split = cc in
     none_some _ _ none (ap (after_pieces (pattern.captured ∷ pattern.back)) same ∙ rest_read pattern text determined split)
 
+-- a finder answers None where there is none
+pub none_answer : {A : Type 0} {S : Type 0} (answer : Option A) → answer ≡ None → ¬ S → IsNone answer ↔ ¬ S
+none_answer answer is none = (λ _. none, λ _. ap is_some is)
+
+pub some_answer : {S : Type 0} → S → (true ≡ false) ↔ ¬ S
+some_answer there = (λ never. absurd (false≢true (sym never)), λ none. absurd (none there))
+
 -- ---- where there is one
 
--- the part stands where `rest` begins, with which `text` ends, and reading goes on behind it
-pub record IsRead (pattern : Pattern) (text rest : List ℕ) (part : Part) : Type 0 where
-  pub behind : List ℕ
-  pub after : List ℕ
-  pub captured : after_piece pattern.captured (chars rest) ≡ Some behind
-  pub back : after_pieces pattern.back behind ≡ Some after
-  pub whole : chars rest ≡ chars part.text ++ behind
-  pub utf8 : IsUtf8 part.text
-  pub start : part.start ≡ length text - length rest
-  pub end : part.end ≡ part.start + length part.text
+some_is : {A : Type 0} (o : Option A) → IsSome o → (x : A) × (o ≡ Some x)
+some_is None is = absurd (false≢true is)
+some_is (Some x) is = (x, refl)
 
-made : (pattern : Pattern) (text rest before tail : List ℕ) (part : Part) → chars text ≡ before ++ tail → (IsTrue pattern.anchored → before ≡ []) → after_pieces pattern.front tail ≡ Some (chars rest) → IsRead pattern text rest part → Split pattern (chars text)
+made : (pattern : Pattern) (text rest before tail : List ℕ) (part : Part) → chars text ≡ before ++ tail → (IsTrue pattern.anchored → before ≡ []) → after_pieces pattern.front tail ≡ Some (chars rest) → IsReadAt pattern.captured pattern.back text rest part → Split pattern (chars text)
 made pattern text rest before tail part whole anchored front read =
     let first = after_pieces-front pattern.front tail (chars rest) front in
     let second = after_piece-front pattern.captured (chars rest) read.behind read.captured in
-    let third = after_pieces-front pattern.back read.behind read.after read.back in
+    let more = some_is (after_pieces pattern.back read.behind) read.back_read in
+    let third = after_pieces-front pattern.back read.behind more.0 more.1 in
     let same : second.0 ≡ chars part.text = append_cancel_right second.0 (chars part.text) read.behind (sym second.1 ∙ read.whole) in
-    let all : chars rest ≡ chars part.text ++ (third.0 ++ read.after) = read.whole ∙ ap (λ t. chars part.text ++ t) third.1 in
+    let all : chars rest ≡ chars part.text ++ (third.0 ++ more.0) = read.whole ∙ ap (λ t. chars part.text ++ t) third.1 in
     record {
       before = before;
       front = first.0;
       captured = chars part.text;
       back = third.0;
-      after = read.after;
+      after = more.0;
       whole = whole ∙ ap (λ t. before ++ t) (first.1 ∙ ap (λ t. first.0 ++ t) all);
       anchored = anchored;
       front_pieces = subst (ArePieces pattern.front first.0) all first.2;
@@ -74,7 +76,19 @@ bytes_of : (text rest front : List ℕ) → IsUtf8 text → IsUtf8 rest → char
 bytes_of text rest front text_utf8 rest_utf8 whole =
     sym (encodes-chars text text_utf8) ∙ ap encodes whole ∙ encodes-append front (chars rest) ∙ ap (λ bytes. encodes front ++ bytes) (encodes-chars rest rest_utf8)
 
-pub IsCaptured-read : (pattern : Pattern) (text rest before tail : List ℕ) (part : Part) → IsUtf8 text → IsUtf8 rest → chars text ≡ before ++ tail → (IsTrue pattern.anchored → before ≡ []) → ((other : Split pattern (chars text)) → length before ≤ length other.before) → after_pieces pattern.front tail ≡ Some (chars rest) → IsRead pattern text rest part → IsCaptured pattern text part
+-- what is left is no longer
+pub length_left : (pieces : List Piece) (text rest : List ℕ) → IsUtf8 text → IsUtf8 rest → after_pieces pieces (chars text) ≡ Some (chars rest) → length rest ≤ length text
+length_left pieces text rest text_utf8 rest_utf8 left =
+    let front = after_pieces-front pieces (chars text) (chars rest) left in
+    omega (arith, ap length (bytes_of text rest front.0 text_utf8 rest_utf8 front.1), length-append (encodes front.0) rest)
+
+-- a front is no longer than the text
+pub length_front : (text front : List ℕ) (rest : List ℕ) → IsUtf8 text → IsUtf8 front → chars text ≡ chars front ++ rest → length front ≤ length text
+length_front text front rest text_utf8 front_utf8 whole =
+    let bytes : text ≡ front ++ encodes rest = sym (encodes-chars text text_utf8) ∙ ap encodes whole ∙ encodes-append (chars front) rest ∙ ap (λ t. t ++ encodes rest) (encodes-chars front front_utf8) in
+    omega (arith, ap length bytes, length-append front (encodes rest))
+
+pub IsCaptured-read : (pattern : Pattern) (text rest before tail : List ℕ) (part : Part) → IsUtf8 text → IsUtf8 rest → chars text ≡ before ++ tail → (IsTrue pattern.anchored → before ≡ []) → ((other : Split pattern (chars text)) → length before ≤ length other.before) → after_pieces pattern.front tail ≡ Some (chars rest) → IsReadAt pattern.captured pattern.back text rest part → IsCaptured pattern text part
 unfolding made
 IsCaptured-read pattern text rest before tail part text_utf8 rest_utf8 whole anchored first front read =
     let split : Split pattern (chars text) = made pattern text rest before tail part whole anchored front read in
@@ -91,6 +105,18 @@ IsCaptured-read pattern text rest before tail part text_utf8 rest_utf8 whole anc
     }
 
 -- at the start of the text
-pub IsCaptured-at_start : (pattern : Pattern) (text rest : List ℕ) (part : Part) → IsUtf8 text → IsUtf8 rest → after_pieces pattern.front (chars text) ≡ Some (chars rest) → IsRead pattern text rest part → IsCaptured pattern text part
+pub IsCaptured-at_start : (pattern : Pattern) (text rest : List ℕ) (part : Part) → IsUtf8 text → IsUtf8 rest → after_pieces pattern.front (chars text) ≡ Some (chars rest) → IsReadAt pattern.captured pattern.back text rest part → IsCaptured pattern text part
 IsCaptured-at_start pattern text rest part text_utf8 rest_utf8 front read =
     IsCaptured-read pattern text rest [] (chars text) part text_utf8 rest_utf8 refl (λ _. refl) (λ other. zero-le) front read
+
+-- what is read at the start of `rest` is a part
+pub IsReadAt-front : (piece : Piece) (back : List Piece) (text rest front behind : List ℕ) (part : Part) → IsUtf8 front → after_piece piece (chars rest) ≡ Some behind → IsSome (after_pieces back behind) → chars rest ≡ chars front ++ behind → part.text ≡ front → part.start ≡ length text - length rest → part.end ≡ part.start + length front → IsReadAt piece back text rest part
+IsReadAt-front piece back text rest front behind part utf8 captured back_read whole is start end = record {
+  behind = behind;
+  captured = captured;
+  back_read = back_read;
+  whole = whole ∙ ap (λ t. chars t ++ behind) (sym is);
+  utf8 = subst IsUtf8 (sym is) utf8;
+  start = start;
+  end = end ∙ ap (λ t. part.start + length t) (sym is);
+}

@@ -2,5 +2,6 @@ mod Barriers
 mod Folding
 mod Found
 mod ReadPieces
+mod Runs
 mod Splits
 mod TextSteps

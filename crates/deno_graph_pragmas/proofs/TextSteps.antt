@@ -54,6 +54,17 @@ strip_prefix_sign c bs (Some x) utf8 (n, found, is, sizes) =
     let past : chars bs ≡ c ∷ chars (drop n bs) = chars_past_char bs (drop n bs) c utf8 found.split in
     ap (λ t. Some (chars t)) is ∙ sym (ap (after_exactly (c ∷ [])) past ∙ cond-true (c == c) (Some (chars (drop n bs))) None (eq-eqb c c refl))
 
+-- what is left is text
+pub strip_prefix_one-utf8 : (P : (ℕ → Bool) → Type 0) (test : ℕ → Bool) (bs : List ℕ) (r : Option (Bor (List ℕ))) → IsUtf8 bs → P test → (let F : List ℕ → Option ℕ → Type 0 = λ s o. (k : ℕ → Bool) → P k → FindsPrefixBy k s o in MatchOption r (F bs None) (λ x. StripsPrefix F bs x.now)) → IfSome r (λ x. IsUtf8 x.now)
+strip_prefix_one-utf8 P test bs None utf8 matches cases = tt
+strip_prefix_one-utf8 P test bs (Some x) utf8 matches (n, found, is, sizes) =
+    let first = found test matches in subst IsUtf8 (sym is) (IsUtf8-past_char bs (drop n bs) first.0 utf8 first.2.split)
+
+pub strip_prefix_sign-utf8 : (c : ℕ) (bs : List ℕ) (r : Option (Bor (List ℕ))) → IsUtf8 bs → MatchOption r (FindsCharPrefix c bs None) (λ x. StripsPrefix (FindsCharPrefix c) bs x.now) → IfSome r (λ x. IsUtf8 x.now)
+strip_prefix_sign-utf8 c bs None utf8 cases = tt
+strip_prefix_sign-utf8 c bs (Some x) utf8 (n, found, is, sizes) =
+    subst IsUtf8 (sym is) (IsUtf8-past_char bs (drop n bs) c utf8 found.split)
+
 -- `trim_start`
 skip_same : (cs : List ℕ) → skip_leading_whitespace cs ≡ skip_while is_whitespace cs
 skip_same [] = refl

@@ -1,10 +1,12 @@
 -- What is left of a text behind its front, where that is read from left to right, each piece as long as it can be.
 -- It says how the finders go about their work. No promise of a public call names it.
-use Rattle.std.specs.Prelude.{ℕ, ◌==◌, ◌&&◌, Bool, false, nat_lt, List, [], ◌∷◌, Option, Some, None, if◌then◌else◌, option_and_then}
+use Rattle.std.specs.Prelude.{◌≡◌, ℕ, ◌+◌, ◌-◌, ◌++◌, length, ◌==◌, ◌&&◌, Bool, false, nat_lt, List, [], ◌∷◌, Option, Some, None, IsSome, if◌then◌else◌, option_and_then}
 use Rattle.std.specs.List.{list_all}
 use Rattle.std.specs.Option.{option_map}
+use Rattle.std.specs.Str.{chars, IsUtf8}
 use Rattle.unicode.specs.CaseFolding.{simple_fold}
 use Rattle.deno_graph_pragmas.specs.Piece.{Piece, one, any, some, run, exactly, keyword, whites, sign}
+use Rattle.deno_graph_pragmas.specs.Split.{Part}
 
 -- behind the characters that pass
 abbrev pub skip_while : (ℕ → Bool) → List ℕ → List ℕ
@@ -57,3 +59,14 @@ begins_dark (letter ∷ word) = nat_lt 42 letter && nat_lt letter 128
 -- K(name) W* `=` W*
 abbrev pub assignment : List ℕ → List Piece
 assignment name = keyword name ∷ whites ∷ sign "=" ∷ whites ∷ []
+
+-- The part stands where `rest` begins, with which `text` ends. It is what reading passes over as `piece`, and `back` can
+-- be read behind it.
+pub record IsReadAt (piece : Piece) (back : List Piece) (text rest : List ℕ) (part : Part) : Type 0 where
+  pub behind : List ℕ
+  pub captured : after_piece piece (chars rest) ≡ Some behind
+  pub back_read : IsSome (after_pieces back behind)
+  pub whole : chars rest ≡ chars part.text ++ behind
+  pub utf8 : IsUtf8 part.text
+  pub start : part.start ≡ length text - length rest
+  pub end : part.end ≡ part.start + length part.text

@@ -1,15 +1,15 @@
-use Rattle.std.proofs.Common.{◌≡◌, ◌∷◌, Some, None, refl, sym, ap, ◌∙◌}
+use Rattle.std.proofs.Common.{◌≡◌, [], ◌∷◌, Some, None, refl, sym, ap, ◌∙◌}
 use Rattle.std.proofs.lemmas.Bool.{cond-true}
 use Rattle.std.specs.Str.{chars}
-use Rattle.deno_graph_pragmas.specs.Piece.{is_quote, is_unquoted}
-use Rattle.deno_graph_pragmas.specs.Reading.{after_one, skip_while}
+use Rattle.deno_graph_pragmas.specs.Piece.{is_quote, is_unquoted, quote}
+use Rattle.deno_graph_pragmas.specs.Reading.{after_pieces, skip_while}
 use Rattle.deno_graph_pragmas.proofs.TextSteps.{split_once_parts, split_once-none, split_once-some, split_once-front}
 use Rattle.deno_graph_pragmas.proofs.finders.scan.before_quote.Goals as goal
 
 pub returns-in_err-front-clause-none : goal.returns-in_err-front-clause-none
 returns-in_err-front-clause-none c = λ _.
     let none = split_once_parts _ is_quote c.args.text.now None c.utf8.text (λ _. refl) c.in_err-front.ensures.cases in
-    ap (after_one is_quote) (split_once-none is_quote (chars c.args.text.now) none)
+    ap (after_pieces (quote ∷ [])) (split_once-none is_quote (chars c.args.text.now) none)
 
 pub returns-clause-front : goal.returns-clause-front
 returns-clause-front c =

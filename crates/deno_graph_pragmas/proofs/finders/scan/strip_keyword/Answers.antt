@@ -28,8 +28,8 @@ loop-letter-preserved c =
       left = sym (after_keyword-more c.args.word.now (chars (chars_rest c.next.new.self)) c.loop-letter.letter-index c.in_ok-next.field-0 left same) ∙ ap (after_keyword (drop c.loop-letter.letter-index c.args.word.now)) (sym past) ∙ c.loop-letter.invariant.left;
     }
 
-pub returns-in_err-next : goal.returns-in_err-next
-returns-in_err-next c =
+pub returns-in_err-next-clause-left : goal.returns-in_err-next-clause-left
+returns-in_err-next-clause-left c =
     let items = c.as_bytes-letter-items.ensures.value in
     let left : c.loop-letter.letter-index < length c.args.word.now = omega (arith, ap length items) in
     let rest = nil_from_length _ c.in_err-next.ensures.steps.0.0 in

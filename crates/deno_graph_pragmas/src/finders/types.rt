@@ -1,0 +1,63 @@
+//! Pragmas that name types.
+
+ghost use Rattle.std.specs.Prelude.{◌≡◌, ◌∷◌, ◌↔◌, IfSome, IsNone, IsTrue, option_map};
+ghost use Rattle.std.specs.Str.{chars, IsUtf8};
+ghost use Rattle.deno_graph_pragmas.specs.Finders.{quoted_pragma, ts_self_types, ts_types};
+ghost use Rattle.deno_graph_pragmas.specs.Match.{part_of};
+ghost use Rattle.deno_graph_pragmas.specs.Piece.{whites};
+ghost use Rattle.deno_graph_pragmas.specs.Reading.{after_pieces, assignment, begins_dark, is_ascii};
+ghost use Rattle.deno_graph_pragmas.specs.Split.{IsCaptured, Split};
+
+use crate::finders::captured::capture_quoted;
+use crate::finders::matches::Match;
+use crate::finders::scan::{skip_white_space, strip_assignment, strip_quote};
+
+/// The types of the module itself, as `@ts-self-types="./mod.d.ts"` names them: the text between
+/// the quotes, which isn't empty.
+pub fn find_ts_self_types(text: &str) -> Option<Match<'_>>
+    ensures found { IfSome result (λ found. IsCaptured ts_self_types text.now (part_of found)) }
+    ensures none { IsNone result ↔ ¬ (Split ts_self_types (chars text.now)) }
+{
+    find_quoted_pragma(text, "@ts-self-types")
+}
+
+/// The types of what is imported, as `@ts-types="./mod.d.ts"` names them: the text between the
+/// quotes, which isn't empty.
+pub fn find_ts_types(text: &str) -> Option<Match<'_>>
+    ensures found { IfSome result (λ found. IsCaptured ts_types text.now (part_of found)) }
+    ensures none { IsNone result ↔ ¬ (Split ts_types (chars text.now)) }
+{
+    find_quoted_pragma(text, "@ts-types")
+}
+
+fn find_quoted_pragma<'a>(text: &'a str, name: &str) -> Option<Match<'a>>
+    requires ascii { IsTrue (is_ascii name.now) }
+    requires dark { IsTrue (begins_dark name.now) }
+    ensures found { IfSome result (λ found. IsCaptured (quoted_pragma name.now) text.now (part_of found)) }
+    ensures none { IsNone result ↔ ¬ (Split (quoted_pragma name.now) (chars text.now)) }
+{
+    let value = strip_pragma_and_quote(text, name)?;
+    let found = capture_quoted(text, value)?;
+    if found.as_str().is_empty() {
+        return None;
+    }
+    Some(found)
+}
+
+/// White space, the name in any case, and an equals sign with white space round it.
+fn strip_pragma<'a>(text: &'a str, name: &str) -> Option<&'a str>
+    requires { IsTrue (is_ascii name.now) }
+    ensures left { option_map (λ rest. chars rest.now) result ≡ after_pieces (whites ∷ assignment name.now) (chars text.now) }
+    ensures utf8 { IfSome result (λ rest. IsUtf8 rest.now) }
+{
+    strip_assignment(skip_white_space(text), name)
+}
+
+/// The same, and a quote.
+fn strip_pragma_and_quote<'a>(text: &'a str, name: &str) -> Option<&'a str>
+    requires { IsTrue (is_ascii name.now) }
+    ensures left { option_map (λ rest. chars rest.now) result ≡ after_pieces (quoted_pragma name.now).front (chars text.now) }
+    ensures utf8 { IfSome result (λ rest. IsUtf8 rest.now) }
+{
+    strip_quote(strip_pragma(text, name)?)
+}
