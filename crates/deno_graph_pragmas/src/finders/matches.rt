@@ -1,5 +1,5 @@
 ghost use Rattle.std.specs.Prelude.{◌≡◌, ◌+◌, ◌-◌, ◌≤◌, length};
-ghost use Rattle.deno_graph_pragmas.specs.Match.{part_of};
+ghost use Rattle.deno_graph_pragmas.specs.Match.{part_of, pragma_part_of};
 
 use std::ops::Range;
 
@@ -41,5 +41,29 @@ impl<'a> Match<'a> {
         ensures end { result.end ≡ (part_of self.now).end }
     {
         self.start..self.end
+    }
+}
+
+/// The types of what is imported, as a `@deno-types` pragma names them.
+#[derive(Debug, PartialEq, Eq, Drop)]
+pub struct DenoTypesPragmaMatch<'a> {
+    /// The specifier, without quotes.
+    pub text: &'a str,
+    /// Where the specifier stands, without quotes, in bytes from zero.
+    pub range: Range<usize>,
+    /// Whether no quotes stand round it.
+    pub is_quoteless: bool,
+}
+
+impl<'a> DenoTypesPragmaMatch<'a> {
+    pub(super) fn new(found: Match<'a>, is_quoteless: bool) -> DenoTypesPragmaMatch<'a>
+        ensures part { pragma_part_of result ≡ part_of found }
+        ensures quoteless { result.is_quoteless ≡ is_quoteless }
+    {
+        DenoTypesPragmaMatch {
+            text: found.as_str(),
+            range: found.range(),
+            is_quoteless,
+        }
     }
 }

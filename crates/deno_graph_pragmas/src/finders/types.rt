@@ -1,15 +1,15 @@
 //! Pragmas that name types.
 
-ghost use Rattle.std.specs.Prelude.{◌≡◌, ◌∷◌, ◌↔◌, IfSome, IsNone, IsTrue, option_map};
+ghost use Rattle.std.specs.Prelude.{◌≡◌, ◌∷◌, ◌↔◌, IfSome, IsNone, IsTrue, false, option_map, true};
 ghost use Rattle.std.specs.Str.{chars, IsUtf8};
-ghost use Rattle.deno_graph_pragmas.specs.Finders.{quoted_pragma, ts_self_types, ts_types};
-ghost use Rattle.deno_graph_pragmas.specs.Match.{part_of};
+ghost use Rattle.deno_graph_pragmas.specs.Finders.{deno_types, quoted_pragma, quoteless_deno_types, quoteless_pragma, ts_self_types, ts_types};
+ghost use Rattle.deno_graph_pragmas.specs.Match.{part_of, pragma_part_of};
 ghost use Rattle.deno_graph_pragmas.specs.Piece.{whites};
 ghost use Rattle.deno_graph_pragmas.specs.Reading.{after_pieces, assignment, begins_dark, is_ascii};
 ghost use Rattle.deno_graph_pragmas.specs.Split.{IsCaptured, Split};
 
-use crate::finders::captured::capture_quoted;
-use crate::finders::matches::Match;
+use crate::finders::captured::{capture_quoted, capture_run};
+use crate::finders::matches::{DenoTypesPragmaMatch, Match};
 use crate::finders::scan::{skip_white_space, strip_assignment, strip_quote};
 
 /// The types of the module itself, as `@ts-self-types="./mod.d.ts"` names them: the text between
@@ -30,6 +30,24 @@ pub fn find_ts_types(text: &str) -> Option<Match<'_>>
     find_quoted_pragma(text, "@ts-types")
 }
 
+/// The types of what is imported, as `@deno-types="./mod.d.ts"` names them: the text between the
+/// quotes, which isn't empty; or, where the text isn't so, the characters up to the next white
+/// space, as in `@deno-types=./mod.d.ts`.
+pub fn find_deno_types(text: &str) -> Option<DenoTypesPragmaMatch<'_>>
+    ensures quoted { IfSome result (λ found. found.is_quoteless ≡ false
+        → IsCaptured deno_types text.now (pragma_part_of found)) }
+    ensures quoteless { IfSome result (λ found. found.is_quoteless ≡ true
+        → ¬ (Split deno_types (chars text.now)) × IsCaptured quoteless_deno_types text.now (pragma_part_of found)) }
+    ensures none { IsNone result
+        ↔ (¬ (Split deno_types (chars text.now)) × ¬ (Split quoteless_deno_types (chars text.now))) }
+{
+    if let Some(found) = find_quoted_pragma(text, "@deno-types") {
+        return Some(DenoTypesPragmaMatch::new(found, false));
+    }
+    let found = find_quoteless_pragma(text, "@deno-types")?;
+    Some(DenoTypesPragmaMatch::new(found, true))
+}
+
 fn find_quoted_pragma<'a>(text: &'a str, name: &str) -> Option<Match<'a>>
     requires ascii { IsTrue (is_ascii name.now) }
     requires dark { IsTrue (begins_dark name.now) }
@@ -42,6 +60,16 @@ fn find_quoted_pragma<'a>(text: &'a str, name: &str) -> Option<Match<'a>>
         return None;
     }
     Some(found)
+}
+
+fn find_quoteless_pragma<'a>(text: &'a str, name: &str) -> Option<Match<'a>>
+    requires ascii { IsTrue (is_ascii name.now) }
+    requires dark { IsTrue (begins_dark name.now) }
+    ensures found { IfSome result (λ found. IsCaptured (quoteless_pragma name.now) text.now (part_of found)) }
+    ensures none { IsNone result ↔ ¬ (Split (quoteless_pragma name.now) (chars text.now)) }
+{
+    let value = strip_pragma(text, name)?;
+    capture_run(text, value)
 }
 
 /// White space, the name in any case, and an equals sign with white space round it.

@@ -1,0 +1,86 @@
+//! Triple-slash references, and the attributes in them.
+
+ghost use Rattle.std.specs.Prelude.{◌≡◌, ◌≤◌, ◌∷◌, [], ◌++◌, ◌↔◌, IfSome, IsNone, IsTrue, List, None, codes, length, option_map};
+ghost use Rattle.std.specs.List.{list_all};
+ghost use Rattle.std.specs.Str.{chars, IsUtf8};
+ghost use Rattle.deno_graph_pragmas.specs.Finders.{attribute, path_reference, resolution_mode, triple_slash_reference, types_reference};
+ghost use Rattle.deno_graph_pragmas.specs.Match.{part_of};
+ghost use Rattle.deno_graph_pragmas.specs.Piece.{is_in_line, quote, unquoted};
+ghost use Rattle.deno_graph_pragmas.specs.Reading.{after_pieces, assignment, is_ascii};
+ghost use Rattle.deno_graph_pragmas.specs.Split.{IsCaptured, Split};
+
+use crate::finders::captured::capture_quoted;
+use crate::finders::matches::Match;
+use crate::finders::scan::{
+    skip_white_space, strip_assignment, strip_keyword, strip_quote, strip_sign, strip_white_space,
+};
+
+/// Whether the text of a line comment is a reference, as `/ <reference path="./mod.d.ts" />` is.
+pub fn is_comment_triple_slash_reference(text: &str) -> bool
+    ensures { IsTrue result ↔ Split triple_slash_reference (chars text.now) }
+{
+    match strip_reference(text) {
+        Some(rest) => is_closed_in_line(rest),
+        None => false,
+    }
+}
+
+/// A slash, `<reference` in any case, and one character of white space.
+fn strip_reference(text: &str) -> Option<&str>
+    ensures left { option_map (λ rest. chars rest.now) result ≡ after_pieces triple_slash_reference.front (chars text.now) }
+    ensures utf8 { IfSome result (λ rest. IsUtf8 rest.now) }
+{
+    let behind_slash = strip_sign(text, '/')?;
+    let behind_name = strip_keyword(skip_white_space(behind_slash), "<reference")?;
+    strip_white_space(behind_name)
+}
+
+/// Whether `/>` stands in the first line of the text.
+fn is_closed_in_line(text: &str) -> bool
+{
+    match text.split_once('\n') {
+        Some((line, _)) => line.contains("/>"),
+        None => text.contains("/>"),
+    }
+}
+
+/// The value of the first attribute `path`, without its quotes.
+pub fn find_path_reference(text: &str) -> Option<Match<'_>>
+{
+    find_attribute(text, "path")
+}
+
+/// The value of the first attribute `types`, without its quotes.
+pub fn find_types_reference(text: &str) -> Option<Match<'_>>
+{
+    find_attribute(text, "types")
+}
+
+/// The value of the first attribute `resolution-mode`, without its quotes.
+pub fn find_resolution_mode(text: &str) -> Option<Match<'_>>
+{
+    find_attribute(text, "resolution-mode")
+}
+
+fn find_attribute<'a>(text: &'a str, name: &str) -> Option<Match<'a>>
+    requires { IsTrue (is_ascii name.now) }
+{
+    let mut rest = text.chars();
+    while let Some(c) = rest.next() {
+        if c.is_whitespace()
+            && let Some(found) = attribute_at(text, rest.as_str(), name)
+        {
+            return Some(found);
+        }
+    }
+    None
+}
+
+/// The value of the attribute, where `rest`, with which `text` ends, begins with it.
+fn attribute_at<'a>(text: &str, rest: &'a str, name: &str) -> Option<Match<'a>>
+    requires ascii { IsTrue (is_ascii name.now) }
+    requires rest { length rest.now ≤ length text.now }
+{
+    let value = strip_quote(strip_assignment(rest, name)?)?;
+    capture_quoted(text, value)
+}
