@@ -1,11 +1,14 @@
 -- From what reading leaves to what a finder answers.
-use Rattle.std.proofs.Common.{◌≡◌, ℕ, ◌+◌, ◌-◌, ◌≤◌, ◌<◌, true, false, List, [], ◌∷◌, ◌++◌, Option, Some, None, IsSome, IsNone, is_some, ◌↔◌, IsTrue, length, refl, sym, ap, subst, ◌∙◌, append_assoc, length-append, arith, zero-le}
+use Rattle.std.proofs.Common.{◌≡◌, ℕ, ◌+◌, ◌-◌, ◌≤◌, ◌<◌, true, false, List, [], ◌∷◌, ◌++◌, Option, Some, None, IsSome, IsNone, IfSome, is_some, ◌↔◌, IsTrue, length, refl, sym, ap, subst, ◌∙◌, append_assoc, length-append, arith, zero-le}
 use Rattle.std.proofs.lemmas.Bool.{false≢true}
 use Rattle.std.proofs.lemmas.List.{append_cancel_left, append_cancel_right}
+use Rattle.std.proofs.lemmas.Option.{IfSome_then}
 use Rattle.std.proofs.lemmas.Str.{encodes-chars, encodes-append}
 use Rattle.std.specs.Option.{option_and_then}
 use Rattle.std.specs.Str.{chars, IsUtf8}
 use lib.Utf8.{encodes}
+use Rattle.deno_graph_pragmas.specs.Match.{part_of}
+use Rattle.deno_graph_pragmas.specs.declared.finders.matches.Match.{Match}
 use Rattle.deno_graph_pragmas.specs.Piece.{Piece, IsPiece}
 use Rattle.deno_graph_pragmas.specs.Reading.{after_piece, after_pieces, IsReadAt}
 use Rattle.deno_graph_pragmas.specs.Split.{Pattern, ArePieces, Split, IsFirst, Part, IsCaptured, byte_count}
@@ -27,7 +30,7 @@ no_front pattern text determined anchored none split =
     none_some _ _ none (ap (after_pieces pattern.front) (sym (at_start pattern text anchored split)) ∙ front_read pattern text determined split)
 
 -- what a split captures, with the pieces behind it, is read behind its front
-rest_read : (pattern : Pattern) (text : List ℕ) → IsDetermined pattern → (split : Split pattern text) → after_pieces (pattern.captured ∷ pattern.back) (behind_front split) ≡ Some split.after
+pub rest_read : (pattern : Pattern) (text : List ℕ) → IsDetermined pattern → (split : Split pattern text) → after_pieces (pattern.captured ∷ pattern.back) (behind_front split) ≡ Some split.after
 rest_read pattern text determined split =
     ap (option_and_then (after_pieces pattern.back)) (captured_read pattern text determined split) ∙ back_read pattern text determined split
 
@@ -72,7 +75,7 @@ made pattern text rest before tail part whole anchored front read =
     }
 
 -- a text is the bytes of the front of its characters and what they leave
-bytes_of : (text rest front : List ℕ) → IsUtf8 text → IsUtf8 rest → chars text ≡ front ++ chars rest → text ≡ encodes front ++ rest
+pub bytes_of : (text rest front : List ℕ) → IsUtf8 text → IsUtf8 rest → chars text ≡ front ++ chars rest → text ≡ encodes front ++ rest
 bytes_of text rest front text_utf8 rest_utf8 whole =
     sym (encodes-chars text text_utf8) ∙ ap encodes whole ∙ encodes-append front (chars rest) ∙ ap (λ bytes. encodes front ++ bytes) (encodes-chars rest rest_utf8)
 
@@ -120,3 +123,15 @@ IsReadAt-front piece back text rest front behind part utf8 captured back_read wh
   start = start;
   end = end ∙ ap (λ t. part.start + length t) (sym is);
 }
+
+-- ---- what is answered behind a front that was read
+
+pub found_behind : (pattern : Pattern) (text rest : List ℕ) (answer : Option Match) → IsUtf8 text → IsUtf8 rest → after_pieces pattern.front (chars text) ≡ Some (chars rest) → IfSome answer (λ found. IsReadAt pattern.captured pattern.back text rest (part_of found)) → IfSome answer (λ found. IsCaptured pattern text (part_of found))
+found_behind pattern text rest answer text_utf8 rest_utf8 front read =
+    IfSome_then answer read (λ found. IsCaptured-at_start pattern text rest (part_of found) text_utf8 rest_utf8 front)
+
+pub none_behind : (pattern : Pattern) (text rest : List ℕ) (answer : Option Match) → IsUtf8 text → IsUtf8 rest → IsDetermined pattern → pattern.anchored ≡ true → after_pieces pattern.front (chars text) ≡ Some (chars rest) → IfSome answer (λ found. IsReadAt pattern.captured pattern.back text rest (part_of found)) → (IsNone answer → after_pieces (pattern.captured ∷ pattern.back) (chars rest) ≡ None) → IsNone answer ↔ ¬ (Split pattern (chars text))
+none_behind pattern text rest None text_utf8 rest_utf8 determined anchored front read none =
+    none_answer {A = Match} None refl (no_rest pattern (chars text) (chars rest) determined anchored front (none refl))
+none_behind pattern text rest (Some found) text_utf8 rest_utf8 determined anchored front read none =
+    some_answer (IsCaptured-at_start pattern text rest (part_of found) text_utf8 rest_utf8 front read).split

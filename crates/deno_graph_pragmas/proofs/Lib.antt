@@ -1,3 +1,4 @@
+mod Attributes
 mod Barriers
 mod Folding
 mod Found

@@ -5,7 +5,7 @@ use Rattle.std.specs.List.{list_all}
 use Rattle.std.specs.Option.{option_map}
 use Rattle.std.specs.Str.{chars, IsUtf8}
 use Rattle.unicode.specs.CaseFolding.{simple_fold}
-use Rattle.deno_graph_pragmas.specs.Piece.{Piece, one, any, some, run, exactly, keyword, whites, sign}
+use Rattle.deno_graph_pragmas.specs.Piece.{Piece, one, any, some, run, exactly, keyword, whites, sign, quote, unquoted}
 use Rattle.deno_graph_pragmas.specs.Split.{Part}
 
 -- behind the characters that pass
@@ -70,3 +70,19 @@ pub record IsReadAt (piece : Piece) (back : List Piece) (text rest : List ℕ) (
   pub utf8 : IsUtf8 part.text
   pub start : part.start ≡ length text - length rest
   pub end : part.end ≡ part.start + length part.text
+
+-- what an attribute begins with, behind the white space before it: K(name) W* `=` W* Q
+abbrev pub attribute_front : List ℕ → List Piece
+attribute_front name = keyword name ∷ whites ∷ sign "=" ∷ whites ∷ quote ∷ []
+
+-- an attribute begins where `rest` does, with which `text` ends, and the part is its value
+pub record IsAttributeAt (name text rest : List ℕ) (part : Part) : Type 0 where
+  pub value : List ℕ
+  pub utf8 : IsUtf8 value
+  pub front : after_pieces (attribute_front name) (chars rest) ≡ Some (chars value)
+  pub read : IsReadAt unquoted (quote ∷ []) text value part
+
+-- no attribute begins with these characters
+abbrev pub HasNoAttribute : List ℕ → List ℕ → Type 0
+HasNoAttribute name text =
+    (value : List ℕ) → after_pieces (attribute_front name) text ≡ Some value → after_pieces (unquoted ∷ quote ∷ []) value ≡ None

@@ -57,7 +57,7 @@ pub struct DenoTypesPragmaMatch<'a> {
 
 impl<'a> DenoTypesPragmaMatch<'a> {
     pub(super) fn new(found: Match<'a>, is_quoteless: bool) -> DenoTypesPragmaMatch<'a>
-        ensures part { pragma_part_of result ≡ part_of found }
+        ensures part { pragma_part_of result ≡ part_of found.entry }
         ensures quoteless { result.is_quoteless ≡ is_quoteless }
     {
         DenoTypesPragmaMatch {

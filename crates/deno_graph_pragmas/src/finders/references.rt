@@ -5,8 +5,8 @@ ghost use Rattle.std.specs.List.{list_all};
 ghost use Rattle.std.specs.Str.{chars, IsUtf8};
 ghost use Rattle.deno_graph_pragmas.specs.Finders.{attribute, path_reference, resolution_mode, triple_slash_reference, types_reference};
 ghost use Rattle.deno_graph_pragmas.specs.Match.{part_of};
-ghost use Rattle.deno_graph_pragmas.specs.Piece.{is_in_line, quote, unquoted};
-ghost use Rattle.deno_graph_pragmas.specs.Reading.{after_pieces, assignment, is_ascii};
+ghost use Rattle.deno_graph_pragmas.specs.Piece.{is_in_line};
+ghost use Rattle.deno_graph_pragmas.specs.Reading.{after_pieces, attribute_front, is_ascii, HasNoAttribute, IsAttributeAt};
 ghost use Rattle.deno_graph_pragmas.specs.Split.{IsCaptured, Split};
 
 use crate::finders::captured::capture_quoted;
@@ -46,24 +46,32 @@ fn is_closed_in_line(text: &str) -> bool
 
 /// The value of the first attribute `path`, without its quotes.
 pub fn find_path_reference(text: &str) -> Option<Match<'_>>
+    ensures found { IfSome result (λ found. IsCaptured path_reference text.now (part_of found)) }
+    ensures none { IsNone result ↔ ¬ (Split path_reference (chars text.now)) }
 {
     find_attribute(text, "path")
 }
 
 /// The value of the first attribute `types`, without its quotes.
 pub fn find_types_reference(text: &str) -> Option<Match<'_>>
+    ensures found { IfSome result (λ found. IsCaptured types_reference text.now (part_of found)) }
+    ensures none { IsNone result ↔ ¬ (Split types_reference (chars text.now)) }
 {
     find_attribute(text, "types")
 }
 
 /// The value of the first attribute `resolution-mode`, without its quotes.
 pub fn find_resolution_mode(text: &str) -> Option<Match<'_>>
+    ensures found { IfSome result (λ found. IsCaptured resolution_mode text.now (part_of found)) }
+    ensures none { IsNone result ↔ ¬ (Split resolution_mode (chars text.now)) }
 {
     find_attribute(text, "resolution-mode")
 }
 
 fn find_attribute<'a>(text: &'a str, name: &str) -> Option<Match<'a>>
     requires { IsTrue (is_ascii name.now) }
+    ensures found { IfSome result (λ found. IsCaptured (attribute name.now) text.now (part_of found)) }
+    ensures none { IsNone result ↔ ¬ (Split (attribute name.now) (chars text.now)) }
 {
     let mut rest = text.chars();
     while let Some(c) = rest.next() {
@@ -76,11 +84,22 @@ fn find_attribute<'a>(text: &'a str, name: &str) -> Option<Match<'a>>
     None
 }
 
-/// The value of the attribute, where `rest`, with which `text` ends, begins with it.
+/// The value of the attribute with which `rest` begins. The text ends with `rest`.
 fn attribute_at<'a>(text: &str, rest: &'a str, name: &str) -> Option<Match<'a>>
     requires ascii { IsTrue (is_ascii name.now) }
     requires rest { length rest.now ≤ length text.now }
+    ensures found { IfSome result (λ found. IsAttributeAt name.now text.now rest.now (part_of found)) }
+    ensures none { IsNone result → HasNoAttribute name.now (chars rest.now) }
 {
-    let value = strip_quote(strip_assignment(rest, name)?)?;
+    let value = strip_attribute(rest, name)?;
     capture_quoted(text, value)
+}
+
+/// The name in any case, an equals sign with white space round it, and a quote.
+fn strip_attribute<'a>(text: &'a str, name: &str) -> Option<&'a str>
+    requires { IsTrue (is_ascii name.now) }
+    ensures left { option_map (λ rest. chars rest.now) result ≡ after_pieces (attribute_front name.now) (chars text.now) }
+    ensures utf8 { IfSome result (λ rest. IsUtf8 rest.now) }
+{
+    strip_quote(strip_assignment(text, name)?)
 }

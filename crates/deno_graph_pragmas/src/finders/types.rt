@@ -41,11 +41,13 @@ pub fn find_deno_types(text: &str) -> Option<DenoTypesPragmaMatch<'_>>
     ensures none { IsNone result
         ↔ (¬ (Split deno_types (chars text.now)) × ¬ (Split quoteless_deno_types (chars text.now))) }
 {
-    if let Some(found) = find_quoted_pragma(text, "@deno-types") {
-        return Some(DenoTypesPragmaMatch::new(found, false));
+    match find_quoted_pragma(text, "@deno-types") {
+        Some(found) => Some(DenoTypesPragmaMatch::new(found, false)),
+        None => {
+            let found = find_quoteless_pragma(text, "@deno-types")?;
+            Some(DenoTypesPragmaMatch::new(found, true))
+        }
     }
-    let found = find_quoteless_pragma(text, "@deno-types")?;
-    Some(DenoTypesPragmaMatch::new(found, true))
 }
 
 fn find_quoted_pragma<'a>(text: &'a str, name: &str) -> Option<Match<'a>>
