@@ -21,7 +21,7 @@ none_some : {A : Type 0} (o : Option A) (x : A) → o ≡ None → o ≡ Some x 
 none_some o x none some = cc
 
 -- an anchored split is at the start
-at_start : (pattern : Pattern) (text : List ℕ) → pattern.anchored ≡ true → (split : Split pattern text) → behind_before split ≡ text
+pub at_start : (pattern : Pattern) (text : List ℕ) → pattern.anchored ≡ true → (split : Split pattern text) → behind_before split ≡ text
 at_start pattern text anchored split =
     ap (λ before. before ++ behind_before split) (sym (split.anchored anchored)) ∙ sym split.whole
 

@@ -2,7 +2,9 @@ mod Attributes
 mod Barriers
 mod Folding
 mod Found
+mod Lines
 mod ReadPieces
+mod References
 mod Runs
 mod Splits
 mod TextSteps

@@ -9,7 +9,7 @@ use Rattle.std.specs.Char.{is_whitespace, IsScalar, len_utf8}
 use Rattle.std.specs.List.{list_all}
 use Rattle.std.specs.Option.{option_map}
 use Rattle.std.specs.Str.{chars, IsUtf8, skip_leading_whitespace, trim_start, NonePass, NoCharPasses, IsCharBoundary}
-use Rattle.std.specs.Str.Pattern.{FindsPrefixBy, FindsBy, HasPassingCharAt, HasCharAt, StripsPrefix, SplitsAroundMatch, FindsCharPrefix, CutsPrefixes, IsFullyTrimmed, IsTrimStartMatches}
+use Rattle.std.specs.Str.Pattern.{FindsPrefixBy, FindsBy, HasPassingCharAt, HasCharAt, StripsPrefix, SplitsAroundMatch, FindsCharPrefix, FindsChar, CutsPrefixes, IsFullyTrimmed, IsTrimStartMatches}
 use lib.Utf8.{encode, encodes, scalar, scalars}
 use Rattle.deno_graph_pragmas.specs.Piece.{IsStopped}
 use Rattle.deno_graph_pragmas.specs.Reading.{skip_while, after_one, after_exactly}
@@ -137,10 +137,14 @@ behind_encodes (c ∷ front) all rest is =
     let others = behind_encodes front first.0 rest first.2 in
     (others.0, first.1 ∙ ap (λ t. c ∷ t) others.1, others.2)
 
-pub split_once_parts : (P : (ℕ → Bool) → Type 0) (test : ℕ → Bool) (bs : List ℕ) (r : Option (Bor (List ℕ) × Bor (List ℕ))) → IsUtf8 bs → P test → (let F : List ℕ → Option (ℕ × ℕ) → Type 0 = λ s o. (k : ℕ → Bool) → P k → FindsBy k s o in MatchOption r (F bs None) (λ x. SplitsAroundMatch F bs x.0.now x.1.now)) → MatchOption r (list_all (λ c. not (test c)) (chars bs) ≡ true) (λ x. (c : ℕ) × (chars bs ≡ chars x.0.now ++ c ∷ chars x.1.now) × (test c ≡ true) × (list_all (λ c. not (test c)) (chars x.0.now) ≡ true))
-split_once_parts P test bs None utf8 matches cases = no_char_passes test bs utf8 (cases test matches)
-split_once_parts P test bs (Some x) utf8 matches (i, j, found, front, back, order, front_len, back_len) =
-    let finds = found test matches in
+-- what the parts of `split_once` are
+abbrev pub AreParts : (ℕ → Bool) → List ℕ → Option (Bor (List ℕ) × Bor (List ℕ)) → Type 0
+AreParts test bs r =
+    MatchOption r (list_all (λ c. not (test c)) (chars bs) ≡ true) (λ x. (c : ℕ) × (chars bs ≡ chars x.0.now ++ c ∷ chars x.1.now) × (test c ≡ true) × (list_all (λ c. not (test c)) (chars x.0.now) ≡ true))
+
+pub split_once_by : (test : ℕ → Bool) (bs : List ℕ) (r : Option (Bor (List ℕ) × Bor (List ℕ))) → IsUtf8 bs → MatchOption r (FindsBy test bs None) (λ x. SplitsAroundMatch (FindsBy test) bs x.0.now x.1.now) → AreParts test bs r
+split_once_by test bs None utf8 cases = no_char_passes test bs utf8 cases
+split_once_by test bs (Some x) utf8 (i, j, finds, front, back, order, front_len, back_len) =
     let before = finds.0.0 in
     let c = finds.1.0 in
     let bytes : encodes (chars bs) ≡ encodes before ++ (encode c ++ drop j bs) = encodes-chars bs utf8 ∙ sym (take-append-drop i bs) ∙ ap (λ t. t ++ drop i bs) (sym finds.0.1) ∙ ap (λ t. encodes before ++ t) finds.1.2.split in
@@ -152,6 +156,17 @@ split_once_parts P test bs (Some x) utf8 matches (i, j, found, front, back, orde
     let back_is : more.0 ≡ chars x.1.now = sym (chars-encodes more.0 (and_parts (scalar c) (scalars more.0) all.1).1) ∙ ap chars (more.2 ∙ sym back) in
     let parts : chars bs ≡ chars x.0.now ++ c ∷ chars x.1.now = whole ∙ ap (λ t. t ++ c ∷ more.0) front_is ∙ ap (λ t. chars x.0.now ++ c ∷ t) back_is in
     (c, parts, finds.1.1, subst (λ t. list_all (λ d. not (test d)) t ≡ true) front_is (none_pass test before finds.0.2))
+
+pub split_once_parts : (P : (ℕ → Bool) → Type 0) (test : ℕ → Bool) (bs : List ℕ) (r : Option (Bor (List ℕ) × Bor (List ℕ))) → IsUtf8 bs → P test → (let F : List ℕ → Option (ℕ × ℕ) → Type 0 = λ s o. (k : ℕ → Bool) → P k → FindsBy k s o in MatchOption r (F bs None) (λ x. SplitsAroundMatch F bs x.0.now x.1.now)) → AreParts test bs r
+split_once_parts P test bs None utf8 matches cases = split_once_by test bs None utf8 (cases test matches)
+split_once_parts P test bs (Some x) utf8 matches (i, j, found, front, back, order, front_len, back_len) =
+    split_once_by test bs (Some x) utf8 (i, j, found test matches, front, back, order, front_len, back_len)
+
+-- `split_once` at a character
+pub split_once_sign : (sign : ℕ) (bs : List ℕ) (r : Option (Bor (List ℕ) × Bor (List ℕ))) → IsUtf8 bs → MatchOption r (FindsChar sign bs None) (λ x. SplitsAroundMatch (FindsChar sign) bs x.0.now x.1.now) → AreParts (λ c. c == sign) bs r
+split_once_sign sign bs None utf8 cases = split_once_by (λ c. c == sign) bs None utf8 cases
+split_once_sign sign bs (Some x) utf8 (i, j, found, front, back, order, front_len, back_len) =
+    split_once_by (λ c. c == sign) bs (Some x) utf8 (i, j, (found.0, (sign, eq-eqb sign sign refl, found.1)), front, back, order, front_len, back_len)
 
 -- what of the text comes before the first character that passes, and whether there is one
 pub split_once-none : (test : ℕ → Bool) (text : List ℕ) → list_all (λ c. not (test c)) text ≡ true → skip_while (λ c. not (test c)) text ≡ []

@@ -1,11 +1,11 @@
 -- What is left of a text behind its front, where that is read from left to right, each piece as long as it can be.
 -- It says how the finders go about their work. No promise of a public call names it.
-use Rattle.std.specs.Prelude.{◌≡◌, ℕ, ◌+◌, ◌-◌, ◌++◌, length, ◌==◌, ◌&&◌, Bool, false, nat_lt, List, [], ◌∷◌, Option, Some, None, IsSome, if◌then◌else◌, option_and_then}
+use Rattle.std.specs.Prelude.{◌≡◌, ◌⊎◌, ℕ, ◌+◌, ◌-◌, ◌++◌, length, ◌==◌, ◌&&◌, Bool, false, nat_lt, List, [], ◌∷◌, Option, Some, None, IsSome, IsTrue, codes, if◌then◌else◌, option_and_then}
 use Rattle.std.specs.List.{list_all}
 use Rattle.std.specs.Option.{option_map}
 use Rattle.std.specs.Str.{chars, IsUtf8}
 use Rattle.unicode.specs.CaseFolding.{simple_fold}
-use Rattle.deno_graph_pragmas.specs.Piece.{Piece, one, any, some, run, exactly, keyword, whites, sign, quote, unquoted}
+use Rattle.deno_graph_pragmas.specs.Piece.{Piece, one, any, some, run, exactly, keyword, whites, sign, quote, unquoted, is_in_line}
 use Rattle.deno_graph_pragmas.specs.Split.{Part}
 
 -- behind the characters that pass
@@ -86,3 +86,12 @@ pub record IsAttributeAt (name text rest : List ℕ) (part : Part) : Type 0 wher
 abbrev pub HasNoAttribute : List ℕ → List ℕ → Type 0
 HasNoAttribute name text =
     (value : List ℕ) → after_pieces (attribute_front name) text ≡ Some value → after_pieces (unquoted ∷ quote ∷ []) value ≡ None
+
+-- `/>` stands in the first line of the text
+abbrev pub IsClosedInLine : List ℕ → Type 0
+IsClosedInLine text =
+    (line : List ℕ) × (after : List ℕ) × IsTrue (list_all is_in_line line) × (text ≡ line ++ (codes "/>" ++ after))
+
+-- `line` is the text up to its first line feed
+abbrev pub IsFirstLine : List ℕ → List ℕ → Type 0
+IsFirstLine text line = IsTrue (list_all is_in_line line) × ((text ≡ line) ⊎ ((after : List ℕ) × (text ≡ line ++ 10 ∷ after)))

@@ -6,7 +6,7 @@ ghost use Rattle.std.specs.Str.{chars, IsUtf8};
 ghost use Rattle.deno_graph_pragmas.specs.Finders.{attribute, path_reference, resolution_mode, triple_slash_reference, types_reference};
 ghost use Rattle.deno_graph_pragmas.specs.Match.{part_of};
 ghost use Rattle.deno_graph_pragmas.specs.Piece.{is_in_line};
-ghost use Rattle.deno_graph_pragmas.specs.Reading.{after_pieces, attribute_front, is_ascii, HasNoAttribute, IsAttributeAt};
+ghost use Rattle.deno_graph_pragmas.specs.Reading.{after_pieces, attribute_front, is_ascii, HasNoAttribute, IsAttributeAt, IsClosedInLine, IsFirstLine};
 ghost use Rattle.deno_graph_pragmas.specs.Split.{IsCaptured, Split};
 
 use crate::finders::captured::capture_quoted;
@@ -37,10 +37,18 @@ fn strip_reference(text: &str) -> Option<&str>
 
 /// Whether `/>` stands in the first line of the text.
 fn is_closed_in_line(text: &str) -> bool
+    ensures { IsTrue result ↔ IsClosedInLine (chars text.now) }
+{
+    first_line(text).contains("/>")
+}
+
+/// The text up to its first line feed, or all of it where it has none.
+fn first_line(text: &str) -> &str
+    ensures { IsFirstLine (chars text.now) (chars result.now) }
 {
     match text.split_once('\n') {
-        Some((line, _)) => line.contains("/>"),
-        None => text.contains("/>"),
+        Some((line, _)) => line,
+        None => text,
     }
 }
 
