@@ -1,5 +1,6 @@
 mod Attributes
 mod Barriers
+mod Captured
 mod Folding
 mod Found
 mod Lines

@@ -85,3 +85,8 @@ deno_types = quoted_pragma (codes "@deno-types")
 
 abbrev pub quoteless_deno_types : Pattern
 quoteless_deno_types = quoteless_pragma (codes "@deno-types")
+
+-- those of the finders that capture a part
+abbrev pub finder_patterns : List Pattern
+finder_patterns =
+    path_reference ∷ types_reference ∷ resolution_mode ∷ jsx_import_source ∷ jsx_import_source_types ∷ source_mapping_url ∷ ts_self_types ∷ ts_types ∷ deno_types ∷ quoteless_deno_types ∷ []

@@ -1,7 +1,7 @@
 -- Splits of a text by a pattern, and the part of it that a finder answers.
-use Rattle.std.specs.Prelude.{◌≡◌, ◌≤◌, ℕ, Bool, List, [], ◌∷◌, ◌++◌, IsTrue, length, encode_utf8_all}
-use Rattle.std.specs.Str.{chars}
-use Rattle.deno_graph_pragmas.specs.Piece.{Piece, IsPiece}
+use Rattle.std.specs.Prelude.{◌≡◌, ◌≤◌, ◌+◌, ℕ, Bool, List, [], ◌∷◌, ◌++◌, IsTrue, length, slice_range, encode_utf8_all}
+use Rattle.std.specs.Str.{chars, IsCharBoundary}
+use Rattle.deno_graph_pragmas.specs.Piece.{Piece, IsPiece, is_quote}
 
 -- pieces in turn, of which one is captured
 pub record Pattern : Type 0 where
@@ -51,3 +51,32 @@ pub record IsCaptured (pattern : Pattern) (text : List ℕ) (part : Part) : Type
   pub bytes : part.text ≡ encode_utf8_all split.captured
   pub start : part.start ≡ byte_count (split.before ++ split.front)
   pub end : part.end ≡ byte_count (split.before ++ split.front ++ split.captured)
+
+-- the part is what stands between its ends, and these are boundaries of the text
+pub record IsSliceOf (text : List ℕ) (part : Part) : Type 0 where
+  pub start : IsCharBoundary text part.start
+  pub end : IsCharBoundary text part.end
+  pub ordered : part.start ≤ part.end
+  pub is : part.text ≡ slice_range text part.start part.end
+
+-- the part stands between two quotes, each of either kind
+pub record StandsInQuotes (text : List ℕ) (part : Part) : Type 0 where
+  pub front : List ℕ
+  pub left : ℕ
+  pub right : ℕ
+  pub back : List ℕ
+  pub whole : text ≡ front ++ left ∷ (part.text ++ right ∷ back)
+  pub left_quote : IsTrue (is_quote left)
+  pub right_quote : IsTrue (is_quote right)
+  pub start : part.start ≡ length front + 1
+  pub end : part.end ≡ part.start + length part.text
+
+-- where a split begins determines what it captures
+abbrev pub StartDetermines : Pattern → Type 0
+StartDetermines pattern =
+    (text : List ℕ) (one other : Split pattern text) → one.before ≡ other.before → (one.front ≡ other.front) × (one.captured ≡ other.captured)
+
+-- a text has at most one captured part
+abbrev pub HasOnePart : Pattern → Type 0
+HasOnePart pattern =
+    (text : List ℕ) (one other : Part) → IsCaptured pattern text one → IsCaptured pattern text other → one ≡ other

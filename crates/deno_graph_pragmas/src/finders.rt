@@ -2,6 +2,7 @@
 
 mod captured;
 pub mod jsx;
+pub mod laws;
 mod letter;
 pub mod matches;
 pub mod references;

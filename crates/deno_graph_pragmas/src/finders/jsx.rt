@@ -5,7 +5,7 @@ ghost use Rattle.std.specs.Str.{chars, IsUtf8};
 ghost use Rattle.deno_graph_pragmas.specs.Finders.{jsx_import_source, jsx_import_source_types, jsx_pragma};
 ghost use Rattle.deno_graph_pragmas.specs.Match.{part_of};
 ghost use Rattle.deno_graph_pragmas.specs.Reading.{after_pieces, begins_dark, is_ascii};
-ghost use Rattle.deno_graph_pragmas.specs.Split.{IsCaptured, Split};
+ghost use Rattle.deno_graph_pragmas.specs.Split.{IsCaptured, IsSliceOf, Split};
 
 use crate::finders::captured::capture_run;
 use crate::finders::matches::Match;
@@ -17,6 +17,7 @@ use crate::finders::scan::{
 pub fn find_jsx_import_source(text: &str) -> Option<Match<'_>>
     ensures found { IfSome result (λ found. IsCaptured jsx_import_source text.now (part_of found)) }
     ensures none { IsNone result ↔ ¬ (Split jsx_import_source (chars text.now)) }
+    ensures slice { IfSome result (λ found. IsSliceOf text.now (part_of found)) }
 {
     find_jsx_pragma(text, "@jsxImportSource")
 }
@@ -25,6 +26,7 @@ pub fn find_jsx_import_source(text: &str) -> Option<Match<'_>>
 pub fn find_jsx_import_source_types(text: &str) -> Option<Match<'_>>
     ensures found { IfSome result (λ found. IsCaptured jsx_import_source_types text.now (part_of found)) }
     ensures none { IsNone result ↔ ¬ (Split jsx_import_source_types (chars text.now)) }
+    ensures slice { IfSome result (λ found. IsSliceOf text.now (part_of found)) }
 {
     find_jsx_pragma(text, "@jsxImportSourceTypes")
 }
@@ -34,6 +36,7 @@ fn find_jsx_pragma<'a>(text: &'a str, name: &str) -> Option<Match<'a>>
     requires dark { IsTrue (begins_dark name.now) }
     ensures found { IfSome result (λ found. IsCaptured (jsx_pragma name.now) text.now (part_of found)) }
     ensures none { IsNone result ↔ ¬ (Split (jsx_pragma name.now) (chars text.now)) }
+    ensures slice { IfSome result (λ found. IsSliceOf text.now (part_of found)) }
 {
     let value = strip_jsx_pragma(text, name)?;
     capture_run(text, value)

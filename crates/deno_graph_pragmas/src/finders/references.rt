@@ -7,7 +7,7 @@ ghost use Rattle.deno_graph_pragmas.specs.Finders.{attribute, path_reference, re
 ghost use Rattle.deno_graph_pragmas.specs.Match.{part_of};
 ghost use Rattle.deno_graph_pragmas.specs.Piece.{is_in_line};
 ghost use Rattle.deno_graph_pragmas.specs.Reading.{after_pieces, attribute_front, is_ascii, HasNoAttribute, IsAttributeAt, IsClosedInLine, IsFirstLine};
-ghost use Rattle.deno_graph_pragmas.specs.Split.{IsCaptured, Split};
+ghost use Rattle.deno_graph_pragmas.specs.Split.{IsCaptured, IsSliceOf, Split};
 
 use crate::finders::captured::capture_quoted;
 use crate::finders::matches::Match;
@@ -56,6 +56,7 @@ fn first_line(text: &str) -> &str
 pub fn find_path_reference(text: &str) -> Option<Match<'_>>
     ensures found { IfSome result (λ found. IsCaptured path_reference text.now (part_of found)) }
     ensures none { IsNone result ↔ ¬ (Split path_reference (chars text.now)) }
+    ensures slice { IfSome result (λ found. IsSliceOf text.now (part_of found)) }
 {
     find_attribute(text, "path")
 }
@@ -64,6 +65,7 @@ pub fn find_path_reference(text: &str) -> Option<Match<'_>>
 pub fn find_types_reference(text: &str) -> Option<Match<'_>>
     ensures found { IfSome result (λ found. IsCaptured types_reference text.now (part_of found)) }
     ensures none { IsNone result ↔ ¬ (Split types_reference (chars text.now)) }
+    ensures slice { IfSome result (λ found. IsSliceOf text.now (part_of found)) }
 {
     find_attribute(text, "types")
 }
@@ -72,6 +74,7 @@ pub fn find_types_reference(text: &str) -> Option<Match<'_>>
 pub fn find_resolution_mode(text: &str) -> Option<Match<'_>>
     ensures found { IfSome result (λ found. IsCaptured resolution_mode text.now (part_of found)) }
     ensures none { IsNone result ↔ ¬ (Split resolution_mode (chars text.now)) }
+    ensures slice { IfSome result (λ found. IsSliceOf text.now (part_of found)) }
 {
     find_attribute(text, "resolution-mode")
 }
@@ -80,6 +83,7 @@ fn find_attribute<'a>(text: &'a str, name: &str) -> Option<Match<'a>>
     requires { IsTrue (is_ascii name.now) }
     ensures found { IfSome result (λ found. IsCaptured (attribute name.now) text.now (part_of found)) }
     ensures none { IsNone result ↔ ¬ (Split (attribute name.now) (chars text.now)) }
+    ensures slice { IfSome result (λ found. IsSliceOf text.now (part_of found)) }
 {
     let mut rest = text.chars();
     while let Some(c) = rest.next() {

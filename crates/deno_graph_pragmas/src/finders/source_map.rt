@@ -5,7 +5,7 @@ ghost use Rattle.std.specs.Str.{chars, IsUtf8};
 ghost use Rattle.deno_graph_pragmas.specs.Finders.{source_mapping_url};
 ghost use Rattle.deno_graph_pragmas.specs.Match.{part_of};
 ghost use Rattle.deno_graph_pragmas.specs.Reading.{after_pieces};
-ghost use Rattle.deno_graph_pragmas.specs.Split.{IsCaptured, Split};
+ghost use Rattle.deno_graph_pragmas.specs.Split.{IsCaptured, IsSliceOf, Split};
 
 use crate::finders::captured::capture_run;
 use crate::finders::matches::Match;
@@ -15,6 +15,7 @@ use crate::finders::scan::{skip_white_space, strip_assignment, strip_number_or_a
 pub fn find_source_mapping_url(text: &str) -> Option<Match<'_>>
     ensures found { IfSome result (λ found. IsCaptured source_mapping_url text.now (part_of found)) }
     ensures none { IsNone result ↔ ¬ (Split source_mapping_url (chars text.now)) }
+    ensures slice { IfSome result (λ found. IsSliceOf text.now (part_of found)) }
 {
     let value = strip_source_mapping_url(text)?;
     capture_run(text, value)

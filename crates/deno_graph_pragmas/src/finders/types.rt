@@ -6,7 +6,7 @@ ghost use Rattle.deno_graph_pragmas.specs.Finders.{deno_types, quoted_pragma, qu
 ghost use Rattle.deno_graph_pragmas.specs.Match.{part_of, pragma_part_of};
 ghost use Rattle.deno_graph_pragmas.specs.Piece.{whites};
 ghost use Rattle.deno_graph_pragmas.specs.Reading.{after_pieces, assignment, begins_dark, is_ascii};
-ghost use Rattle.deno_graph_pragmas.specs.Split.{IsCaptured, Split};
+ghost use Rattle.deno_graph_pragmas.specs.Split.{IsCaptured, IsSliceOf, Split};
 
 use crate::finders::captured::{capture_quoted, capture_run};
 use crate::finders::matches::{DenoTypesPragmaMatch, Match};
@@ -17,6 +17,7 @@ use crate::finders::scan::{skip_white_space, strip_assignment, strip_quote};
 pub fn find_ts_self_types(text: &str) -> Option<Match<'_>>
     ensures found { IfSome result (λ found. IsCaptured ts_self_types text.now (part_of found)) }
     ensures none { IsNone result ↔ ¬ (Split ts_self_types (chars text.now)) }
+    ensures slice { IfSome result (λ found. IsSliceOf text.now (part_of found)) }
 {
     find_quoted_pragma(text, "@ts-self-types")
 }
@@ -26,6 +27,7 @@ pub fn find_ts_self_types(text: &str) -> Option<Match<'_>>
 pub fn find_ts_types(text: &str) -> Option<Match<'_>>
     ensures found { IfSome result (λ found. IsCaptured ts_types text.now (part_of found)) }
     ensures none { IsNone result ↔ ¬ (Split ts_types (chars text.now)) }
+    ensures slice { IfSome result (λ found. IsSliceOf text.now (part_of found)) }
 {
     find_quoted_pragma(text, "@ts-types")
 }
@@ -40,6 +42,7 @@ pub fn find_deno_types(text: &str) -> Option<DenoTypesPragmaMatch<'_>>
         → ¬ (Split deno_types (chars text.now)) × IsCaptured quoteless_deno_types text.now (pragma_part_of found)) }
     ensures none { IsNone result
         ↔ (¬ (Split deno_types (chars text.now)) × ¬ (Split quoteless_deno_types (chars text.now))) }
+    ensures slice { IfSome result (λ found. IsSliceOf text.now (pragma_part_of found)) }
 {
     match find_quoted_pragma(text, "@deno-types") {
         Some(found) => Some(DenoTypesPragmaMatch::new(found, false)),
@@ -55,6 +58,7 @@ fn find_quoted_pragma<'a>(text: &'a str, name: &str) -> Option<Match<'a>>
     requires dark { IsTrue (begins_dark name.now) }
     ensures found { IfSome result (λ found. IsCaptured (quoted_pragma name.now) text.now (part_of found)) }
     ensures none { IsNone result ↔ ¬ (Split (quoted_pragma name.now) (chars text.now)) }
+    ensures slice { IfSome result (λ found. IsSliceOf text.now (part_of found)) }
 {
     let value = strip_pragma_and_quote(text, name)?;
     let found = capture_quoted(text, value)?;
@@ -69,6 +73,7 @@ fn find_quoteless_pragma<'a>(text: &'a str, name: &str) -> Option<Match<'a>>
     requires dark { IsTrue (begins_dark name.now) }
     ensures found { IfSome result (λ found. IsCaptured (quoteless_pragma name.now) text.now (part_of found)) }
     ensures none { IsNone result ↔ ¬ (Split (quoteless_pragma name.now) (chars text.now)) }
+    ensures slice { IfSome result (λ found. IsSliceOf text.now (part_of found)) }
 {
     let value = strip_pragma(text, name)?;
     capture_run(text, value)

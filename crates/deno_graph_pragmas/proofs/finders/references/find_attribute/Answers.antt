@@ -7,6 +7,7 @@ use Rattle.deno_graph_pragmas.specs.Finders.{attribute}
 use Rattle.deno_graph_pragmas.specs.Match.{part_of}
 use Rattle.deno_graph_pragmas.specs.Reading.{HasNoAttribute}
 use Rattle.deno_graph_pragmas.specs.Split.{IsCaptured}
+use Rattle.deno_graph_pragmas.proofs.Captured.{captured_slice}
 use Rattle.deno_graph_pragmas.proofs.Attributes.{IsPassed, passed_more, rest_le, found_here, no_more}
 use Rattle.deno_graph_pragmas.proofs.Found.{some_answer}
 use Rattle.deno_graph_pragmas.proofs.finders.references.find_attribute.Goals as goal
@@ -42,3 +43,6 @@ loop-c-preserved c =
 pub returns-clause-none : goal.returns-clause-none
 returns-clause-none c =
     (λ _. no_more c.args.name.now c.args.text.now _ c.loop-c.invariant.passed c.in_default.ensures.steps.0.0, λ _. refl)
+
+pub returns-in-Some-clause-slice : goal.returns-in-Some-clause-slice
+returns-in-Some-clause-slice c = captured_slice (attribute c.args.name.now) _ _ c.utf8.text (captured c)

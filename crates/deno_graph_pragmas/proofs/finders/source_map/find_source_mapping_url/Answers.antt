@@ -1,5 +1,6 @@
 use Rattle.std.proofs.Common.{refl, sym}
 use Rattle.deno_graph_pragmas.specs.Finders.{source_mapping_url}
+use Rattle.deno_graph_pragmas.proofs.Captured.{found_slice}
 use Rattle.deno_graph_pragmas.proofs.Barriers.{source_mapping_url_apart}
 use Rattle.deno_graph_pragmas.proofs.Found.{no_front, none_answer, length_left, found_behind, none_behind}
 use Rattle.deno_graph_pragmas.proofs.finders.source_map.find_source_mapping_url.Goals as goal
@@ -21,3 +22,8 @@ pub returns-clause-none : goal.returns-clause-none
 returns-clause-none c =
     let value = c.in_ok-value.ensures in
     none_behind source_mapping_url _ _ _ c.utf8.text value.utf8 source_mapping_url_apart refl (sym value.left) c.capture_run.ensures.found c.capture_run.ensures.none
+
+pub returns-clause-slice : goal.returns-clause-slice
+returns-clause-slice c =
+    let value = c.in_ok-value.ensures in
+    found_slice source_mapping_url _ _ c.utf8.text (found_behind source_mapping_url _ _ _ c.utf8.text value.utf8 (sym value.left) c.capture_run.ensures.found)

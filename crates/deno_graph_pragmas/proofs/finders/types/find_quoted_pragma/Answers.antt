@@ -4,6 +4,7 @@ use Rattle.deno_graph_pragmas.specs.Finders.{quoted_pragma}
 use Rattle.deno_graph_pragmas.specs.Match.{part_of}
 use Rattle.deno_graph_pragmas.specs.Piece.{is_unquoted, quote}
 use Rattle.deno_graph_pragmas.specs.Split.{IsCaptured}
+use Rattle.deno_graph_pragmas.proofs.Captured.{captured_slice}
 use Rattle.deno_graph_pragmas.proofs.Barriers.{quoted_pragma_apart}
 use Rattle.deno_graph_pragmas.proofs.Found.{no_front, no_rest, none_answer, some_answer, length_left, IsCaptured-at_start}
 use Rattle.deno_graph_pragmas.proofs.Runs.{read_nonempty, empty_read, unread_some}
@@ -42,3 +43,6 @@ returns-clause-found c = captured c
 
 pub returns-clause-none : goal.returns-clause-none
 returns-clause-none c = some_answer (captured c).split
+
+pub returns-clause-slice : goal.returns-clause-slice
+returns-clause-slice c = captured_slice (quoted_pragma c.args.name.now) _ _ c.utf8.text (captured c)
