@@ -1,5 +1,6 @@
 -- What the finders answer, by values alone.
-use Rattle.deno_graph_pragmas.specs.Split.{Part}
+use Rattle.std.specs.Prelude.{ℕ, List}
+use Rattle.deno_graph_pragmas.specs.Split.{Pattern, Part, IsCaptured, IsSliceOf}
 use Rattle.deno_graph_pragmas.specs.declared.finders.matches.DenoTypesPragmaMatch.{DenoTypesPragmaMatch}
 use Rattle.deno_graph_pragmas.specs.declared.finders.matches.Match.{Match}
 
@@ -8,3 +9,11 @@ part_of found = record { text = found.text.now; start = found.start; end = found
 
 abbrev pub pragma_part_of : DenoTypesPragmaMatch → Part
 pragma_part_of found = record { text = found.text.now; start = found.range.start; end = found.range.end }
+
+-- what is found is what the first split of the text captures
+abbrev pub Captures : Pattern → List ℕ → Match → Type 0
+Captures pattern text found = IsCaptured pattern text (part_of found)
+
+-- what is found is the slice of the text at its range
+abbrev pub IsSliceIn : List ℕ → Match → Type 0
+IsSliceIn text found = IsSliceOf text (part_of found)

@@ -1,12 +1,17 @@
 -- What is left of a text behind its front, where that is read from left to right, each piece as long as it can be.
 -- It says how the finders go about their work. No promise of a public call names it.
 use Rattle.std.specs.Prelude.{◌≡◌, ◌⊎◌, ℕ, ◌+◌, ◌-◌, ◌++◌, length, ◌==◌, ◌&&◌, Bool, false, nat_lt, List, [], ◌∷◌, Option, Some, None, IsSome, IsTrue, codes, if◌then◌else◌, option_and_then}
+use Rattle.std.specs.Borrow.{Bor}
 use Rattle.std.specs.List.{list_all}
 use Rattle.std.specs.Option.{option_map}
 use Rattle.std.specs.Str.{chars, IsUtf8}
 use Rattle.unicode.specs.CaseFolding.{simple_fold}
 use Rattle.deno_graph_pragmas.specs.Piece.{Piece, one, any, some, run, exactly, keyword, whites, sign, quote, unquoted, is_in_line}
 use Rattle.deno_graph_pragmas.specs.Split.{Part}
+
+-- the characters of a text that is answered
+abbrev pub chars_left : Option (Bor (List ℕ)) → Option (List ℕ)
+chars_left answer = option_map (λ rest. chars rest.now) answer
 
 -- behind the characters that pass
 abbrev pub skip_while : (ℕ → Bool) → List ℕ → List ℕ

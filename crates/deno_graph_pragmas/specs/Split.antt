@@ -30,6 +30,10 @@ pub record Split (pattern : Pattern) (text : List ℕ) : Type 0 where
   pub captured_piece : IsPiece pattern.captured captured (back ++ after)
   pub back_pieces : ArePieces pattern.back back after
 
+-- the text, in bytes, has a split
+abbrev pub HasSplit : Pattern → List ℕ → Type 0
+HasSplit pattern text = Split pattern (chars text)
+
 -- no split of the text begins earlier
 abbrev pub IsFirst : {pattern : Pattern} {text : List ℕ} → Split pattern text → Type 0
 IsFirst {pattern} {text} split = (other : Split pattern text) → length split.before ≤ length other.before

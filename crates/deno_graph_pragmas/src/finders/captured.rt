@@ -12,8 +12,10 @@ use crate::finders::scan::{before_quote, before_white_space};
 /// The characters up to the next quote. None where there is no quote.
 pub(super) fn capture_quoted<'a>(text: &str, rest: &'a str) -> Option<Match<'a>>
     requires { length rest.now ≤ length text.now }
-    ensures found { IfSome result (λ found. IsReadAt unquoted (quote ∷ []) text.now rest.now (part_of found)) }
-    ensures none { IsNone result → after_pieces (unquoted ∷ quote ∷ []) (chars rest.now) ≡ None }
+    ensures found { IfSome result
+        (λ found. IsReadAt unquoted (quote ∷ []) text.now rest.now (part_of found)) }
+    ensures none { IsNone result
+        → after_pieces (unquoted ∷ quote ∷ []) (chars rest.now) ≡ None }
 {
     let found = before_quote(rest)?;
     Some(Match::at_start_of(rest, text, found))
@@ -22,7 +24,8 @@ pub(super) fn capture_quoted<'a>(text: &str, rest: &'a str) -> Option<Match<'a>>
 /// The characters up to the next white space, or to the end. None where there are none.
 pub(super) fn capture_run<'a>(text: &str, rest: &'a str) -> Option<Match<'a>>
     requires { length rest.now ≤ length text.now }
-    ensures found { IfSome result (λ found. IsReadAt dark_run [] text.now rest.now (part_of found)) }
+    ensures found { IfSome result
+        (λ found. IsReadAt dark_run [] text.now rest.now (part_of found)) }
     ensures none { IsNone result → after_pieces (dark_run ∷ []) (chars rest.now) ≡ None }
 {
     let found = before_white_space(rest);

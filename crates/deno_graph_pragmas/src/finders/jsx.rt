@@ -1,11 +1,11 @@
 //! Pragmas that name where JSX comes from.
 
-ghost use Rattle.std.specs.Prelude.{◌≡◌, ◌↔◌, IfSome, IsNone, IsTrue, option_map};
+ghost use Rattle.std.specs.Prelude.{◌≡◌, ◌↔◌, IfSome, IsNone, IsTrue};
 ghost use Rattle.std.specs.Str.{chars, IsUtf8};
 ghost use Rattle.deno_graph_pragmas.specs.Finders.{jsx_import_source, jsx_import_source_types, jsx_pragma};
-ghost use Rattle.deno_graph_pragmas.specs.Match.{part_of};
-ghost use Rattle.deno_graph_pragmas.specs.Reading.{after_pieces, begins_dark, is_ascii};
-ghost use Rattle.deno_graph_pragmas.specs.Split.{IsCaptured, IsSliceOf, Split};
+ghost use Rattle.deno_graph_pragmas.specs.Match.{Captures, IsSliceIn};
+ghost use Rattle.deno_graph_pragmas.specs.Reading.{after_pieces, begins_dark, chars_left, is_ascii};
+ghost use Rattle.deno_graph_pragmas.specs.Split.{HasSplit};
 
 use crate::finders::captured::capture_run;
 use crate::finders::matches::Match;
@@ -15,18 +15,18 @@ use crate::finders::scan::{
 
 /// What `@jsxImportSource preact` names: the characters up to the next white space.
 pub fn find_jsx_import_source(text: &str) -> Option<Match<'_>>
-    ensures found { IfSome result (λ found. IsCaptured jsx_import_source text.now (part_of found)) }
-    ensures none { IsNone result ↔ ¬ (Split jsx_import_source (chars text.now)) }
-    ensures slice { IfSome result (λ found. IsSliceOf text.now (part_of found)) }
+    ensures found { IfSome result (Captures jsx_import_source text.now) }
+    ensures none { IsNone result ↔ ¬ HasSplit jsx_import_source text.now }
+    ensures slice { IfSome result (IsSliceIn text.now) }
 {
     find_jsx_pragma(text, "@jsxImportSource")
 }
 
 /// What `@jsxImportSourceTypes @types/react` names: the characters up to the next white space.
 pub fn find_jsx_import_source_types(text: &str) -> Option<Match<'_>>
-    ensures found { IfSome result (λ found. IsCaptured jsx_import_source_types text.now (part_of found)) }
-    ensures none { IsNone result ↔ ¬ (Split jsx_import_source_types (chars text.now)) }
-    ensures slice { IfSome result (λ found. IsSliceOf text.now (part_of found)) }
+    ensures found { IfSome result (Captures jsx_import_source_types text.now) }
+    ensures none { IsNone result ↔ ¬ HasSplit jsx_import_source_types text.now }
+    ensures slice { IfSome result (IsSliceIn text.now) }
 {
     find_jsx_pragma(text, "@jsxImportSourceTypes")
 }
@@ -34,9 +34,9 @@ pub fn find_jsx_import_source_types(text: &str) -> Option<Match<'_>>
 fn find_jsx_pragma<'a>(text: &'a str, name: &str) -> Option<Match<'a>>
     requires ascii { IsTrue (is_ascii name.now) }
     requires dark { IsTrue (begins_dark name.now) }
-    ensures found { IfSome result (λ found. IsCaptured (jsx_pragma name.now) text.now (part_of found)) }
-    ensures none { IsNone result ↔ ¬ (Split (jsx_pragma name.now) (chars text.now)) }
-    ensures slice { IfSome result (λ found. IsSliceOf text.now (part_of found)) }
+    ensures found { IfSome result (Captures (jsx_pragma name.now) text.now) }
+    ensures none { IsNone result ↔ ¬ HasSplit (jsx_pragma name.now) text.now }
+    ensures slice { IfSome result (IsSliceIn text.now) }
 {
     let value = strip_jsx_pragma(text, name)?;
     capture_run(text, value)
@@ -45,7 +45,7 @@ fn find_jsx_pragma<'a>(text: &'a str, name: &str) -> Option<Match<'a>>
 /// White space and stars, the name in any case, and white space.
 fn strip_jsx_pragma<'a>(text: &'a str, name: &str) -> Option<&'a str>
     requires { IsTrue (is_ascii name.now) }
-    ensures left { option_map (λ rest. chars rest.now) result ≡ after_pieces (jsx_pragma name.now).front (chars text.now) }
+    ensures left { chars_left result ≡ after_pieces (jsx_pragma name.now).front (chars text.now) }
     ensures utf8 { IfSome result (λ rest. IsUtf8 rest.now) }
 {
     let behind_name = strip_keyword(skip_white_space_and_stars(text), name)?;

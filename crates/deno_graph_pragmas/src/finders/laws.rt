@@ -15,7 +15,9 @@ pub fn captures_are_unique()
 
 /// What is captured between quotes has one directly before it and one directly behind it.
 pub fn quotes_stand_round(text: &str)
-    ensures attributes { (name : List ℕ) (part : Part) → IsCaptured (attribute name) text.now part → StandsInQuotes text.now part }
-    ensures pragmas { (name : List ℕ) (part : Part) → IsCaptured (quoted_pragma name) text.now part → StandsInQuotes text.now part }
+    ensures attributes { (name : List ℕ) (part : Part)
+        → IsCaptured (attribute name) text.now part → StandsInQuotes text.now part }
+    ensures pragmas { (name : List ℕ) (part : Part)
+        → IsCaptured (quoted_pragma name) text.now part → StandsInQuotes text.now part }
 {
 }

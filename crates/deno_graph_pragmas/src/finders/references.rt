@@ -1,13 +1,11 @@
 //! Triple-slash references, and the attributes in them.
 
-ghost use Rattle.std.specs.Prelude.{◌≡◌, ◌≤◌, ◌∷◌, [], ◌++◌, ◌↔◌, IfSome, IsNone, IsTrue, List, None, codes, length, option_map};
-ghost use Rattle.std.specs.List.{list_all};
+ghost use Rattle.std.specs.Prelude.{◌≡◌, ◌≤◌, ◌↔◌, IfSome, IsNone, IsTrue, length};
 ghost use Rattle.std.specs.Str.{chars, IsUtf8};
 ghost use Rattle.deno_graph_pragmas.specs.Finders.{attribute, path_reference, resolution_mode, triple_slash_reference, types_reference};
-ghost use Rattle.deno_graph_pragmas.specs.Match.{part_of};
-ghost use Rattle.deno_graph_pragmas.specs.Piece.{is_in_line};
-ghost use Rattle.deno_graph_pragmas.specs.Reading.{after_pieces, attribute_front, is_ascii, HasNoAttribute, IsAttributeAt, IsClosedInLine, IsFirstLine};
-ghost use Rattle.deno_graph_pragmas.specs.Split.{IsCaptured, IsSliceOf, Split};
+ghost use Rattle.deno_graph_pragmas.specs.Match.{part_of, Captures, IsSliceIn};
+ghost use Rattle.deno_graph_pragmas.specs.Reading.{after_pieces, attribute_front, chars_left, is_ascii, HasNoAttribute, IsAttributeAt, IsClosedInLine, IsFirstLine};
+ghost use Rattle.deno_graph_pragmas.specs.Split.{HasSplit, Split};
 
 use crate::finders::captured::capture_quoted;
 use crate::finders::matches::Match;
@@ -27,7 +25,7 @@ pub fn is_comment_triple_slash_reference(text: &str) -> bool
 
 /// A slash, `<reference` in any case, and one character of white space.
 fn strip_reference(text: &str) -> Option<&str>
-    ensures left { option_map (λ rest. chars rest.now) result ≡ after_pieces triple_slash_reference.front (chars text.now) }
+    ensures left { chars_left result ≡ after_pieces triple_slash_reference.front (chars text.now) }
     ensures utf8 { IfSome result (λ rest. IsUtf8 rest.now) }
 {
     let behind_slash = strip_sign(text, '/')?;
@@ -54,36 +52,36 @@ fn first_line(text: &str) -> &str
 
 /// The value of the first attribute `path`, without its quotes.
 pub fn find_path_reference(text: &str) -> Option<Match<'_>>
-    ensures found { IfSome result (λ found. IsCaptured path_reference text.now (part_of found)) }
-    ensures none { IsNone result ↔ ¬ (Split path_reference (chars text.now)) }
-    ensures slice { IfSome result (λ found. IsSliceOf text.now (part_of found)) }
+    ensures found { IfSome result (Captures path_reference text.now) }
+    ensures none { IsNone result ↔ ¬ HasSplit path_reference text.now }
+    ensures slice { IfSome result (IsSliceIn text.now) }
 {
     find_attribute(text, "path")
 }
 
 /// The value of the first attribute `types`, without its quotes.
 pub fn find_types_reference(text: &str) -> Option<Match<'_>>
-    ensures found { IfSome result (λ found. IsCaptured types_reference text.now (part_of found)) }
-    ensures none { IsNone result ↔ ¬ (Split types_reference (chars text.now)) }
-    ensures slice { IfSome result (λ found. IsSliceOf text.now (part_of found)) }
+    ensures found { IfSome result (Captures types_reference text.now) }
+    ensures none { IsNone result ↔ ¬ HasSplit types_reference text.now }
+    ensures slice { IfSome result (IsSliceIn text.now) }
 {
     find_attribute(text, "types")
 }
 
 /// The value of the first attribute `resolution-mode`, without its quotes.
 pub fn find_resolution_mode(text: &str) -> Option<Match<'_>>
-    ensures found { IfSome result (λ found. IsCaptured resolution_mode text.now (part_of found)) }
-    ensures none { IsNone result ↔ ¬ (Split resolution_mode (chars text.now)) }
-    ensures slice { IfSome result (λ found. IsSliceOf text.now (part_of found)) }
+    ensures found { IfSome result (Captures resolution_mode text.now) }
+    ensures none { IsNone result ↔ ¬ HasSplit resolution_mode text.now }
+    ensures slice { IfSome result (IsSliceIn text.now) }
 {
     find_attribute(text, "resolution-mode")
 }
 
 fn find_attribute<'a>(text: &'a str, name: &str) -> Option<Match<'a>>
     requires { IsTrue (is_ascii name.now) }
-    ensures found { IfSome result (λ found. IsCaptured (attribute name.now) text.now (part_of found)) }
-    ensures none { IsNone result ↔ ¬ (Split (attribute name.now) (chars text.now)) }
-    ensures slice { IfSome result (λ found. IsSliceOf text.now (part_of found)) }
+    ensures found { IfSome result (Captures (attribute name.now) text.now) }
+    ensures none { IsNone result ↔ ¬ HasSplit (attribute name.now) text.now }
+    ensures slice { IfSome result (IsSliceIn text.now) }
 {
     let mut rest = text.chars();
     while let Some(c) = rest.next() {
@@ -100,7 +98,8 @@ fn find_attribute<'a>(text: &'a str, name: &str) -> Option<Match<'a>>
 fn attribute_at<'a>(text: &str, rest: &'a str, name: &str) -> Option<Match<'a>>
     requires ascii { IsTrue (is_ascii name.now) }
     requires rest { length rest.now ≤ length text.now }
-    ensures found { IfSome result (λ found. IsAttributeAt name.now text.now rest.now (part_of found)) }
+    ensures found { IfSome result
+        (λ found. IsAttributeAt name.now text.now rest.now (part_of found)) }
     ensures none { IsNone result → HasNoAttribute name.now (chars rest.now) }
 {
     let value = strip_attribute(rest, name)?;
@@ -110,7 +109,7 @@ fn attribute_at<'a>(text: &str, rest: &'a str, name: &str) -> Option<Match<'a>>
 /// The name in any case, an equals sign with white space round it, and a quote.
 fn strip_attribute<'a>(text: &'a str, name: &str) -> Option<&'a str>
     requires { IsTrue (is_ascii name.now) }
-    ensures left { option_map (λ rest. chars rest.now) result ≡ after_pieces (attribute_front name.now) (chars text.now) }
+    ensures left { chars_left result ≡ after_pieces (attribute_front name.now) (chars text.now) }
     ensures utf8 { IfSome result (λ rest. IsUtf8 rest.now) }
 {
     strip_quote(strip_assignment(text, name)?)
