@@ -1,14 +1,13 @@
 -- The search for the first attribute, character by character.
-use Rattle.std.proofs.Common.{◌≡◌, ℕ, ◌+◌, ◌≤◌, ◌<◌, true, false, List, [], ◌∷◌, ◌++◌, take, Option, Some, None, length, refl, sym, ap, subst, ◌∙◌, append_assoc, length-append, inl, inr, arith}
+use Rattle.std.proofs.Common.{◌≡◌, ℕ, ◌≤◌, true, List, [], ◌∷◌, ◌++◌, take, Some, None, length, refl, sym, ap, ◌∙◌, append_assoc, length-append, inl, inr, arith}
 use Rattle.std.proofs.lemmas.Bool.{cond-true, cond-false, cases_Bool, cases_lt, false≢true}
 use Rattle.std.proofs.lemmas.List.{append-nil, append_cancel_left, take_at, nil_from_length}
-use Rattle.std.proofs.lemmas.Str.{chars_past_char, chars-nil, IsUtf8-past_char, length-encode}
+use Rattle.std.proofs.lemmas.Str.{chars_past_char, chars-nil, IsUtf8-past_char}
 use Rattle.std.specs.Char.{is_whitespace}
 use Rattle.std.specs.Option.{option_and_then}
 use Rattle.std.specs.Str.{chars, IsUtf8}
 use lib.Utf8.{encode, encodes}
 use Rattle.deno_graph_pragmas.specs.Finders.{attribute}
-use Rattle.deno_graph_pragmas.specs.Piece.{quote, unquoted}
 use Rattle.deno_graph_pragmas.specs.Reading.{after_one, after_pieces, attribute_front, HasNoAttribute, IsAttributeAt}
 use Rattle.deno_graph_pragmas.specs.Split.{ArePieces, Split, IsCaptured, Part}
 use Rattle.deno_graph_pragmas.proofs.Barriers.{attribute_apart}

@@ -1,12 +1,12 @@
 -- Pieces that end a run of characters.
-use Rattle.std.proofs.Common.{◌≡◌, ◌⊎◌, ℕ, ◌<◌, ◌≤◌, Bool, true, false, ◌&&◌, ◌||◌, List, [], ◌∷◌, ◌++◌, map, refl, sym, ap, subst, ◌∙◌, arith, inl, inr, ⊎_elim, eqb-true, ltb-true, not, nat_lt, codes}
-use Rattle.std.proofs.lemmas.Bool.{or_cases, and_parts, cases_eq}
+use Rattle.std.proofs.Common.{◌≡◌, ℕ, ◌<◌, Bool, true, false, List, [], ◌∷◌, refl, sym, ap, arith, ⊎_elim, eqb-true, ltb-true, not, nat_lt, codes}
+use Rattle.std.proofs.lemmas.Bool.{and_parts, cases_eq}
 use Rattle.std.proofs.lemmas.Bool.Decides.{nat_tests}
 use Rattle.std.specs.Char.{is_whitespace, is_not_whitespace, to_ascii_lowercase}
 use Rattle.std.specs.List.{list_all}
 use Rattle.unicode.specs.CaseFolding.{simple_fold}
 use Rattle.deno_graph_pragmas.specs.Finders.{attribute, quoted_pragma, quoteless_pragma, jsx_pragma, source_mapping_url}
-use Rattle.deno_graph_pragmas.specs.Piece.{Piece, one, run, exactly, keyword, is_quote, is_unquoted, is_white_or_star, IsPiece, IsInAnyCase}
+use Rattle.deno_graph_pragmas.specs.Piece.{one, run, exactly, keyword, is_quote, is_unquoted, is_white_or_star}
 use Rattle.deno_graph_pragmas.specs.Reading.{begins_dark}
 use Rattle.deno_graph_pragmas.proofs.Folding.{same_fold-other}
 use Rattle.deno_graph_pragmas.proofs.ReadPieces.{IsBarrier}
@@ -22,8 +22,8 @@ dark_fold : (c letter : ℕ) → 42 < letter → letter < 128 → simple_fold c 
 dark_fold c letter above ascii same =
     ⊎_elim (λ long_s. ap is_white_or_star long_s)
     (λ other. ⊎_elim (λ kelvin. ap is_white_or_star kelvin)
-      (λ another. dark_lower c letter above ascii (eqb-true _ _ ((same_fold-other c letter ascii other another).1 same)))
-      (cases_eq c 8490))
+    (λ another. dark_lower c letter above ascii (eqb-true _ _ ((same_fold-other c letter ascii other another).1 same)))
+    (cases_eq c 8490))
     (cases_eq c 383)
 
 IsBarrier-keyword : (test : ℕ → Bool) (word : List ℕ) → ((c : ℕ) → is_white_or_star c ≡ false → test c ≡ false) → begins_dark word ≡ true → IsBarrier test (keyword word)

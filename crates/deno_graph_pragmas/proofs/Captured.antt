@@ -1,5 +1,5 @@
 -- What is captured: its place in the text, its quotes, and that there is one.
-use Rattle.std.proofs.Common.{◌≡◌, ℕ, ◌+◌, ◌-◌, ◌≤◌, ◌<◌, true, false, List, [], ◌∷◌, ◌++◌, Option, IsTrue, IfSome, length, take, drop, slice_range, refl, sym, ap, subst, ◌∙◌, append_assoc, length-append, arith, codes}
+use Rattle.std.proofs.Common.{◌≡◌, ℕ, ◌+◌, ◌-◌, ◌<◌, true, List, [], ◌∷◌, ◌++◌, Option, IfSome, length, take, drop, refl, sym, ap, subst, ◌∙◌, append_assoc, length-append, arith, codes}
 use Rattle.std.proofs.lemmas.Bool.{and_parts}
 use Rattle.std.proofs.lemmas.Bool.Decides.{nat_tests}
 use Rattle.std.proofs.lemmas.List.{take_at, drop_at, append-nil}
@@ -144,16 +144,34 @@ one_part pattern apart text one other first second =
 of_each : (P : Pattern → Type 0) → ((pattern : Pattern) → IsDetermined pattern → P pattern) → AllByRecursion P finder_patterns
 of_each P from = (
   from (attribute (codes "path")) (attribute_apart (codes "path")),
-  (from (attribute (codes "types")) (attribute_apart (codes "types")),
-  (from (attribute (codes "resolution-mode")) (attribute_apart (codes "resolution-mode")),
-  (from (jsx_pragma (codes "@jsxImportSource")) (jsx_pragma_apart (codes "@jsxImportSource") refl),
-  (from (jsx_pragma (codes "@jsxImportSourceTypes")) (jsx_pragma_apart (codes "@jsxImportSourceTypes") refl),
-  (from source_mapping_url source_mapping_url_apart,
-  (from (quoted_pragma (codes "@ts-self-types")) (quoted_pragma_apart (codes "@ts-self-types") refl),
-  (from (quoted_pragma (codes "@ts-types")) (quoted_pragma_apart (codes "@ts-types") refl),
-  (from (quoted_pragma (codes "@deno-types")) (quoted_pragma_apart (codes "@deno-types") refl),
-  (from (quoteless_pragma (codes "@deno-types")) (quoteless_pragma_apart (codes "@deno-types") refl),
-  tt)))))))))
+  (
+    from (attribute (codes "types")) (attribute_apart (codes "types")),
+    (
+      from (attribute (codes "resolution-mode")) (attribute_apart (codes "resolution-mode")),
+      (
+        from (jsx_pragma (codes "@jsxImportSource")) (jsx_pragma_apart (codes "@jsxImportSource") refl),
+        (
+          from (jsx_pragma (codes "@jsxImportSourceTypes")) (jsx_pragma_apart (codes "@jsxImportSourceTypes") refl),
+          (
+            from source_mapping_url source_mapping_url_apart,
+            (
+              from (quoted_pragma (codes "@ts-self-types")) (quoted_pragma_apart (codes "@ts-self-types") refl),
+              (
+                from (quoted_pragma (codes "@ts-types")) (quoted_pragma_apart (codes "@ts-types") refl),
+                (
+                  from (quoted_pragma (codes "@deno-types")) (quoted_pragma_apart (codes "@deno-types") refl),
+                  (
+                    from (quoteless_pragma (codes "@deno-types")) (quoteless_pragma_apart (codes "@deno-types") refl),
+                    tt,
+                  ),
+                ),
+              ),
+            ),
+          ),
+        ),
+      ),
+    ),
+  ),
 )
 
 pub starts_determine : AllByRecursion StartDetermines finder_patterns

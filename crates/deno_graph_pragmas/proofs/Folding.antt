@@ -1,6 +1,6 @@
 -- Which characters have the simple folding of an ASCII character.
-use Rattle.std.proofs.Common.{◌≡◌, ◌↔◌, ℕ, ◌<◌, ◌≤◌, Bool, true, false, List, [], ◌∷◌, slice_index_or, refl, sym, ap, ◌∙◌, arith, inl, inr, subst, nat_lt, eqb-true, eq-eqb}
-use Rattle.std.proofs.lemmas.Bool.{cases_lt, ltb-false, false≢true}
+use Rattle.std.proofs.Common.{◌≡◌, ◌↔◌, ℕ, ◌<◌, ◌≤◌, Bool, true, false, List, [], ◌∷◌, slice_index_or, refl, sym, ap, ◌∙◌, arith, inl, inr, nat_lt, eqb-true, eq-eqb}
+use Rattle.std.proofs.lemmas.Bool.{cases_lt, ltb-false}
 use Rattle.std.proofs.lemmas.Bool.Decides.{nat_tests}
 use Rattle.std.proofs.lemmas.Str.Ascii.{lowercase_ascii}
 use Rattle.std.specs.Bool.{IsTrue}
@@ -8,9 +8,9 @@ use Rattle.std.specs.Char.{eq_ignore_ascii_case, to_ascii_lowercase}
 use Rattle.unicode.proofs.CaseComputing.{ucd_case}
 use Rattle.unicode.proofs.CaseFoldingLemmas.{simple_fold-ascii, simple_folding_stepped}
 use Rattle.unicode.proofs.Facts.{Stepped-beyond}
-use Rattle.unicode.proofs.RunsLemmas.{one_if, is_one, set_runs}
+use Rattle.unicode.proofs.RunsLemmas.{one_if, set_runs}
 use Rattle.unicode.proofs.Stepped.{Stepped, map_stepped, step_value-runs_of}
-use Rattle.unicode.proofs.StepsLemmas.{same_steps, same_steps-true}
+use Rattle.unicode.proofs.StepsLemmas.{same_steps-true}
 use Rattle.unicode.proofs.TableComputing.{tables}
 use Rattle.unicode.specs.CaseFolding.{simple_folding, simple_fold}
 use Rattle.unicode.specs.Steps.{Step, step_value}
@@ -74,9 +74,9 @@ simple_fold-kelvin = refl
 pub same_fold-other : (c letter : ℕ) → letter < 128 → ¬ (c ≡ 383) → ¬ (c ≡ 8490) → IsTrue (eq_ignore_ascii_case c letter) ↔ (simple_fold c ≡ simple_fold letter)
 same_fold-other c letter ascii other another = elim (cases_lt c 128) [
   | inl near ↦ (
-      λ same. simple_fold-ascii c near ∙ eqb-true _ _ same ∙ sym (simple_fold-ascii letter ascii),
-      λ same. eq-eqb _ _ (sym (simple_fold-ascii c near) ∙ same ∙ simple_fold-ascii letter ascii),
-    )
+    λ same. simple_fold-ascii c near ∙ eqb-true _ _ same ∙ sym (simple_fold-ascii letter ascii),
+    λ same. eq-eqb _ _ (sym (simple_fold-ascii c near) ∙ same ∙ simple_fold-ascii letter ascii),
+  )
   | inr far ↦
       let small = lowercase_ascii letter ascii in
       let folded = simple_fold-far c far other another in

@@ -1,7 +1,7 @@
 -- From what reading leaves to what a finder answers.
-use Rattle.std.proofs.Common.{◌≡◌, ℕ, ◌+◌, ◌-◌, ◌≤◌, ◌<◌, true, false, List, [], ◌∷◌, ◌++◌, Option, Some, None, IsSome, IsNone, IfSome, is_some, ◌↔◌, IsTrue, length, refl, sym, ap, subst, ◌∙◌, append_assoc, length-append, arith, zero-le}
+use Rattle.std.proofs.Common.{◌≡◌, ℕ, ◌+◌, ◌-◌, ◌≤◌, true, false, List, [], ◌∷◌, ◌++◌, Option, Some, None, IsSome, IsNone, IfSome, is_some, ◌↔◌, IsTrue, length, refl, sym, ap, subst, ◌∙◌, append_assoc, length-append, arith, zero-le}
 use Rattle.std.proofs.lemmas.Bool.{false≢true}
-use Rattle.std.proofs.lemmas.List.{append_cancel_left, append_cancel_right}
+use Rattle.std.proofs.lemmas.List.{append_cancel_right}
 use Rattle.std.proofs.lemmas.Option.{IfSome_then}
 use Rattle.std.proofs.lemmas.Str.{encodes-chars, encodes-append}
 use Rattle.std.specs.Option.{option_and_then}
@@ -11,7 +11,7 @@ use Rattle.deno_graph_pragmas.specs.Match.{part_of}
 use Rattle.deno_graph_pragmas.specs.declared.finders.matches.Match.{Match}
 use Rattle.deno_graph_pragmas.specs.Piece.{Piece, IsPiece}
 use Rattle.deno_graph_pragmas.specs.Reading.{after_piece, after_pieces, IsReadAt}
-use Rattle.deno_graph_pragmas.specs.Split.{Pattern, ArePieces, Split, IsFirst, Part, IsCaptured, byte_count}
+use Rattle.deno_graph_pragmas.specs.Split.{Pattern, ArePieces, Split, Part, IsCaptured, byte_count}
 use Rattle.deno_graph_pragmas.proofs.ReadPieces.{after_piece-front, after_pieces-front}
 use Rattle.deno_graph_pragmas.proofs.Splits.{IsDetermined, behind_before, behind_front, front_read, captured_read, back_read}
 

@@ -1,10 +1,10 @@
 -- Reading from left to right finds the splits of a text, and what each captures is determined by where it begins.
-use Rattle.std.proofs.Common.{◌≡◌, ℕ, true, List, [], ◌∷◌, ◌++◌, Option, Some, None, refl, sym, ap, subst, ◌∙◌, append_assoc, length, ◌≤◌, ◌+◌, ◌-◌, arith}
+use Rattle.std.proofs.Common.{◌≡◌, ℕ, List, [], ◌∷◌, ◌++◌, Option, Some, sym, ap, subst, ◌∙◌, append_assoc}
 use Rattle.std.proofs.lemmas.List.{append_cancel_left, append_cancel_right}
 use Rattle.deno_graph_pragmas.specs.Piece.{Piece, IsPiece}
 use Rattle.deno_graph_pragmas.specs.Reading.{after_piece, after_pieces}
 use Rattle.deno_graph_pragmas.specs.Split.{Pattern, ArePieces, Split}
-use Rattle.deno_graph_pragmas.proofs.ReadPieces.{AreApart, IsApart, Ends, Ends-next, after_piece-append, after_pieces-append}
+use Rattle.deno_graph_pragmas.proofs.ReadPieces.{AreApart, Ends, Ends-next, after_piece-append, after_pieces-append}
 
 -- each piece of the pattern ends where the next begins, and the last wherever
 abbrev pub IsDetermined : Pattern → Type 0

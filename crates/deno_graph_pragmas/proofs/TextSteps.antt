@@ -1,15 +1,13 @@
 -- What the methods of `str` answer, by the characters of the text.
-use Rattle.std.proofs.Common.{◌≡◌, ℕ, ◌<◌, ◌≤◌, ◌+◌, zero, Bool, true, false, ◌&&◌, ◌==◌, eq-eqb, eqb-true, not, IfSome, cond, List, [], ◌∷◌, ◌++◌, length, take, drop, Option, Some, None, Bor, MatchOption, refl, sym, ap, subst, ◌∙◌, arith, append_assoc}
-use Rattle.std.proofs.lemmas.Bool.{cond_both, cond-true, cond-false, and_parts, and_from, not-false, not-true}
+use Rattle.std.proofs.Common.{◌≡◌, ℕ, ◌<◌, Bool, true, ◌==◌, eq-eqb, eqb-true, not, IfSome, cond, List, [], ◌∷◌, ◌++◌, drop, Option, Some, None, Bor, MatchOption, refl, sym, ap, subst, ◌∙◌, arith, append_assoc}
+use Rattle.std.proofs.lemmas.Bool.{cond_both, cond-true, cond-false, and_parts, and_from}
 use Rattle.std.proofs.lemmas.List.{take-append-drop, append-nil}
-use Rattle.std.proofs.lemmas.Str.{chars-nil, chars-encodes, encodes-chars, scalars-chars, chars-append, chars_past_char, IsUtf8-past_char, cons_from_encodes, length-encode, len_utf8_bounds, encode_ascii, chars_from_encodes}
-use Rattle.std.proofs.lemmas.Str.Pattern.{strip_prefix_char}
-use Rattle.std.specs.Bool.{MatchBool}
-use Rattle.std.specs.Char.{is_whitespace, IsScalar, len_utf8}
+use Rattle.std.proofs.lemmas.Str.{chars-encodes, encodes-chars, scalars-chars, chars_past_char, IsUtf8-past_char, cons_from_encodes, len_utf8_bounds, chars_from_encodes}
+use Rattle.std.specs.Char.{is_whitespace}
 use Rattle.std.specs.List.{list_all}
 use Rattle.std.specs.Option.{option_map}
-use Rattle.std.specs.Str.{chars, IsUtf8, skip_leading_whitespace, trim_start, NonePass, NoCharPasses, IsCharBoundary}
-use Rattle.std.specs.Str.Pattern.{FindsPrefixBy, FindsBy, HasPassingCharAt, HasCharAt, StripsPrefix, SplitsAroundMatch, FindsCharPrefix, FindsChar, CutsPrefixes, IsFullyTrimmed, IsTrimStartMatches}
+use Rattle.std.specs.Str.{chars, IsUtf8, skip_leading_whitespace, trim_start, NonePass, NoCharPasses}
+use Rattle.std.specs.Str.Pattern.{FindsPrefixBy, FindsBy, HasPassingCharAt, StripsPrefix, SplitsAroundMatch, FindsCharPrefix, FindsChar, CutsPrefixes, IsTrimStartMatches}
 use lib.Utf8.{encode, encodes, scalar, scalars}
 use Rattle.deno_graph_pragmas.specs.Piece.{IsStopped}
 use Rattle.deno_graph_pragmas.specs.Reading.{skip_while, after_one, after_exactly}

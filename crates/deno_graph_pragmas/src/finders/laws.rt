@@ -10,8 +10,7 @@ ghost use Rattle.deno_graph_pragmas.specs.Split.{HasOnePart, IsCaptured, Part, S
 pub fn captures_are_unique()
     ensures starts { AllByRecursion StartDetermines finder_patterns }
     ensures parts { AllByRecursion HasOnePart finder_patterns }
-{
-}
+{}
 
 /// What is captured between quotes has one directly before it and one directly behind it.
 pub fn quotes_stand_round(text: &str)
@@ -19,5 +18,4 @@ pub fn quotes_stand_round(text: &str)
         → IsCaptured (attribute name) text.now part → StandsInQuotes text.now part }
     ensures pragmas { (name : List ℕ) (part : Part)
         → IsCaptured (quoted_pragma name) text.now part → StandsInQuotes text.now part }
-{
-}
+{}

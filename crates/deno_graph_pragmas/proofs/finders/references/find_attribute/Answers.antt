@@ -8,7 +8,7 @@ use Rattle.deno_graph_pragmas.specs.Match.{part_of}
 use Rattle.deno_graph_pragmas.specs.Reading.{HasNoAttribute}
 use Rattle.deno_graph_pragmas.specs.Split.{IsCaptured}
 use Rattle.deno_graph_pragmas.proofs.Captured.{captured_slice}
-use Rattle.deno_graph_pragmas.proofs.Attributes.{IsPassed, passed_more, rest_le, found_here, no_more}
+use Rattle.deno_graph_pragmas.proofs.Attributes.{passed_more, rest_le, found_here, no_more}
 use Rattle.deno_graph_pragmas.proofs.Found.{some_answer}
 use Rattle.deno_graph_pragmas.proofs.finders.references.find_attribute.Goals as goal
 use Rattle.deno_graph_pragmas.proofs.finders.references.find_attribute.Goals.{else-is_whitespace-via-else-is_whitespace, else-is_whitespace-via-then-is_whitespace+in-None-1}

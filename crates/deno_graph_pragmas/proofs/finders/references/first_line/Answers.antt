@@ -1,4 +1,4 @@
-use Rattle.std.proofs.Common.{◌∷◌, ◌++◌, ◌==◌, Some, None, inl, inr, refl, ap, ◌∙◌, eqb-true}
+use Rattle.std.proofs.Common.{◌∷◌, ◌++◌, Some, None, inl, inr, refl, ap, ◌∙◌, eqb-true}
 use Rattle.std.specs.Str.{chars}
 use Rattle.deno_graph_pragmas.proofs.TextSteps.{split_once_sign}
 use Rattle.deno_graph_pragmas.proofs.finders.references.first_line.Goals as goal

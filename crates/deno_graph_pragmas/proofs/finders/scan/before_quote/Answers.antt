@@ -1,5 +1,4 @@
-use Rattle.std.proofs.Common.{◌≡◌, [], ◌∷◌, Some, None, refl, sym, ap, ◌∙◌}
-use Rattle.std.proofs.lemmas.Bool.{cond-true}
+use Rattle.std.proofs.Common.{◌≡◌, [], ◌∷◌, Some, None, refl, ap}
 use Rattle.std.specs.Str.{chars}
 use Rattle.deno_graph_pragmas.specs.Piece.{is_quote, is_unquoted, quote}
 use Rattle.deno_graph_pragmas.specs.Reading.{after_pieces, skip_while}

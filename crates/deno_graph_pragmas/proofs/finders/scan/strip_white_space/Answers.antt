@@ -1,4 +1,4 @@
-use Rattle.std.proofs.Common.{refl, rules}
+use Rattle.std.proofs.Common.{rules}
 use Rattle.std.specs.Char.{is_whitespace}
 use Rattle.std.proofs.lemmas.Fn.{always_returns_same}
 use Rattle.deno_graph_pragmas.proofs.TextSteps.{strip_prefix_one, strip_prefix_one-utf8}

@@ -1,4 +1,4 @@
-use Rattle.std.proofs.Common.{◌≡◌, ◌==◌, Bool, [], ◌∷◌, false, true, length, refl, sym, ap, ◌∙◌}
+use Rattle.std.proofs.Common.{◌≡◌, ◌==◌, [], ◌∷◌, false, true, length, refl, sym, ap, ◌∙◌}
 use Rattle.std.specs.Str.{chars}
 use Rattle.deno_graph_pragmas.specs.Finders.{quoted_pragma}
 use Rattle.deno_graph_pragmas.specs.Match.{part_of}
