@@ -1,0 +1,3 @@
+pub mod JsDocGrammar
+pub mod JsDocReading
+pub mod ResolutionMode

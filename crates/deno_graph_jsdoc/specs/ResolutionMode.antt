@@ -1,0 +1,10 @@
+-- How the types of an import are resolved.
+use Rattle.std.specs.Prelude.{ℕ, List, Option, Some, None, codes, if◌then◌else◌}
+use Rattle.std.specs.Str.{bytes_eq}
+use Rattle.deno_graph_jsdoc.specs.declared.resolution_mode.TypeScriptTypesResolutionMode.{TypeScriptTypesResolutionMode}
+use Rattle.deno_graph_jsdoc.specs.declared.resolution_mode.TypeScriptTypesResolutionMode.TheVariants.{Require, Import}
+
+-- the mode of this name
+abbrev pub mode_named : List ℕ → Option TypeScriptTypesResolutionMode
+mode_named name =
+    if bytes_eq name (codes "import") then Some Import else (if bytes_eq name (codes "require") then Some Require else None)

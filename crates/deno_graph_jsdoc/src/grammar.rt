@@ -1,0 +1,6 @@
+//! The grammar of the imports that JSDoc comments state.
+
+pub(crate) mod attributes;
+pub(crate) mod declaration;
+pub(crate) mod dynamic;
+mod parts;

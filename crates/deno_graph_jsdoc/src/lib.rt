@@ -1,0 +1,14 @@
+//! The imports that JSDoc comments state.
+#![tactic(auto)]
+
+mod grammar;
+mod import;
+mod resolution_mode;
+
+pub use grammar::declaration::parse_jsdoc_import_decl;
+pub use grammar::dynamic::parse_jsdoc_dynamic_import;
+pub use import::{JsDocImport, NoParse};
+pub use resolution_mode::TypeScriptTypesResolutionMode;
+
+#[cfg(test)]
+mod tests;
