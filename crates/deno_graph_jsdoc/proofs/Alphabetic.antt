@@ -60,3 +60,16 @@ Alphabetic-ends_ident c is = false_from_ne_true (ends_ident c) (λ ends. both_wa
 
 pub Alphabetic-is_whitespace : (c : ℕ) → is_alphabetic c ≡ true → is_whitespace c ≡ false
 Alphabetic-is_whitespace c is = false_from_ne_true (is_whitespace c) (λ space. both_ways (is_alphabetic c) (white c space) is)
+
+-- nor are a quote and a brace
+pub double_quote : is_alphabetic 34 ≡ false
+unfolding is_alphabetic alphabetic_ranges in_ranges
+double_quote = refl
+
+pub single_quote : is_alphabetic 39 ≡ false
+unfolding is_alphabetic alphabetic_ranges in_ranges
+single_quote = refl
+
+pub closing_brace : is_alphabetic 125 ≡ false
+unfolding is_alphabetic alphabetic_ranges in_ranges
+closing_brace = refl

@@ -1,5 +1,8 @@
-pub mod Readings
 pub mod Alphabetic
-pub mod Texts
-pub mod Runs
+pub mod Attributes
+pub mod Blocks
 pub mod Parts
+pub mod Readings
+pub mod Runs
+pub mod Texts
+pub mod Words

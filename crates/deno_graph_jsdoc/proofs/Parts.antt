@@ -16,30 +16,6 @@ use Rattle.deno_graph_jsdoc.proofs.Readings.{Begins-split, Begins-join}
 use Rattle.deno_graph_jsdoc.proofs.Runs.{same_run, space_whole, space_ends, same_space, same_before_mark, Lacks-not_inside}
 use Rattle.deno_graph_jsdoc.proofs.Texts.{bytes_from_chars}
 
--- white space is skipped in one way
-pub space_read : (text : List ℕ) → Reads NoSpace (λ (_ : Unit {0}). IsSpace) text (Some (skip_leading_whitespace text, tt))
-space_read text =
-    let own = space_whole text in (
-      record { piece = own.0; whole = own.2; is = own.1 },
-      λ other behind stop begins. (refl, same_space text begins.piece behind begins.is stop begins.whole),
-    )
-
--- white space behind something is skipped in one way
-module _ {V : Type 0} (P : V → List ℕ → Type 0) (input : List ℕ) where
-  pub spaced_none : Reads Anything P input None → Reads NoSpace (λ v. P v · IsSpace) input None
-  spaced_none none v rest stop begins =
-      let parts = Begins-split begins in
-      none v parts.0 tt parts.1
-
-  pub spaced : (middle : List ℕ) (v : V) → Reads Anything P input (Some (middle, v)) → Reads NoSpace (λ v. P v · IsSpace) input (Some (skip_leading_whitespace middle, v))
-  spaced middle v found = (
-    Begins-join found.0 (space_read middle).0,
-    λ other behind stop begins.
-        let parts = Begins-split begins in
-        let same = found.1 other parts.0 tt parts.1 in
-        (same.0, ((space_read middle).1 tt behind stop (subst (λ m. Begins IsSpace m behind) same.1 parts.2)).1),
-  )
-
 -- what is left of a text is shorter where white space was skipped
 module _ (input rest : List ℕ) (utf8 : IsUtf8 input) (utf8_rest : IsUtf8 rest) (skips : chars rest ≡ skip_leading_whitespace (chars input)) where
   some_space : (space : List ℕ) → IsSpace space → chars input ≡ space ++ chars rest → length rest < length input → IsGap space

@@ -70,3 +70,7 @@ scalars_behind_space (c ∷ cs) all = by_first (is_whitespace c) (scalars_behind
     by_first : (b : Bool) → scalars (skip_leading_whitespace cs) ≡ true → scalars (cond b (skip_leading_whitespace cs) (c ∷ cs)) ≡ true
     by_first true more = more
     by_first false more = all
+
+pub IsSpace-append : (xs ys : List ℕ) → IsSpace xs → IsSpace ys → IsSpace (xs ++ ys)
+IsSpace-append [] ys left right = right
+IsSpace-append (x ∷ xs) ys left right = (left.0, IsSpace-append xs ys left.1 right)

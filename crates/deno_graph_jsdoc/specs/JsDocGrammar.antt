@@ -1,5 +1,5 @@
 -- The parts of a JSDoc import, as sets of texts. A text is its list of characters.
-use Rattle.std.specs.Prelude.{◌≡◌, ◌≢◌, ◌==◌, ◌<◌, ◌⊎◌, ◌||◌, ℕ, Bool, true, false, Option, List, [], ◌∷◌, ◌++◌, length, codes, option_map, option_and_then}
+use Rattle.std.specs.Prelude.{◌≡◌, ◌≢◌, ◌==◌, ◌<◌, ◌⊎◌, ◌||◌, ℕ, Bool, true, false, Option, None, List, [], ◌∷◌, ◌++◌, length, codes, option_and_then, option_map}
 use Rattle.std.specs.Char.{is_whitespace}
 use Rattle.std.specs.Char.Unicode.Alphabetic.{is_alphabetic}
 use Rattle.std.specs.List.{AllByRecursion, find}
@@ -58,30 +58,45 @@ IsIdent (c ∷ cs) = (is_alphabetic c ≡ true) × AllByRecursion (λ d. ends_id
 abbrev pub IsKey : List ℕ → List ℕ → Type 0
 IsKey key text = IsQuote key text ⊎ (IsIdent text × (key ≡ text))
 
--- a key with its value
-pub record Attribute : Type 0 where
-  pub key : List ℕ
-  pub value : List ℕ
+-- a key and its value
+abbrev pub Attribute : Type 0
+Attribute = List ℕ × List ℕ
 
 abbrev pub IsAttribute : Attribute → List ℕ → Type 0
-IsAttribute attribute = IsKey attribute.key · IsSpace · Is (codes ":") · IsSpace · IsQuote attribute.value
+IsAttribute attribute = IsKey attribute.0 · IsSpace · Is (codes ":") · IsSpace · IsQuote attribute.1
 
--- attributes with commas between them, and none behind the last
+-- attributes, each behind a comma
+abbrev pub AreFurther : List Attribute → List ℕ → Type 0
+AreFurther [] = Is []
+AreFurther (attribute ∷ others) = IsSpace · Is (codes ",") · IsSpace · IsAttribute attribute · AreFurther others
+
+-- attributes with commas between them, and none behind the last; or nothing
 abbrev pub AreAttributes : List Attribute → List ℕ → Type 0
 AreAttributes [] = Is []
-AreAttributes (attribute ∷ []) = IsAttribute attribute
-AreAttributes (attribute ∷ next ∷ others) =
-    IsAttribute attribute · IsSpace · Is (codes ",") · IsSpace · AreAttributes (next ∷ others)
+AreAttributes (attribute ∷ others) = IsAttribute attribute · AreFurther others
 
 -- attributes in braces
 abbrev pub IsBlock : List Attribute → List ℕ → Type 0
 IsBlock attributes = Is (codes "{") · IsSpace · AreAttributes attributes · IsSpace · Is (codes "}")
 
--- the mode that a block gives: the one that the value of its first `resolution-mode` names
+-- the value of the first `resolution-mode`
+abbrev pub mode_name : List Attribute → Option (List ℕ)
+mode_name attributes =
+    option_map (λ attribute. attribute.1) (find (λ attribute. bytes_eq attribute.0 (codes "resolution-mode")) attributes)
+
+-- the mode that attributes give: the one that this value names
 abbrev pub mode_of : List Attribute → Option TypeScriptTypesResolutionMode
-mode_of attributes =
-    option_and_then (λ attribute. mode_named attribute.value)
-    (find (λ attribute. bytes_eq attribute.key (codes "resolution-mode")) attributes)
+mode_of attributes = option_and_then mode_named (mode_name attributes)
+
+-- a block whose attributes give this mode, or none
+abbrev pub IsModeBlock : Option TypeScriptTypesResolutionMode → List ℕ → Type 0
+IsModeBlock mode text = (attributes : List Attribute) × (mode ≡ mode_of attributes) × IsBlock attributes text
+
+-- what is left of such a block from its first attribute on
+abbrev pub IsModeBlockEnd : Option TypeScriptTypesResolutionMode → List ℕ → Type 0
+IsModeBlockEnd mode text =
+    (attributes : List Attribute) × (0 < length attributes) × (mode ≡ mode_of attributes)
+    × (AreAttributes attributes · IsSpace · Is (codes "}")) text
 
 -- what is imported: names in braces, all as one name, or the default
 abbrev pub IsClause : List ℕ → Type 0
@@ -89,3 +104,24 @@ IsClause text =
     (Is (codes "{") · Lacks 125 · Is (codes "}")) text
     ⊎ ((Is (codes "*") · IsSpace · Is (codes "as") · IsGap · IsIdent · IsGap) text
     ⊎ (IsIdent · IsGap) text)
+
+-- the attributes of a declaration
+abbrev pub IsWith : Option TypeScriptTypesResolutionMode → List ℕ → Type 0
+IsWith mode = Is (codes "with") · IsSpace · IsModeBlock mode
+
+-- the second argument of a dynamic import, with the comma before it
+abbrev pub IsOptions : Option TypeScriptTypesResolutionMode → List ℕ → Type 0
+IsOptions mode =
+    Is (codes ",") · IsSpace · Is (codes "{") · IsSpace · Is (codes "with") · IsSpace · Is (codes ":") · IsSpace
+    · IsModeBlock mode · IsSpace · Is (codes "}")
+
+-- that, or nothing and no mode
+abbrev pub IsSecond : Option TypeScriptTypesResolutionMode → List ℕ → Type 0
+IsSecond mode text = IsOptions mode text ⊎ ((text ≡ []) × (mode ≡ None))
+
+-- a text without `}` that ends in `word` and has it nowhere before
+pub record IsUpTo (word text : List ℕ) : Type 0 where
+  pub front : List ℕ
+  pub whole : text ≡ front ++ word
+  pub unclosed : Lacks 125 front
+  pub first : (before behind : List ℕ) → text ≡ before ++ (word ++ behind) → behind ≡ []

@@ -3,7 +3,8 @@ use Rattle.std.specs.Prelude.{◌≡◌, ℕ, Bool, true, false, Option, Some, N
 use Rattle.std.specs.Char.{is_whitespace}
 use Rattle.std.specs.Str.{chars}
 use denote.Ref.{Bor}
-use Rattle.deno_graph_jsdoc.specs.JsDocGrammar.{ends_ident}
+use Rattle.deno_graph_jsdoc.specs.JsDocGrammar.{Attribute, ends_ident}
+use Rattle.deno_graph_jsdoc.specs.declared.resolution_mode.TypeScriptTypesResolutionMode.{TypeScriptTypesResolutionMode}
 
 -- `input` is a text of `P` and then `rest`
 pub record Begins (P : List ℕ → Type 0) (input rest : List ℕ) : Type 0 where
@@ -34,9 +35,18 @@ Reads {V} Follow P input (Some answer) =
     Begins (P answer.1) input answer.0
     × ((other : V) (behind : List ℕ) → Follow behind → Begins (P other) input behind → (other ≡ answer.1) × (behind ≡ answer.0))
 
--- the rest that a parser gives, alone or with a text
+-- the rest that a parser gives, alone or with what it read
 abbrev pub rest_of : Option (Bor (List ℕ)) → Option (List ℕ × Unit {0})
 rest_of answer = option_map (λ rest. (chars rest.now, tt)) answer
 
+abbrev pub text_of : Option (Bor (List ℕ)) → Option (List ℕ)
+text_of text = option_map (λ text. chars text.now) text
+
 abbrev pub rest_and_text : Option (Bor (List ℕ) × Bor (List ℕ)) → Option (List ℕ × List ℕ)
 rest_and_text answer = option_map (λ found. (chars found.0.now, chars found.1.now)) answer
+
+abbrev pub rest_and_attribute : Option (Bor (List ℕ) × (Bor (List ℕ) × Bor (List ℕ))) → Option (List ℕ × Attribute)
+rest_and_attribute answer = option_map (λ found. (chars found.0.now, (chars found.1.0.now, chars found.1.1.now))) answer
+
+abbrev pub rest_and_mode : Option (Bor (List ℕ) × Option TypeScriptTypesResolutionMode) → Option (List ℕ × Option TypeScriptTypesResolutionMode)
+rest_and_mode answer = option_map (λ found. (chars found.0.now, found.1)) answer

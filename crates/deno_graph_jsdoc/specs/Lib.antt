@@ -1,3 +1,4 @@
 pub mod JsDocGrammar
 pub mod JsDocReading
 pub mod ResolutionMode
+pub mod JsDocImport

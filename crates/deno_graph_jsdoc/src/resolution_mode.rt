@@ -1,6 +1,7 @@
 //! How the types of an import are resolved.
 
 ghost use Rattle.std.specs.Prelude.{◌≡◌, ◌↔◌, Some, None, codes};
+ghost use Rattle.std.specs.Str.{chars};
 
 /// How the types of an import are resolved: as by `require`, or as by `import`.
 #[derive(Clone, Copy, Debug, PartialEq, Eq)]
@@ -16,7 +17,7 @@ impl TypeScriptTypesResolutionMode {
     pub fn from_str(text: &str) -> Option<Self>
         ensures import { (result ≡ Some TypeScriptTypesResolutionMode.Import) ↔ (text.now ≡ codes "import") }
         ensures require { (result ≡ Some TypeScriptTypesResolutionMode.Require) ↔ (text.now ≡ codes "require") }
-        ensures value { result ≡ mode_named text.now }
+        ensures named { result ≡ mode_named (chars text.now) }
     {
         match text {
             "import" => Some(Self::Import),

@@ -1,7 +1,7 @@
 -- The word, and then all white space.
 use Rattle.std.specs.Str.{chars}
 use Rattle.deno_graph_jsdoc.specs.JsDocGrammar.{Is}
-use Rattle.deno_graph_jsdoc.proofs.Parts.{spaced_none, spaced}
+use Rattle.deno_graph_jsdoc.proofs.Readings.{spaced_none, spaced}
 use Rattle.deno_graph_jsdoc.proofs.grammar.parts.token.Goals as goal
 
 pub returns-in_err-word : goal.returns-in_err-word
