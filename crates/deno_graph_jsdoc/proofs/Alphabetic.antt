@@ -73,3 +73,11 @@ single_quote = refl
 pub closing_brace : is_alphabetic 125 ≡ false
 unfolding is_alphabetic alphabetic_ranges in_ranges
 closing_brace = refl
+
+pub opening_brace : is_alphabetic 123 ≡ false
+unfolding is_alphabetic alphabetic_ranges in_ranges
+opening_brace = refl
+
+pub star : is_alphabetic 42 ≡ false
+unfolding is_alphabetic alphabetic_ranges in_ranges
+star = refl

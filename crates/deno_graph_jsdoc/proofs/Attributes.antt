@@ -14,7 +14,7 @@ begins_quoted : (inside text rest : List ℕ) → IsQuote inside text → (c : �
 begins_quoted inside text rest (inl (_, is)) = (34, (inside ++ 34 ∷ []) ++ rest, ap (λ t. t ++ rest) is, double_quote, refl)
 begins_quoted inside text rest (inr (_, is)) = (39, (inside ++ 39 ∷ []) ++ rest, ap (λ t. t ++ rest) is, single_quote, refl)
 
-begins_alphabetic : (text rest : List ℕ) → IsIdent text → (c : ℕ) × (cs : List ℕ) × (text ++ rest ≡ c ∷ cs) × (is_alphabetic c ≡ true)
+pub begins_alphabetic : (text rest : List ℕ) → IsIdent text → (c : ℕ) × (cs : List ℕ) × (text ++ rest ≡ c ∷ cs) × (is_alphabetic c ≡ true)
 begins_alphabetic [] rest is = absurd is
 begins_alphabetic (c ∷ cs) rest is = (c, cs ++ rest, refl, is.0)
 

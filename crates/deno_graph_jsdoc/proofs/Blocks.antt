@@ -3,16 +3,16 @@ use Rattle.std.proofs.Common.{◌≡◌, ℕ, ◌+◌, ◌<◌, ◌≤◌, inl, 
 use Rattle.std.proofs.lemmas.List.{append-nil}
 use Rattle.std.specs.Option.{option_and_then}
 use Rattle.std.specs.Str.{skip_leading_whitespace}
-use Rattle.deno_graph_jsdoc.specs.JsDocGrammar.{◌·◌, Is, IsSpace, IsQuote, IsIdent, IsKey, Attribute, IsAttribute, AreFurther, AreAttributes, IsBlock, IsModeBlock, IsModeBlockEnd, mode_name, mode_of}
+use Rattle.deno_graph_jsdoc.specs.JsDocGrammar.{◌·◌, Is, IsSpace, IsQuote, IsIdent, IsKey, Attribute, IsAttribute, AreFurther, AreAttributes, IsBlock, IsModeBlock, IsModeBlockEnd, IsWith, mode_name, mode_of}
 use Rattle.deno_graph_jsdoc.specs.JsDocReading.{Begins, Anything, NoSpace, Reads}
 use Rattle.deno_graph_jsdoc.specs.ResolutionMode.{mode_named}
 use Rattle.deno_graph_jsdoc.specs.declared.resolution_mode.TypeScriptTypesResolutionMode.{TypeScriptTypesResolutionMode}
 use Rattle.deno_graph_jsdoc.proofs.Alphabetic.{Alphabetic-is_whitespace}
 use Rattle.deno_graph_jsdoc.proofs.Attributes.{IsSolid-quote, key_no_brace}
-use Rattle.deno_graph_jsdoc.proofs.Readings.{Begins-split, Begins-join, IsSolid, IsSolid-append, IsSolid-word, NoSpace-before, regroup, ungroup, regroup_4, ungroup_4, one_space, behind_space, before_space, behind_nothing, before_nothing, same_first, Begins-length, Begins-shorter}
+use Rattle.deno_graph_jsdoc.proofs.Readings.{Begins-split, Begins-join, IsSolid, IsSolid-append, IsSolid-word, NoSpace-before, regroup, ungroup, regroup_4, ungroup_4, one_space, behind_space, before_space, behind_nothing, before_nothing, lexeme_none, lexeme_then, same_first, Begins-length, Begins-shorter}
 
 -- an attribute begins with no white space
-IsSolid-ident : (text : List ℕ) → IsIdent text → IsSolid text
+pub IsSolid-ident : (text : List ℕ) → IsIdent text → IsSolid text
 IsSolid-ident [] is = absurd is
 IsSolid-ident (c ∷ cs) is = Alphabetic-is_whitespace c is.0
 
@@ -20,7 +20,7 @@ IsSolid-key : (key text : List ℕ) → IsKey key text → IsSolid text
 IsSolid-key key text (inl is) = IsSolid-quote key text is
 IsSolid-key key text (inr is) = IsSolid-ident text is.0
 
-IsSolid-front : {P Q : List ℕ → Type 0} → ((text : List ℕ) → P text → IsSolid text) → (text : List ℕ) → (P · Q) text → IsSolid text
+pub IsSolid-front : {P Q : List ℕ → Type 0} → ((text : List ℕ) → P text → IsSolid text) → (text : List ℕ) → (P · Q) text → IsSolid text
 IsSolid-front solid text parts = subst IsSolid (sym parts.whole) (IsSolid-append parts.front parts.back (solid parts.front parts.is_front))
 
 -- attributes up to a closing brace
@@ -247,3 +247,14 @@ module _ (input middle : List ℕ) (opens : Reads NoSpace (λ (_ : Unit {0}). Is
           → (mode ≡ x.1) × (end ≡ x.0)
       only [] {mode} {end} is b = absurd (no_brace tt end tt b)
       only (a ∷ others) {mode} {end} is b = found.1 mode end tt (record { piece = b.piece; whole = b.whole; is = (a ∷ others, omega arith, is, b.is) })
+
+-- a word and a block
+pub IsSolid-block : (mode : Option TypeScriptTypesResolutionMode) (text : List ℕ) → IsModeBlock mode text → IsSolid text
+IsSolid-block mode text is = IsSolid-word 123 [] refl text is.2
+
+pub with_none : (input : List ℕ) → Reads NoSpace (λ (_ : Unit {0}). Is (codes "with") · IsSpace) input None → Reads Anything IsWith input None
+with_none input none = lexeme_none Anything IsModeBlock IsSolid-block (Is (codes "with")) input none
+
+pub with_read : (input middle : List ℕ) (o : Option (List ℕ × Option TypeScriptTypesResolutionMode))
+    → Reads NoSpace (λ (_ : Unit {0}). Is (codes "with") · IsSpace) input (Some (middle, tt)) → Reads Anything IsModeBlock middle o → Reads Anything IsWith input o
+with_read input middle o word block = lexeme_then Anything IsModeBlock IsSolid-block (Is (codes "with")) input middle o word block

@@ -1,6 +1,9 @@
 pub mod Alphabetic
 pub mod Attributes
 pub mod Blocks
+pub mod Clauses
+pub mod Declarations
+pub mod Imports
 pub mod Parts
 pub mod Readings
 pub mod Runs

@@ -1,5 +1,6 @@
 -- Texts that begin with one thing and then another, and parsers one after another.
 use Rattle.std.proofs.Common.{◌≡◌, ℕ, Bool, true, false, Option, Some, None, List, [], ◌∷◌, ◌++◌, refl, sym, ap, ◌∙◌, subst, append_assoc, option_map, ◌<◌, ◌≤◌, length, length-append, arith}
+use Rattle.std.proofs.lemmas.List.{append-nil}
 use Rattle.std.specs.Char.{is_whitespace}
 use Rattle.std.specs.Str.{skip_leading_whitespace}
 use Rattle.deno_graph_jsdoc.specs.JsDocGrammar.{◌·◌, Is, IsSpace}
@@ -35,7 +36,7 @@ pub IsSolid-append : (text rest : List ℕ) → IsSolid text → IsSolid (text +
 IsSolid-append [] rest solid = absurd solid
 IsSolid-append (c ∷ cs) rest solid = solid
 
-NoSpace-solid : (text : List ℕ) → IsSolid text → NoSpace text
+pub NoSpace-solid : (text : List ℕ) → IsSolid text → NoSpace text
 NoSpace-solid [] solid = absurd solid
 NoSpace-solid (c ∷ cs) solid = solid
 
@@ -215,3 +216,9 @@ pub one_space : {Q : List ℕ → Type 0} {input rest : List ℕ} → Begins (Is
 one_space b =
     let parts = Begins-split (regroup b) in
     Begins-join (Begins-as (λ text both. subst IsSpace (sym both.whole) (IsSpace-append both.front both.back both.is_front both.is_back)) parts.1) parts.2
+
+-- what holds of the front of any text holds of a whole text
+pub textwise : {P Q : List ℕ → Type 0} → ((input rest : List ℕ) → Begins P input rest → Begins Q input rest) → (text : List ℕ) → P text → Q text
+textwise {P} {Q} same text is =
+    let b = same text [] (record { piece = text; whole = sym (append-nil text); is = is }) in
+    subst Q (sym (b.whole ∙ append-nil b.piece)) b.is

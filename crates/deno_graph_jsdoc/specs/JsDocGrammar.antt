@@ -98,12 +98,18 @@ IsModeBlockEnd mode text =
     (attributes : List Attribute) × (0 < length attributes) × (mode ≡ mode_of attributes)
     × (AreAttributes attributes · IsSpace · Is (codes "}")) text
 
--- what is imported: names in braces, all as one name, or the default
+-- what is imported: names in braces, all under one name, or the default
+abbrev pub IsNames : List ℕ → Type 0
+IsNames = Is (codes "{") · Lacks 125 · Is (codes "}")
+
+abbrev pub IsName : List ℕ → Type 0
+IsName = IsIdent · IsGap
+
+abbrev pub IsNamespace : List ℕ → Type 0
+IsNamespace = Is (codes "*") · IsSpace · Is (codes "as") · IsGap · IsIdent · IsGap
+
 abbrev pub IsClause : List ℕ → Type 0
-IsClause text =
-    (Is (codes "{") · Lacks 125 · Is (codes "}")) text
-    ⊎ ((Is (codes "*") · IsSpace · Is (codes "as") · IsGap · IsIdent · IsGap) text
-    ⊎ (IsIdent · IsGap) text)
+IsClause text = IsNames text ⊎ (IsNamespace text ⊎ IsName text)
 
 -- the attributes of a declaration
 abbrev pub IsWith : Option TypeScriptTypesResolutionMode → List ℕ → Type 0

@@ -1,7 +1,13 @@
 //! The dynamic import, as `{import("./types.ts").Type}`.
 
+ghost use Rattle.std.specs.Prelude.{◌≡◌, ◌≤◌, ℕ, List, IfOk, IfSome, IsOkAnd, codes, length};
+ghost use Rattle.std.specs.Str.{chars};
+ghost use Rattle.deno_graph_jsdoc.specs.JsDocGrammar.{◌·◌, Is, IsSpace, IsOptions, IsSecond, IsUpTo};
+ghost use Rattle.deno_graph_jsdoc.specs.JsDocImport.{Import, HasArguments, IsDynamicImport, Parses, import_of, rest_and_import};
+ghost use Rattle.deno_graph_jsdoc.specs.JsDocReading.{Reads, Anything, NoSpace, rest_of, rest_and_mode};
+
 use super::attributes::block;
-use super::parts::{quote, skip_space, through_brace, token};
+use super::parts::{quote, skip_space, through_brace, token, word};
 use crate::import::{JsDocImport, NoParse};
 use crate::resolution_mode::TypeScriptTypesResolutionMode;
 
@@ -9,33 +15,52 @@ use crate::resolution_mode::TypeScriptTypesResolutionMode;
 ///
 /// `{`, anything up to the first `import`, an argument list of a quoted specifier and maybe attributes, and
 /// anything up to `}`. Only the first `import` is tried, and no `}` stands before it.
-pub fn parse_jsdoc_dynamic_import(input: &str) -> Result<(&str, JsDocImport<'_>), NoParse> {
-    dynamic_import(input).ok_or(NoParse)
+pub fn parse_jsdoc_dynamic_import(input: &str) -> Result<(&str, JsDocImport<'_>), NoParse>
+    ensures found { IfOk result (λ parsed. IsDynamicImport (chars input.now) (import_of parsed.1) (chars parsed.0.now)) }
+    ensures only { (import : Import) (rest : List ℕ) → IsDynamicImport (chars input.now) import rest
+        → IsOkAnd result (λ parsed. (import ≡ import_of parsed.1) × (rest ≡ chars parsed.0.now)) }
+{
+    let behind = first_import(input).ok_or(NoParse)?;
+    let (rest, import) = arguments(behind).ok_or(NoParse)?;
+    let rest = through_brace(rest).ok_or(NoParse)?;
+    Ok((rest, import.moved(input.len() - behind.len())))
 }
 
-fn dynamic_import(input: &str) -> Option<(&str, JsDocImport<'_>)> {
-    let (before, rest) = input.strip_prefix("{")?.split_once("import")?;
+/// What is behind the first `import` behind the brace with which the input begins, where no `}` is between.
+fn first_import(input: &str) -> Option<&str>
+    ensures { Reads Anything (λ _. Is (codes "{") · IsUpTo (codes "import")) (chars input.now) (rest_of result) }
+{
+    let (before, rest) = word(input, "{")?.split_once("import")?;
     if before.contains('}') {
-        return None;
+        None
+    } else {
+        Some(rest)
     }
-    let rest = token(skip_space(rest), "(")?;
-    let start = input.len() - rest.len() + 1;
-    let (rest, specifier) = quote(rest)?;
-    let (rest, resolution_mode) = second_argument(skip_space(rest))?;
-    let rest = through_brace(token(rest, ")")?)?;
-    Some((
-        rest,
-        JsDocImport {
-            specifier,
-            specifier_range: start..start + specifier.len(),
-            resolution_mode,
-        },
-    ))
+}
+
+/// The import that the argument list behind an `import` states, and what is behind that.
+pub(crate) fn arguments(input: &str) -> Option<(&str, JsDocImport<'_>)>
+    ensures parsed { Parses HasArguments (chars input.now) (rest_and_import result) }
+    ensures within { IfSome result (λ parsed. (parsed.1.specifier_range.start ≤ parsed.1.specifier_range.end)
+        × (parsed.1.specifier_range.end ≤ length input.now)) }
+{
+    let quoted = token(skip_space(input), "(")?;
+    let (behind, specifier) = quote(quoted)?;
+    let (behind, resolution_mode) = second_argument(skip_space(behind))?;
+    let rest = word(behind, ")")?;
+    let start = input.len() - quoted.len() + 1;
+    let import = JsDocImport {
+        specifier,
+        specifier_range: start..start + specifier.len(),
+        resolution_mode,
+    };
+    Some((rest, import))
 }
 
 /// What is behind the second argument and white space, and its mode. All of the input and no mode
 /// where no comma is there.
-fn second_argument(input: &str) -> Option<(&str, Option<TypeScriptTypesResolutionMode>)> {
+fn second_argument(input: &str) -> Option<(&str, Option<TypeScriptTypesResolutionMode>)>
+{
     match token(input, ",") {
         Some(argument) => options(argument),
         None => Some((input, None)),
