@@ -38,7 +38,7 @@ Closed = Is (codes "}")
 abbrev pub More : List Attribute → List ℕ → Type 0
 More others = Is (codes ",") · IsSpace · Through others
 
-Closed-solid : (text : List ℕ) → Closed text → IsSolid text
+pub Closed-solid : (text : List ℕ) → Closed text → IsSolid text
 Closed-solid text is = subst IsSolid (sym is) refl
 
 abbrev Follows : List Attribute → List ℕ → List ℕ → Type 0

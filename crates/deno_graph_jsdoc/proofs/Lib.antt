@@ -1,4 +1,5 @@
 pub mod Alphabetic
+pub mod Arguments
 pub mod Attributes
 pub mod Blocks
 pub mod Clauses

@@ -97,6 +97,28 @@ module _ {V W : Type 0} (F G : List ℕ → Type 0) (P : V → List ℕ → Type
         (λ i. (same.0 i, again.0 i), again.1),
   )
 
+-- `P`, which has a value, and then `Q`, which has none, where a text of `Q` may follow `P`
+module _ {V : Type 0} (F G : List ℕ → Type 0) (P : V → List ℕ → Type 0) (Q : List ℕ → Type 0)
+    (follows : (middle rest : List ℕ) → G rest → Begins Q middle rest → F middle) where
+  pub value_none : (input : List ℕ) → Reads F P input None → Reads G (λ v. P v · Q) input None
+  value_none input none v rest g b =
+      let parts = Begins-split b in
+      none v parts.0 (follows parts.0 rest g parts.2) parts.1
+
+  pub value_then : (input middle : List ℕ) (v : V) (o : Option (List ℕ × Unit {0})) → Reads F P input (Some (middle, v)) → Reads G (λ _. Q) middle o
+      → Reads G (λ v. P v · Q) input (option_map (λ x. (x.0, v)) o)
+  value_then input middle v None first none = λ other rest g b.
+      let parts = Begins-split b in
+      let same = first.1 other parts.0 (follows parts.0 rest g parts.2) parts.1 in
+      none tt rest g (subst (λ m. Begins Q m rest) same.1 parts.2)
+  value_then input middle v (Some x) first second = (
+    Begins-join first.0 second.0,
+    λ other rest g b.
+        let parts = Begins-split b in
+        let same = first.1 other parts.0 (follows parts.0 rest g parts.2) parts.1 in
+        (same.0, (second.1 tt rest g (subst (λ m. Begins Q m rest) same.1 parts.2)).1),
+  )
+
 -- `P`, which has no value, and then `Q`, where a text of `Q` may follow `P`
 module _ {W : Type 0} (F G : List ℕ → Type 0) (P : List ℕ → Type 0) (Q : W → List ℕ → Type 0)
     (follows : (w : W) (middle rest : List ℕ) → G rest → Begins (Q w) middle rest → F middle) where

@@ -1,5 +1,5 @@
 -- The longest run of characters of one kind with which a text begins.
-use Rattle.std.proofs.Common.{◌≡◌, ◌≢◌, ℕ, ◌⊎◌, inl, inr, Bool, true, false, Option, Some, None, List, [], ◌∷◌, ◌++◌, refl, sym, ap, ◌∙◌, subst, cond}
+use Rattle.std.proofs.Common.{◌≡◌, ◌≢◌, ℕ, ◌⊎◌, inl, inr, Bool, true, false, Option, Some, None, List, [], ◌∷◌, ◌++◌, refl, sym, ap, ◌∙◌, subst, cond, ◌≤◌, length, arith}
 use Rattle.std.proofs.lemmas.Bool.{both_ways, and_parts}
 use Rattle.std.specs.Char.{is_whitespace}
 use Rattle.std.specs.List.{AllByRecursion}
@@ -74,3 +74,13 @@ scalars_behind_space (c ∷ cs) all = by_first (is_whitespace c) (scalars_behind
 pub IsSpace-append : (xs ys : List ℕ) → IsSpace xs → IsSpace ys → IsSpace (xs ++ ys)
 IsSpace-append [] ys left right = right
 IsSpace-append (x ∷ xs) ys left right = (left.0, IsSpace-append xs ys left.1 right)
+
+-- of two fronts of a text the shorter is a front of the longer
+pub front_of_front : (xs ys zs ws : List ℕ) → xs ++ ys ≡ zs ++ ws → length xs ≤ length zs → (middle : List ℕ) × (zs ≡ xs ++ middle)
+front_of_front [] ys zs ws same fits = (zs, refl)
+front_of_front (x ∷ xs) ys [] ws same fits = absurd (omega arith)
+front_of_front (x ∷ xs) ys (z ∷ zs) ws same fits =
+    let tails : xs ++ ys ≡ zs ++ ws = cc in
+    let first : z ≡ x = cc in
+    let more = front_of_front xs ys zs ws tails (omega arith) in
+    (more.0, λ i. first i ∷ more.1 i)

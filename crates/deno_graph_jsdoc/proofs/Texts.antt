@@ -1,13 +1,13 @@
 -- What std says of the bytes of a text, said of its characters.
-use Rattle.std.proofs.Common.{◌≡◌, ◌≢◌, ℕ, ◌+◌, ◌-◌, ◌<◌, ◌≤◌, ◌==◌, Bool, true, false, Option, Some, None, List, [], ◌∷◌, ◌++◌, length, take, drop, get_or, refl, sym, ap, ◌∙◌, subst, arith, append_assoc}
-use Rattle.std.proofs.lemmas.List.{append_cancel_left, append-nil, drop_all, take-append-drop, take_all}
+use Rattle.std.proofs.Common.{◌≡◌, ◌≢◌, ℕ, ◌+◌, ◌-◌, ◌<◌, ◌≤◌, ◌==◌, Bool, true, false, Option, Some, None, List, [], ◌∷◌, ◌++◌, length, take, drop, get_or, refl, sym, ap, ◌∙◌, subst, arith, append_assoc, length-append}
+use Rattle.std.proofs.lemmas.List.{append_cancel_left, append-nil, drop_all, drop_at, take-append-drop, take_all}
 use Rattle.std.proofs.lemmas.Bool.{both_ways, eq-eqb, eqb-false}
-use Rattle.std.proofs.lemmas.Str.{IsUtf8-from_ascii, IsUtf8-past_char, IsUtf8-take, IsUtf8-drop, chars-append, chars-nil, chars-IsAscii, chars_from_encodes, chars_past_char, encode_ascii, encodes-append, encodes-chars, encodes-IsAscii, IsCharBoundary-before_ascii, length-encode, len_utf8_bounds}
+use Rattle.std.proofs.lemmas.Str.{IsUtf8-from_ascii, IsUtf8-past_char, IsUtf8-take, IsUtf8-drop, chars-append, chars-nil, chars-IsAscii, chars_from_encodes, chars_past_char, encode_ascii, encodes-append, encodes-chars, encodes-IsAscii, IsCharBoundary-before_ascii, length-encode, length-le-encodes, len_utf8_bounds}
 use Rattle.std.specs.Char.{is_whitespace}
 use Rattle.std.specs.List.{AllByRecursion}
 use Rattle.std.specs.Option.{MatchOption, unwrap_or}
 use Rattle.std.specs.Str.{IsAscii, IsUtf8, IsCharBoundary, NonePass, NoCharPasses, chars}
-use Rattle.std.specs.Str.Pattern.{FindsBy, FindsChar, FindsCharPrefix, FindsTextPrefix, MatchBeginsAt, StripsPrefix, SplitsAroundMatch}
+use Rattle.std.specs.Str.Pattern.{FindsBy, FindsChar, FindsCharPrefix, FindsText, FindsTextPrefix, MatchBeginsAt, StripsPrefix, SplitsAroundMatch}
 use denote.Ref.{Bor}
 use lib.Utf8.{encodes, encode}
 use Rattle.deno_graph_jsdoc.specs.JsDocGrammar.{Is, Lacks}
@@ -113,4 +113,65 @@ find_chars test input (Some i) utf8 (j, found, order, boundary, end) =
       ap chars (sym (take-append-drop i input)) ∙ chars-append (take i input) (drop i input) front,
       none_chars test (take i input) front found.0,
       subst (EmptyOr (λ c. test c ≡ true)) (sym behind) passing.1,
+    )
+
+-- the characters before and behind the first of a word
+pub split_word : (word input : List ℕ) (answer : Option (Bor (List ℕ) × Bor (List ℕ))) → IsUtf8 input → IsAscii word
+    → MatchOption answer (Unit {0}) (λ x. IsUtf8 x.0.now)
+    → MatchOption answer (FindsText word input None) (λ x. SplitsAroundMatch (FindsText word) input x.0.now x.1.now)
+    → MatchOption answer ((front rest : List ℕ) → chars input ≢ front ++ (word ++ rest))
+        (λ x. (chars input ≡ chars x.0.now ++ (word ++ chars x.1.now))
+        × ((before behind : List ℕ) → chars x.0.now ++ word ≡ before ++ (word ++ behind) → behind ≡ []))
+split_word word input None utf8 ascii _ none = λ front rest whole.
+    let bytes = bytes_from_chars input front (word ++ rest) utf8 whole in
+    let here : drop (length (encodes front)) input ≡ word ++ encodes rest =
+    ap (drop (length (encodes front))) bytes ∙ drop_at (encodes front) (encodes (word ++ rest)) (length (encodes front)) refl
+    ∙ encodes-append word rest ∙ ap (λ t. t ++ encodes rest) (encodes-IsAscii word ascii) in
+    none (length (encodes front)) (omega (arith, ap length bytes, length-append (encodes front) (encodes (word ++ rest)))) (encodes rest) here
+split_word word input (Some x) utf8 ascii utf8_front (i, j, found, front, back, order, front_size, back_size) = (whole, first)
+  where
+    at : drop i input ≡ word ++ drop j input
+    at = found.1.split
+
+    bytes : input ≡ x.0.now ++ (word ++ x.1.now)
+    bytes =
+        let front_is : take i input ≡ x.0.now = sym front in
+        sym (take-append-drop i input) ∙ (λ k. front_is k ++ at k) ∙ ap (λ t. x.0.now ++ (word ++ t)) (sym back)
+
+    whole : chars input ≡ chars x.0.now ++ (word ++ chars x.1.now)
+    whole =
+        ap chars bytes ∙ chars-append x.0.now (word ++ x.1.now) utf8_front
+        ∙ ap (λ t. chars x.0.now ++ t) (chars-append word x.1.now (IsUtf8-from_ascii word ascii) ∙ ap (λ t. t ++ chars x.1.now) (chars-IsAscii word ascii))
+
+    first : (before behind : List ℕ) → chars x.0.now ++ word ≡ before ++ (word ++ behind) → behind ≡ []
+    first before [] same = refl
+    first before (c ∷ cs) same =
+        let all : chars input ≡ before ++ (word ++ ((c ∷ cs) ++ chars x.1.now)) =
+        whole ∙ sym (append_assoc (chars x.0.now) word (chars x.1.now)) ∙ ap (λ t. t ++ chars x.1.now) same
+        ∙ append_assoc before (word ++ c ∷ cs) (chars x.1.now) ∙ ap (λ t. before ++ t) (append_assoc word (c ∷ cs) (chars x.1.now)) in
+        let spelled = bytes_from_chars input before (word ++ ((c ∷ cs) ++ chars x.1.now)) utf8 all in
+        let here : drop (length (encodes before)) input ≡ word ++ encodes ((c ∷ cs) ++ chars x.1.now) =
+        ap (drop (length (encodes before))) spelled ∙ drop_at (encodes before) (encodes (word ++ ((c ∷ cs) ++ chars x.1.now))) (length (encodes before)) refl
+        ∙ encodes-append word ((c ∷ cs) ++ chars x.1.now) ∙ ap (λ t. t ++ encodes ((c ∷ cs) ++ chars x.1.now)) (encodes-IsAscii word ascii) in
+        let left : length (encodes (chars x.0.now ++ word)) ≡ length x.0.now + length (encodes word) =
+        ap length (encodes-append (chars x.0.now) word) ∙ length-append (encodes (chars x.0.now)) (encodes word) ∙ ap (λ t. length t + length (encodes word)) (encodes-chars x.0.now utf8_front) in
+        let right : length (encodes (before ++ (word ++ c ∷ cs))) ≡ length (encodes before) + (length (encodes word) + length (encodes (c ∷ cs))) =
+        ap length (encodes-append before (word ++ c ∷ cs) ∙ ap (λ t. encodes before ++ t) (encodes-append word (c ∷ cs)))
+        ∙ length-append (encodes before) (encodes word ++ encodes (c ∷ cs)) ∙ ap (λ n. length (encodes before) + n) (length-append (encodes word) (encodes (c ∷ cs))) in
+        let sooner : length (encodes before) < i = omega (arith, left, right, ap (λ t. length (encodes t)) same, length-le-encodes (c ∷ cs), front_size) in
+        absurd (found.0 (length (encodes before)) sooner (encodes ((c ∷ cs) ++ chars x.1.now)) here)
+
+-- a mark that a text holds
+pub mark_inside : (mark : ℕ) (text : List ℕ) → IsUtf8 text → mark < 128 → (i : ℕ) × (j : ℕ) × FindsChar mark text (Some (i, j)) × (i ≤ j) × (j ≤ length text)
+    → (inside : List ℕ) × (after : List ℕ) × (chars text ≡ inside ++ mark ∷ after)
+mark_inside mark text utf8 ascii (i, j, found, order, fits) =
+    let at = found.1 in
+    let inside : i < length text = omega (arith, at.ends, len_utf8_bounds mark) in
+    let byte : get_or text i 0 ≡ mark = at.byte ascii in
+    let boundary : IsCharBoundary text i = IsCharBoundary-before_ascii text i inside (omega (arith, byte)) in
+    let behind : chars (drop i text) ≡ mark ∷ chars (drop j text) =
+    chars_past_char (drop i text) (drop j text) mark (IsUtf8-drop text i utf8 boundary) at.split in (
+      chars (take i text),
+      chars (drop j text),
+      ap chars (sym (take-append-drop i text)) ∙ chars-append (take i text) (drop i text) (IsUtf8-take text i utf8 boundary) ∙ ap (λ t. chars (take i text) ++ t) behind,
     )

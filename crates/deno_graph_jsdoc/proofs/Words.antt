@@ -26,7 +26,7 @@ bytes_eq-chars text word utf8 ascii =
     (λ is. ap chars is ∙ chars-IsAscii word ascii) (bytes_eq-Decides (chars text) word))
     (bytes_eq-Decides text word)
 
-IsAscii-from_test : (word : List ℕ) → list_all (λ c. ltb c 128) word ≡ true → IsAscii word
+pub IsAscii-from_test : (word : List ℕ) → list_all (λ c. ltb c 128) word ≡ true → IsAscii word
 IsAscii-from_test [] all = IsAscii-nil
 IsAscii-from_test (c ∷ cs) all =
     let both = and_parts (ltb c 128) (list_all (λ c. ltb c 128) cs) all in

@@ -26,11 +26,18 @@ pub fn parse_jsdoc_dynamic_import(input: &str) -> Result<(&str, JsDocImport<'_>)
     Ok((rest, import.moved(input.len() - behind.len())))
 }
 
-/// What is behind the first `import` behind the brace with which the input begins, where no `}` is between.
+/// What is behind a brace and the first `import` behind it, where no `}` is between.
 fn first_import(input: &str) -> Option<&str>
     ensures { Reads Anything (λ _. Is (codes "{") · IsUpTo (codes "import")) (chars input.now) (rest_of result) }
 {
-    let (before, rest) = word(input, "{")?.split_once("import")?;
+    up_to_import(word(input, "{")?)
+}
+
+/// What is behind the first `import`, where no `}` is before it.
+fn up_to_import(input: &str) -> Option<&str>
+    ensures { Reads Anything (λ _. IsUpTo (codes "import")) (chars input.now) (rest_of result) }
+{
+    let (before, rest) = input.split_once("import")?;
     if before.contains('}') {
         None
     } else {
@@ -38,7 +45,7 @@ fn first_import(input: &str) -> Option<&str>
     }
 }
 
-/// The import that the argument list behind an `import` states, and what is behind that.
+/// The import that the argument list behind an `import` states, and what is behind the list.
 pub(crate) fn arguments(input: &str) -> Option<(&str, JsDocImport<'_>)>
     ensures parsed { Parses HasArguments (chars input.now) (rest_and_import result) }
     ensures within { IfSome result (λ parsed. (parsed.1.specifier_range.start ≤ parsed.1.specifier_range.end)
@@ -46,8 +53,9 @@ pub(crate) fn arguments(input: &str) -> Option<(&str, JsDocImport<'_>)>
 {
     let quoted = token(skip_space(input), "(")?;
     let (behind, specifier) = quote(quoted)?;
-    let (behind, resolution_mode) = second_argument(skip_space(behind))?;
-    let rest = word(behind, ")")?;
+    let behind = skip_space(behind);
+    let (behind, resolution_mode) = options(behind).unwrap_or((behind, None));
+    let rest = word(skip_space(behind), ")")?;
     let start = input.len() - quoted.len() + 1;
     let import = JsDocImport {
         specifier,
@@ -57,20 +65,13 @@ pub(crate) fn arguments(input: &str) -> Option<(&str, JsDocImport<'_>)>
     Some((rest, import))
 }
 
-/// What is behind the second argument and white space, and its mode. All of the input and no mode
-/// where no comma is there.
-fn second_argument(input: &str) -> Option<(&str, Option<TypeScriptTypesResolutionMode>)>
+/// What is behind the second argument and the comma before it, and the mode of its attributes.
+fn options(input: &str) -> Option<(&str, Option<TypeScriptTypesResolutionMode>)>
+    ensures { Reads Anything IsOptions (chars input.now) (rest_and_mode result) }
 {
-    match token(input, ",") {
-        Some(argument) => options(argument),
-        None => Some((input, None)),
-    }
-}
-
-/// What is behind `{ with: .. }` and white space, and the mode of its attributes.
-fn options(input: &str) -> Option<(&str, Option<TypeScriptTypesResolutionMode>)> {
-    let rest = token(input, "{")?;
+    let rest = token(input, ",")?;
+    let rest = token(rest, "{")?;
     let rest = token(rest, "with")?;
     let (rest, mode) = block(token(rest, ":")?)?;
-    Some((token(skip_space(rest), "}")?, mode))
+    Some((word(skip_space(rest), "}")?, mode))
 }
