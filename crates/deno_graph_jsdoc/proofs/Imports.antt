@@ -1,5 +1,5 @@
 -- Imports by what is before their specifier, the specifier and what is behind it.
-use Rattle.std.proofs.Common.{◌≡◌, ℕ, suc, ◌+◌, ◌<◌, ◌≤◌, ◌⊎◌, inl, inr, Bool, Option, Some, None, List, [], ◌∷◌, ◌++◌, length, refl, sym, ap, ◌∙◌, subst, codes, option_map, append_assoc, length-append, arith}
+use Rattle.std.proofs.Common.{◌≡◌, ℕ, suc, ◌+◌, ◌-◌, ◌<◌, ◌≤◌, ◌⊎◌, inl, inr, Bool, Option, Some, None, List, [], ◌∷◌, ◌++◌, length, refl, sym, ap, ◌∙◌, subst, codes, option_map, append_assoc, length-append, arith}
 use Rattle.std.proofs.lemmas.List.{append_cancel_right}
 use Rattle.std.proofs.lemmas.Str.{encodes-append, encodes-chars}
 use Rattle.std.specs.Option.{unwrap_or}
@@ -256,3 +256,10 @@ module _ (Head : List ℕ → Type 0) (Tail Longer : List ℕ → Mode → List 
         let same = found.1 other parts.0 parts.1 in
         (same.0, (more.1 tt rest tt (subst (λ m. Begins P m rest) same.1 parts.2)).1),
   )
+
+-- an import whose places are counted from `rest`, which is behind `piece`, with places counted from `text`
+pub counted_from : (G : List ℕ → Import → List ℕ → Type 0) (text rest piece last : List ℕ) (import result : Import) → size piece + length rest ≡ length text
+    → result ≡ moved (length text - length rest) import → Parses G (chars text) (Some (last, moved (size piece) import)) → Parses G (chars text) (Some (last, result))
+counted_from G text rest piece last import result whole same parses =
+    let by : size piece ≡ length text - length rest = omega (arith, whole) in
+    subst (λ found. Parses G (chars text) (Some (last, found))) (ap (λ n. moved n import) by ∙ sym same) parses

@@ -6,9 +6,9 @@ use Rattle.deno_graph_jsdoc.specs.JsDocGrammar.{◌·◌, Is, IsSpace}
 use Rattle.deno_graph_jsdoc.specs.JsDocImport.{EndsDeclaration, size}
 use Rattle.deno_graph_jsdoc.proofs.Imports.{no_head, no_quote, stated, ends_at, size_before, States-within}
 use Rattle.deno_graph_jsdoc.proofs.grammar.declaration.source.Goals as goal
-use Rattle.deno_graph_jsdoc.proofs.grammar.declaration.source.Goals.{After-rest-1}
+use Rattle.deno_graph_jsdoc.proofs.grammar.declaration.source.Goals.{In_ok-quoted}
 
-before : (c : After-rest-1) → size c.in_ok-quoted.ensures.0.piece + length c.in_ok-quoted.quoted.now ≡ length c.args.input.now
+before : (c : In_ok-quoted) → size c.in_ok-quoted.ensures.0.piece + length c.in_ok-quoted.quoted.now ≡ length c.args.input.now
 before c =
     let utf8 : IsUtf8 c.in_ok-quoted.quoted.now = search rules in
     size_before c.args.input.now c.in_ok-quoted.quoted.now c.in_ok-quoted.ensures.0.piece c.utf8.input utf8 c.in_ok-quoted.ensures.0.whole
@@ -22,7 +22,7 @@ returns-in_err-behind-clause-parsed c =
     (no_quote (Is (codes "from") · IsSpace) EndsDeclaration (chars c.args.input.now) (chars c.in_ok-quoted.quoted.now) c.in_ok-quoted.ensures c.in_err-behind.ensures)
 
 pub overflow_sub-start : goal.overflow_sub-start
-overflow_sub-start c = omega (arith, before c)
+overflow_sub-start c = omega (arith, before (goal.at.overflow_sub-start c).In_ok-quoted)
 
 pub returns-clause-parsed : goal.returns-clause-parsed
 returns-clause-parsed c =
@@ -31,7 +31,7 @@ returns-clause-parsed c =
     let utf8 : IsUtf8 c.in_ok-behind.specifier.now = search rules in
     stated (Is (codes "from") · IsSpace) EndsDeclaration (chars c.args.input.now) (chars c.in_ok-quoted.quoted.now) c.in_ok-quoted.ensures
     (chars c.in_ok-behind.behind.now) (chars c.in_ok-behind.specifier.now) c.in_ok-behind.ensures _ _ refl
-    (omega (arith, before (goal.at.returns-clause-parsed c).After-rest-1)) (omega (arith, ap length (encodes-chars c.in_ok-behind.specifier.now utf8)))
+    (omega (arith, before (goal.at.returns-clause-parsed c).In_ok-quoted)) (omega (arith, ap length (encodes-chars c.in_ok-behind.specifier.now utf8)))
     ends.0 ends.1
 
 pub returns-clause-within : goal.returns-clause-within

@@ -4,9 +4,9 @@ use Rattle.std.specs.Str.{IsUtf8, chars}
 use Rattle.deno_graph_jsdoc.specs.JsDocImport.{Parses, HasArguments, IsDynamicImport, import_of, rest_and_import, size, moved}
 use Rattle.deno_graph_jsdoc.specs.JsDocReading.{Anything, Reads, rest_of}
 use Rattle.deno_graph_jsdoc.proofs.Arguments.{First, Through, no_import, no_arguments, behind_arguments}
-use Rattle.deno_graph_jsdoc.proofs.Imports.{size_before}
+use Rattle.deno_graph_jsdoc.proofs.Imports.{size_before, counted_from}
 use Rattle.deno_graph_jsdoc.proofs.grammar.dynamic.parse_jsdoc_dynamic_import.Goals as goal
-use Rattle.deno_graph_jsdoc.proofs.grammar.dynamic.parse_jsdoc_dynamic_import.Goals.{After-rest-2-1, In_ok-behind}
+use Rattle.deno_graph_jsdoc.proofs.grammar.dynamic.parse_jsdoc_dynamic_import.Goals.{In_ok-behind}
 
 first : (c : In_ok-behind) → Reads Anything First (chars c.args.input.now) (Some (chars c.in_ok-behind.behind.now, tt))
 first c = subst (λ answer. Reads Anything First (chars c.args.input.now) (rest_of answer)) c.in_ok-behind.ensures.ok_part c.first_import.ensures
@@ -37,19 +37,22 @@ before c =
 pub overflow_sub-input : goal.overflow_sub-input
 overflow_sub-input c = omega (arith, before (goal.at.overflow_sub-input c).In_ok-behind)
 
-parses : (c : After-rest-2-1) → Parses IsDynamicImport (chars c.args.input.now) (Some (chars c.in_ok-rest-2.rest.now, import_of c.moved.result))
-parses c =
+pub returns-clause-found : goal.returns-clause-found
+returns-clause-found c =
     let behind = (goal.at.returns-clause-found c).In_ok-behind in
     let arguments = subst (λ answer. Parses HasArguments (chars c.in_ok-behind.behind.now) (rest_and_import answer)) c.in_ok-rest.ensures.ok_part c.arguments.ensures.parsed in
     let brace = subst (λ answer. Reads Anything (λ (_ : Unit {0}). Through) (chars c.in_ok-rest.rest.now) (rest_of answer)) c.in_ok-rest-2.ensures.ok_part c.through_brace.ensures in
-    let by : size (first behind).0.piece ≡ length c.args.input.now - length c.in_ok-behind.behind.now = omega (arith, before behind) in
-    subst (λ import. Parses IsDynamicImport (chars c.args.input.now) (Some (chars c.in_ok-rest-2.rest.now, import)))
-    (ap (λ n. moved n (import_of c.in_ok-rest.import)) by ∙ sym c.moved.ensures)
+    (counted_from IsDynamicImport c.args.input.now c.in_ok-behind.behind.now (first behind).0.piece (chars c.in_ok-rest-2.rest.now) (import_of c.in_ok-rest.import) (import_of c.moved.result)
+    (before behind) c.moved.ensures
     (behind_arguments (chars c.args.input.now) (chars c.in_ok-behind.behind.now) (first behind) (chars c.in_ok-rest.rest.now) (import_of c.in_ok-rest.import)
-    (Some (chars c.in_ok-rest-2.rest.now, tt)) arguments brace)
-
-pub returns-clause-found : goal.returns-clause-found
-returns-clause-found c = (parses c).0
+    (Some (chars c.in_ok-rest-2.rest.now, tt)) arguments brace)).0
 
 pub returns-clause-only : goal.returns-clause-only
-returns-clause-only c = (parses c).1
+returns-clause-only c =
+    let behind = (goal.at.returns-clause-only c).In_ok-behind in
+    let arguments = subst (λ answer. Parses HasArguments (chars c.in_ok-behind.behind.now) (rest_and_import answer)) c.in_ok-rest.ensures.ok_part c.arguments.ensures.parsed in
+    let brace = subst (λ answer. Reads Anything (λ (_ : Unit {0}). Through) (chars c.in_ok-rest.rest.now) (rest_of answer)) c.in_ok-rest-2.ensures.ok_part c.through_brace.ensures in
+    (counted_from IsDynamicImport c.args.input.now c.in_ok-behind.behind.now (first behind).0.piece (chars c.in_ok-rest-2.rest.now) (import_of c.in_ok-rest.import) (import_of c.moved.result)
+    (before behind) c.moved.ensures
+    (behind_arguments (chars c.args.input.now) (chars c.in_ok-behind.behind.now) (first behind) (chars c.in_ok-rest.rest.now) (import_of c.in_ok-rest.import)
+    (Some (chars c.in_ok-rest-2.rest.now, tt)) arguments brace)).1
