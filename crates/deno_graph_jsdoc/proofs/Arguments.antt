@@ -30,7 +30,7 @@ module _ (word : List ℕ) where
       (λ more. sym (same_front other behind front rest first (sym same) more)) (cases_lt (length front) (length other))
 
   -- the parts of such a text
-  parts_of : {input rest : List ℕ} → Begins (IsUpTo word) input rest
+  pub parts_of : {input rest : List ℕ} → Begins (IsUpTo word) input rest
       → (front : List ℕ) × (input ≡ front ++ (word ++ rest)) × Lacks 125 front × ((before after : List ℕ) → front ++ word ≡ before ++ (word ++ after) → after ≡ [])
   parts_of {input} {rest} b =
       let is = b.is in (
@@ -136,17 +136,17 @@ module _ (a : List ℕ) where
               (space_then Anything (λ (_ : Unit {0}). Is (codes "}")) (λ _ text is. Closed-solid text is) behind o closed))
 
 -- what is behind the specifier: maybe options, and the closing parenthesis
-abbrev Paren : List ℕ → Type 0
+abbrev pub Paren : List ℕ → Type 0
 Paren = Is (codes ")")
 
-Paren-solid : (text : List ℕ) → Paren text → IsSolid text
+pub Paren-solid : (text : List ℕ) → Paren text → IsSolid text
 Paren-solid text is = subst IsSolid (sym is) refl
 
 abbrev Close : Unit {0} → List ℕ → Type 0
 Close _ = IsSpace · Paren
 
 -- with options, or without
-tail_apart : {behind rest : List ℕ} {mode : Mode} → EndsArguments behind mode rest
+pub tail_apart : {behind rest : List ℕ} {mode : Mode} → EndsArguments behind mode rest
     → Begins (IsOptions mode · IsSpace · Paren) (skip_leading_whitespace behind) rest ⊎ ((mode ≡ None) × Begins Paren (skip_leading_whitespace behind) rest)
 tail_apart b =
     let parts = Begins-split b in
@@ -177,7 +177,7 @@ OnlyEnd behind chosen None = (mode : Mode) (rest : List ℕ) → EndsArguments b
 OnlyEnd behind chosen (Some x) =
     EndsArguments behind chosen x.0 × ((mode : Mode) (rest : List ℕ) → EndsArguments behind mode rest → (mode ≡ chosen) × (rest ≡ x.0))
 
-options_apart : {input rest behind : List ℕ} {mode : Mode} → Begins (IsOptions mode) input rest → Begins Paren input behind → ⊥
+pub options_apart : {input rest behind : List ℕ} {mode : Mode} → Begins (IsOptions mode) input rest → Begins Paren input behind → ⊥
 options_apart options paren =
     let heads : ◌≡◌ {A = ℕ} 44 41 = same_first (Begins-split options).1 paren in
     omega (arith, heads)
@@ -277,7 +277,7 @@ whole_apart = textwise (λ input rest b. regroup b)
 whole_together : (text : List ℕ) → (First tt · Open) text → Whole text
 whole_together = textwise (λ input rest b. ungroup b)
 
-end_apart : (behind : List ℕ) (mode : Mode) (rest : List ℕ) → EndsDynamicImport behind mode rest → (middle : List ℕ) × EndsArguments behind mode middle × Begins Through middle rest
+pub end_apart : (behind : List ℕ) (mode : Mode) (rest : List ℕ) → EndsDynamicImport behind mode rest → (middle : List ℕ) × EndsArguments behind mode middle × Begins Through middle rest
 end_apart behind mode rest b = Begins-split (regroup_4 b)
 
 end_together : (behind : List ℕ) (mode : Mode) (middle rest : List ℕ) → EndsArguments behind mode middle → Begins Through middle rest → EndsDynamicImport behind mode rest

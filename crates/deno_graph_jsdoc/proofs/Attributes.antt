@@ -18,7 +18,7 @@ pub begins_alphabetic : (text rest : List ℕ) → IsIdent text → (c : ℕ) ×
 begins_alphabetic [] rest is = absurd is
 begins_alphabetic (c ∷ cs) rest is = (c, cs ++ rest, refl, is.0)
 
-apart : (inside : List ℕ) {input rest behind : List ℕ} → Begins (IsQuote inside) input rest → Begins IsIdent input behind → ⊥
+pub apart : (inside : List ℕ) {input rest behind : List ℕ} → Begins (IsQuote inside) input rest → Begins IsIdent input behind → ⊥
 apart inside {input} {rest} {behind} quoted named =
     let quote = begins_quoted inside quoted.piece rest quoted.is in
     let ident = begins_alphabetic named.piece behind named.is in
@@ -71,7 +71,7 @@ key_named input (Some x) no_quote found = (
 )
 
 -- white space and a colon end an identifier
-EndOfIdent-colon : {Q : List ℕ → Type 0} (input rest : List ℕ) → Begins (IsSpace · Is (codes ":") · Q) input rest → EndOfIdent input
+pub EndOfIdent-colon : {Q : List ℕ → Type 0} (input rest : List ℕ) → Begins (IsSpace · Is (codes ":") · Q) input rest → EndOfIdent input
 EndOfIdent-colon {Q} input rest b =
     let parts = Begins-split b in
     by_space parts.1.piece parts.0 parts.1.is parts.1.whole (Begins-split parts.2).1
@@ -82,7 +82,7 @@ EndOfIdent-colon {Q} input rest b =
     by_space (c ∷ cs) middle white whole colon = subst EndOfIdent (sym whole) (or_left (is_whitespace c) _ white.0)
 
 -- an attribute: a key, a colon and a value
-abbrev ColonAndValue : List ℕ → List ℕ → Type 0
+abbrev pub ColonAndValue : List ℕ → List ℕ → Type 0
 ColonAndValue value = Is (codes ":") · IsSpace · IsQuote value
 
 ColonAndValue-solid : (value text : List ℕ) → ColonAndValue value text → IsSolid text

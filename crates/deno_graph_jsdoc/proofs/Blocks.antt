@@ -27,7 +27,7 @@ IsSolid-front solid text parts = subst IsSolid (sym parts.whole) (IsSolid-append
 abbrev pub Through : List Attribute → List ℕ → Type 0
 Through attributes = AreAttributes attributes · IsSpace · Is (codes "}")
 
-Through-solid : (attributes : List Attribute) → 0 < length attributes → (text : List ℕ) → Through attributes text → IsSolid text
+pub Through-solid : (attributes : List Attribute) → 0 < length attributes → (text : List ℕ) → Through attributes text → IsSolid text
 Through-solid [] some text parts = absurd (omega arith)
 Through-solid (a ∷ others) some text parts = IsSolid-front (IsSolid-front (IsSolid-front (IsSolid-key a.0))) text parts
 
@@ -41,11 +41,11 @@ More others = Is (codes ",") · IsSpace · Through others
 pub Closed-solid : (text : List ℕ) → Closed text → IsSolid text
 Closed-solid text is = subst IsSolid (sym is) refl
 
-abbrev Follows : List Attribute → List ℕ → List ℕ → Type 0
+abbrev pub Follows : List Attribute → List ℕ → List ℕ → Type 0
 Follows [] input rest = Begins Closed (skip_leading_whitespace input) rest
 Follows (a ∷ others) input rest = Begins (More (a ∷ others)) (skip_leading_whitespace input) rest
 
-further_apart : (others : List Attribute) {input rest : List ℕ} → Begins (AreFurther others · IsSpace · Closed) input rest → Follows others input rest
+pub further_apart : (others : List Attribute) {input rest : List ℕ} → Begins (AreFurther others · IsSpace · Closed) input rest → Follows others input rest
 further_apart [] b = behind_space Closed-solid (behind_nothing b)
 further_apart (a ∷ others) b = behind_space (IsSolid-word 44 [] refl) (ungroup_4 b)
 
@@ -164,15 +164,15 @@ module _ (input rest behind : List ℕ) (name next : Option (List ℕ)) (a : Att
           no_comma tt parts.0 (NoSpace-before (Through-solid (x ∷ others) (omega arith)) parts.2) parts.1
 
 -- a block: a brace, and then a brace or attributes
-abbrev Inside : List Attribute → List ℕ → List ℕ → Type 0
+abbrev pub Inside : List Attribute → List ℕ → List ℕ → Type 0
 Inside [] input rest = Begins Closed input rest
 Inside (a ∷ others) input rest = Begins (Through (a ∷ others)) input rest
 
-Inside-solid : (attributes : List Attribute) (input rest : List ℕ) → Inside attributes input rest → NoSpace input
+pub Inside-solid : (attributes : List Attribute) (input rest : List ℕ) → Inside attributes input rest → NoSpace input
 Inside-solid [] input rest b = NoSpace-before Closed-solid b
 Inside-solid (a ∷ others) input rest b = NoSpace-before (Through-solid (a ∷ others) (omega arith)) b
 
-block_apart : (attributes : List Attribute) {input rest : List ℕ} → Begins (IsBlock attributes) input rest
+pub block_apart : (attributes : List Attribute) {input rest : List ℕ} → Begins (IsBlock attributes) input rest
     → (middle : List ℕ) × Begins (Is (codes "{") · IsSpace) input middle × Inside attributes middle rest
 block_apart [] b =
     let open_at = Begins-split b in
@@ -187,7 +187,7 @@ block_together [] {input} {middle} {rest} opens inside =
     ungroup (Begins-join opens (before_nothing (Begins-join (record { piece = []; whole = refl; is = tt }) inside)))
 block_together (a ∷ others) opens inside = ungroup (Begins-join opens inside)
 
-brace_apart : (attributes : List Attribute) {input rest behind : List ℕ} → 0 < length attributes → Begins (Through attributes) input rest → Begins Closed input behind → ⊥
+pub brace_apart : (attributes : List Attribute) {input rest behind : List ℕ} → 0 < length attributes → Begins (Through attributes) input rest → Begins Closed input behind → ⊥
 brace_apart [] some b closed = absurd (omega arith)
 brace_apart (a ∷ others) {input} {rest} {behind} some b closed =
     let first = Begins-split (Begins-split (ungroup b)).1 in

@@ -22,7 +22,7 @@ ident_alone input (Some x) found = (
 )
 
 -- white space ends an identifier
-EndOfIdent-gap : (input rest : List ℕ) → Begins IsGap input rest → EndOfIdent input
+pub EndOfIdent-gap : (input rest : List ℕ) → Begins IsGap input rest → EndOfIdent input
 EndOfIdent-gap input rest b = by_piece b.piece b.is.0 b.is.1 b.whole
   where
     by_piece : (piece : List ℕ) → IsSpace piece → 0 < length piece → input ≡ piece ++ rest → EndOfIdent input
@@ -48,7 +48,7 @@ AsName _ = Is (codes "as") · IsGap · IsName
 AsName-solid : (w : Unit {0}) (text : List ℕ) → AsName w text → IsSolid text
 AsName-solid _ text is = IsSolid-word 97 (codes "s") refl text is
 
-gap_before_name : (_ : Unit {0}) (middle rest : List ℕ) → NoSpace rest → Begins IsName middle rest → NoSpace middle
+pub gap_before_name : (_ : Unit {0}) (middle rest : List ℕ) → NoSpace rest → Begins IsName middle rest → NoSpace middle
 gap_before_name _ middle rest _ b = NoSpace-before IsSolid-name b
 
 module _ (input : List ℕ) where
@@ -124,7 +124,7 @@ abbrev Clause : Unit {0} → List ℕ → Type 0
 Clause _ = IsClause · IsSpace
 
 -- the clause by its form
-clause_apart : {input rest : List ℕ} → Begins (IsClause · IsSpace) input rest
+pub clause_apart : {input rest : List ℕ} → Begins (IsClause · IsSpace) input rest
     → Begins (IsNames · IsSpace) input rest ⊎ (Begins IsNamespace input rest ⊎ Begins IsName input rest)
 clause_apart b =
     let parts = Begins-split b in
@@ -140,15 +140,15 @@ clause_apart b =
         inr (inr (with_space (TakesSpace-behind TakesSpace-gap) (Begins-join (record { piece = piece; whole = whole; is = is }) space)))
 
 -- a text doesn't begin with two of them
-names_or_namespace : {input rest behind : List ℕ} → Begins (IsNames · IsSpace) input rest → Begins IsNamespace input behind → ⊥
+pub names_or_namespace : {input rest behind : List ℕ} → Begins (IsNames · IsSpace) input rest → Begins IsNamespace input behind → ⊥
 names_or_namespace names namespace =
     let heads : ◌≡◌ {A = ℕ} 123 42 = same_first (Begins-split (Begins-split names).1).1 (Begins-split namespace).1 in
     omega (arith, heads)
 
-names_or_name : {input rest behind : List ℕ} → Begins (IsNames · IsSpace) input rest → Begins IsName input behind → ⊥
+pub names_or_name : {input rest behind : List ℕ} → Begins (IsNames · IsSpace) input rest → Begins IsName input behind → ⊥
 names_or_name names name = first_of_name 123 opening_brace name (Begins-split (Begins-split names).1).1
 
-namespace_or_name : {input rest behind : List ℕ} → Begins IsNamespace input rest → Begins IsName input behind → ⊥
+pub namespace_or_name : {input rest behind : List ℕ} → Begins IsNamespace input rest → Begins IsName input behind → ⊥
 namespace_or_name namespace name = first_of_name 42 star name (Begins-split namespace).1
 
 pub clause_names : (input rest : List ℕ) → Reads NoSpace (λ (_ : Unit {0}). IsNames · IsSpace) input (Some (rest, tt)) → Reads NoSpace Clause input (Some (rest, tt))
@@ -197,12 +197,12 @@ module _ (input : List ℕ) (no_names : Reads NoSpace (λ (_ : Unit {0}). IsName
   )
 
 -- `@import`, white space and the clause
-IsSolid-clause : (text : List ℕ) → IsClause text → IsSolid text
+pub IsSolid-clause : (text : List ℕ) → IsClause text → IsSolid text
 IsSolid-clause text (inl is) = IsSolid-word 123 [] refl text is
 IsSolid-clause text (inr (inl is)) = IsSolid-word 42 [] refl text is
 IsSolid-clause text (inr (inr is)) = IsSolid-name text is
 
-gap_before_clause : (_ : Unit {0}) (middle rest : List ℕ) → NoSpace rest → Begins (IsClause · IsSpace) middle rest → NoSpace middle
+pub gap_before_clause : (_ : Unit {0}) (middle rest : List ℕ) → NoSpace rest → Begins (IsClause · IsSpace) middle rest → NoSpace middle
 gap_before_clause _ middle rest _ b = NoSpace-before (IsSolid-front IsSolid-clause) b
 
 abbrev pub Head : Unit {0} → List ℕ → Type 0

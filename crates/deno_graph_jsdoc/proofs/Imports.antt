@@ -100,7 +100,7 @@ module _ (Head : List ℕ → Type 0) (Tail : List ℕ → Mode → List ℕ →
 
 -- what is behind the specifier of a declaration
 module _ (behind : List ℕ) where
-  with_solid : (mode : Mode) (text : List ℕ) → IsWith mode text → IsSolid text
+  pub with_solid : (mode : Mode) (text : List ℕ) → IsWith mode text → IsSolid text
   with_solid mode text is = IsSolid-word 119 (codes "ith") refl text is
 
   pub ends_with : (mode : Mode) (rest : List ℕ) → Reads Anything IsWith (skip_leading_whitespace behind) (Some (rest, mode))

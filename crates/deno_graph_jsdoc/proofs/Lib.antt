@@ -10,3 +10,5 @@ pub mod Readings
 pub mod Runs
 pub mod Texts
 pub mod Words
+pub mod Unique
+pub mod UniqueImports

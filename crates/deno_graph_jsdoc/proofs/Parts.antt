@@ -42,7 +42,7 @@ module _ (input rest : List ℕ) (utf8 : IsUtf8 input) (utf8_rest : IsUtf8 rest)
 
 -- a text between marks
 module _ (mark : ℕ) where
-  marked : (inside behind : List ℕ) → (mark ∷ inside ++ mark ∷ []) ++ behind ≡ mark ∷ (inside ++ mark ∷ behind)
+  pub marked : (inside behind : List ℕ) → (mark ∷ inside ++ mark ∷ []) ++ behind ≡ mark ∷ (inside ++ mark ∷ behind)
   marked inside behind = ap (λ t. mark ∷ t) (append_assoc inside (mark ∷ []) behind)
 
   pub unmarked_read : (input : List ℕ) → ((rest : List ℕ) → input ≢ mark ∷ rest) → Reads Anything (IsBetween mark) input None
@@ -72,8 +72,8 @@ module _ (mark : ℕ) where
   )
 
 -- a quoted text has marks of one kind
-apart : (input inside other rest behind : List ℕ) → Begins (IsBetween 34 inside) input rest → Begins (IsBetween 39 other) input behind → ⊥
-apart input inside other rest behind double single =
+pub marks_apart : (input inside other rest behind : List ℕ) → Begins (IsBetween 34 inside) input rest → Begins (IsBetween 39 other) input behind → ⊥
+marks_apart input inside other rest behind double single =
     let first : input ≡ 34 ∷ (inside ++ 34 ∷ rest) = double.whole ∙ ap (λ piece. piece ++ rest) double.is.1 ∙ marked 34 inside rest in
     let second : input ≡ 39 ∷ (other ++ 39 ∷ behind) = single.whole ∙ ap (λ piece. piece ++ behind) single.is.1 ∙ marked 39 other behind in
     let same : 34 ∷ (inside ++ 34 ∷ rest) ≡ 39 ∷ (other ++ 39 ∷ behind) = sym first ∙ second in
@@ -85,7 +85,7 @@ quote_double input rest inside found = (
   record { piece = found.0.piece; whole = found.0.whole; is = inl found.0.is },
   λ other behind _ begins. elim begins.is [
     | inl is ↦ found.1 other behind tt (record { piece = begins.piece; whole = begins.whole; is = is })
-    | inr is ↦ absurd (apart input inside other rest behind found.0 (record { piece = begins.piece; whole = begins.whole; is = is }))
+    | inr is ↦ absurd (marks_apart input inside other rest behind found.0 (record { piece = begins.piece; whole = begins.whole; is = is }))
   ],
 )
 
@@ -139,7 +139,7 @@ IsNameRun-found input name end at is cut run =
     subst (λ t. IsNameRun (chars input) (chars t) (chars (drop end input))) (sym front)
     (subst (λ n. IsNameRun (chars input) (chars (take n input)) (chars (drop n input))) (sym is) run)
 
-run_of_ident : (name : List ℕ) → IsIdent name → AllByRecursion (λ c. ends_ident c ≡ false) name × (begins_ident name ≡ true)
+pub run_of_ident : (name : List ℕ) → IsIdent name → AllByRecursion (λ c. ends_ident c ≡ false) name × (begins_ident name ≡ true)
 run_of_ident [] is = absurd is
 run_of_ident (c ∷ cs) is = ((Alphabetic-ends_ident c is.0, is.1), is.0)
 

@@ -3,4 +3,5 @@
 pub(crate) mod attributes;
 pub(crate) mod declaration;
 pub(crate) mod dynamic;
+pub mod laws;
 mod parts;

@@ -1,7 +1,7 @@
 //! The imports that JSDoc comments state.
 #![tactic(auto)]
 
-mod grammar;
+pub mod grammar;
 mod import;
 mod resolution_mode;
 
