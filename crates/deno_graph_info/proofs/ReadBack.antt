@@ -15,6 +15,7 @@ use Rattle.deno_graph_source.specs.TextMap.{IsAscending}
 use Rattle.deno_graph_source.specs.declared.text.position.Position.{Position}
 use Rattle.deno_graph_source.specs.declared.text.position.PositionRange.{PositionRange}
 use Rattle.deno_graph_info.proofs.Objects.{get_member-put_entries}
+use Rattle.deno_graph_info.proofs.Reading.{goes_on}
 use Rattle.deno_graph_info.specs.DynamicDependency.{is_import, is_expr}
 use Rattle.deno_graph_info.specs.ImportAttributes.{is_none}
 use Rattle.deno_graph_info.specs.Json.Dependency.{json_of_dependency}
@@ -53,10 +54,6 @@ use Rattle.deno_graph_info.specs.declared.analysis.static_dependency.StaticDepen
 use Rattle.deno_graph_info.specs.declared.analysis.static_dependency.StaticDependencyKind.TheVariants.{Import as ImportKind, ImportDefer as ImportDeferKind, ImportSource as ImportSourceKind, ImportType, ImportEquals, Export, ExportType, ExportEquals, MaybeTsModuleAugmentation}
 
 -- ---- what any reader does
-
--- a step that has a value goes on with it
-pub goes_on : {A B : Type 0} (o : Option A) (f : A → Option B) (x : A) (r : Option B) → o ≡ Some x → f x ≡ r → (o >>= f) ≡ r
-goes_on o f x r is later = ap (λ v. v >>= f) is ∙ later
 
 module _ {A : Type 0} (reads : Data → Option A) where
   -- a member of the object of a table is read of the table

@@ -12,4 +12,4 @@ returns-in_err-is_script c = answers_on _ _ _ _ c.in_ok-object.ensures (exits _ 
 
 pub returns-in_err-dependencies : goal.returns-in_err-dependencies
 unfolding reads_info
-returns-in_err-dependencies c = answers_on _ _ _ _ c.in_ok-object.ensures (answers_on _ _ _ _ c.in_ok-is_script.ensures (exits _ _ _ _ c.from_residual-in_err-dependencies.ensures.1 c.in_err-dependencies.ensures))
+returns-in_err-dependencies c = answers_on _ _ _ _ c.in_ok-object.ensures (answers_on _ _ _ _ c.in_ok-is_script.ensures (exits _ _ _ _ c.from_residual-in_err-dependencies.ensures.1 (rw c.new.ensures at c.in_err-dependencies.ensures)))
