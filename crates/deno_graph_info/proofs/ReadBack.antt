@@ -1,5 +1,5 @@
 -- What is written is read back.
-use Rattle.std.proofs.Common.{◌≡◌, ℕ, ◌<◌, ◌^◌, List, [], ◌∷◌, ◌++◌, map, Bool, true, false, codes, Option, Some, None, option_map, nat_lt, All, refl, sym, ap, ◌∙◌, subst, lt-ltb, append_assoc, append-nil}
+use Rattle.std.proofs.Common.{◌≡◌, ℕ, ◌<◌, ◌^◌, List, [], ◌∷◌, ◌++◌, map, Bool, true, false, codes, Option, Some, option_map, nat_lt, All, refl, sym, ap, ◌∙◌, subst, lt-ltb, append_assoc, append-nil}
 use Rattle.std.proofs.lemmas.Cmp.{nat_list_cmp_total}
 use Rattle.std.proofs.lemmas.List.Elements.{All-head, All-tail}
 use Rattle.std.specs.Cmp.Lexicographic.{slice_cmp}
@@ -9,7 +9,7 @@ use Rattle.std.specs.Map.{keys_of}
 use Rattle.std.specs.Ordering.{nat_cmp, ordering_reverse}
 use Rattle.std.specs.declared.cmp.Ordering.TheVariants.{Less, Greater}
 use Rattle.serde_json.specs.Data.{Data, string, number, unsigned, Members, no_members, member, put}
-use Rattle.serde_json.specs.Find.{as_bool, as_str, get_member}
+use Rattle.serde_json.specs.Find.{as_bool, as_str}
 use Rattle.serde_json.specs.View.{items_of}
 use Rattle.deno_graph_source.specs.TextMap.{IsAscending}
 use Rattle.deno_graph_source.specs.declared.text.position.Position.{Position}

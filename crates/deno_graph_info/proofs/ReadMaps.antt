@@ -1,5 +1,5 @@
 -- Reading the members of an object as a map.
-use Rattle.std.proofs.Common.{◌≡◌, ℕ, List, [], ◌∷◌, ◌++◌, map, Option, Some, None, String, Global, string_bytes, refl, sym, ap, ◌∙◌, subst, append_assoc, append-nil}
+use Rattle.std.proofs.Common.{◌≡◌, ℕ, List, [], ◌∷◌, ◌++◌, map, Option, Some, String, Global, string_bytes, refl, sym, ap, ◌∙◌, subst, append-nil}
 use Rattle.std.proofs.lemmas.Cmp.{nat_list_cmp_total}
 use Rattle.std.specs.Cmp.Lexicographic.{slice_cmp}
 use Rattle.std.specs.List.{AllByRecursion}
@@ -7,7 +7,7 @@ use Rattle.std.specs.List.Sorted.{IsStrictlySortedBy}
 use Rattle.std.specs.Map.{keys_of}
 use Rattle.std.specs.Ordering.{nat_cmp, ordering_reverse}
 use Rattle.std.specs.declared.cmp.Ordering.TheVariants.{Less, Greater}
-use Rattle.serde_json.specs.Data.{Data, member}
+use Rattle.serde_json.specs.Data.{Data}
 use Rattle.serde_json.specs.View.{view, members_view}
 use Rattle.serde_json.specs.declared.value.Value.{Value}
 use Rattle.std.specs.String.{string_cmp}
@@ -15,7 +15,7 @@ use Rattle.deno_graph_source.proofs.TextEntries.{IsAscending-entries}
 use Rattle.deno_graph_source.specs.TextMap.{entry_of, insert_entry}
 use Rattle.deno_graph_info.proofs.Reading.{refused, before, before_more, before_nil}
 use Rattle.deno_graph_info.specs.Json.Read.Answer.{IsRefusal}
-use Rattle.deno_graph_info.specs.Json.Read.Partial.{◌>>=◌, reads_members}
+use Rattle.deno_graph_info.specs.Json.Read.Partial.{reads_members}
 use Rattle.deno_graph_info.specs.declared.analysis.fault.InfoFault.{InfoFault}
 
 -- keys in ascending order

@@ -1,5 +1,5 @@
 -- A `ModuleInfo` from JSON.
-use Rattle.std.specs.Prelude.{◌≡◌, [], Bool, true, false, codes, Option, Some, None}
+use Rattle.std.specs.Prelude.{◌≡◌, [], true, false, codes, Option, Some, None}
 use Rattle.serde_json.specs.Data.{Data}
 use Rattle.serde_json.specs.Find.{as_bool, as_object}
 use Rattle.serde_json.specs.Written.{has_float}

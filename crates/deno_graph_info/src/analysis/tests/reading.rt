@@ -147,7 +147,8 @@ fn refuses_other_values(rt: HostRuntime) -> Result<(), Fail> {
 #[test]
 fn reads_defaults(rt: HostRuntime) -> Result<(), Fail> {
     let alloc = rt.alloc();
-    let text = r#"{"dependencies":[{"argument":null,"argumentRange":[[0,0],[0,0]],"importAttributes":"none","type":"dynamic"}]}"#;
+    let text =
+        r#"{"dependencies":[{"argument":null,"argumentRange":[[0,0],[0,0]],"importAttributes":"none","type":"dynamic"}]}"#;
     let info = ModuleInfo::from_value(alloc, &Value::from_str(alloc, text)?)?;
     let mut dependencies = Items::new(alloc);
     dependencies.push(DependencyDescriptor::Dynamic(DynamicDependencyDescriptor {
@@ -156,7 +157,10 @@ fn reads_defaults(rt: HostRuntime) -> Result<(), Fail> {
         argument_range: range_on_first_line(0, 0),
         import_attributes: ImportAttributes::None,
     }))?;
-    let expected = ModuleInfo { is_script: false, dependencies };
+    let expected = ModuleInfo {
+        is_script: false,
+        dependencies,
+    };
     assert!(rt; info == expected);
     assert!(rt; ModuleInfo::new(alloc) != expected);
     Ok(())

@@ -4,7 +4,9 @@ ghost use Rattle.deno_graph_info.specs.Json.Read.DynamicArgument.{reads_argument
 
 use crate::analysis::dynamic_argument::{DynamicArgument, DynamicTemplatePart};
 use crate::analysis::fault::InfoFault;
-use crate::analysis::json::read::{FromJson, read_items, read_member, read_object, read_str_member};
+use crate::analysis::json::read::{
+    FromJson, read_items, read_member, read_object, read_str_member,
+};
 use deno_graph_source::values::Text;
 use serde_json::{Map, Value};
 use std::alloc::Global;

@@ -45,8 +45,12 @@ pub(crate) fn read_dynamic(
     let kind = read_member_or(alloc, object, "kind", DynamicDependencyKind::Import)?;
     let argument = read_member_or(alloc, object, "argument", DynamicArgument::Expr)?;
     let argument_range = read_member(alloc, object, "argumentRange")?;
-    let import_attributes =
-        read_member_or(alloc, object, "importAttributes", ImportAttributes::None)?;
+    let import_attributes = read_member_or(
+        alloc,
+        object,
+        "importAttributes",
+        ImportAttributes::None,
+    )?;
     Ok(DynamicDependencyDescriptor {
         kind,
         argument,

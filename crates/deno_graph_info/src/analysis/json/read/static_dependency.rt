@@ -50,8 +50,12 @@ pub(crate) fn read_static(
     let specifier = read_member(alloc, object, "specifier")?;
     let specifier_range = read_member(alloc, object, "specifierRange")?;
     let is_side_effect = read_member_or(alloc, object, "sideEffect", false)?;
-    let import_attributes =
-        read_member_or(alloc, object, "importAttributes", ImportAttributes::None)?;
+    let import_attributes = read_member_or(
+        alloc,
+        object,
+        "importAttributes",
+        ImportAttributes::None,
+    )?;
     Ok(StaticDependencyDescriptor {
         kind,
         specifier,
