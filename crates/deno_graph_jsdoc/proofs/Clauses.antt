@@ -1,15 +1,16 @@
 -- What the parsers of a declaration's clause answer.
-use Rattle.std.proofs.Common.{◌≡◌, ℕ, ◌+◌, ◌<◌, ◌⊎◌, inl, inr, Bool, true, false, Option, Some, None, List, [], ◌∷◌, ◌++◌, length, refl, sym, ap, ◌∙◌, subst, codes, option_map, append_assoc, length-append, arith}
-use Rattle.std.proofs.lemmas.Bool.{both_ways, or_left}
+use Rattle.std.proofs.Common.{◌≡◌, ℕ, ◌+◌, ◌<◌, ◌↔◌, ◌⊎◌, inl, inr, Bool, true, false, Option, Some, None, List, [], ◌∷◌, ◌++◌, length, refl, sym, ap, ◌∙◌, subst, codes, is_some, IsTrue, option_map, append_assoc, length-append, arith}
+use Rattle.std.proofs.lemmas.Bool.{both_ways, false≢true, or_left}
 use Rattle.std.specs.Char.{is_whitespace}
 use Rattle.std.specs.Char.Unicode.Alphabetic.{is_alphabetic}
-use Rattle.std.specs.Str.{skip_leading_whitespace}
-use Rattle.deno_graph_jsdoc.specs.JsDocGrammar.{◌·◌, Is, IsSpace, IsGap, IsIdent, Lacks, IsNames, IsNamespace, IsName, IsClause, ends_ident}
-use Rattle.deno_graph_jsdoc.specs.JsDocReading.{Begins, Anything, NoSpace, EndOfIdent, Reads}
+use Rattle.std.specs.Str.{chars, skip_leading_whitespace}
+use denote.Ref.{Bor}
+use Rattle.deno_graph_jsdoc.specs.JsDocGrammar.{◌·◌, Is, IsSpace, IsGap, IsIdent, Lacks, IsNames, IsNamespace, IsName, IsBound, IsClause, OpensNames, ends_ident}
+use Rattle.deno_graph_jsdoc.specs.JsDocReading.{Begins, Anything, NoSpace, EndOfIdent, Reads, rest_of}
 use Rattle.deno_graph_jsdoc.proofs.Alphabetic.{Alphabetic-is_whitespace, opening_brace, star}
 use Rattle.deno_graph_jsdoc.proofs.Attributes.{begins_alphabetic}
 use Rattle.deno_graph_jsdoc.proofs.Blocks.{IsSolid-ident, IsSolid-front}
-use Rattle.deno_graph_jsdoc.proofs.Readings.{Begins-split, Begins-join, Begins-as, IsSolid, IsSolid-word, NoSpace-before, spaced, spaced_none, then_none, then_some, lexeme_none, lexeme_then, same_first}
+use Rattle.deno_graph_jsdoc.proofs.Readings.{Begins-split, Begins-join, Begins-as, IsSolid, IsSolid-word, NoSpace-before, spaced, spaced_none, then_none, then_some, lexeme_none, lexeme_then, same_first, Reads-as, regroup, ungroup}
 use Rattle.deno_graph_jsdoc.proofs.Runs.{IsSpace-append}
 
 -- an identifier, without its name
@@ -163,36 +164,46 @@ clause_names input rest found = (
   ],
 )
 
-module _ (input : List ℕ) (no_names : Reads NoSpace (λ (_ : Unit {0}). IsNames · IsSpace) input None) where
-  pub clause_namespace : (rest : List ℕ) → Reads NoSpace (λ (_ : Unit {0}). IsNamespace) input (Some (rest, tt)) → Reads NoSpace Clause input (Some (rest, tt))
-  clause_namespace rest found = (
-    no_space (Begins-as (λ text is. inr (inl is)) found.0),
-    λ other behind stop b. elim (clause_apart b) [
-      | inl names ↦ absurd (no_names other behind stop names)
-      | inr others ↦ elim others [
-        | inl namespace ↦ found.1 other behind stop namespace
-        | inr name ↦ absurd (namespace_or_name found.0 name)
-      ]
+-- one name or another
+module _ (input : List ℕ) where
+  pub bound_namespace : (rest : List ℕ) → Reads NoSpace (λ (_ : Unit {0}). IsNamespace) input (Some (rest, tt)) → Reads NoSpace (λ (_ : Unit {0}). IsBound) input (Some (rest, tt))
+  bound_namespace rest found = (
+    Begins-as (λ text is. inl is) found.0,
+    λ other behind stop b. elim b.is [
+      | inl is ↦ found.1 other behind stop (record { piece = b.piece; whole = b.whole; is = is })
+      | inr is ↦ absurd (namespace_or_name found.0 (record { piece = b.piece; whole = b.whole; is = is }))
     ],
   )
 
-  pub clause_name : (o : Option (List ℕ × Unit {0})) → Reads NoSpace (λ (_ : Unit {0}). IsNamespace) input None → Reads NoSpace (λ (_ : Unit {0}). IsName) input o
-      → Reads NoSpace Clause input o
-  clause_name None no_namespace none = λ other behind stop b. elim (clause_apart b) [
-      | inl names ↦ no_names other behind stop names
-      | inr others ↦ elim others [
-        | inl namespace ↦ no_namespace other behind stop namespace
-        | inr name ↦ none other behind stop name
-      ]
+  pub bound_name : (o : Option (List ℕ × Unit {0})) → Reads NoSpace (λ (_ : Unit {0}). IsNamespace) input None → Reads NoSpace (λ (_ : Unit {0}). IsName) input o
+      → Reads NoSpace (λ (_ : Unit {0}). IsBound) input o
+  bound_name None no_namespace none = λ other behind stop b. elim b.is [
+      | inl is ↦ no_namespace other behind stop (record { piece = b.piece; whole = b.whole; is = is })
+      | inr is ↦ none other behind stop (record { piece = b.piece; whole = b.whole; is = is })
     ]
-  clause_name (Some x) no_namespace found = (
-    no_space (Begins-as (λ text is. inr (inr is)) found.0),
+  bound_name (Some x) no_namespace found = (
+    Begins-as (λ text is. inr is) found.0,
+    λ other behind stop b. elim b.is [
+      | inl is ↦ absurd (no_namespace other behind stop (record { piece = b.piece; whole = b.whole; is = is }))
+      | inr is ↦ found.1 other behind stop (record { piece = b.piece; whole = b.whole; is = is })
+    ],
+  )
+
+bound_of : {input rest : List ℕ} → Begins IsNamespace input rest ⊎ Begins IsName input rest → Begins IsBound input rest
+bound_of (inl b) = Begins-as (λ text is. inl is) b
+bound_of (inr b) = Begins-as (λ text is. inr is) b
+
+module _ (input : List ℕ) (no_names : Reads NoSpace (λ (_ : Unit {0}). IsNames · IsSpace) input None) where
+  pub clause_bound : (o : Option (List ℕ × Unit {0})) → Reads NoSpace (λ (_ : Unit {0}). IsBound) input o → Reads NoSpace Clause input o
+  clause_bound None none = λ other behind stop b. elim (clause_apart b) [
+      | inl names ↦ no_names other behind stop names
+      | inr bound ↦ none other behind stop (bound_of bound)
+    ]
+  clause_bound (Some x) found = (
+    no_space (Begins-as (λ text is. inr is) found.0),
     λ other behind stop b. elim (clause_apart b) [
       | inl names ↦ absurd (no_names other behind stop names)
-      | inr others ↦ elim others [
-        | inl namespace ↦ absurd (no_namespace other behind stop namespace)
-        | inr name ↦ found.1 other behind stop name
-      ]
+      | inr bound ↦ found.1 other behind stop (bound_of bound)
     ],
   )
 
@@ -208,17 +219,58 @@ gap_before_clause _ middle rest _ b = NoSpace-before (IsSolid-front IsSolid-clau
 abbrev pub Head : Unit {0} → List ℕ → Type 0
 Head _ = Is (codes "@import") · IsGap · IsClause · IsSpace
 
+abbrev pub Start : Unit {0} → List ℕ → Type 0
+Start _ = Is (codes "@import") · IsGap
+
+-- `@import` and white space
 module _ (input : List ℕ) where
-  pub head_no_word : Reads Anything (λ (_ : Unit {0}). Is (codes "@import")) input None → Reads NoSpace Head input None
-  head_no_word none = then_none Anything NoSpace (Is (codes "@import")) (λ _. IsGap · IsClause · IsSpace) (λ _ _ _ _ _. tt) input none
+  pub start_no_word : Reads Anything (λ (_ : Unit {0}). Is (codes "@import")) input None → Reads NoSpace Start input None
+  start_no_word none = then_none Anything NoSpace (Is (codes "@import")) (λ (_ : Unit {0}). IsGap) (λ _ _ _ _ _. tt) input none
 
-  module _ (middle : List ℕ) (word : Reads Anything (λ (_ : Unit {0}). Is (codes "@import")) input (Some (middle, tt))) where
-    from_word : (o : Option (List ℕ × Unit {0})) → Reads NoSpace (λ (_ : Unit {0}). IsGap · IsClause · IsSpace) middle o → Reads NoSpace Head input o
-    from_word o found = then_some Anything NoSpace (Is (codes "@import")) (λ _. IsGap · IsClause · IsSpace) (λ _ _ _ _ _. tt) input middle o word found
+  pub start_read : (middle : List ℕ) (o : Option (List ℕ × Unit {0})) → Reads Anything (λ (_ : Unit {0}). Is (codes "@import")) input (Some (middle, tt))
+      → Reads NoSpace (λ (_ : Unit {0}). IsGap) middle o → Reads NoSpace Start input o
+  start_read middle o word found = then_some Anything NoSpace (Is (codes "@import")) (λ (_ : Unit {0}). IsGap) (λ _ _ _ _ _. tt) input middle o word found
 
-    pub head_no_gap : Reads NoSpace (λ (_ : Unit {0}). IsGap) middle None → Reads NoSpace Head input None
-    head_no_gap none = from_word None (then_none NoSpace NoSpace IsGap Clause gap_before_clause middle none)
+-- and what may be behind them
+module _ (Q : List ℕ → Type 0) (solid : (text : List ℕ) → Q text → IsSolid text) (F : List ℕ → Type 0) (input : List ℕ) where
+  abbrev Behind : Unit {0} → List ℕ → Type 0
+  Behind _ = Is (codes "@import") · IsGap · Q
 
-    pub head_read : (behind : List ℕ) (o : Option (List ℕ × Unit {0})) → Reads NoSpace (λ (_ : Unit {0}). IsGap) middle (Some (behind, tt)) → Reads NoSpace Clause behind o
-        → Reads NoSpace Head input o
-    head_read behind o gap found = from_word o (then_some NoSpace NoSpace IsGap Clause gap_before_clause middle behind o gap found)
+  regrouped : (o : Option (List ℕ × Unit {0})) → Reads F (λ (_ : Unit {0}). Start tt · Q) input o → Reads F Behind input o
+  regrouped o found = Reads-as F (λ _. Start tt · Q) Behind (λ _ text rest b. ungroup b) (λ _ text rest b. regroup b) input o found
+
+  pub behind_no_start : Reads NoSpace Start input None → Reads F Behind input None
+  behind_no_start none = regrouped None (then_none NoSpace F (Start tt) (λ (_ : Unit {0}). Q) (λ _ middle rest _ b. NoSpace-before solid b) input none)
+
+  pub behind_start : (middle : List ℕ) (o : Option (List ℕ × Unit {0})) → Reads NoSpace Start input (Some (middle, tt)) → Reads F (λ (_ : Unit {0}). Q) middle o
+      → Reads F Behind input o
+  behind_start middle o start found =
+      regrouped o (then_some NoSpace F (Start tt) (λ (_ : Unit {0}). Q) (λ _ middle rest _ b. NoSpace-before solid b) input middle o start found)
+
+pub IsSolid-spaced_clause : (text : List ℕ) → (IsClause · IsSpace) text → IsSolid text
+IsSolid-spaced_clause text is = IsSolid-front IsSolid-clause text is
+
+pub IsSolid-bound : (text : List ℕ) → IsBound text → IsSolid text
+IsSolid-bound text (inl is) = IsSolid-word 42 [] refl text is
+IsSolid-bound text (inr is) = IsSolid-name text is
+
+-- `@import`, white space and a brace
+abbrev Opens : Unit {0} → List ℕ → Type 0
+Opens _ = OpensNames
+
+any_opens : (input : List ℕ) (answer : Option (Bor (List ℕ))) → Reads Anything Opens input (rest_of answer)
+    → IsTrue (is_some answer) ↔ ((rest : List ℕ) × Begins OpensNames input rest)
+any_opens input None none = (λ no. absurd (false≢true no), λ opens. absurd (none tt opens.0 tt opens.1))
+any_opens input (Some rest) found = (λ _. (chars rest.now, found.0), λ _. refl)
+
+IsSolid-brace : (text : List ℕ) → Is (codes "{") text → IsSolid text
+IsSolid-brace text is = subst IsSolid (sym is) refl
+
+module _ (input : List ℕ) where
+  pub opens_start : (middle : List ℕ) (answer : Option (Bor (List ℕ))) → Reads NoSpace Start input (Some (middle, tt))
+      → Reads Anything (λ (_ : Unit {0}). Is (codes "{")) middle (rest_of answer) → IsTrue (is_some answer) ↔ ((rest : List ℕ) × Begins OpensNames input rest)
+  opens_start middle answer start found =
+      any_opens input answer (behind_start (Is (codes "{")) IsSolid-brace Anything input middle (rest_of answer) start found)
+
+  pub opens_no_start : Reads NoSpace Start input None → IsTrue false ↔ ((rest : List ℕ) × Begins OpensNames input rest)
+  opens_no_start none = any_opens input None (behind_no_start (Is (codes "{")) IsSolid-brace Anything input none)

@@ -175,3 +175,8 @@ mark_inside mark text utf8 ascii (i, j, found, order, fits) =
       chars (drop j text),
       ap chars (sym (take-append-drop i text)) ∙ chars-append (take i text) (drop i text) (IsUtf8-take text i utf8 boundary) ∙ ap (λ t. chars (take i text) ++ t) behind,
     )
+
+-- a text of no bytes has no characters
+pub no_chars : (text : List ℕ) → length text ≡ 0 → chars text ≡ []
+no_chars [] none = chars-nil
+no_chars (b ∷ bs) none = absurd (omega (arith, none))

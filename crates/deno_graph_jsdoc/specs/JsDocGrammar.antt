@@ -108,8 +108,15 @@ IsName = IsIdent · IsGap
 abbrev pub IsNamespace : List ℕ → Type 0
 IsNamespace = Is (codes "*") · IsSpace · Is (codes "as") · IsGap · IsIdent · IsGap
 
+abbrev pub IsBound : List ℕ → Type 0
+IsBound text = IsNamespace text ⊎ IsName text
+
 abbrev pub IsClause : List ℕ → Type 0
-IsClause text = IsNames text ⊎ (IsNamespace text ⊎ IsName text)
+IsClause text = IsNames text ⊎ IsBound text
+
+-- a declaration up to the brace that opens its names
+abbrev pub OpensNames : List ℕ → Type 0
+OpensNames = Is (codes "@import") · IsGap · Is (codes "{")
 
 -- the attributes of a declaration
 abbrev pub IsWith : Option TypeScriptTypesResolutionMode → List ℕ → Type 0

@@ -1,4 +1,6 @@
 //! Worked inputs, as tables.
+mod scans;
+
 use crate::{
     parse_jsdoc_dynamic_import, parse_jsdoc_import_decl, JsDocImport, NoParse,
     TypeScriptTypesResolutionMode,

@@ -1,10 +1,10 @@
 //! The declaration, as `@import { Type } from "./types.ts"`.
 
-ghost use Rattle.std.specs.Prelude.{◌≡◌, ◌≤◌, ℕ, List, IfOk, IfSome, IsOkAnd, codes, length};
+ghost use Rattle.std.specs.Prelude.{◌≡◌, ◌≤◌, ◌↔◌, ℕ, List, IsTrue, IfOk, IfSome, IsOkAnd, codes, length};
 ghost use Rattle.std.specs.Str.{chars};
-ghost use Rattle.deno_graph_jsdoc.specs.JsDocGrammar.{◌·◌, Is, IsSpace, IsGap, IsIdent, IsClause, IsNames, IsNamespace, IsName, IsWith};
+ghost use Rattle.deno_graph_jsdoc.specs.JsDocGrammar.{◌·◌, Is, IsSpace, IsGap, IsClause, IsBound, IsNames, IsNamespace, IsName, IsWith, OpensNames};
 ghost use Rattle.deno_graph_jsdoc.specs.JsDocImport.{Import, IsDeclaration, IsSource, Parses, import_of, rest_and_import};
-ghost use Rattle.deno_graph_jsdoc.specs.JsDocReading.{Reads, Anything, NoSpace, rest_of, rest_and_mode};
+ghost use Rattle.deno_graph_jsdoc.specs.JsDocReading.{Begins, Reads, Anything, NoSpace, rest_of, rest_and_mode};
 
 use super::attributes::block;
 use super::parts::{gap, ident, quote, skip_space, through_brace, token, word};
@@ -29,7 +29,31 @@ pub fn parse_jsdoc_import_decl(input: &str) -> Result<(&str, JsDocImport<'_>), N
 fn clause_of_import(input: &str) -> Option<&str>
     ensures { Reads NoSpace (λ _. Is (codes "@import") · IsGap · IsClause · IsSpace) (chars input.now) (rest_of result) }
 {
-    clause(gap(word(input, "@import")?)?)
+    clause(clause_start(input)?)
+}
+
+/// Whether the text begins with `@import`, white space and a brace.
+pub(crate) fn opens_names(text: &str) -> bool
+    ensures { IsTrue result ↔ ((rest : List ℕ) × Begins OpensNames (chars text.now) rest) }
+{
+    match clause_start(text) {
+        Some(clause) => word(clause, "{").is_some(),
+        None => false,
+    }
+}
+
+/// What is behind `@import`, `* as` and a name, or a name alone, and white space.
+pub(crate) fn name_of_import(input: &str) -> Option<&str>
+    ensures { Reads NoSpace (λ _. Is (codes "@import") · IsGap · IsBound) (chars input.now) (rest_of result) }
+{
+    bound_name(clause_start(input)?)
+}
+
+/// What is behind `@import` and white space.
+fn clause_start(input: &str) -> Option<&str>
+    ensures { Reads NoSpace (λ _. Is (codes "@import") · IsGap) (chars input.now) (rest_of result) }
+{
+    gap(word(input, "@import")?)
 }
 
 /// What is behind the clause of a declaration and white space.
@@ -39,6 +63,13 @@ fn clause(input: &str) -> Option<&str>
     if let Some(rest) = names(input) {
         return Some(rest);
     }
+    bound_name(input)
+}
+
+/// What is behind `* as` and a name, or a name alone, and white space.
+fn bound_name(input: &str) -> Option<&str>
+    ensures { Reads NoSpace (λ _. IsBound) (chars input.now) (rest_of result) }
+{
     if let Some(rest) = namespace(input) {
         return Some(rest);
     }

@@ -1,10 +1,19 @@
 //! What the imports are made of: words, white space, quoted texts and identifiers. Each function
 //! answers what is behind the part with which the input begins, and None where it begins with none.
 
-ghost use Rattle.std.specs.Prelude.{◌≡◌, ◌<◌, codes};
+ghost use Rattle.std.specs.Prelude.{◌≡◌, ◌<◌, ℕ, [], ◌∷◌, MatchOption, codes};
 ghost use Rattle.std.specs.Str.{IsAscii, chars, skip_leading_whitespace};
 ghost use Rattle.deno_graph_jsdoc.specs.JsDocGrammar.{◌·◌, Is, IsSpace, IsGap, IsQuote, IsBetween, IsIdent, Lacks, begins_ident, ends_ident};
 ghost use Rattle.deno_graph_jsdoc.specs.JsDocReading.{Reads, Anything, NoSpace, EndOfIdent, rest_of, rest_and_text};
+
+/// What is behind the first character. None where there is none.
+pub(crate) fn behind_char(text: &str) -> Option<&str>
+    ensures { MatchOption result (chars text.now ≡ []) (λ rest. (c : ℕ) × (chars text.now ≡ c ∷ chars rest.now)) }
+{
+    let mut chars = text.chars();
+    chars.next()?;
+    Some(chars.as_str())
+}
 
 /// What is behind the white space, or all where there is none.
 pub(crate) fn skip_space(input: &str) -> &str

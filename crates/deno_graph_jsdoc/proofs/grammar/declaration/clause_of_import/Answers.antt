@@ -1,17 +1,15 @@
 -- `@import`, white space and the clause.
 use Rattle.std.specs.Str.{chars}
-use Rattle.deno_graph_jsdoc.specs.JsDocReading.{rest_of}
-use Rattle.deno_graph_jsdoc.proofs.Clauses.{head_no_word, head_no_gap, head_read}
+use Rattle.deno_graph_jsdoc.specs.JsDocGrammar.{◌·◌, IsClause, IsSpace}
+use Rattle.deno_graph_jsdoc.specs.JsDocReading.{NoSpace, rest_of}
+use Rattle.deno_graph_jsdoc.proofs.Clauses.{behind_no_start, behind_start, IsSolid-spaced_clause}
 use Rattle.deno_graph_jsdoc.proofs.grammar.declaration.clause_of_import.Goals as goal
 
-pub returns-in_err-word : goal.returns-in_err-word
-returns-in_err-word c = rw c.from_residual.ensures (head_no_word (chars c.args.input.now) c.in_err-word.ensures)
-
-pub returns-in_err-gap : goal.returns-in_err-gap
-returns-in_err-gap c =
-    rw c.from_residual-in_err-gap.ensures (head_no_gap (chars c.args.input.now) (chars c.in_ok-word.field-0.now) c.in_ok-word.ensures c.in_err-gap.ensures)
+pub returns-in_err-clause_start : goal.returns-in_err-clause_start
+returns-in_err-clause_start c =
+    rw c.from_residual.ensures (behind_no_start (IsClause · IsSpace) IsSolid-spaced_clause NoSpace (chars c.args.input.now) c.in_err-clause_start.ensures)
 
 pub returns : goal.returns
 returns c =
-    head_read (chars c.args.input.now) (chars c.in_ok-word.field-0.now) c.in_ok-word.ensures (chars c.in_ok-gap.field-0.now) (rest_of c.clause.result)
-    c.in_ok-gap.ensures c.clause.ensures
+    behind_start (IsClause · IsSpace) IsSolid-spaced_clause NoSpace (chars c.args.input.now) (chars c.in_ok-clause_start.field-0.now) (rest_of c.clause.result)
+    c.in_ok-clause_start.ensures c.clause.ensures
