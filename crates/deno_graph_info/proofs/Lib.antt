@@ -1,1 +1,5 @@
+pub mod Floats
 pub mod Objects
+pub mod ReadBack
+pub mod ReadMaps
+pub mod Reading

@@ -2,9 +2,11 @@
 pub mod Dependency
 pub mod DynamicArgument
 pub mod DynamicDependency
+pub mod Held
 pub mod ImportAttributes
 pub mod Info
 pub mod Object
 pub mod Position
+pub mod Read
 pub mod StaticDependency
 pub mod Writer

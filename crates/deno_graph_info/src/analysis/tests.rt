@@ -8,6 +8,8 @@ use deno_graph_source::values::{Items, Text, TextMap, TryClone};
 use std::alloc::{AllocError, Global};
 use std::test::Fail;
 
+mod reading;
+
 fn position(line: usize, character: usize) -> Position {
     Position { line, character }
 }
