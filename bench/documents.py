@@ -122,6 +122,56 @@ def filings(count):
     return document("/***/", [], trailing=[entry] * count)
 
 
+def references(count):
+    """Triple-slash references, all leading at the start."""
+    line = "/// <reference path='a' />\n"
+    entries = []
+    for at in range(0, count * len(line), len(line)):
+        place = [at, at + len(line) - 1]
+        entries.append({"kind": "line", "range": place, "text": line[2:-1]})
+    return document(line * count, [], leading=[{"comments": entries, "pos": 0}])
+
+
+def heads(count):
+    """Comments without a pragma, all leading at the start of a file in which each finder looks."""
+    text = "* a comment of some words "
+    comment = f"/*{text}*/"
+    places = ([at, at + len(comment)] for at in range(0, count * len(comment), len(comment)))
+    entries = [{"kind": "block", "range": place, "text": text} for place in places]
+    return document(comment * count, [], leading=[{"comments": entries, "pos": 0}], mediaType="Jsx")
+
+
+def one_start(count):
+    """Imports that all start behind one long comment, which each of them reads."""
+    text = " " * (10 * count)
+    comment = f"/*{text}*/"
+    statement, node = imported(0, len(comment))
+    entry = filed(len(comment), "block", [0, len(comment)], text)
+    return document(comment + statement, [node] * count, leading=[entry])
+
+
+def white_space(size):
+    """One comment of white space at the head."""
+    return head_comment("block", " " * size, "*/")
+
+
+def keywords(size):
+    """One reference at the head, of attributes that have no value."""
+    pair = " path = types ="
+    return head_comment("line", "/ <reference" + pair * (size // len(pair)) + " />", "")
+
+
+def open_quote(size):
+    """One pragma at the head, with a quote that nothing closes."""
+    return head_comment("block", ' @ts-self-types="' + "a" * size, "*/")
+
+
+def head_comment(kind, text, closing):
+    source = ("/*" if closing else "//") + text + closing
+    entry = filed(0, kind, [0, len(source)], text)
+    return document(source, [], leading=[entry], mediaType="Jsx")
+
+
 def template_parts(count):
     """A call of `import` with a template, in which texts and expressions take turns."""
     source = "import(`" + "/${a}" * count + "`)"
@@ -178,12 +228,22 @@ def filed(pos, kind, place, text):
     return {"comments": [{"kind": kind, "range": place, "text": text}], "pos": pos}
 
 
-BY_SIZE = {"many lines": many_lines, "one line": one_line, "one text": one_text}
+BY_SIZE = {
+    "many lines": many_lines,
+    "one line": one_line,
+    "one text": one_text,
+    "white space": white_space,
+    "keywords": keywords,
+    "open quote": open_quote,
+}
 BY_COUNT = {
     "calls": calls,
     "comments": comments,
     "filings": filings,
+    "references": references,
+    "heads": heads,
     "parts": template_parts,
     "keys": different_keys,
     "equal keys": equal_keys,
 }
+ONE_START = {"one start": one_start}

@@ -1,10 +1,9 @@
-//! Worked examples of the analysis: what goes in, and what has to come out.
+//! Tests of the analysis for what has no text: each public item by its name through the three front
+//! doors, and each call with ample memory, its answer compared. What has a text is a row of
+//! `crates/replay`.
 #![tactic(auto)]
 
-pub mod analyses;
-pub mod arguments;
-pub mod attributes;
-pub mod faults;
-pub mod runs;
 #[cfg(test)]
-mod tests;
+mod descriptors;
+#[cfg(test)]
+mod names;

@@ -1,5 +1,7 @@
-//! The analysis of a parsed module: what it depends on, and what else its `ModuleInfo` says.
+//! The analysis of modules, by the names of the original's files: `ast`, `dep` and `jsdoc`. What
+//! stands here is at home in the crates below.
 #![tactic(auto)]
 
 pub mod ast;
 pub mod dep;
+pub mod jsdoc;

@@ -1,10 +1,6 @@
 -- The JSON form, a file for each kind of value.
-pub mod Dependency
-pub mod DynamicArgument
-pub mod DynamicDependency
-pub mod ImportAttributes
+pub mod Held
 pub mod Info
-pub mod Object
-pub mod Position
-pub mod StaticDependency
-pub mod Writer
+pub mod JsDocImportInfo
+pub mod Read
+pub mod TypeScriptReference

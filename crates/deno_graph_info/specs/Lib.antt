@@ -1,4 +1,4 @@
-pub mod Dependency
-pub mod DynamicDependency
-pub mod ImportAttributes
+pub mod InfoFault
 pub mod Json
+pub mod Reach
+pub mod ReachSteps

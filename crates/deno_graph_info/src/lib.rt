@@ -1,4 +1,5 @@
-//! What the analysis of one module finds, and its JSON form.
+//! What the analysis of one module finds, its JSON form, and which modules one reaches.
 #![tactic(auto)]
 
 pub mod analysis;
+pub mod reach;

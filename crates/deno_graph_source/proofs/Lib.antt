@@ -1,17 +1,9 @@
 pub mod AddedItems
-pub mod CheckpointLemmas
-pub mod FrontLemmas
 pub mod Judgements
 pub mod Lists
-pub mod LossyText
 pub mod Neighbours
 pub mod NodeRanges
 pub mod Nodes
-pub mod PlaceLemmas
-pub mod PositionLemmas
-pub mod PositionOrder
 pub mod SourceFaults
 pub mod Spelling
-pub mod TextEntries
-pub mod Units
 pub mod ValidSource

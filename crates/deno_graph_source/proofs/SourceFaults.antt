@@ -7,9 +7,9 @@ use Rattle.std.proofs.lemmas.List.Sorted.{All-permutation, Contains-permutation,
 use Rattle.deno_graph_source.specs.Check.{CommentHas, IsSound, JudgesNeighbours, JudgesSource, NodeHas, RangeHas}
 use Rattle.deno_graph_source.specs.Comments.{FiledComments, comments_of}
 use Rattle.deno_graph_source.specs.Node.{held_ranges, nodes_of, program_ranges, IsShaped}
-use Rattle.deno_graph_source.specs.Source.{HasOverlap, IsSpelled, Stands, ranges_of}
-use Rattle.deno_graph_source.specs.SourceRange.{IsTextRange}
-use Rattle.deno_graph_source.specs.declared.text.position.SourceRange.{SourceRange}
+use Rattle.deno_graph_source.specs.Source.{HasOverlap, IsSpelled, HasFault, ranges_of}
+use Rattle.deno_graph_text.specs.SourceRange.{IsTextRange}
+use Rattle.deno_graph_text.specs.declared.position.SourceRange.{SourceRange}
 use Rattle.deno_graph_source.specs.declared.tree.comments.DependencyComment.{DependencyComment}
 use Rattle.deno_graph_source.specs.declared.tree.fault.SourceFault.{SourceFault}
 use Rattle.deno_graph_source.specs.declared.tree.fault.SourceFault.TheVariants.{RangeReversed, RangeOutside, RangeOffBoundary, CommentText, CommentsOverlap, Shape, OutOfMemory}
@@ -21,7 +21,7 @@ use Rattle.deno_graph_source.proofs.Neighbours.{IsNonDecreasingBy-map, apart_fro
 
 module _ (text : List ℕ) (program : Program) (comments : FiledComments) where
   -- a fault of a range is one of the source
-  range_stands : (fault : SourceFault) (range : SourceRange) → Contains (ranges_of program comments) range → RangeHas text fault range → Stands text program comments fault
+  range_stands : (fault : SourceFault) (range : SourceRange) → Contains (ranges_of program comments) range → RangeHas text fault range → HasFault text program comments fault
   range_stands RangeReversed range at h = Any-from _ _ range at h
   range_stands RangeOutside range at h = Any-from _ _ range at h
   range_stands RangeOffBoundary range at h = Any-from _ _ range at h
@@ -31,7 +31,7 @@ module _ (text : List ℕ) (program : Program) (comments : FiledComments) where
   range_stands OutOfMemory range at h = h
 
   -- so is one of the program's range
-  pub program_range_stands : (fault : SourceFault) → RangeHas text fault program.range → Stands text program comments fault
+  pub program_range_stands : (fault : SourceFault) → RangeHas text fault program.range → HasFault text program comments fault
   unfolding ranges_of program_ranges
   program_range_stands fault h = range_stands fault program.range (0, omega arith, refl) h
 
@@ -40,11 +40,11 @@ module _ (text : List ℕ) (program : Program) (comments : FiledComments) where
   held_range_at node range at h =
       Contains-append_left (program_ranges program) (map (λ comment. comment.range) (comments_of comments)) range (Contains-cons program.range _ range (Contains-flat_map held_ranges (nodes_of program) node range at h))
 
-  held_range_stands : (fault : SourceFault) (node : Node) → Contains (nodes_of program) node → Any (RangeHas text fault) (held_ranges node) → Stands text program comments fault
+  held_range_stands : (fault : SourceFault) (node : Node) → Contains (nodes_of program) node → Any (RangeHas text fault) (held_ranges node) → HasFault text program comments fault
   held_range_stands fault node at h = range_stands fault h.1 (held_range_at node h.1 at (h.0, h.2, h.3)) h.4
 
   -- so is one of a node
-  pub node_stands : (fault : SourceFault) → Any (NodeHas text fault) (nodes_of program) → Stands text program comments fault
+  pub node_stands : (fault : SourceFault) → Any (NodeHas text fault) (nodes_of program) → HasFault text program comments fault
   node_stands Shape h = h
   node_stands RangeReversed h = held_range_stands RangeReversed h.1 (h.0, h.2, h.3) h.4
   node_stands RangeOutside h = held_range_stands RangeOutside h.1 (h.0, h.2, h.3) h.4
@@ -53,12 +53,12 @@ module _ (text : List ℕ) (program : Program) (comments : FiledComments) where
   node_stands CommentsOverlap h = held_range_stands CommentsOverlap h.1 (h.0, h.2, h.3) h.4
   node_stands OutOfMemory h = held_range_stands OutOfMemory h.1 (h.0, h.2, h.3) h.4
 
-  comment_range_stands : (fault : SourceFault) (comment : DependencyComment) → Contains (comments_of comments) comment → RangeHas text fault comment.range → Stands text program comments fault
+  comment_range_stands : (fault : SourceFault) (comment : DependencyComment) → Contains (comments_of comments) comment → RangeHas text fault comment.range → HasFault text program comments fault
   unfolding ranges_of
   comment_range_stands fault comment at h =
       range_stands fault comment.range (Contains-append_right (program_ranges program) _ comment.range (Contains-map (λ c. c.range) (comments_of comments) comment at)) h
 
-  one_comment_stands : (fault : SourceFault) (comment : DependencyComment) → Contains (comments_of comments) comment → CommentHas text fault comment → Stands text program comments fault
+  one_comment_stands : (fault : SourceFault) (comment : DependencyComment) → Contains (comments_of comments) comment → CommentHas text fault comment → HasFault text program comments fault
   one_comment_stands CommentText comment at h = Any-from _ (comments_of comments) comment at h
   one_comment_stands RangeReversed comment at h = comment_range_stands RangeReversed comment at h
   one_comment_stands RangeOutside comment at h = comment_range_stands RangeOutside comment at h
@@ -72,7 +72,7 @@ module _ (text : List ℕ) (program : Program) (comments : FiledComments) where
     back comment at = Contains-permutation _ _ comment (IsPermutation-sym _ _ same) at
 
     -- so is one of a comment, in any order of the comments
-    pub comment_stands : (fault : SourceFault) → Any (CommentHas text fault) all → Stands text program comments fault
+    pub comment_stands : (fault : SourceFault) → Any (CommentHas text fault) all → HasFault text program comments fault
     comment_stands fault h = one_comment_stands fault h.1 (back h.1 (h.0, h.2, h.3)) h.4
 
     overlap_stands : HasOverlap all → HasOverlap (comments_of comments)

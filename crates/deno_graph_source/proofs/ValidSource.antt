@@ -11,8 +11,8 @@ use Rattle.deno_graph_source.specs.ByPosition.{value_at, all_items}
 use Rattle.deno_graph_source.specs.Comments.{FiledComments, comments_of}
 use Rattle.deno_graph_source.specs.Node.{kind_of, range_of, children_of, literal_of, ranges_in_kind, held_ranges, nodes_in, nodes_of, node_ranges, program_ranges}
 use Rattle.deno_graph_source.specs.Source.{IsValid, ranges_of}
-use Rattle.deno_graph_source.specs.SourceRange.{IsTextRange}
-use Rattle.deno_graph_source.specs.declared.text.position.SourceRange.{SourceRange}
+use Rattle.deno_graph_text.specs.SourceRange.{IsTextRange}
+use Rattle.deno_graph_text.specs.declared.position.SourceRange.{SourceRange}
 use Rattle.deno_graph_source.specs.declared.tree.comments.DependencyComment.{DependencyComment}
 use Rattle.deno_graph_source.specs.declared.tree.node.Node.{Node}
 use Rattle.deno_graph_source.specs.declared.tree.node.Program.{Program}

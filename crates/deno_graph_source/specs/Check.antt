@@ -3,9 +3,9 @@ use Rattle.std.specs.Prelude.{◌≡◌, ◌≢◌, ℕ, ◌+◌, ◌<◌, ◌�
 use Rattle.std.specs.List.{AllAdjacentBelow}
 use Rattle.deno_graph_source.specs.Comments.{FiledComments}
 use Rattle.deno_graph_source.specs.Node.{held_ranges, IsShaped}
-use Rattle.deno_graph_source.specs.Source.{IsReversed, IsOutside, IsOffBoundary, IsSpelled, IsValid, Stands}
-use Rattle.deno_graph_source.specs.SourceRange.{IsTextRange}
-use Rattle.deno_graph_source.specs.declared.text.position.SourceRange.{SourceRange}
+use Rattle.deno_graph_source.specs.Source.{IsReversed, IsOutside, IsOffBoundary, IsSpelled, IsValid, HasFault}
+use Rattle.deno_graph_text.specs.SourceRange.{IsTextRange}
+use Rattle.deno_graph_text.specs.declared.position.SourceRange.{SourceRange}
 use Rattle.deno_graph_source.specs.declared.tree.comments.DependencyComment.{DependencyComment}
 use Rattle.deno_graph_source.specs.declared.tree.fault.SourceFault.{SourceFault}
 use Rattle.deno_graph_source.specs.declared.tree.fault.SourceFault.TheVariants.{RangeReversed, RangeOutside, RangeOffBoundary, CommentText, CommentsOverlap, Shape, OutOfMemory}
@@ -35,19 +35,26 @@ IsSound text node = All (IsTextRange text) (held_ranges node) × IsShaped node
 
 -- answers about ranges, nodes and comments: `Ok` where none has a fault, else a fault of one
 abbrev pub JudgesRanges : List ℕ → List SourceRange → Result (Unit {0}) SourceFault → Type 0
-JudgesRanges text ranges result = MatchResult result (λ _. All (IsTextRange text) ranges) (λ fault. Any (RangeHas text fault) ranges)
+JudgesRanges text ranges result =
+    MatchResult result (λ _. All (IsTextRange text) ranges)
+    (λ fault. Any (RangeHas text fault) ranges)
 
 abbrev pub JudgesNode : List ℕ → Node → Result (Unit {0}) SourceFault → Type 0
-JudgesNode text node result = MatchResult result (λ _. IsSound text node) (λ fault. NodeHas text fault node)
+JudgesNode text node result =
+    MatchResult result (λ _. IsSound text node) (λ fault. NodeHas text fault node)
 
 abbrev pub JudgesNodes : List ℕ → List Node → Result (Unit {0}) SourceFault → Type 0
-JudgesNodes text nodes result = MatchResult result (λ _. All (IsSound text) nodes) (λ fault. Any (NodeHas text fault) nodes)
+JudgesNodes text nodes result =
+    MatchResult result (λ _. All (IsSound text) nodes) (λ fault. Any (NodeHas text fault) nodes)
 
 abbrev pub JudgesComment : List ℕ → DependencyComment → Result (Unit {0}) SourceFault → Type 0
-JudgesComment text comment result = MatchResult result (λ _. IsSpelled text comment) (λ fault. CommentHas text fault comment)
+JudgesComment text comment result =
+    MatchResult result (λ _. IsSpelled text comment) (λ fault. CommentHas text fault comment)
 
 abbrev pub JudgesComments : List ℕ → List DependencyComment → Result (Unit {0}) SourceFault → Type 0
-JudgesComments text comments result = MatchResult result (λ _. All (IsSpelled text) comments) (λ fault. Any (CommentHas text fault) comments)
+JudgesComments text comments result =
+    MatchResult result (λ _. All (IsSpelled text) comments)
+    (λ fault. Any (CommentHas text fault) comments)
 
 -- b starts where a has ended, or is at the same range
 abbrev pub Passes : DependencyComment → DependencyComment → Type 0
@@ -61,9 +68,11 @@ RunsInto a b = (a.range ≢ b.range) × (b.range.start < a.range.end)
 abbrev pub JudgesNeighbours : List DependencyComment → Result (Unit {0}) SourceFault → Type 0
 JudgesNeighbours comments result =
     MatchResult result (λ _. AllAdjacentBelow Passes comments (length comments))
-    (λ fault. (fault ≡ CommentsOverlap) × (k : ℕ) × (k + 1 < length comments) × ((d : DependencyComment) → RunsInto (slice_index_or comments k d) (slice_index_or comments (k + 1) d)))
+    (λ fault. (fault ≡ CommentsOverlap) × (k : ℕ) × (k + 1 < length comments)
+    × ((d : DependencyComment) → RunsInto (slice_index_or comments k d) (slice_index_or comments (k + 1) d)))
 
 -- an answer about a source
 abbrev pub JudgesSource : List ℕ → Program → FiledComments → Result (Unit {0}) SourceFault → Type 0
 JudgesSource text program comments result =
-    MatchResult result (λ _. IsValid text program comments) (λ fault. (fault ≡ OutOfMemory) ⊎ Stands text program comments fault)
+    MatchResult result (λ _. IsValid text program comments)
+    (λ fault. (fault ≡ OutOfMemory) ⊎ HasFault text program comments fault)

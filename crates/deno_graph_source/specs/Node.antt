@@ -2,7 +2,7 @@
 use Rattle.std.specs.Prelude.{◌≡◌, ℕ, ◌+◌, ◌≤◌, ◌<◌, ⊤, Bool, true, false, IsTrue, length, List, [], ◌∷◌, ◌++◌, map, Option, Some, None, IsSomeAnd, slice_get}
 use Rattle.std.specs.List.{flat_map}
 use Rattle.std.specs.Option.{option_to_list}
-use Rattle.deno_graph_source.specs.declared.text.position.SourceRange.{SourceRange}
+use Rattle.deno_graph_text.specs.declared.position.SourceRange.{SourceRange}
 use Rattle.deno_graph_source.specs.declared.tree.node.Arg.{Arg}
 use Rattle.deno_graph_source.specs.declared.tree.node.Callee.{Callee}
 use Rattle.deno_graph_source.specs.declared.tree.node.Callee.TheVariants.{Expr}
@@ -43,7 +43,8 @@ args_of _ = []
 
 -- the ranges that a kind holds: those of its string literal and of its arguments
 abbrev pub ranges_in_kind : Kind → List SourceRange
-ranges_in_kind kind = map (λ literal. literal.range) (option_to_list (literal_of kind)) ++ map (λ arg. arg.range) (args_of kind)
+ranges_in_kind kind =
+    map (λ literal. literal.range) (option_to_list (literal_of kind)) ++ map (λ arg. arg.range) (args_of kind)
 
 -- one node, with each child and all its nodes in its place
 abbrev pub nodes_step : Node-F (Node × List Node) → Node × List Node
@@ -90,19 +91,21 @@ has_with _ = false
 
 -- where there is a `with` clause, its object literal is the first child
 abbrev pub HasClause : Bool → List Node → Type 0
-HasClause true children = IsSomeAnd (slice_get children 0) (λ clause. IsTrue (is_object (kind_of clause)))
+HasClause true children =
+    IsSomeAnd (slice_get children 0) (λ clause. IsTrue (is_object (kind_of clause)))
 HasClause false children = ⊤
 
--- how many children a kind needs: a template has one quasi more than expressions, a binary expression two
--- operands, a property its value, and a call its callee, where that is an expression, and its arguments
-unfoldable pub HasCount : Kind → ℕ → Type 0
-HasCount (Template quasis) count = length quasis ≡ count + 1
-HasCount (Binary op) count = count ≡ 2
-HasCount (KeyValue key) count = 0 < count
-HasCount (Call callee args) count = callee_count callee + length args ≤ count
-HasCount _ count = ⊤
+-- how many children a kind needs: a template has one quasi more than expressions, a binary
+-- expression two operands, a property its value, and a call its callee, where that is an expression,
+-- and its arguments
+unfoldable pub HasCountOfKind : Kind → ℕ → Type 0
+HasCountOfKind (Template quasis) count = length quasis ≡ count + 1
+HasCountOfKind (Binary op) count = count ≡ 2
+HasCountOfKind (KeyValue key) count = 0 < count
+HasCountOfKind (Call callee args) count = callee_count callee + length args ≤ count
+HasCountOfKind _ count = ⊤
 
 -- the node has the children that its kind needs
 pub record IsShaped (node : Node) : Type 0 where
   pub clause : HasClause (has_with (kind_of node)) (children_of node)
-  pub count : HasCount (kind_of node) (length (children_of node))
+  pub count : HasCountOfKind (kind_of node) (length (children_of node))

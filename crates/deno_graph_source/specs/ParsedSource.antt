@@ -1,11 +1,12 @@
 -- A module as a parser handed it in.
-use Rattle.std.specs.Prelude.{ℕ, Bool, List}
+use Rattle.std.specs.Prelude.{ℕ, Bool, true, List}
 use Rattle.url.specs.Parts.{Parts}
 use Rattle.deno_graph_source.specs.Comments.{FiledComments}
 use Rattle.deno_graph_source.specs.declared.tree.media_type.MediaType.{MediaType}
 use Rattle.deno_graph_source.specs.declared.tree.node.Program.{Program}
 
--- where it stands, its text, what it was parsed as, its tree and comments, and whether its scopes were analysed
+-- where it stands, its text, what it was parsed as, its tree and comments, and whether its scopes
+-- were analysed
 pub record ParsedModule : Type 0 where
   pub specifier : Parts
   pub text : List ℕ
@@ -13,3 +14,7 @@ pub record ParsedModule : Type 0 where
   pub program : Program
   pub comments : FiledComments
   pub scope_analysis : Bool
+
+-- the module with the mark that its scopes were analysed
+abbrev pub marked : ParsedModule → ParsedModule
+marked source = record source { scope_analysis = true }

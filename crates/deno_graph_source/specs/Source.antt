@@ -3,8 +3,8 @@ use Rattle.std.specs.Prelude.{◌≡◌, ◌≢◌, ℕ, ◌<◌, ◌≤◌, Lis
 use Rattle.std.specs.Str.{IsCharBoundary}
 use Rattle.deno_graph_source.specs.Comments.{FiledComments, comments_of}
 use Rattle.deno_graph_source.specs.Node.{nodes_of, program_ranges, IsShaped}
-use Rattle.deno_graph_source.specs.SourceRange.{IsTextRange, slice_of}
-use Rattle.deno_graph_source.specs.declared.text.position.SourceRange.{SourceRange}
+use Rattle.deno_graph_text.specs.SourceRange.{IsTextRange, slice_of}
+use Rattle.deno_graph_text.specs.declared.position.SourceRange.{SourceRange}
 use Rattle.deno_graph_source.specs.declared.tree.comments.CommentKind.{CommentKind}
 use Rattle.deno_graph_source.specs.declared.tree.comments.CommentKind.TheVariants.{Line, Block}
 use Rattle.deno_graph_source.specs.declared.tree.comments.DependencyComment.{DependencyComment}
@@ -12,9 +12,11 @@ use Rattle.deno_graph_source.specs.declared.tree.fault.SourceFault.{SourceFault}
 use Rattle.deno_graph_source.specs.declared.tree.fault.SourceFault.TheVariants.{RangeReversed, RangeOutside, RangeOffBoundary, CommentText, CommentsOverlap, Shape, OutOfMemory}
 use Rattle.deno_graph_source.specs.declared.tree.node.Program.{Program}
 
--- every range that there is: of the program, of the nodes and of what they hold, and of the comments
+-- every range that there is: of the program, of the nodes and of what they hold, and of the
+-- comments
 unfoldable pub ranges_of : Program → FiledComments → List SourceRange
-ranges_of program comments = program_ranges program ++ map (λ comment. comment.range) (comments_of comments)
+ranges_of program comments =
+    program_ranges program ++ map (λ comment. comment.range) (comments_of comments)
 
 -- how a comment of this kind with this text is written
 abbrev pub spelling : CommentKind → List ℕ → List ℕ
@@ -39,7 +41,8 @@ pub record IsValid (text : List ℕ) (program : Program) (comments : FiledCommen
   -- each comment is written in the text
   pub spelled : All (IsSpelled text) (comments_of comments)
   -- two comments that share a byte are equal
-  pub apart : (a b : DependencyComment) → Contains (comments_of comments) a → Contains (comments_of comments) b → SharesByte a.range b.range → a ≡ b
+  pub apart : (a b : DependencyComment) → Contains (comments_of comments) a
+      → Contains (comments_of comments) b → SharesByte a.range b.range → a ≡ b
 
 -- a range that starts above its end
 abbrev pub IsReversed : SourceRange → Type 0
@@ -60,14 +63,15 @@ IsOffBoundary text range = CutsCharacter text range.start ⊎ CutsCharacter text
 -- two comments that are unequal and share a byte
 abbrev pub HasOverlap : List DependencyComment → Type 0
 HasOverlap comments =
-    (a : DependencyComment) × (b : DependencyComment) × Contains comments a × Contains comments b × (a ≢ b) × SharesByte a.range b.range
+    (a : DependencyComment) × (b : DependencyComment) × Contains comments a × Contains comments b
+    × (a ≢ b) × SharesByte a.range b.range
 
 -- the text with the tree and the comments has this fault
-abbrev pub Stands : List ℕ → Program → FiledComments → SourceFault → Type 0
-Stands text program comments RangeReversed = Any IsReversed (ranges_of program comments)
-Stands text program comments RangeOutside = Any (IsOutside text) (ranges_of program comments)
-Stands text program comments RangeOffBoundary = Any (IsOffBoundary text) (ranges_of program comments)
-Stands text program comments CommentText = Any (λ comment. ¬ IsSpelled text comment) (comments_of comments)
-Stands text program comments CommentsOverlap = HasOverlap (comments_of comments)
-Stands text program comments Shape = Any (λ node. ¬ IsShaped node) (nodes_of program)
-Stands text program comments OutOfMemory = ⊥
+abbrev pub HasFault : List ℕ → Program → FiledComments → SourceFault → Type 0
+HasFault text program comments RangeReversed = Any IsReversed (ranges_of program comments)
+HasFault text program comments RangeOutside = Any (IsOutside text) (ranges_of program comments)
+HasFault text program comments RangeOffBoundary = Any (IsOffBoundary text) (ranges_of program comments)
+HasFault text program comments CommentText = Any (λ comment. ¬ IsSpelled text comment) (comments_of comments)
+HasFault text program comments CommentsOverlap = HasOverlap (comments_of comments)
+HasFault text program comments Shape = Any (λ node. ¬ IsShaped node) (nodes_of program)
+HasFault text program comments OutOfMemory = ⊥

@@ -2,6 +2,7 @@
 //! comments, and parsed sources.
 #![tactic(auto)]
 
-pub mod text;
 pub mod tree;
-pub mod values;
+
+pub use deno_graph_text as text;
+pub use deno_graph_values as values;

@@ -1,4 +1,5 @@
 use crate::notation::NotationFault;
+use deno_graph_info::analysis::{ConvertFault, InfoFault};
 use deno_graph_source::tree::SourceFault;
 use std::alloc::{AllocError, AllocFailed};
 use thiserror::Error;
@@ -22,6 +23,12 @@ pub enum Fault {
     /// The tree or the comments don't fit the source.
     #[error("{0}")]
     Source(SourceFault),
+    /// A stored graph can't be converted.
+    #[error("{0}")]
+    Convert(ConvertFault),
+    /// The JSON isn't what `reach` reads, or a module's isn't that of a `ModuleInfo`.
+    #[error("{0}")]
+    Info(InfoFault),
     /// A write failed.
     #[error("Output")]
     Output,
@@ -75,6 +82,24 @@ impl From<SourceFault> for Fault {
         match fault {
             SourceFault::OutOfMemory => Fault::OutOfMemory,
             fault => Fault::Source(fault),
+        }
+    }
+}
+
+impl From<ConvertFault> for Fault {
+    fn from(fault: ConvertFault) -> Fault {
+        match fault {
+            ConvertFault::OutOfMemory => Fault::OutOfMemory,
+            fault => Fault::Convert(fault),
+        }
+    }
+}
+
+impl From<InfoFault> for Fault {
+    fn from(fault: InfoFault) -> Fault {
+        match fault {
+            InfoFault::OutOfMemory => Fault::OutOfMemory,
+            fault => Fault::Info(fault),
         }
     }
 }

@@ -1,12 +1,14 @@
 //! From the input to a source.
 
 use crate::fault::Fault;
-use crate::notation::read_document;
+use crate::notation::{Document, read_document};
 use deno_graph_source::tree::ParsedSource;
 use serde_json::Value;
 use simdutf8::basic;
 use std::alloc::Global;
 use std::io::{ErrorKind, Read};
+use std::rc::RcStr;
+use url::Url;
 
 const CHUNK: usize = 65536;
 
@@ -14,6 +16,23 @@ const CHUNK: usize = 65536;
 pub fn read_source<R: Read>(alloc: Global, input: &mut R) -> Result<ParsedSource, Fault> {
     let value = read_json(alloc, input)?;
     read_document(alloc, &value)?.into_source(alloc)
+}
+
+impl Document<'_> {
+    /// The source, without scope analysis. `Specifier` where the specifier is no URL, and else a
+    /// fault of the source where the tree or the comments don't fit it.
+    pub fn into_source(self, alloc: Global) -> Result<ParsedSource, Fault> {
+        let Document {
+            specifier,
+            media_type,
+            source,
+            program,
+            comments,
+        } = self;
+        let specifier = Url::parse(alloc, specifier)?;
+        let text = RcStr::from_str(alloc, source)?;
+        Ok(ParsedSource::new(alloc, specifier, text, media_type, program, comments, false)?)
+    }
 }
 
 /// Reads one JSON value, up to the end of the input.

@@ -2,11 +2,12 @@
 //! found as JSON.
 #![tactic(auto)]
 
+pub mod command;
 pub mod fault;
 mod input;
 pub mod notation;
-mod output;
 mod program;
 
+pub use command::Command;
 pub use fault::Fault;
 pub use program::serve;

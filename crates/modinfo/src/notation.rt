@@ -5,6 +5,7 @@ pub mod call;
 pub mod comments;
 pub mod declaration;
 pub mod document;
+pub mod expression;
 pub mod fault;
 pub mod kind;
 pub mod literal;

@@ -1,18 +1,16 @@
+use crate::command::Command;
 use crate::fault::Fault;
-use crate::input::read_source;
-use crate::output::write_json;
-use deno_graph_analysis::ast::module_info;
 use std::alloc::Global;
 use std::io::{Read, Write};
 
-const USAGE: &str = "modinfo: usage: modinfo analyze or modinfo convert";
+const USAGE: &str = "modinfo: usage: modinfo analyze, modinfo convert or modinfo reach";
 
 /// One run of the program, and its exit status. `words` are the arguments after the program's name.
 ///
-/// `analyze` reads a document in the notation from `input`, and writes the module's information to
-/// `output` as one line of JSON: status 0. Where that fails `errors` gets a line with the fault's
-/// name, and `output` nothing, or after a failed write maybe a beginning: status 1. Any other words
-/// give a line on the usage: status 2. A failed write to `errors` is passed over.
+/// Reads `input` to its end, and writes the answer to `output` as one line of JSON: status 0. Where
+/// that fails `errors` gets a line with the fault's name, and `output` nothing, or after a failed
+/// write maybe a beginning: status 1. Words that are no command give a line on the usage: status 2.
+/// A failed write to `errors` is passed over.
 pub fn serve<R: Read, W: Write, E: Write>(
     alloc: Global,
     words: &[&str],
@@ -25,23 +23,33 @@ where
     W: Drop,
     E: Drop,
 {
-    match words {
-        [word] if *word == "analyze" => match analyze(alloc, &mut input, &mut output) {
-            Ok(()) => 0,
-            Err(fault) => {
-                let _ = writeln!(errors, "modinfo: {fault}");
-                1
-            }
-        },
-        _ => {
-            let _ = writeln!(errors, "{USAGE}");
-            2
+    let Some(command) = Command::from_words(words) else {
+        let _ = writeln!(errors, "{USAGE}");
+        return 2;
+    };
+    match print_answer(alloc, command, &mut input, &mut output) {
+        Ok(()) => 0,
+        Err(fault) => {
+            let _ = writeln!(errors, "modinfo: {fault}");
+            1
         }
     }
 }
 
-fn analyze<R: Read, W: Write>(alloc: Global, input: &mut R, output: &mut W) -> Result<(), Fault> {
-    let source = read_source(alloc, input)?;
-    let info = module_info(alloc, &source)?;
-    write_json(alloc, &info.to_value(alloc)?, output)
+fn print_answer<R: Read, W: Write>(
+    alloc: Global,
+    command: Command,
+    input: &mut R,
+    output: &mut W,
+) -> Result<(), Fault> {
+    let line = command.answer(alloc, input)?;
+    match write_text(line.as_str(), output) {
+        Ok(()) => Ok(()),
+        Err(_) => Err(Fault::Output),
+    }
+}
+
+fn write_text<W: Write>(text: &str, output: &mut W) -> std::io::Result<()> {
+    output.write_all(text.as_bytes())?;
+    output.flush()
 }

@@ -5,7 +5,7 @@ ghost use Rattle.std.specs.Ordering.{nat_cmp};
 ghost use Rattle.deno_graph_source.specs.ByPosition.{AddsItem};
 ghost use Rattle.std.specs.Option.{option_copied};
 
-use crate::values::{Items, TryClone};
+use deno_graph_values::{Items, TryClone};
 use std::alloc::{AllocError, Global};
 use std::collections::BTreeMap;
 use std::marker::Model;
@@ -128,9 +128,12 @@ impl<V: PartialEq> PartialEq for ByPosition<V> {
     ghost use Rattle.std.specs.Ordering.{on, eq_of_both};
     ghost use Rattle.std.proofs.lemmas.Cmp.{nat_eq_equiv};
 
-    ghost eq = { pointwise (eq_of_both (on (λ entry. entry.0) nat_eq) (on (λ entry. entry.1) V.eq)) };
+    ghost eq = { pointwise
+        (eq_of_both (on (λ entry. entry.0) nat_eq) (on (λ entry. entry.1) V.eq)) };
 
-    ghost laws = { lists_per (and_per (on_per (λ entry. entry.0) (partial_equiv_from_equiv nat_eq_equiv)) (on_per (λ entry. entry.1) V.laws)) };
+    ghost laws = { lists_per (and_per
+        (on_per (λ entry. entry.0) (partial_equiv_from_equiv nat_eq_equiv))
+        (on_per (λ entry. entry.1) V.laws)) };
 
     fn eq(&self, other: &ByPosition<V>) -> bool {
         self.map == other.map
@@ -142,5 +145,7 @@ impl<V: Eq> Eq for ByPosition<V> {
     ghost use Rattle.std.specs.Cmp.Lexicographic.{lists_equiv};
     ghost use Rattle.std.proofs.lemmas.Cmp.{nat_eq_equiv};
 
-    ghost laws = { lists_equiv (and_equiv (on_equiv (λ entry. entry.0) nat_eq_equiv) (on_equiv (λ entry. entry.1) V.Eq.laws)) };
+    ghost laws = { lists_equiv (and_equiv
+        (on_equiv (λ entry. entry.0) nat_eq_equiv)
+        (on_equiv (λ entry. entry.1) V.Eq.laws)) };
 }

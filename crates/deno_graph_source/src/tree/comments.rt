@@ -2,9 +2,9 @@ ghost use Rattle.std.specs.Prelude.{◌≡◌, [], ◌∷◌, map, IfOk, OnOk, O
 ghost use Rattle.std.specs.List.Sorted.{IsPermutation};
 ghost use Rattle.std.specs.Option.{option_copied};
 
-use crate::text::SourceRange;
 use crate::tree::by_position::ByPosition;
-use crate::values::{Items, Text, TryClone};
+use deno_graph_text::SourceRange;
+use deno_graph_values::{Items, Text, TryClone};
 use std::alloc::{AllocError, Global};
 use std::marker::Model;
 
@@ -48,7 +48,10 @@ impl Model for Comments {
 
     ghost Value = { FiledComments };
 
-    ghost view = { λ comments. record { leading = comments.leading; trailing = comments.trailing } };
+    ghost view = { λ comments. record {
+      leading = comments.leading;
+      trailing = comments.trailing;
+    } };
 
     ghost inverse = { λ filed. record { leading = filed.leading; trailing = filed.trailing } };
 }
@@ -80,8 +83,8 @@ impl Comments {
         self.leading.add(pos, comment)
     }
 
-    /// Files a comment as trailing at `pos`, after those that are there. Where memory is refused all
-    /// stays as it was, and the comment is dropped.
+    /// Files a comment as trailing at `pos`, after those that are there. Where memory is refused
+    /// all stays as it was, and the comment is dropped.
     pub fn add_trailing(&mut self, pos: usize, comment: DependencyComment) -> Result<(), AllocError>
         ensures trailing { OnOk result (AddsItem self.old.trailing self.new.trailing pos comment) }
         ensures leading { OnOk result (self.new.leading ≡ self.old.leading) }
@@ -99,7 +102,8 @@ impl Comments {
         Some(self.leading.get(pos)?.as_slice())
     }
 
-    /// The comments filed as trailing at `pos`, in the order of filing. `None` where there are none.
+    /// The comments filed as trailing at `pos`, in the order of filing. `None` where there are
+    /// none.
     pub fn get_trailing(&self, pos: usize) -> Option<&[DependencyComment]>
         ensures { option_copied result ≡ value_at self.now.trailing pos }
     {

@@ -1,8 +1,8 @@
 ghost use Rattle.std.specs.Prelude.{◌≡◌, IfOk};
 ghost use Rattle.std.specs.Option.{option_copied};
 
-use crate::text::{JsString, SourceRange};
-use crate::values::{Items, Text, TryClone};
+use deno_graph_text::{JsString, SourceRange};
+use deno_graph_values::{Items, Text, TryClone};
 use std::alloc::{AllocError, Global};
 
 /// A string literal: its value, and its range with the quotes.
@@ -10,6 +10,15 @@ use std::alloc::{AllocError, Global};
 pub struct StrLit {
     pub value: JsString,
     pub range: SourceRange,
+}
+
+impl StrLit {
+    /// The literal of this value, which stands at this range of the text, quotes and all.
+    pub fn new(value: JsString, range: SourceRange) -> StrLit
+        ensures { result ≡ record { value = value; range = range } }
+    {
+        StrLit { value, range }
+    }
 }
 
 impl TryClone for StrLit {
@@ -276,6 +285,34 @@ pub struct Node {
     pub range: SourceRange,
     pub kind: Kind,
     pub children: Items<Node>,
+}
+
+#[tactic(auto, unfolding(crate::specs::Node::kind_of, crate::specs::Node::range_of, crate::specs::Node::children_of))]
+impl Node {
+    ghost use Rattle.std.specs.Prelude.{[]};
+    ghost use Rattle.deno_graph_source.specs.Node.{kind_of, range_of, children_of};
+
+    /// A node of this kind with no children, which stands at this range. Takes no memory.
+    pub fn new(alloc: Global, range: SourceRange, kind: Kind) -> Node
+        ensures range { range_of result ≡ range }
+        ensures kind { kind_of result ≡ kind }
+        ensures children { children_of result ≡ [] }
+    {
+        Node::with_children(range, kind, Items::new(alloc))
+    }
+
+    /// A node of this kind with these children, in the order of the text. Takes no memory.
+    pub fn with_children(range: SourceRange, kind: Kind, children: Items<Node>) -> Node
+        ensures range { range_of result ≡ range }
+        ensures kind { kind_of result ≡ kind }
+        ensures children { children_of result ≡ children }
+    {
+        Node {
+            range,
+            kind,
+            children,
+        }
+    }
 }
 
 impl TryClone for Node {

@@ -1,25 +1,35 @@
 ghost use Rattle.std.specs.Prelude.{◌≡◌, ◌⊎◌, IfOk, IfErr, OnOk};
 ghost use Rattle.std.specs.Rc.{rc_str_bytes};
-ghost use Rattle.deno_graph_source.specs.Source.{IsValid, Stands};
+ghost use Rattle.deno_graph_source.specs.ParsedSource.{marked};
+ghost use Rattle.deno_graph_source.specs.Source.{IsValid, HasFault};
 
-use crate::text::SourceTextInfo;
+use crate::tree::check::check_source;
 use crate::tree::comments::Comments;
-use crate::tree::fault::{SourceFault, check_source};
+use crate::tree::fault::SourceFault;
 use crate::tree::media_type::MediaType;
 use crate::tree::node::Program;
-use std::alloc::Global;
+use deno_graph_text::SourceTextInfo;
+use deno_graph_values::TryClone;
+use std::alloc::{AllocError, Global};
 use std::marker::Model;
-use std::rc::RcStr;
+use std::rc::{Rc, RcStr};
 use url::Url;
 
-/// A module with its tree and comments, which fit its text: every parsed source is valid.
+/// What all copies of one source share.
 #[derive(Debug, PartialEq, Eq, Drop)]
-pub struct ParsedSource {
+struct SharedModule {
     specifier: Url,
     media_type: MediaType,
     text_info: SourceTextInfo,
     program: Program,
     comments: Comments,
+}
+
+/// A module with its tree and comments, which fit its text: every parsed source is valid. A copy
+/// shares all but the mark of scope analysis, so it takes no room for the tree.
+#[derive(Debug, Drop)]
+pub struct ParsedSource {
+    module: Rc<SharedModule>,
     scope_analysis: bool,
 }
 
@@ -36,24 +46,15 @@ impl Model for ParsedSource {
     ghost use Rattle.deno_graph_source.specs.Source.{IsValid};
 
     ghost view = { λ source. record {
-      specifier = source.specifier;
-      text = source.text_info;
-      media_type = source.media_type;
-      program = source.program;
-      comments = source.comments;
+      specifier = source.module.value.specifier;
+      text = source.module.value.text_info;
+      media_type = source.module.value.media_type;
+      program = source.module.value.program;
+      comments = source.module.value.comments;
       scope_analysis = source.scope_analysis;
     } };
 
-    ghost inverse = { λ value. record {
-      specifier = value.specifier;
-      text_info = value.text;
-      media_type = value.media_type;
-      program = value.program;
-      comments = value.comments;
-      scope_analysis = value.scope_analysis;
-    } };
-
-    ghost invariant = { λ source. IsValid source.text_info source.program source.comments };
+    ghost invariant = { λ source. IsValid source.module.value.text_info source.module.value.program source.module.value.comments };
 }
 
 impl ParsedSource {
@@ -80,15 +81,19 @@ impl ParsedSource {
         ensures accepted { IsValid (rc_str_bytes text) program comments
             → IfErr result (λ fault. fault ≡ SourceFault.OutOfMemory) }
         ensures fault { IfErr result (λ fault.
-            (fault ≡ SourceFault.OutOfMemory) ⊎ Stands (rc_str_bytes text) program comments fault) }
+            (fault ≡ SourceFault.OutOfMemory)
+            ⊎ HasFault (rc_str_bytes text) program comments fault) }
     {
         check_source(alloc, text.as_str(), &program, &comments)?;
-        Ok(ParsedSource {
+        let module = SharedModule {
             specifier,
             media_type,
             text_info: SourceTextInfo::new(alloc, text)?,
             program,
             comments,
+        };
+        Ok(ParsedSource {
+            module: Rc::new(alloc, module)?,
             scope_analysis,
         })
     }
@@ -97,40 +102,40 @@ impl ParsedSource {
     pub fn specifier(&self) -> &Url
         ensures { result.now ≡ self.now.specifier }
     {
-        &self.specifier
+        &self.module.specifier
     }
 
     pub fn media_type(&self) -> MediaType
         ensures { result ≡ self.now.media_type }
     {
-        self.media_type
+        self.module.media_type
     }
 
     pub fn text(&self) -> &RcStr
         ensures { rc_str_bytes result.now ≡ self.now.text }
     {
-        self.text_info.rc_text()
+        self.module.text_info.rc_text()
     }
 
     /// The text with what finds its lines, which `new` made.
     pub fn text_info_lazy(&self) -> &SourceTextInfo
         ensures { result.now ≡ self.now.text }
     {
-        &self.text_info
+        &self.module.text_info
     }
 
     pub fn program(&self) -> &Program
         ensures program { result.now ≡ self.now.program }
         ensures valid { IsValid self.now.text result.now self.now.comments }
     {
-        &self.program
+        &self.module.program
     }
 
     pub fn comments(&self) -> &Comments
         ensures comments { result.now ≡ self.now.comments }
         ensures valid { IsValid self.now.text self.now.program result.now }
     {
-        &self.comments
+        &self.module.comments
     }
 
     /// Whether the scopes of the module were analysed too.
@@ -139,4 +144,48 @@ impl ParsedSource {
     {
         self.scope_analysis
     }
+
+    /// The same source with the mark that its scopes were analysed.
+    pub fn into_with_scope_analysis(self) -> ParsedSource
+        ensures { result ≡ marked self }
+    {
+        let ParsedSource { module, .. } = self;
+        ParsedSource {
+            module,
+            scope_analysis: true,
+        }
+    }
+}
+
+impl TryClone for ParsedSource {
+    /// The same source, which shares its tree and comments. Takes no room for them.
+    fn try_clone(&self, _alloc: Global) -> Result<ParsedSource, AllocError> {
+        Ok(ParsedSource {
+            module: self.module.clone()?,
+            scope_analysis: self.scope_analysis,
+        })
+    }
+}
+
+impl PartialEq for ParsedSource {
+    ghost use Rattle.std.specs.Prelude.{◌&&◌};
+    ghost use Rattle.std.specs.Cmp.{and_per, on_per, partial_equiv_from_equiv, bool_eq_equiv};
+    ghost use Rattle.deno_graph_source.specs.SharedModule.{shared_of};
+    ghost use Rattle.deno_graph_source.specs.contracts.tree.parsed_source.SharedModulePartialEq.TheImpl.Laws.{laws-law};
+
+    ghost eq = { λ a b. ⟦<SharedModule as PartialEq>⟧.eq (shared_of a) (shared_of b) && ⟦<bool as PartialEq>⟧.eq a.scope_analysis b.scope_analysis };
+
+    ghost laws = { and_per (on_per shared_of laws-law) (on_per (λ a. a.scope_analysis) (partial_equiv_from_equiv bool_eq_equiv)) };
+
+    fn eq(&self, other: &ParsedSource) -> bool {
+        self.module == other.module && self.scope_analysis == other.scope_analysis
+    }
+}
+
+impl Eq for ParsedSource {
+    ghost use Rattle.std.specs.Cmp.{and_equiv, on_equiv, bool_eq_equiv};
+    ghost use Rattle.deno_graph_source.specs.SharedModule.{shared_of};
+    ghost use Rattle.deno_graph_source.specs.contracts.tree.parsed_source.SharedModuleEq.TheImpl.Laws.{laws-law};
+
+    ghost laws = { and_equiv (on_equiv shared_of laws-law) (on_equiv (λ a. a.scope_analysis) bool_eq_equiv) };
 }

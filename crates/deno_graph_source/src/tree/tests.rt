@@ -1,6 +1,6 @@
 use super::*;
-use crate::text::SourceRange;
-use crate::values::{Items, Text, TryClone};
+use deno_graph_text::SourceRange;
+use deno_graph_values::{Items, Text, TryClone};
 use std::alloc::{AllocError, Global};
 use std::test::Fail;
 
@@ -12,7 +12,7 @@ fn comment(
 ) -> Result<DependencyComment, AllocError> {
     Ok(DependencyComment {
         kind: CommentKind::Block,
-        range: SourceRange { start, end },
+        range: SourceRange::new(start, end),
         text: Text::from_str(alloc, text)?,
     })
 }
@@ -36,10 +36,7 @@ fn fault_of(
     comments: &Comments,
 ) -> Result<Option<SourceFault>, AllocError> {
     let program = Program {
-        range: SourceRange {
-            start: 0,
-            end: text.len(),
-        },
+        range: SourceRange::new(0, text.len()),
         body,
         has_shebang: false,
     };
@@ -94,31 +91,24 @@ fn a_comment_is_written_in_the_text(rt: HostRuntime) -> Result<(), Fail> {
 
 /// A call of an expression with one argument, with so many children.
 fn call(alloc: Global, children: usize) -> Result<Node, AllocError> {
-    let range = SourceRange { start: 0, end: 1 };
-    let mut args = Items::new(alloc);
-    args.push(Arg {
+    let range = SourceRange::new(0, 1);
+    let arg = Arg {
         spread: false,
         range,
-    })?;
+    };
+    let kind = Kind::Call {
+        callee: Callee::Expr,
+        args: Items::from_item(alloc, arg)?,
+    };
     let mut nodes = Items::new(alloc);
     for _ in 0..children {
-        nodes.push(Node {
-            range,
-            kind: Kind::Other,
-            children: Items::new(alloc),
-        })?;
+        nodes.push(Node::new(alloc, range, Kind::Other))?;
     }
-    let callee = Callee::Expr;
-    Ok(Node {
-        range,
-        kind: Kind::Call { callee, args },
-        children: nodes,
-    })
+    Ok(Node::with_children(range, kind, nodes))
 }
 
 fn fault_of_call(alloc: Global, children: usize) -> Result<Option<SourceFault>, AllocError> {
-    let mut body = Items::new(alloc);
-    body.push(call(alloc, children)?)?;
+    let body = Items::from_item(alloc, call(alloc, children)?)?;
     fault_of(alloc, "f(a)", body, &Comments::new(alloc))
 }
 

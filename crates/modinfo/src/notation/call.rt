@@ -1,14 +1,21 @@
-//! What is called, and with what.
+//! Calls.
 
 use crate::notation::fault::NotationFault;
-use crate::notation::member::{elements_of, flag, members_of, range};
-use deno_graph_source::tree::{Arg, Callee, ImportPhase};
+use crate::notation::member::{elements_of, flag, members_of, range, required, text};
+use deno_graph_source::tree::{Arg, Callee, ImportPhase, Kind};
 use deno_graph_source::values::Items;
-use serde_json::Value;
+use serde_json::{Map, Value};
 use std::alloc::Global;
 
+/// A call.
+pub fn read_call(alloc: Global, members: &Map<String, Value>) -> Result<Kind, NotationFault> {
+    let callee = read_callee(text(members, "callee")?)?;
+    let args = read_args(alloc, required(members, "args")?)?;
+    Ok(Kind::Call { callee, args })
+}
+
 /// The callee of this name.
-pub fn read_callee(name: &str) -> Result<Callee, NotationFault> {
+fn read_callee(name: &str) -> Result<Callee, NotationFault> {
     match name {
         "import" => Ok(Callee::Import(ImportPhase::Evaluation)),
         "importSource" => Ok(Callee::Import(ImportPhase::Source)),
@@ -20,7 +27,7 @@ pub fn read_callee(name: &str) -> Result<Callee, NotationFault> {
 }
 
 /// Arguments, `[{"range":[START,END],"spread":BOOL} ..]`.
-pub fn read_args(alloc: Global, value: &Value) -> Result<Items<Arg>, NotationFault> {
+fn read_args(alloc: Global, value: &Value) -> Result<Items<Arg>, NotationFault> {
     let values = elements_of(value)?;
     let mut args = Items::with_capacity(alloc, values.len())?;
     for value in values {

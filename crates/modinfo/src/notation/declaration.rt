@@ -1,4 +1,4 @@
-//! The members of imports and exports.
+//! Imports, exports and modules.
 
 use crate::notation::fault::NotationFault;
 use crate::notation::literal::{optional_literal, read_literal};
@@ -88,4 +88,13 @@ pub fn read_import_type(
     let has_with = flag(members, "hasWith")?;
     let arg = read_literal(alloc, required(members, "arg")?)?;
     Ok(Kind::ImportType { arg, has_with })
+}
+
+/// A module or namespace, with or without a name that is a string.
+pub fn read_module_decl(
+    alloc: Global,
+    members: &Map<String, Value>,
+) -> Result<Kind, NotationFault> {
+    let name = optional_literal(alloc, members, "name")?;
+    Ok(Kind::ModuleDecl { name })
 }

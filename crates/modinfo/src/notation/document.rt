@@ -1,14 +1,11 @@
-use crate::fault::Fault;
 use crate::notation::comments::read_comments;
 use crate::notation::fault::NotationFault;
 use crate::notation::media_type::read_media_type;
 use crate::notation::member::{members_of, required, text};
 use crate::notation::node::read_program;
-use deno_graph_source::tree::{Comments, MediaType, ParsedSource, Program};
+use deno_graph_source::tree::{Comments, MediaType, Program};
 use serde_json::Value;
 use std::alloc::Global;
-use std::rc::RcStr;
-use url::Url;
 
 /// A module as a parser hands it over. Its specifier and source are borrowed from the JSON value;
 /// whether the specifier is a URL, and whether the tree fits the source, hasn't been looked at.
@@ -36,21 +33,4 @@ pub fn read_document(alloc: Global, value: &Value) -> Result<Document<'_>, Notat
         program,
         comments,
     })
-}
-
-impl Document<'_> {
-    /// The source, without scope analysis. `Specifier` where the specifier is no URL, and else a
-    /// fault of the source where the tree or the comments don't fit it.
-    pub fn into_source(self, alloc: Global) -> Result<ParsedSource, Fault> {
-        let Document {
-            specifier,
-            media_type,
-            source,
-            program,
-            comments,
-        } = self;
-        let specifier = Url::parse(alloc, specifier)?;
-        let text = RcStr::from_str(alloc, source)?;
-        Ok(ParsedSource::new(alloc, specifier, text, media_type, program, comments, false)?)
-    }
 }

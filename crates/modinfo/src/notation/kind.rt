@@ -1,15 +1,17 @@
-//! What a node is: the members of each kind.
+//! What a node is: the members of each kind. Those of a kind are read where its group is: imports,
+//! exports and modules in `declaration`, calls in `call`, other expressions in `expression`, and
+//! properties in `property`.
 
-use crate::notation::call::{read_args, read_callee};
+use crate::notation::call::read_call;
 use crate::notation::declaration::{
-    read_export_all, read_import_decl, read_import_equals, read_import_type, read_named_export,
+    read_export_all, read_import_decl, read_import_equals, read_import_type, read_module_decl,
+    read_named_export,
 };
+use crate::notation::expression::{read_binary, read_ident, read_str, read_template};
 use crate::notation::fault::NotationFault;
-use crate::notation::literal::{optional_literal, read_string, read_strings};
-use crate::notation::member::{required, text};
-use crate::notation::property::read_key;
-use deno_graph_source::tree::{BinaryOp, Kind};
-use deno_graph_source::values::Text;
+use crate::notation::member::text;
+use crate::notation::property::read_key_value;
+use deno_graph_source::tree::Kind;
 use serde_json::{Map, Value};
 use std::alloc::Global;
 
@@ -22,55 +24,18 @@ pub fn read_kind(alloc: Global, members: &Map<String, Value>) -> Result<Kind, No
         "ExportOther" => Ok(Kind::ExportOther),
         "ImportEquals" => read_import_equals(alloc, members),
         "ImportType" => read_import_type(alloc, members),
-        "ModuleDecl" => module_decl(alloc, members),
-        "Call" => call(alloc, members),
-        "Str" => string(alloc, members),
-        "Template" => template(alloc, members),
-        "Binary" => binary(members),
-        "Ident" => ident(alloc, members),
+        "ModuleDecl" => read_module_decl(alloc, members),
+        "Call" => read_call(alloc, members),
+        "Str" => read_str(alloc, members),
+        "Template" => read_template(alloc, members),
+        "Binary" => read_binary(members),
+        "Ident" => read_ident(alloc, members),
         "Object" => Ok(Kind::Object),
-        "KeyValue" => key_value(alloc, members),
+        "KeyValue" => read_key_value(alloc, members),
         "Await" => Ok(Kind::Await),
         "Function" => Ok(Kind::Function),
         "ImportMeta" => Ok(Kind::ImportMeta),
         "Other" => Ok(Kind::Other),
         _ => Err(NotationFault::Tree),
     }
-}
-
-fn module_decl(alloc: Global, members: &Map<String, Value>) -> Result<Kind, NotationFault> {
-    let name = optional_literal(alloc, members, "name")?;
-    Ok(Kind::ModuleDecl { name })
-}
-
-fn call(alloc: Global, members: &Map<String, Value>) -> Result<Kind, NotationFault> {
-    let callee = read_callee(text(members, "callee")?)?;
-    let args = read_args(alloc, required(members, "args")?)?;
-    Ok(Kind::Call { callee, args })
-}
-
-fn string(alloc: Global, members: &Map<String, Value>) -> Result<Kind, NotationFault> {
-    Ok(Kind::Str(read_string(alloc, required(members, "value")?)?))
-}
-
-fn template(alloc: Global, members: &Map<String, Value>) -> Result<Kind, NotationFault> {
-    let quasis = read_strings(alloc, required(members, "quasis")?)?;
-    Ok(Kind::Template(quasis))
-}
-
-fn binary(members: &Map<String, Value>) -> Result<Kind, NotationFault> {
-    match text(members, "op")? {
-        "add" => Ok(Kind::Binary(BinaryOp::Add)),
-        "other" => Ok(Kind::Binary(BinaryOp::Other)),
-        _ => Err(NotationFault::Tree),
-    }
-}
-
-fn ident(alloc: Global, members: &Map<String, Value>) -> Result<Kind, NotationFault> {
-    let name = Text::from_str(alloc, text(members, "value")?)?;
-    Ok(Kind::Ident(name))
-}
-
-fn key_value(alloc: Global, members: &Map<String, Value>) -> Result<Kind, NotationFault> {
-    Ok(Kind::KeyValue(read_key(alloc, required(members, "key")?)?))
 }

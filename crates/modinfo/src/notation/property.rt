@@ -1,13 +1,18 @@
 use crate::notation::fault::NotationFault;
 use crate::notation::literal::read_string;
-use crate::notation::member::{members_of, text};
-use deno_graph_source::tree::PropKey;
+use crate::notation::member::{members_of, required, text};
+use deno_graph_source::tree::{Kind, PropKey};
 use deno_graph_source::values::Text;
-use serde_json::Value;
+use serde_json::{Map, Value};
 use std::alloc::Global;
 
+/// A property of an object literal.
+pub fn read_key_value(alloc: Global, members: &Map<String, Value>) -> Result<Kind, NotationFault> {
+    Ok(Kind::KeyValue(read_key(alloc, required(members, "key")?)?))
+}
+
 /// The key of a property: `{"str":STRING}`, `{"ident":TEXT}` or `"other"`.
-pub fn read_key(alloc: Global, value: &Value) -> Result<PropKey, NotationFault> {
+fn read_key(alloc: Global, value: &Value) -> Result<PropKey, NotationFault> {
     match value {
         Value::String(name) if name.as_str() == "other" => Ok(PropKey::Other),
         value => read_static_key(alloc, value),

@@ -1,0 +1,425 @@
+#!/usr/bin/env node
+/**
+ * From an ESTree tree with comments to the document that `modinfo analyze` reads.
+ *
+ *     node adapters/estree.mjs FILE | ./modinfo analyze
+ *
+ * The program parses with acorn. `toDocument` also takes the tree of another parser, with the
+ * nodes of ESTree, of typescript-estree for TypeScript, or of Babel.
+ */
+
+import { ACORN_MEDIA_TYPES, parseWithAcorn } from "./acorn.mjs";
+import { isMain, run } from "./command.mjs";
+import { Trivia, fileComments, readComments } from "./comments.mjs";
+import { isAttributesKey, writeDocument } from "./document.mjs";
+import { Source } from "./source.mjs";
+
+/**
+ * @typedef {import("./document.mjs").Description} Description
+ * @typedef {{ type: string, start?: number, end?: number, range?: [number, number] }} Node
+ */
+
+/** Members of nodes that hold no child. */
+const NO_CHILDREN = new Set([
+  "parent", "loc", "range", "tokens", "comments", "errors", "extra", "regex",
+  "leadingComments", "trailingComments", "innerComments",
+]);
+
+const OTHER = Object.freeze({ kind: "Other" });
+
+/**
+ * @param {string} text the module's text, as it was handed to the parser
+ * @param {object} options
+ * @param {string} options.specifier an absolute URL
+ * @param {string} options.mediaType a name of `MediaType`
+ * @param {Node} [options.tree] the parser's `Program` or `File`; without it acorn parses the text
+ * @param {Node[]} [options.comments] the comments; else those that the tree holds
+ */
+export function toDocument(text, { specifier, mediaType, tree, comments }) {
+  const source = new Source(text);
+  const given = tree && { tree, comments: comments ?? tree.comments };
+  const parsed = given ?? parseWithAcorn(source, mediaType);
+  if (!parsed.comments) {
+    throw new TypeError("a tree needs its comments");
+  }
+  const program = parsed.tree.type === "File" ? parsed.tree.program : parsed.tree;
+  const ranges = parsed.comments.map((node) => ({ start: start(node), end: end(node) }));
+  const trivia = new Trivia(text, readComments(text, ranges, source.shebangEnd));
+  let ends;
+  const endsOperand = (offset) => (ends ??= operandEnds(program)).has(offset);
+  return writeDocument({
+    specifier,
+    mediaType,
+    source,
+    view: new EstreeView(trivia),
+    body: [...(program.directives ?? []), ...program.body],
+    comments: fileComments(trivia, source.shebangEnd, endsOperand),
+  });
+}
+
+/** @implements {import("./document.mjs").View} */
+class EstreeView {
+  /** @param {Trivia} trivia */
+  constructor(trivia) {
+    this.trivia = trivia;
+  }
+
+  start(node) {
+    return start(node);
+  }
+
+  end(node) {
+    return end(node);
+  }
+
+  children(node) {
+    return children(node);
+  }
+
+  /**
+   * @param {any} node
+   * @returns {Description}
+   */
+  describe(node) {
+    switch (node.type) {
+      case "ImportDeclaration":
+        return this.importDeclaration(node);
+      case "ExportNamedDeclaration":
+        return this.namedExport(node);
+      case "ExportAllDeclaration":
+        return this.reExport(node.exported ? "NamedExport" : "ExportAll", node);
+      case "ExportDefaultDeclaration":
+        return { kind: "ExportOther" };
+      case "TSImportEqualsDeclaration":
+        return importEquals(node, node.isExport ?? false);
+      case "TSModuleDeclaration":
+        return moduleDeclaration(node);
+      case "TSImportType":
+        return this.importType(node);
+      case "AwaitExpression":
+        return { kind: "Await" };
+      case "ForOfStatement":
+        return node.await ? { kind: "Await" } : OTHER;
+      case "VariableDeclaration":
+        return node.kind === "await using" ? { kind: "Await" } : OTHER;
+      case "MetaProperty":
+        return isImportMeta(node) ? { kind: "ImportMeta" } : OTHER;
+      case "FunctionDeclaration": case "FunctionExpression": case "ArrowFunctionExpression":
+        return { kind: "Function", outside: [], inside: children(node) };
+      case "ObjectMethod": case "ClassMethod": case "ClassPrivateMethod":
+        return method(node);
+      case "ImportExpression":
+        return this.importCall(node);
+      case "CallExpression":
+        return this.call(node);
+      default:
+        return OTHER;
+    }
+  }
+
+  /**
+   * @param {any} node
+   * @param {number} [open]
+   * @returns {import("./document.mjs").Value}
+   */
+  value(node, open) {
+    if (this.outermost(node, open).start < start(node)) {
+      return OTHER;
+    }
+    switch (node.type) {
+      case "Literal": case "StringLiteral":
+        return typeof node.value === "string" ? { kind: "Str", value: node.value } : OTHER;
+      case "TemplateLiteral":
+        return template(node);
+      case "BinaryExpression":
+        return node.operator === "+" ? { kind: "Add", left: node.left, right: node.right } : OTHER;
+      case "ObjectExpression":
+        return object(node);
+      default:
+        return OTHER;
+    }
+  }
+
+  /** @param {any} node */
+  importDeclaration(node) {
+    return {
+      kind: "ImportDecl",
+      typeOnly: node.importKind === "type",
+      phase: node.phase ?? "evaluation",
+      src: literal(node.source),
+      hasSpecifiers: node.specifiers.length > 0,
+      clause: this.clause(node),
+    };
+  }
+
+  /** @param {any} node */
+  namedExport(node) {
+    if (node.declaration?.type === "TSImportEqualsDeclaration") {
+      return importEquals(node.declaration, true);
+    }
+    if (node.declaration) {
+      return { kind: "ExportOther" };
+    }
+    return this.reExport("NamedExport", node);
+  }
+
+  /**
+   * @param {"NamedExport" | "ExportAll"} kind
+   * @param {any} node
+   */
+  reExport(kind, node) {
+    const typeOnly = node.exportKind === "type";
+    if (!node.source) {
+      return { kind, typeOnly };
+    }
+    return { kind, typeOnly, src: literal(node.source), clause: this.clause(node) };
+  }
+
+  /**
+   * The clause `with { .. }` of a declaration. Only the text tells none from an empty one.
+   * @param {any} node
+   */
+  clause(node) {
+    const { text } = this.trivia;
+    const keyword = this.trivia.tokenStart(end(node.source));
+    const behind = text.slice(keyword, Math.min(keyword + "assert{".length, end(node)));
+    const word = /^(?:with|assert)(?![\p{ID_Continue}$])/u.exec(behind)?.[0];
+    if (!word) {
+      return undefined;
+    }
+    const open = this.trivia.tokenStart(keyword + word.length);
+    const attributes = node.attributes ?? node.assertions ?? [];
+    const last = attributes.length > 0 ? end(attributes[attributes.length - 1]) : open + 1;
+    const close = this.trivia.tokenStart(last);
+    return {
+      start: open,
+      end: (text[close] === "," ? this.trivia.tokenStart(close + 1) : close) + 1,
+      properties: attributes.map(property),
+    };
+  }
+
+  /** @param {any} node */
+  importType(node) {
+    const { argument, source = argument.literal ?? argument } = node;
+    const read = [source, argument, node.options];
+    const properties = node.options ? object(node.options).properties : [];
+    const clause = properties.find(({ key }) => isAttributesKey(key))?.value;
+    return {
+      kind: "ImportType",
+      start: start(node),
+      arg: literal(source),
+      clause: clause && object(clause),
+      rest: children(node).filter((child) => !read.includes(child)),
+    };
+  }
+
+  /**
+   * @param {any} node
+   * @returns {Description}
+   */
+  importCall(node) {
+    const callee = { defer: "importDefer", source: "importSource" }[node.phase] ?? "import";
+    const open = this.openingOf(node);
+    const options = node.options === undefined ? node.attributes : node.options;
+    const args = options ? [node.source, options] : [node.source];
+    return {
+      kind: "Call",
+      callee,
+      open,
+      args: args.map((each) => this.argument(each, open)),
+      rest: [],
+    };
+  }
+
+  /**
+   * @param {any} node
+   * @returns {Description}
+   */
+  call(node) {
+    const { callee } = node;
+    const isBare = start(callee) === start(node);
+    const isRequire = isBare && callee.type === "Identifier" && callee.name === "require";
+    const isImport = callee.type === "Import";
+    if (node.optional || node.arguments.length === 0 || !(isRequire || isImport)) {
+      return OTHER;
+    }
+    const types = node.typeArguments ?? node.typeParameters;
+    const open = this.trivia.tokenStart(end(types ?? callee));
+    return {
+      kind: "Call",
+      callee: isImport ? "import" : "expr",
+      name: isImport ? undefined : callee,
+      open,
+      args: node.arguments.map((each) => this.argument(each, open)),
+      rest: types ? [types] : [],
+    };
+  }
+
+  /**
+   * The parenthesis of `import(`, `import.defer(` or `import.source(`.
+   * @param {any} node
+   */
+  openingOf(node) {
+    const behind = (offset, word) => this.trivia.tokenStart(offset) + word.length;
+    const keyword = start(node) + "import".length;
+    return this.trivia.tokenStart(node.phase ? behind(behind(keyword, "."), node.phase) : keyword);
+  }
+
+  /**
+   * The range of an expression with the parentheses round it, for which ESTree has no node.
+   * @param {any} node
+   * @param {number} [open] a parenthesis that doesn't count
+   */
+  outermost(node, open) {
+    const { text } = this.trivia;
+    let range = { start: start(node), end: end(node) };
+    for (;;) {
+      const before = this.trivia.tokenEnd(range.start) - 1;
+      const behind = this.trivia.tokenStart(range.end);
+      if (text[before] !== "(" || before === open || text[behind] !== ")") {
+        return range;
+      }
+      range = { start: before, end: behind + 1 };
+    }
+  }
+
+  /**
+   * @param {any} node
+   * @param {number} open the parenthesis of the list of arguments
+   */
+  argument(node, open) {
+    const spread = node.type === "SpreadElement";
+    return { ...this.outermost(node, open), spread, node: spread ? node.argument : node };
+  }
+}
+
+/** @param {any} node */
+function start(node) {
+  const own = node.range?.[0] ?? node.start;
+  const decorator = (node.declaration ?? node).decorators?.[0];
+  return decorator ? Math.min(own, start(decorator)) : own;
+}
+
+/** @param {any} node */
+function end(node) {
+  return node.range?.[1] ?? node.end;
+}
+
+/**
+ * The nodes directly below a node, in the order of the source.
+ * @param {any} node
+ * @returns {Node[]}
+ */
+function children(node) {
+  const found = [];
+  for (const name in node) {
+    if (NO_CHILDREN.has(name)) {
+      continue;
+    }
+    for (const value of Array.isArray(node[name]) ? node[name] : [node[name]]) {
+      if (typeof value?.type === "string") {
+        found.push(value);
+      }
+    }
+  }
+  return found.sort((one, other) => start(one) - start(other));
+}
+
+/** @param {any} node */
+function literal(node) {
+  return { value: node.value, start: start(node), end: end(node) };
+}
+
+/**
+ * @param {any} node
+ * @param {boolean} isExport
+ */
+function importEquals(node, isExport) {
+  const { moduleReference } = node;
+  const external = moduleReference.type === "TSExternalModuleReference";
+  return {
+    kind: "ImportEquals",
+    typeOnly: node.importKind === "type",
+    isExport,
+    external: external ? literal(moduleReference.expression) : undefined,
+  };
+}
+
+/** @param {any} node */
+function moduleDeclaration(node) {
+  const name = typeof node.id.value === "string" ? literal(node.id) : undefined;
+  return { kind: "ModuleDecl", start: start(node), name, exported: false };
+}
+
+/**
+ * A method in Babel's trees; in ESTree's it has a function as its value.
+ * @param {any} node
+ */
+function method(node) {
+  const outside = [...(node.decorators ?? []), ...(node.computed ? [node.key] : [])];
+  const inside = children(node).filter((child) => child !== node.key && !outside.includes(child));
+  return { kind: "Function", outside, inside };
+}
+
+/** @param {any} node */
+function isImportMeta({ meta, property }) {
+  return meta.name === "import" && property.name === "meta";
+}
+
+/** @param {any} node */
+function template(node) {
+  const quasis = node.quasis.map(({ value }) => value.cooked);
+  return quasis.includes(null) ? OTHER : { kind: "Template", quasis, parts: node.expressions };
+}
+
+/** @param {any} node */
+function object(node) {
+  const properties = node.properties.map(property);
+  return { kind: "Object", start: start(node), end: end(node), properties };
+}
+
+/** @param {any} node a property of an object, or an attribute of a clause */
+function property(node) {
+  const isKeyValue = node.type === "ImportAttribute" || node.type === "ObjectProperty" ||
+    (node.type === "Property" && node.kind === "init" && !node.method);
+  if (!isKeyValue || node.shorthand) {
+    return { node };
+  }
+  const { key, computed, value } = node;
+  if (computed) {
+    return { node, key: "other", computed: key, value };
+  }
+  return { node, key: propertyKey(key), value };
+}
+
+/** @param {any} key */
+function propertyKey(key) {
+  if (key.type === "Identifier") {
+    return { ident: key.name };
+  }
+  return typeof key.value === "string" ? { str: key.value } : "other";
+}
+
+/**
+ * The ends of the regular expressions and JSX elements of a tree.
+ * @param {Node} tree
+ */
+function operandEnds(tree) {
+  const ends = new Set();
+  const todo = [tree];
+  while (todo.length > 0) {
+    const node = todo.pop();
+    if (node.regex || ["RegExpLiteral", "JSXElement", "JSXFragment"].includes(node.type)) {
+      ends.add(end(node));
+    }
+    for (const child of children(node)) {
+      todo.push(child);
+    }
+  }
+  return ends;
+}
+
+if (isMain(import.meta.url)) {
+  const name = "adapters/estree.mjs";
+  run({ name, mediaTypes: ACORN_MEDIA_TYPES, standard: "JavaScript", toDocument });
+}

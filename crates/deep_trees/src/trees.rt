@@ -1,0 +1,108 @@
+//! Trees that are deeper or wider than a document is likely to be.
+
+use deno_graph_source::text::{JsString, SourceRange};
+use deno_graph_source::tree::{Arg, BinaryOp, Callee, ImportPhase, Kind, Node, StrLit};
+use deno_graph_source::values::{Items, Text};
+use std::alloc::{AllocError, Global};
+
+/// Where everything stands, since the source is empty.
+pub const NOWHERE: SourceRange = SourceRange { start: 0, end: 0 };
+
+/// A call of `import` with a string, under so many other nodes.
+pub fn nested(alloc: Global, count: usize) -> Result<Items<Node>, AllocError> {
+    let mut node = import(alloc, string(alloc, "a")?)?;
+    for _ in 0..count {
+        node = node_of(Kind::Other, one(alloc, node)?);
+    }
+    one(alloc, node)
+}
+
+/// So many calls of `require` inside one another, with a string in the innermost.
+pub fn calls(alloc: Global, count: usize) -> Result<Items<Node>, AllocError> {
+    let mut argument = string(alloc, "a")?;
+    for _ in 0..count {
+        argument = require(alloc, argument)?;
+    }
+    one(alloc, argument)
+}
+
+/// A call of `import` with a string, plus `x` so often.
+pub fn operands(alloc: Global, count: usize) -> Result<Items<Node>, AllocError> {
+    let mut sum = string(alloc, "a")?;
+    for _ in 0..count {
+        let operands = two(alloc, sum, name(alloc, "x")?)?;
+        sum = node_of(Kind::Binary(BinaryOp::Add), operands);
+    }
+    one(alloc, import(alloc, sum)?)
+}
+
+/// So many import types of an empty text, beside one another.
+pub fn types(alloc: Global, count: usize) -> Result<Items<Node>, AllocError> {
+    let mut body = Items::with_capacity(alloc, count)?;
+    for _ in 0..count {
+        let arg = StrLit {
+            value: JsString::from_str(alloc, "")?,
+            range: NOWHERE,
+        };
+        let kind = Kind::ImportType {
+            arg,
+            has_with: false,
+        };
+        body.push(node_of(kind, Items::new(alloc)))?;
+    }
+    Ok(body)
+}
+
+fn import(alloc: Global, argument: Node) -> Result<Node, AllocError> {
+    let callee = Callee::Import(ImportPhase::Evaluation);
+    let kind = Kind::Call {
+        callee,
+        args: one(alloc, ARGUMENT)?,
+    };
+    Ok(node_of(kind, one(alloc, argument)?))
+}
+
+fn require(alloc: Global, argument: Node) -> Result<Node, AllocError> {
+    let kind = Kind::Call {
+        callee: Callee::Expr,
+        args: one(alloc, ARGUMENT)?,
+    };
+    let children = two(alloc, name(alloc, "require")?, argument)?;
+    Ok(node_of(kind, children))
+}
+
+const ARGUMENT: Arg = Arg {
+    spread: false,
+    range: NOWHERE,
+};
+
+fn string(alloc: Global, text: &str) -> Result<Node, AllocError> {
+    let kind = Kind::Str(JsString::from_str(alloc, text)?);
+    Ok(node_of(kind, Items::new(alloc)))
+}
+
+fn name(alloc: Global, text: &str) -> Result<Node, AllocError> {
+    let kind = Kind::Ident(Text::from_str(alloc, text)?);
+    Ok(node_of(kind, Items::new(alloc)))
+}
+
+fn node_of(kind: Kind, children: Items<Node>) -> Node {
+    Node {
+        range: NOWHERE,
+        kind,
+        children,
+    }
+}
+
+fn one<T: Drop>(alloc: Global, item: T) -> Result<Items<T>, AllocError> {
+    let mut items = Items::with_capacity(alloc, 1)?;
+    items.push(item)?;
+    Ok(items)
+}
+
+fn two(alloc: Global, first: Node, second: Node) -> Result<Items<Node>, AllocError> {
+    let mut items = Items::with_capacity(alloc, 2)?;
+    items.push(first)?;
+    items.push(second)?;
+    Ok(items)
+}

@@ -1,0 +1,4 @@
+pub mod Conversions
+pub mod MembersLemmas
+pub mod OneOutcome
+pub mod Outcomes

@@ -1,0 +1,4 @@
+pub mod Comment
+pub mod Conversion
+pub mod Fault
+pub mod Types

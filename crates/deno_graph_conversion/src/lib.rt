@@ -1,0 +1,13 @@
+//! The conversion of a module graph's JSON from version 1 to version 2.
+#![tactic(auto)]
+
+pub mod comment;
+pub mod convert;
+pub mod fault;
+pub mod laws;
+#[cfg(test)]
+mod tests;
+mod types;
+
+pub use convert::module_graph_1_to_2;
+pub use fault::ConvertFault;

@@ -1,0 +1,199 @@
+-- The properties of a call's second argument that are looked at, one property after another.
+use Rattle.std.proofs.Common.{◌≡◌, ◌≢◌, ℕ, ◌+◌, ◌<◌, ◌≤◌, Bool, true, false, ◌&&◌, ◌||◌, cond, List, length, get_or, codes, Option, Some, None, option_and_then, ◌⊎◌, inl, inr, ⊎_elim, ◌↔◌, refl, sym, ap, subst, ◌∙◌, arith, MatchBool}
+use Rattle.std.specs.List.{slice_get}
+use Rattle.std.proofs.lemmas.Bool.{cases_lt, false_from_ne_true, or_cases, or_parts, and_parts, both_ways}
+use Rattle.std.proofs.lemmas.Option.{none-some, cond_some, slice_get_read, slice_get_past}
+use Rattle.deno_graph_source.specs.declared.tree.node.Node.{Node}
+use Rattle.deno_graph_source.specs.Node.{kind_of, is_object}
+use Rattle.deno_graph_dependency.specs.declared.import_attributes.ImportAttributes.{ImportAttributes}
+use Rattle.deno_graph_dependency.specs.declared.import_attributes.ImportAttributes.TheVariants as attributes
+use Rattle.deno_graph_dep.specs.Attributes.{static_key, value_node, has_static_keys, known_object, ObjectGives, ValueGives, NumberGives, key_at, IsLookedAt, LookedAtGive}
+
+-- the value that is a known object
+known_value : (v : Option Node) (object : Node)
+    → option_and_then (λ (value : Node). cond (is_object (kind_of value) && has_static_keys value) (Some value) None) v ≡ Some object
+    → (v ≡ Some object) × (is_object (kind_of object) ≡ true) × (has_static_keys object ≡ true)
+known_value None object e = absurd (none-some object e)
+known_value (Some value) object e =
+    let found = cond_some (is_object (kind_of value) && has_static_keys value) value object e in
+    let both = and_parts (is_object (kind_of value)) (has_static_keys value) found.0 in (
+      ap Some found.1,
+      ap (λ node. is_object (kind_of node)) (sym found.1) ∙ both.0,
+      ap has_static_keys (sym found.1) ∙ both.1,
+    )
+
+-- a value that is no known object is unknown
+unknown_value : (v : Option Node)
+    → option_and_then (λ (value : Node). cond (is_object (kind_of value) && has_static_keys value) (Some value) None) v ≡ None
+    → ValueGives v attributes.Unknown
+unknown_value None e = refl
+unknown_value (Some value) e = either (is_object (kind_of value)) (has_static_keys value) e
+  where
+    either : (a b : Bool) → cond (a && b) (Some value) None ≡ None
+        → MatchBool a (MatchBool b ⊥ (attributes.Unknown ≡ attributes.Unknown)) (attributes.Unknown ≡ attributes.Unknown)
+    either true true e = absurd (none-some value (sym e))
+    either true false e = refl
+    either false b e = refl
+
+known_is_not_unknown : (object : Node) → is_object (kind_of object) ≡ true → has_static_keys object ≡ true
+    → ValueGives (Some object) attributes.Unknown → ⊥
+known_is_not_unknown object is keys h = rw (is, keys) at h
+
+known_gives : (object : Node) (result : ImportAttributes) → is_object (kind_of object) ≡ true → ObjectGives object result
+    → ValueGives (Some object) result
+known_gives object result is h = rw is h
+
+-- the property with this number
+module _ (xs : List Node) (i : ℕ) (y : Node) (within : i < length xs) (at : y ≡ get_or xs i y) where
+  here : slice_get xs i ≡ Some y
+  here = slice_get_read xs (length xs) i y refl within at
+
+  key_here : key_at xs i ≡ static_key y
+  key_here = ap (option_and_then static_key) here
+
+  value_here : option_and_then value_node (slice_get xs i) ≡ value_node y
+  value_here = ap (option_and_then value_node) here
+
+-- there is nothing past the end
+past_the_end : (xs : List Node) (number : ℕ) → length xs ≤ number → IsLookedAt xs number → ⊥
+past_the_end xs number past looked =
+    let none : key_at xs number ≡ None = ap (option_and_then static_key) (slice_get_past xs number past) in
+    ⊎_elim (λ k. none-some (codes "with") (sym none ∙ k)) (λ k. none-some (codes "assert") (sym none ∙ k.0)) looked
+
+-- the last number below a bound that is looked at, and the object that is its value
+pub record LastBelow (xs : List Node) (bound : ℕ) (object : Node) : Type 0 where
+  pub number : ℕ
+  pub below : number < bound
+  pub looked_at : IsLookedAt xs number
+  pub none_between : (greater : ℕ) → number < greater → greater < bound → IsLookedAt xs greater → ⊥
+  pub value : option_and_then value_node (slice_get xs number) ≡ Some object
+  pub is : is_object (kind_of object) ≡ true
+  pub keys : has_static_keys object ≡ true
+
+abbrev pub IsLastBelow : List Node → ℕ → Option Node → Type 0
+IsLastBelow xs bound None = (number : ℕ) → number < bound → IsLookedAt xs number → ⊥
+IsLastBelow xs bound (Some object) = LastBelow xs bound object
+
+-- what is known of the numbers below a bound: whether one has `with`, that no looked-at value is unknown, and the last of these
+pub record LookedAtBelow (xs : List Node) (bound : ℕ) (after_with : Bool) (last : Option Node) : Type 0 where
+  pub with_below : after_with ≡ true → (number : ℕ) × (number < bound) × (key_at xs number ≡ Some (codes "with"))
+  pub no_with : after_with ≡ false → (number : ℕ) → number < bound → key_at xs number ≢ Some (codes "with")
+  pub known : (number : ℕ) → number < bound → IsLookedAt xs number → NumberGives xs number attributes.Unknown → ⊥
+  pub last_is : IsLastBelow xs bound last
+
+-- whether a property is looked at, after whether a `with` came before it
+abbrev pub IsClause : Node → Bool → Type 0
+IsClause y after_with = (static_key y ≡ Some (codes "with")) ⊎ ((static_key y ≡ Some (codes "assert")) × (after_with ≡ false))
+
+-- what holds of each number below a bound, and of the bound, holds of each below the next
+below_next : (P : ℕ → Type 0) (i : ℕ) → ((number : ℕ) → number < i → P number) → P i → (number : ℕ) → number < i + 1 → P number
+below_next P i before here number below =
+    ⊎_elim (λ lt. before number lt) (λ ge. let same : i ≡ number = omega arith in subst P same here) (cases_lt number i)
+
+-- one more property
+module _ (xs : List Node) (i : ℕ) (y : Node) (within : i < length xs) (at : y ≡ get_or xs i y)
+    (after_with : Bool) (last : Option Node) (so_far : LookedAtBelow xs i after_with last) where
+  looked_at : IsClause y after_with → IsLookedAt xs i
+  looked_at clause =
+      ⊎_elim (λ k. inl (key_here xs i y within at ∙ k))
+      (λ k. inr (key_here xs i y within at ∙ k.0, so_far.no_with k.1)) clause
+
+  is_clause : IsLookedAt xs i → IsClause y after_with
+  is_clause looked =
+      ⊎_elim (λ k. inl (sym (key_here xs i y within at) ∙ k))
+      (λ k. inr (
+        sym (key_here xs i y within at) ∙ k.0,
+        false_from_ne_true after_with (λ e. let before = so_far.with_below e in k.1 before.0 before.1 before.2),
+      )) looked
+
+  module _ (has_with : Bool) (tested : (has_with ≡ true) ↔ (static_key y ≡ Some (codes "with"))) where
+    with_next : (after_with || has_with) ≡ true → (number : ℕ) × (number < i + 1) × (key_at xs number ≡ Some (codes "with"))
+    with_next e =
+        ⊎_elim (λ before. let found = so_far.with_below before in (found.0, (let below = found.1 in omega arith), found.2))
+        (λ now. (i, omega arith, key_here xs i y within at ∙ tested.0 now)) (or_cases after_with has_with e)
+
+    no_with_next : (after_with || has_with) ≡ false → (number : ℕ) → number < i + 1 → key_at xs number ≢ Some (codes "with")
+    no_with_next e =
+        let both = or_parts after_with has_with e in
+        below_next (λ number. key_at xs number ≢ Some (codes "with")) i (so_far.no_with both.0)
+        (λ k. both_ways has_with both.1 (tested.1 (sym (key_here xs i y within at) ∙ k)))
+
+    -- a property that is no clause is passed over
+    pub LookedAtBelow-skip : (IsClause y after_with → ⊥) → LookedAtBelow xs (i + 1) (after_with || has_with) last
+    LookedAtBelow-skip no_clause = record {
+      with_below = with_next;
+      no_with = no_with_next;
+      known = below_next (λ number. IsLookedAt xs number → NumberGives xs number attributes.Unknown → ⊥) i so_far.known
+          (λ looked. absurd (no_clause (is_clause looked)));
+      last_is = same_last last so_far.last_is;
+    }
+      where
+        same_last : (o : Option Node) → IsLastBelow xs i o → IsLastBelow xs (i + 1) o
+        same_last None none = below_next (λ number. IsLookedAt xs number → ⊥) i none (λ looked. no_clause (is_clause looked))
+        same_last (Some object) found = record {
+          number = found.number;
+          below = let below = found.below in omega arith;
+          looked_at = found.looked_at;
+          none_between = λ greater after below.
+              below_next (λ number. found.number < number → IsLookedAt xs number → ⊥) i (λ number below after. found.none_between number after below)
+              (λ after looked. no_clause (is_clause looked)) greater below after;
+          value = found.value;
+          is = found.is;
+          keys = found.keys;
+        }
+
+    -- a clause with a known object is the last so far
+    pub LookedAtBelow-clause : (object : Node) → IsClause y after_with → known_object y ≡ Some object
+        → LookedAtBelow xs (i + 1) (after_with || has_with) (Some object)
+    LookedAtBelow-clause object clause is =
+        let found = known_value (value_node y) object is in
+        let value : option_and_then value_node (slice_get xs i) ≡ Some object = value_here xs i y within at ∙ found.0 in
+        record {
+          with_below = with_next;
+          no_with = no_with_next;
+          known = below_next (λ number. IsLookedAt xs number → NumberGives xs number attributes.Unknown → ⊥) i so_far.known
+              (λ looked unknown. known_is_not_unknown object found.1 found.2 (subst (λ v. ValueGives v attributes.Unknown) value unknown));
+          last_is = record {
+            number = i;
+            below = omega arith;
+            looked_at = looked_at clause;
+            none_between = λ greater after below looked. omega arith;
+            value = value;
+            is = found.1;
+            keys = found.2;
+          };
+        }
+
+  -- a clause whose value is no known object makes the whole unknown
+  pub LookedAtGive-unknown : IsClause y after_with → known_object y ≡ None → LookedAtGive xs attributes.Unknown
+  LookedAtGive-unknown clause is = (
+    i,
+    looked_at clause,
+    subst (λ v. ValueGives v attributes.Unknown) (sym (value_here xs i y within at)) (unknown_value (value_node y) is),
+  )
+
+-- nothing is looked at
+pub LookedAtGive-none : (xs : List Node) (bound : ℕ) (after_with : Bool) (last : Option Node) → length xs ≤ bound → last ≡ None
+    → LookedAtBelow xs bound after_with last → LookedAtGive xs attributes.None
+LookedAtGive-none xs bound after_with last end none all number looked =
+    ⊎_elim (λ below. let last_is = subst (IsLastBelow xs bound) none all.last_is in last_is number below looked)
+    (λ past. past_the_end xs number (omega arith) looked) (cases_lt number bound)
+
+-- the last object that is looked at decides
+pub LookedAtGive-last : (xs : List Node) (bound : ℕ) (after_with : Bool) (last : Option Node) (object : Node) (result : ImportAttributes)
+    → length xs ≤ bound → last ≡ Some object → LookedAtBelow xs bound after_with last → ObjectGives object result → LookedAtGive xs result
+LookedAtGive-last xs bound after_with last object result end is all gives =
+    by_result result (subst (IsLastBelow xs bound) is all.last_is) gives
+  where
+    by_result : (r : ImportAttributes) → LastBelow xs bound object → ObjectGives object r → LookedAtGive xs r
+    by_result attributes.None found g = let keys = found.keys in absurd (rw keys at g)
+    by_result attributes.Unknown found g = let keys = found.keys in absurd (rw keys at g)
+    by_result (attributes.Known entries) found g = record {
+      known = λ number looked.
+          ⊎_elim (λ below. all.known number below looked) (λ past. absurd (past_the_end xs number (omega arith) looked)) (cases_lt number bound);
+      greatest = found.number;
+      looked_at = found.looked_at;
+      none_greater = λ greater after looked.
+          ⊎_elim (λ below. found.none_between greater after below looked) (λ past. past_the_end xs greater (omega arith) looked) (cases_lt greater bound);
+      given = subst (λ v. ValueGives v (attributes.Known entries)) (sym found.value) (known_gives object (attributes.Known entries) found.is g);
+    }

@@ -1,0 +1,179 @@
+#![tactic(auto, unfolding(deno_graph_source::specs::Node::kind_of, deno_graph_source::specs::Node::children_of))]
+
+ghost use Rattle.std.specs.Prelude.{◌≡◌, ◌<◌, ◌∷◌, IfOk, IsTrue, OnOk, true, length, map, ◌++◌, [], All};
+ghost use Rattle.deno_graph_source.specs.Node.{kind_of, children_of, nodes_in, IsShaped};
+ghost use Rattle.deno_graph_dep.specs.Argument.{HasForm, form_seen, part_seen, part_of, quasi_part, template_form, template_parts, is_sum, is_binary, is_string};
+ghost use Rattle.deno_graph_dep.specs.Value.{SpellsItsText};
+
+use deno_graph_source::text::JsString;
+use deno_graph_source::tree::{BinaryOp, Kind, Node};
+use std::alloc::{AllocError, Global};
+
+/// A part of a template or of a sum of strings.
+#[derive(Clone, Copy, Debug, PartialEq, Eq)]
+pub enum DynamicTemplatePart<'a> {
+    String(&'a str),
+    /// An expression of which nothing is known.
+    Expr,
+}
+
+/// What is known of the first argument of a dynamic import or a `require`.
+#[derive(Debug, PartialEq, Eq, Drop)]
+pub enum DynamicArgument<'a> {
+    String(&'a str),
+    Template(Vec<DynamicTemplatePart<'a>>),
+    /// An expression of which nothing is known.
+    Expr,
+}
+
+impl<'a> DynamicArgument<'a> {
+    /// An argument that says the same and borrows the same texts, or an error where memory was
+    /// refused.
+    pub fn try_clone(&self, alloc: Global) -> Result<DynamicArgument<'a>, AllocError>
+        ensures { IfOk result (λ copy. form_seen copy ≡ form_seen self.now) }
+    {
+        match self {
+            DynamicArgument::String(text) => Ok(DynamicArgument::String(*text)),
+            DynamicArgument::Template(parts) => {
+                Ok(DynamicArgument::Template(copied(alloc, parts)?))
+            }
+            DynamicArgument::Expr => Ok(DynamicArgument::Expr),
+        }
+    }
+}
+
+fn copied<'a>(
+    alloc: Global,
+    parts: &[DynamicTemplatePart<'a>],
+) -> Result<Vec<DynamicTemplatePart<'a>>, AllocError>
+    ensures { IfOk result (λ copy. copy.items ≡ parts.now) }
+{
+    let mut copy = Vec::with_capacity(alloc, parts.len())?;
+    for part in parts {
+        copy.push(*part)?;
+    }
+    Ok(copy)
+}
+
+/// What is known of the text that an argument evaluates to.
+///
+/// A string literal, and a template without expressions, is its text. A template, and a sum that begins
+/// with a string literal, is its parts in turn: literals as they are (of a template the empty ones are
+/// left out), and `Expr` for every other expression. Anything else is `Expr`.
+pub fn argument_of<'a>(alloc: Global, node: &'a Node) -> Result<DynamicArgument<'a>, AllocError>
+    requires { All IsShaped (nodes_in node.now) }
+    ensures form { IfOk result (λ argument. HasForm node.now (form_seen argument)) }
+
+    // Whatever texts the unknown expressions have, the parts spell the text of the whole.
+    ensures spells { IfOk result (λ argument. SpellsItsText node.now (form_seen argument)) }
+{
+    form_argument(alloc, node)
+}
+
+fn form_argument<'a>(alloc: Global, node: &'a Node) -> Result<DynamicArgument<'a>, AllocError>
+    requires { All IsShaped (nodes_in node.now) }
+    ensures { IfOk result (λ argument. HasForm node.now (form_seen argument)) }
+{
+    match &node.kind {
+        Kind::Str(value) => Ok(DynamicArgument::String(value.to_str_lossy())),
+        Kind::Template(quasis) => template_argument(alloc, quasis.as_slice()),
+        Kind::Binary(_) => sum_argument(alloc, node),
+        _ => Ok(DynamicArgument::Expr),
+    }
+}
+
+fn template_argument<'a>(
+    alloc: Global,
+    quasis: &'a [JsString],
+) -> Result<DynamicArgument<'a>, AllocError>
+    requires { 0 < length quasis.now }
+    ensures { IfOk result (λ argument. form_seen argument ≡ template_form quasis.now) }
+{
+    let (first, rest) = (&quasis[0], &quasis[1..]);
+    if rest.is_empty() {
+        return Ok(DynamicArgument::String(first.to_str_lossy()));
+    }
+    Ok(DynamicArgument::Template(template_parts(alloc, first, rest)?))
+}
+
+/// The first quasi, and then each further one after the unknown before it.
+fn template_parts<'a>(
+    alloc: Global,
+    first: &'a JsString,
+    rest: &'a [JsString],
+) -> Result<Vec<DynamicTemplatePart<'a>>, AllocError>
+    ensures { IfOk result (λ parts. map part_seen parts.items ≡ template_parts (first.now ∷ rest.now)) }
+{
+    let mut parts = Vec::new(alloc);
+    push_quasi(&mut parts, first)?;
+    for quasi in rest {
+        parts.push(DynamicTemplatePart::Expr)?;
+        push_quasi(&mut parts, quasi)?;
+    }
+    Ok(parts)
+}
+
+/// Adds a quasi, unless it is empty.
+fn push_quasi<'a>(
+    parts: &mut Vec<DynamicTemplatePart<'a>>,
+    quasi: &'a JsString,
+) -> Result<(), AllocError>
+    ensures { OnOk result (map part_seen parts.new.items ≡ map part_seen parts.old.items ++ quasi_part quasi.now) }
+{
+    if !quasi.is_empty() {
+        parts.push(DynamicTemplatePart::String(quasi.to_str_lossy()))?;
+    }
+    Ok(())
+}
+
+/// What an operand contributes to a sum.
+fn operand_part(operand: &Node) -> DynamicTemplatePart<'_>
+    ensures { part_seen result ≡ part_of operand.now }
+{
+    match &operand.kind {
+        Kind::Str(value) => DynamicTemplatePart::String(value.to_str_lossy()),
+        _ => DynamicTemplatePart::Expr,
+    }
+}
+
+fn is_sum(node: &Node) -> bool
+    ensures { result ≡ is_sum (kind_of node.now) }
+{
+    matches!(node.kind, Kind::Binary(BinaryOp::Add))
+}
+
+fn is_string(node: &Node) -> bool
+    ensures { result ≡ is_string (kind_of node.now) }
+{
+    matches!(node.kind, Kind::Str(_))
+}
+
+/// The left and the right child of a binary node.
+fn operands(node: &Node) -> (&Node, &Node)
+    requires binary { is_binary (kind_of node.now) ≡ true }
+    requires shaped { All IsShaped (nodes_in node.now) }
+    ensures { children_of node.now ≡ result.0.now ∷ result.1.now ∷ [] }
+{
+    let children = node.children.as_slice();
+    (&children[0], &children[1])
+}
+
+fn sum_argument<'a>(alloc: Global, node: &'a Node) -> Result<DynamicArgument<'a>, AllocError>
+    requires binary { is_binary (kind_of node.now) ≡ true }
+    requires shaped { All IsShaped (nodes_in node.now) }
+    ensures { IfOk result (λ argument. HasForm node.now (form_seen argument)) }
+{
+    let mut parts = Vec::new(alloc);
+    let mut operand = node;
+    while is_sum(operand) {
+        let (left, right) = operands(operand);
+        parts.push(operand_part(right))?;
+        operand = left;
+    }
+    if !is_string(operand) {
+        return Ok(DynamicArgument::Expr);
+    }
+    parts.push(operand_part(operand))?;
+    parts.reverse();
+    Ok(DynamicArgument::Template(parts))
+}

@@ -1,0 +1,23 @@
+//! The laws of what nodes state.
+
+ghost use Rattle.std.specs.Prelude.{◌≡◌, List, Some, slice_get, true};
+ghost use Rattle.deno_graph_source.specs.declared.tree.node.Node.{Node};
+ghost use Rattle.deno_graph_source.specs.Comments.{FiledComments};
+ghost use Rattle.deno_graph_source.specs.Node.{kind_of};
+ghost use Rattle.deno_graph_source.specs.declared.tree.node.Arg.{Arg};
+ghost use Rattle.deno_graph_source.specs.declared.tree.node.Callee.{Callee};
+ghost use Rattle.deno_graph_source.specs.declared.tree.node.Kind.TheVariants.{Call};
+ghost use Rattle.deno_graph_dep.specs.Argument.{expression};
+ghost use Rattle.deno_graph_dep.specs.Item.{DynamicItem, Item, dynamic_item};
+ghost use Rattle.deno_graph_dep.specs.Stated.{States};
+ghost use Rattle.deno_graph_walk.specs.Dependency.{is_listed};
+
+/// Only listed nodes state a dependency.
+pub fn only_listed_nodes_state()
+    ensures { (comments : FiledComments) (node : Node) (item : Item) → States comments node item → is_listed node ≡ true }
+{}
+
+/// Nothing is known of a first argument that is spread.
+pub fn a_spread_argument_is_unknown()
+    ensures { (comments : FiledComments) (node : Node) (callee : Callee) (args : List Arg) (arg : Arg) (item : DynamicItem) → kind_of node ≡ Call callee args → slice_get args 0 ≡ Some arg → arg.spread ≡ true → States comments node (dynamic_item item) → item.argument ≡ expression }
+{}

@@ -1,0 +1,4 @@
+pub mod Dependency
+pub mod DynamicDependency
+pub mod ImportAttributes
+pub mod Json

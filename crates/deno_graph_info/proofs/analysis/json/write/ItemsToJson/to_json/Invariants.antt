@@ -1,7 +1,0 @@
--- The values so far are the forms of the items so far.
-use Rattle.std.proofs.Common.{◌≡◌, map, take}
-use Rattle.serde_json.specs.View.{view}
-use Rattle.deno_graph_info.proofs.analysis.json.write.ItemsToJson.to_json.Given as goal
-
-abbrev pub invariant-loop-item : goal.invariant-loop-item
-invariant-loop-item g l = map view l.values.items ≡ map g.T.ToJson.json (take l.item-index l.self)

@@ -1,0 +1,29 @@
+use deno_graph_json::ReadFault;
+use thiserror::Error;
+
+/// Why no `ModuleInfo` was read.
+#[derive(Debug, PartialEq, Eq, Drop, Error)]
+pub enum InfoFault {
+    /// The value has no float, and not the form that is read.
+    #[error("Shape")]
+    Shape,
+    /// A number that isn't held as a whole number stands in the value.
+    #[error("Float")]
+    Float,
+    #[error("OutOfMemory")]
+    OutOfMemory,
+}
+
+impl From<ReadFault> for InfoFault {
+    ghost use Rattle.std.specs.Prelude.{◌≡◌};
+    ghost use Rattle.deno_graph_info.specs.InfoFault.{fault_of};
+
+    ghost from_gives = { λ fault info_fault. info_fault ≡ fault_of fault };
+
+    fn from(fault: ReadFault) -> InfoFault {
+        match fault {
+            ReadFault::Shape => InfoFault::Shape,
+            ReadFault::OutOfMemory => InfoFault::OutOfMemory,
+        }
+    }
+}

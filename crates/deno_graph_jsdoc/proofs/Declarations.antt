@@ -1,0 +1,46 @@
+-- Declarations: a clause, and then a source.
+use Rattle.std.proofs.Common.{ℕ, Option, Some, None, List, refl, codes, option_map}
+use Rattle.deno_graph_jsdoc.specs.JsDocGrammar.{◌·◌, Is, IsSpace, IsGap, IsClause}
+use Rattle.deno_graph_jsdoc.specs.JsDocImport.{Import, Parses, IsDeclaration, IsDeclarationEnd, IsSource, EndsDeclaration, size, moved}
+use Rattle.deno_graph_jsdoc.specs.JsDocReading.{Begins, Anything, NoSpace, Reads}
+use Rattle.deno_graph_jsdoc.proofs.Clauses.{Head}
+use Rattle.deno_graph_jsdoc.proofs.Imports.{no_first, behind_first}
+use Rattle.deno_graph_jsdoc.proofs.Readings.{IsSolid-word, NoSpace-before, regroup_3, ungroup_3, textwise}
+
+abbrev First : List ℕ → Type 0
+First = IsGap · IsClause · IsSpace
+
+abbrev From : List ℕ → Type 0
+From = Is (codes "from") · IsSpace
+
+abbrev Whole : List ℕ → Type 0
+Whole = IsGap · IsClause · IsSpace · Is (codes "from") · IsSpace
+
+apart : (text : List ℕ) → Whole text → (First · From) text
+apart = textwise (λ input rest b. regroup_3 b)
+
+together : (text : List ℕ) → (First · From) text → Whole text
+together = textwise (λ input rest b. ungroup_3 b)
+
+follows : (middle rest : List ℕ) → NoSpace rest → Begins From middle rest → NoSpace middle
+follows middle rest _ b = NoSpace-before (IsSolid-word 102 (codes "rom") refl) b
+
+pub no_clause : (input : List ℕ) → Reads NoSpace Head input None → Parses IsDeclarationEnd input None
+no_clause input none = no_first NoSpace First From Whole EndsDeclaration apart together follows input none
+
+pub behind_clause : (input middle : List ℕ) (head : Reads NoSpace Head input (Some (middle, tt))) (o : Option (List ℕ × Import)) → Parses IsSource middle o
+    → Parses IsDeclarationEnd input (option_map (λ x. (x.0, moved (size head.0.piece) x.1)) o)
+behind_clause input middle head o source = behind_first NoSpace First From Whole EndsDeclaration apart together follows input middle head o source
+
+-- the word with which a declaration begins
+abbrev pub AtWord : Unit {0} → List ℕ → Type 0
+AtWord _ = Is (codes "@import")
+
+pub no_word : (input : List ℕ) → Reads Anything AtWord input None → Parses IsDeclaration input None
+no_word input none =
+    no_first Anything (AtWord tt) Whole (AtWord tt · Whole) EndsDeclaration (λ _ is. is) (λ _ is. is) (λ _ _ _ _. tt) input none
+
+pub behind_word : (input middle : List ℕ) (word : Reads Anything AtWord input (Some (middle, tt))) (o : Option (List ℕ × Import)) → Parses IsDeclarationEnd middle o
+    → Parses IsDeclaration input (option_map (λ x. (x.0, moved (size word.0.piece) x.1)) o)
+behind_word input middle word o found =
+    behind_first Anything (AtWord tt) Whole (AtWord tt · Whole) EndsDeclaration (λ _ is. is) (λ _ is. is) (λ _ _ _ _. tt) input middle word o found

@@ -1,0 +1,133 @@
+-- The parts of a JSDoc import, as sets of texts. A text is its list of characters.
+use Rattle.std.specs.Prelude.{◌≡◌, ◌≢◌, ◌==◌, ◌<◌, ◌⊎◌, ◌||◌, ℕ, Bool, true, false, Option, None, List, [], ◌∷◌, ◌++◌, length, codes, option_and_then, option_map}
+use Rattle.std.specs.Char.{is_whitespace}
+use Rattle.std.specs.Char.Unicode.Alphabetic.{is_alphabetic}
+use Rattle.std.specs.List.{AllByRecursion, find}
+use Rattle.std.specs.Str.{bytes_eq}
+use Rattle.deno_graph_values.specs.ResolutionMode.{mode_named}
+use Rattle.deno_graph_values.specs.declared.resolution_mode.TypeScriptTypesResolutionMode.{TypeScriptTypesResolutionMode}
+
+-- a text of `P` and then a text of `Q`
+infixr 6 ◌·◌
+pub record ◌·◌ (P Q : List ℕ → Type 0) (text : List ℕ) : Type 0 where
+  pub front : List ℕ
+  pub back : List ℕ
+  pub whole : text ≡ front ++ back
+  pub is_front : P front
+  pub is_back : Q back
+
+-- the text `word`
+abbrev pub Is : List ℕ → List ℕ → Type 0
+Is word text = text ≡ word
+
+-- white space, or nothing
+abbrev pub IsSpace : List ℕ → Type 0
+IsSpace text = AllByRecursion (λ c. is_whitespace c ≡ true) text
+
+-- white space
+abbrev pub IsGap : List ℕ → Type 0
+IsGap text = IsSpace text × (0 < length text)
+
+-- any characters but `mark`
+abbrev pub Lacks : ℕ → List ℕ → Type 0
+Lacks mark text = AllByRecursion (λ c. c ≢ mark) text
+
+-- `inside` between two marks, which it has none of
+abbrev pub IsBetween : ℕ → List ℕ → List ℕ → Type 0
+IsBetween mark inside text = Lacks mark inside × (text ≡ mark ∷ inside ++ mark ∷ [])
+
+-- `inside` between two `"`, or between two `'`
+abbrev pub IsQuote : List ℕ → List ℕ → Type 0
+IsQuote inside text = IsBetween 34 inside text ⊎ IsBetween 39 inside text
+
+-- what ends an identifier: white space, `:` or `-`
+abbrev pub ends_ident : ℕ → Bool
+ends_ident c = is_whitespace c || (c == 58 || c == 45)
+
+-- what begins one: an Alphabetic character
+abbrev pub begins_ident : List ℕ → Bool
+begins_ident [] = false
+begins_ident (c ∷ cs) = is_alphabetic c
+
+-- an Alphabetic character, and then any that don't end an identifier
+abbrev pub IsIdent : List ℕ → Type 0
+IsIdent [] = ⊥
+IsIdent (c ∷ cs) = (is_alphabetic c ≡ true) × AllByRecursion (λ d. ends_ident d ≡ false) cs
+
+-- a key is quoted or an identifier
+abbrev pub IsKey : List ℕ → List ℕ → Type 0
+IsKey key text = IsQuote key text ⊎ (IsIdent text × (key ≡ text))
+
+-- a key and its value
+abbrev pub Attribute : Type 0
+Attribute = List ℕ × List ℕ
+
+abbrev pub IsAttribute : Attribute → List ℕ → Type 0
+IsAttribute attribute = IsKey attribute.0 · IsSpace · Is (codes ":") · IsSpace · IsQuote attribute.1
+
+-- attributes, each behind a comma
+abbrev pub AreFurther : List Attribute → List ℕ → Type 0
+AreFurther [] = Is []
+AreFurther (attribute ∷ others) = IsSpace · Is (codes ",") · IsSpace · IsAttribute attribute · AreFurther others
+
+-- attributes with commas between them, and none behind the last; or nothing
+abbrev pub AreAttributes : List Attribute → List ℕ → Type 0
+AreAttributes [] = Is []
+AreAttributes (attribute ∷ others) = IsAttribute attribute · AreFurther others
+
+-- attributes in braces
+abbrev pub IsBlock : List Attribute → List ℕ → Type 0
+IsBlock attributes = Is (codes "{") · IsSpace · AreAttributes attributes · IsSpace · Is (codes "}")
+
+-- the value of the first `resolution-mode`
+abbrev pub mode_name : List Attribute → Option (List ℕ)
+mode_name attributes =
+    option_map (λ attribute. attribute.1) (find (λ attribute. bytes_eq attribute.0 (codes "resolution-mode")) attributes)
+
+-- the mode that attributes give: the one that this value names
+abbrev pub mode_of : List Attribute → Option TypeScriptTypesResolutionMode
+mode_of attributes = option_and_then mode_named (mode_name attributes)
+
+-- a block whose attributes give this mode, or none
+abbrev pub IsModeBlock : Option TypeScriptTypesResolutionMode → List ℕ → Type 0
+IsModeBlock mode text = (attributes : List Attribute) × (mode ≡ mode_of attributes) × IsBlock attributes text
+
+-- what is left of such a block from its first attribute on
+abbrev pub IsModeBlockEnd : Option TypeScriptTypesResolutionMode → List ℕ → Type 0
+IsModeBlockEnd mode text =
+    (attributes : List Attribute) × (0 < length attributes) × (mode ≡ mode_of attributes)
+    × (AreAttributes attributes · IsSpace · Is (codes "}")) text
+
+-- what is imported: names in braces, all under one name, or the default
+abbrev pub IsNames : List ℕ → Type 0
+IsNames = Is (codes "{") · Lacks 125 · Is (codes "}")
+
+abbrev pub IsName : List ℕ → Type 0
+IsName = IsIdent · IsGap
+
+abbrev pub IsNamespace : List ℕ → Type 0
+IsNamespace = Is (codes "*") · IsSpace · Is (codes "as") · IsGap · IsIdent · IsGap
+
+abbrev pub IsClause : List ℕ → Type 0
+IsClause text = IsNames text ⊎ (IsNamespace text ⊎ IsName text)
+
+-- the attributes of a declaration
+abbrev pub IsWith : Option TypeScriptTypesResolutionMode → List ℕ → Type 0
+IsWith mode = Is (codes "with") · IsSpace · IsModeBlock mode
+
+-- the second argument of a dynamic import, with the comma before it
+abbrev pub IsOptions : Option TypeScriptTypesResolutionMode → List ℕ → Type 0
+IsOptions mode =
+    Is (codes ",") · IsSpace · Is (codes "{") · IsSpace · Is (codes "with") · IsSpace · Is (codes ":") · IsSpace
+    · IsModeBlock mode · IsSpace · Is (codes "}")
+
+-- that, or nothing and no mode
+abbrev pub IsSecond : Option TypeScriptTypesResolutionMode → List ℕ → Type 0
+IsSecond mode text = IsOptions mode text ⊎ ((text ≡ []) × (mode ≡ None))
+
+-- a text without `}` that ends in `word` and has it nowhere before
+pub record IsUpTo (word text : List ℕ) : Type 0 where
+  pub front : List ℕ
+  pub whole : text ≡ front ++ word
+  pub unclosed : Lacks 125 front
+  pub first : (before behind : List ℕ) → text ≡ before ++ (word ++ behind) → behind ≡ []

@@ -1,0 +1,57 @@
+-- The imports that the text of a comment states, as a set, and the places where they may begin.
+use Rattle.std.specs.Prelude.{◌≡◌, ◌<◌, ◌⊎◌, ◌↔◌, ℕ, List, ◌++◌, length, codes}
+use Rattle.std.specs.List.{AllPairs, Contains}
+use Rattle.deno_graph_jsdoc.specs.JsDocGrammar.{◌·◌, Is, IsUpTo, Lacks}
+use Rattle.deno_graph_jsdoc.specs.JsDocImport.{Import, IsDeclaration, IsDynamicImport, moved, size}
+use Rattle.deno_graph_jsdoc.specs.JsDocReading.{Anything}
+
+-- behind some front of the text stands a dynamic import or a declaration that states this import
+pub record IsHit (text : List ℕ) (import : Import) : Type 0 where
+  pub front : List ℕ
+  pub back : List ℕ
+  pub rest : List ℕ
+  pub here : Import
+  pub whole : text ≡ front ++ back
+  pub states : IsDynamicImport back here rest ⊎ IsDeclaration back here rest
+  pub place : import ≡ moved (size front) here
+
+-- the list has all hits of the text and nothing else, each start above those before it
+pub record AreHits (text : List ℕ) (imports : List Import) : Type 0 where
+  pub ascending : AllPairs (λ (import later : Import). import.start < later.start) imports
+  pub exact : (import : Import) → Contains imports import ↔ IsHit text import
+
+-- a front of the text
+abbrev pub IsFront : List ℕ → List ℕ → Type 0
+IsFront text front = (back : List ℕ) × (text ≡ front ++ back)
+
+-- the list has all fronts of the text of which `P` holds and nothing else, each longer than those before it
+pub record AreFronts (P : List ℕ → Type 0) (text : List ℕ) (fronts : List (List ℕ)) : Type 0 where
+  pub ascending : AllPairs (λ (front longer : List ℕ). length front < length longer) fronts
+  pub exact : (front : List ℕ) → Contains fronts front ↔ (IsFront text front × P front)
+
+-- so many fronts of the text have `P`
+abbrev pub HasFronts : (List ℕ → Type 0) → List ℕ → ℕ → Type 0
+HasFronts P text count = (fronts : List (List ℕ)) × AreFronts P text fronts × (count ≡ length fronts)
+
+-- the text ends with an `import` that is the first behind some `{`, and no `}` is between
+abbrev pub EndsAtDynamicImport : List ℕ → Type 0
+EndsAtDynamicImport = Anything · Is (codes "{") · IsUpTo (codes "import")
+
+-- the text ends with `@import`
+abbrev pub EndsAtDeclaration : List ℕ → Type 0
+EndsAtDeclaration = Anything · Is (codes "@import")
+
+-- the text has a `{` and no `}` behind it
+abbrev pub LeavesOpen : List ℕ → Type 0
+LeavesOpen = Anything · Is (codes "{") · Lacks 125
+
+-- the text ends with `@`
+abbrev pub EndsWithAt : List ℕ → Type 0
+EndsWithAt = Anything · Is (codes "@")
+
+-- the new list has this import, or one with its start, and else what the old one has; it ascends as that does
+pub record GainsImport (old : List Import) (import : Import) (new : List Import) : Type 0 where
+  pub ascending : AllPairs (λ (import later : Import). import.start < later.start) new
+  pub only : (other : Import) → Contains new other → Contains old other ⊎ (import ≡ other)
+  pub kept : (other : Import) → Contains old other → Contains new other
+  pub there : (other : Import) × Contains new other × (other.start ≡ import.start)

@@ -1,0 +1,4 @@
+pub mod JsDocGrammar
+pub mod JsDocReading
+pub mod JsDocImport
+pub mod JsDocHits

@@ -1,0 +1,76 @@
+//! Import attributes in braces.
+
+ghost use Rattle.std.specs.Prelude.{◌≡◌, List, ◌∷◌, [], ◌++◌, option_and_then};
+ghost use Rattle.std.specs.Str.{chars};
+ghost use Rattle.deno_graph_jsdoc.specs.JsDocGrammar.{IsKey, IsAttribute, IsModeBlock, IsModeBlockEnd, Attribute, mode_name};
+ghost use Rattle.deno_graph_values.specs.ResolutionMode.{mode_named};
+ghost use Rattle.deno_graph_jsdoc.specs.JsDocReading.{Reads, Anything, EndOfIdent, rest_and_text, rest_and_mode, rest_and_attribute, text_of};
+
+use super::parts::{ident, quote, skip_space, token, word};
+use deno_graph_values::TypeScriptTypesResolutionMode;
+
+/// What is behind attributes in braces, and the mode that they give: the one that the first
+/// `resolution-mode` names.
+pub(crate) fn block(input: &str) -> Option<(&str, Option<TypeScriptTypesResolutionMode>)>
+    ensures { Reads Anything IsModeBlock (chars input.now) (rest_and_mode result) }
+{
+    let rest = token(input, "{")?;
+    match word(rest, "}") {
+        Some(rest) => Some((rest, None)),
+        None => attributes(rest),
+    }
+}
+
+/// What is behind one attribute or more and a closing brace, and the mode that they give.
+fn attributes(input: &str) -> Option<(&str, Option<TypeScriptTypesResolutionMode>)>
+    ensures { Reads Anything IsModeBlockEnd (chars input.now) (rest_and_mode result) }
+{
+    let mut rest = input;
+    let mut name = None;
+    loop {
+        let (behind, (key, value)) = attribute(rest)?;
+        name = name_after(name, key, value);
+        let behind = skip_space(behind);
+        if let Some(end) = word(behind, "}") {
+            return Some((end, mode_of(name)));
+        }
+        rest = token(behind, ",")?;
+    }
+}
+
+/// The name of the mode behind an attribute, where `name` is the one before it.
+fn name_after<'a>(name: Option<&'a str>, key: &str, value: &'a str) -> Option<&'a str>
+    ensures { (before : List Attribute) → text_of name.entry ≡ mode_name before
+        → text_of result ≡ mode_name (before ++ (chars key.now, chars value.entry.now) ∷ []) }
+{
+    match name {
+        Some(name) => Some(name),
+        None => (key == "resolution-mode").then_some(value),
+    }
+}
+
+/// What is behind an attribute, and its key and value.
+fn attribute(input: &str) -> Option<(&str, (&str, &str))>
+    ensures { Reads Anything IsAttribute (chars input.now) (rest_and_attribute result) }
+{
+    let (rest, key) = key(input)?;
+    let rest = token(skip_space(rest), ":")?;
+    let (rest, value) = quote(rest)?;
+    Some((rest, (key, value)))
+}
+
+fn key(input: &str) -> Option<(&str, &str)>
+    ensures { Reads EndOfIdent IsKey (chars input.now) (rest_and_text result) }
+{
+    match quote(input) {
+        Some((rest, text)) => Some((rest, text)),
+        None => ident(input),
+    }
+}
+
+/// The mode that a text names, where there is one.
+fn mode_of(name: Option<&str>) -> Option<TypeScriptTypesResolutionMode>
+    ensures { result ≡ option_and_then mode_named (text_of name.entry) }
+{
+    TypeScriptTypesResolutionMode::from_str(name?)
+}

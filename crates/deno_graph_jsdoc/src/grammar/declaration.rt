@@ -1,0 +1,105 @@
+//! The declaration, as `@import { Type } from "./types.ts"`.
+
+ghost use Rattle.std.specs.Prelude.{◌≡◌, ◌≤◌, ℕ, List, IfOk, IfSome, IsOkAnd, codes, length};
+ghost use Rattle.std.specs.Str.{chars};
+ghost use Rattle.deno_graph_jsdoc.specs.JsDocGrammar.{◌·◌, Is, IsSpace, IsGap, IsIdent, IsClause, IsNames, IsNamespace, IsName, IsWith};
+ghost use Rattle.deno_graph_jsdoc.specs.JsDocImport.{Import, IsDeclaration, IsDeclarationEnd, IsSource, Parses, import_of, rest_and_import};
+ghost use Rattle.deno_graph_jsdoc.specs.JsDocReading.{Reads, Anything, NoSpace, rest_of, rest_and_mode};
+
+use super::attributes::block;
+use super::parts::{gap, ident, quote, skip_space, through_brace, token, word};
+use crate::import::{JsDocImport, NoParse};
+use deno_graph_values::TypeScriptTypesResolutionMode;
+
+/// The import declaration with which `input` begins, and what is behind it.
+///
+/// `@import`, white space, what is imported (names in braces, `* as` a name, or a name), `from` and a
+/// quoted specifier; then `with` and attributes, which are left to the rest where they don't parse.
+pub fn parse_jsdoc_import_decl(input: &str) -> Result<(&str, JsDocImport<'_>), NoParse>
+    ensures found { IfOk result (λ parsed. IsDeclaration (chars input.now) (import_of parsed.1) (chars parsed.0.now)) }
+    ensures only { (import : Import) (rest : List ℕ) → IsDeclaration (chars input.now) import rest
+        → IsOkAnd result (λ parsed. (import ≡ import_of parsed.1) × (rest ≡ chars parsed.0.now)) }
+{
+    let behind = word(input, "@import").ok_or(NoParse)?;
+    let (rest, import) = behind_import(behind).ok_or(NoParse)?;
+    Ok((rest, import.moved(input.len() - behind.len())))
+}
+
+/// The declaration from behind its `@import` on, and what is behind it.
+pub(crate) fn behind_import(input: &str) -> Option<(&str, JsDocImport<'_>)>
+    ensures parsed { Parses IsDeclarationEnd (chars input.now) (rest_and_import result) }
+    ensures within { IfSome result (λ parsed. (parsed.1.specifier_range.start ≤ parsed.1.specifier_range.end)
+        × (parsed.1.specifier_range.end ≤ length input.now)) }
+{
+    let from = clause_behind(input)?;
+    let (rest, import) = source(from)?;
+    Some((rest, import.moved(input.len() - from.len())))
+}
+
+/// What is behind white space, a clause and white space.
+fn clause_behind(input: &str) -> Option<&str>
+    ensures { Reads NoSpace (λ _. IsGap · IsClause · IsSpace) (chars input.now) (rest_of result) }
+{
+    clause(gap(input)?)
+}
+
+/// What is behind the clause of a declaration and white space.
+fn clause(input: &str) -> Option<&str>
+    ensures { Reads NoSpace (λ _. IsClause · IsSpace) (chars input.now) (rest_of result) }
+{
+    if let Some(rest) = names(input) {
+        return Some(rest);
+    }
+    if let Some(rest) = namespace(input) {
+        return Some(rest);
+    }
+    name(input)
+}
+
+/// What is behind names in braces and white space.
+fn names(input: &str) -> Option<&str>
+    ensures { Reads NoSpace (λ _. IsNames · IsSpace) (chars input.now) (rest_of result) }
+{
+    Some(skip_space(through_brace(word(input, "{")?)?))
+}
+
+/// What is behind `* as`, a name and white space.
+fn namespace(input: &str) -> Option<&str>
+    ensures { Reads NoSpace (λ _. IsNamespace) (chars input.now) (rest_of result) }
+{
+    name(gap(word(token(input, "*")?, "as")?)?)
+}
+
+/// What is behind a name and white space.
+fn name(input: &str) -> Option<&str>
+    ensures { Reads NoSpace (λ _. IsName) (chars input.now) (rest_of result) }
+{
+    let (rest, _) = ident(input)?;
+    gap(rest)
+}
+
+/// The import that a declaration states, from its `from` on, and what is behind it.
+pub(crate) fn source(input: &str) -> Option<(&str, JsDocImport<'_>)>
+    ensures parsed { Parses IsSource (chars input.now) (rest_and_import result) }
+    ensures within { IfSome result (λ parsed. (parsed.1.specifier_range.start ≤ parsed.1.specifier_range.end)
+        × (parsed.1.specifier_range.end ≤ length input.now)) }
+{
+    let quoted = token(input, "from")?;
+    let (behind, specifier) = quote(quoted)?;
+    let behind = skip_space(behind);
+    let (rest, resolution_mode) = with_attributes(behind).unwrap_or((behind, None));
+    let start = input.len() - quoted.len() + 1;
+    let import = JsDocImport {
+        specifier,
+        specifier_range: start..start + specifier.len(),
+        resolution_mode,
+    };
+    Some((rest, import))
+}
+
+/// What is behind `with` and attributes, and the mode that they give.
+fn with_attributes(input: &str) -> Option<(&str, Option<TypeScriptTypesResolutionMode>)>
+    ensures { Reads Anything IsWith (chars input.now) (rest_and_mode result) }
+{
+    block(token(input, "with")?)
+}

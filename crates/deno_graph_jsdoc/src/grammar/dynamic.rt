@@ -1,0 +1,89 @@
+//! The dynamic import, as `{import("./types.ts").Type}`.
+
+ghost use Rattle.std.specs.Prelude.{◌≡◌, ◌≤◌, ℕ, List, IfOk, IfSome, IsOkAnd, codes, length};
+ghost use Rattle.std.specs.Str.{chars};
+ghost use Rattle.deno_graph_jsdoc.specs.JsDocGrammar.{◌·◌, Is, IsSpace, IsOptions, IsSecond, IsUpTo};
+ghost use Rattle.deno_graph_jsdoc.specs.JsDocImport.{Import, HasArguments, IsDynamicEnd, IsDynamicImport, Parses, import_of, rest_and_import};
+ghost use Rattle.deno_graph_jsdoc.specs.JsDocReading.{Reads, Anything, NoSpace, rest_of, rest_and_mode};
+
+use super::attributes::block;
+use super::parts::{quote, skip_space, through_brace, token, word};
+use crate::import::{JsDocImport, NoParse};
+use deno_graph_values::TypeScriptTypesResolutionMode;
+
+/// The dynamic import in braces with which `input` begins, and what is behind it.
+///
+/// `{`, anything up to the first `import`, an argument list of a quoted specifier and maybe attributes, and
+/// anything up to `}`. Only the first `import` is tried, and no `}` stands before it.
+pub fn parse_jsdoc_dynamic_import(input: &str) -> Result<(&str, JsDocImport<'_>), NoParse>
+    ensures found { IfOk result (λ parsed. IsDynamicImport (chars input.now) (import_of parsed.1) (chars parsed.0.now)) }
+    ensures only { (import : Import) (rest : List ℕ) → IsDynamicImport (chars input.now) import rest
+        → IsOkAnd result (λ parsed. (import ≡ import_of parsed.1) × (rest ≡ chars parsed.0.now)) }
+{
+    let behind = first_import(input).ok_or(NoParse)?;
+    let (rest, import) = behind_import(behind).ok_or(NoParse)?;
+    Ok((rest, import.moved(input.len() - behind.len())))
+}
+
+/// The dynamic import from behind its `import` on, and what is behind it.
+pub(crate) fn behind_import(input: &str) -> Option<(&str, JsDocImport<'_>)>
+    ensures parsed { Parses IsDynamicEnd (chars input.now) (rest_and_import result) }
+    ensures within { IfSome result (λ parsed. (parsed.1.specifier_range.start ≤ parsed.1.specifier_range.end)
+        × (parsed.1.specifier_range.end ≤ length input.now)) }
+{
+    let (rest, import) = arguments(input)?;
+    let rest = through_brace(rest)?;
+    Some((rest, import))
+}
+
+/// What is behind a brace and the first `import` behind it, where no `}` is between.
+fn first_import(input: &str) -> Option<&str>
+    ensures { Reads Anything (λ _. Is (codes "{") · IsUpTo (codes "import")) (chars input.now) (rest_of result) }
+{
+    up_to_import(word(input, "{")?)
+}
+
+/// What is behind the first `import`, where no `}` is before it. It is looked for up to the first `}`.
+fn up_to_import(input: &str) -> Option<&str>
+    ensures { Reads Anything (λ _. IsUpTo (codes "import")) (chars input.now) (rest_of result) }
+{
+    let unclosed = match input.split_once('}') {
+        Some((unclosed, _)) => unclosed,
+        None => input,
+    };
+    // One that stands there is the first of the whole input too.
+    let (_, _) = unclosed.split_once("import")?;
+    let (_, rest) = input.split_once("import")?;
+    Some(rest)
+}
+
+/// The import that the argument list behind an `import` states, and what is behind the list.
+pub(crate) fn arguments(input: &str) -> Option<(&str, JsDocImport<'_>)>
+    ensures parsed { Parses HasArguments (chars input.now) (rest_and_import result) }
+    ensures within { IfSome result (λ parsed. (parsed.1.specifier_range.start ≤ parsed.1.specifier_range.end)
+        × (parsed.1.specifier_range.end ≤ length input.now)) }
+{
+    let quoted = token(skip_space(input), "(")?;
+    let (behind, specifier) = quote(quoted)?;
+    let behind = skip_space(behind);
+    let (behind, resolution_mode) = options(behind).unwrap_or((behind, None));
+    let rest = word(skip_space(behind), ")")?;
+    let start = input.len() - quoted.len() + 1;
+    let import = JsDocImport {
+        specifier,
+        specifier_range: start..start + specifier.len(),
+        resolution_mode,
+    };
+    Some((rest, import))
+}
+
+/// What is behind the second argument and the comma before it, and the mode of its attributes.
+fn options(input: &str) -> Option<(&str, Option<TypeScriptTypesResolutionMode>)>
+    ensures { Reads Anything IsOptions (chars input.now) (rest_and_mode result) }
+{
+    let rest = token(input, ",")?;
+    let rest = token(rest, "{")?;
+    let rest = token(rest, "with")?;
+    let (rest, mode) = block(token(rest, ":")?)?;
+    Some((word(skip_space(rest), "}")?, mode))
+}

@@ -1,0 +1,16 @@
+//! The imports that JSDoc comments state.
+#![tactic(auto)]
+
+pub mod grammar;
+mod import;
+pub mod laws;
+mod pass;
+
+pub use deno_graph_values::TypeScriptTypesResolutionMode;
+pub use grammar::declaration::parse_jsdoc_import_decl;
+pub use grammar::dynamic::parse_jsdoc_dynamic_import;
+pub use import::{JsDocImport, NoParse, Scan};
+pub use pass::{insert, scan};
+
+#[cfg(test)]
+mod tests;

@@ -1,0 +1,2 @@
+pub mod JsDocInfo
+pub mod JsDocList

@@ -1,0 +1,8 @@
+//! The imports that the JSDoc comments of a module state.
+#![tactic(auto)]
+
+mod imports;
+mod infos;
+
+pub use imports::{imports_of, reads_jsdoc};
+pub use infos::jsdoc_imports;

@@ -1,0 +1,6 @@
+pub mod Floats
+pub mod NoFloats
+pub mod Objects
+pub mod ReadBack
+pub mod ReadMaps
+pub mod Reading

@@ -1,0 +1,124 @@
+-- What is written is read back: members of tables, lists, maps, flags, positions and modes.
+use Rattle.std.proofs.Common.{◌≡◌, ℕ, ◌<◌, ◌^◌, List, [], ◌∷◌, ◌++◌, map, Bool, true, false, Option, Some, None, option_map, nat_lt, All, refl, sym, ap, ◌∙◌, subst, lt-ltb, append_assoc, append-nil}
+use Rattle.std.proofs.lemmas.Cmp.{nat_list_cmp_total}
+use Rattle.std.proofs.lemmas.List.Elements.{All-head, All-tail}
+use Rattle.std.specs.Cmp.Lexicographic.{slice_cmp}
+use Rattle.std.specs.List.{AllByRecursion}
+use Rattle.std.specs.List.Sorted.{IsStrictlySortedBy}
+use Rattle.std.specs.Map.{keys_of}
+use Rattle.std.specs.Ordering.{nat_cmp, ordering_reverse}
+use Rattle.std.specs.declared.cmp.Ordering.TheVariants.{Less, Greater}
+use Rattle.serde_json.specs.Data.{Data, string, number, unsigned, Members, no_members, member, put}
+use Rattle.serde_json.specs.Find.{as_bool}
+use Rattle.serde_json.specs.View.{items_of}
+use Rattle.deno_graph_values.specs.TextMap.{IsAscending}
+use Rattle.deno_graph_values.specs.declared.resolution_mode.TypeScriptTypesResolutionMode.{TypeScriptTypesResolutionMode}
+use Rattle.deno_graph_values.specs.declared.resolution_mode.TypeScriptTypesResolutionMode.TheVariants.{Require, Import}
+use Rattle.deno_graph_text.specs.declared.position.Position.{Position}
+use Rattle.deno_graph_text.specs.declared.position.PositionRange.{PositionRange}
+use Rattle.deno_graph_json.proofs.Objects.{get_member-put_entries}
+use Rattle.deno_graph_json.proofs.Reading.{goes_on}
+use Rattle.deno_graph_json.specs.Held.{IsHeldPosition, IsHeldRange}
+use Rattle.deno_graph_json.specs.Object.{Entry, put_entries, map_entries, map_object_of, array_of, has_distinct_keys, entry_at, if_true, if_any}
+use Rattle.deno_graph_json.specs.Position.{json_of_position, json_of_range}
+use Rattle.deno_graph_json.specs.Read.Partial.{◌>>=◌, as_usize, reads_optional, reads_items, reads_array, reads_members, reads_map, reads_pair, read_or, member_at, member_or}
+use Rattle.deno_graph_json.specs.Read.Position.{reads_position, reads_range}
+use Rattle.deno_graph_json.specs.Read.ResolutionMode.{reads_mode}
+use Rattle.deno_graph_json.specs.ResolutionMode.{json_of_mode}
+
+-- ---- what any reader does
+
+module _ {A : Type 0} (reads : Data → Option A) where
+  -- a member of the object of a table is read of the table
+  pub member_at-table : (key : List ℕ) (es : List Entry) (r : Option A) → has_distinct_keys es ≡ true → (entry_at key es >>= reads) ≡ r → member_at reads key (put_entries es no_members) ≡ r
+  unfolding member_at
+  member_at-table key es r distinct is = ap (λ o. o >>= reads) (get_member-put_entries key es no_members refl distinct) ∙ is
+
+  pub member_or-table : (key : List ℕ) (default : A) (es : List Entry) (r : Option A) → has_distinct_keys es ≡ true → read_or reads default (entry_at key es) ≡ r → member_or reads key default (put_entries es no_members) ≡ r
+  unfolding member_or
+  member_or-table key default es r distinct is = ap (read_or reads default) (get_member-put_entries key es no_members refl distinct) ∙ is
+
+  -- items that are each read back are all read back
+  pub reads_items-map : (f : A → Data) (P : A → Type 0) → ((x : A) → P x → reads (f x) ≡ Some x) → (xs : List A) → All P xs → reads_items reads (items_of (map f xs)) ≡ Some xs
+  unfolding reads_items
+  reads_items-map f P back [] all = refl
+  reads_items-map f P back (x ∷ xs) all =
+      goes_on _ _ x _ (back x (All-head P x xs all)) (goes_on _ _ xs _ (reads_items-map f P back xs (All-tail P x xs all)) refl)
+
+-- ---- maps
+
+-- the members that these entries are
+as_members : {A : Type 0} → (A → Data) → List (List ℕ × A) → Members
+as_members f [] = no_members
+as_members f (e ∷ es) = member e.0 (f e.1) (as_members f es)
+
+below_later : {A : Type 0} (P : List ℕ → Type 0) (front : List (List ℕ × A)) (e : List ℕ × A) (rest : List (List ℕ × A)) → AllByRecursion P (keys_of (front ++ e ∷ rest)) → P e.0
+below_later P [] e rest h = h.0
+below_later P (first ∷ front) e rest h = below_later P front e rest h.1
+
+-- a key above all others goes to the end
+put-above : {A : Type 0} (f : A → Data) (front : List (List ℕ × A)) (e : List ℕ × A) (rest : List (List ℕ × A)) → IsAscending (front ++ e ∷ rest)
+    → put e.0 (f e.1) (as_members f front) ≡ as_members f (front ++ e ∷ [])
+unfolding as_members IsStrictlySortedBy
+put-above f [] e rest h = refl
+put-above f (first ∷ front) e rest h =
+    let below = below_later (λ k. slice_cmp nat_cmp first.0 k ≡ Less) front e rest h.0 in
+    let above : slice_cmp nat_cmp e.0 first.0 ≡ Greater = nat_list_cmp_total.antisymm e.0 first.0 ∙ ap ordering_reverse below in
+    rw above (ap (member first.0 (f first.1)) (put-above f front e rest h.1))
+
+-- the entries of a map are its members, in their order
+put_entries-map : {A : Type 0} (f : A → Data) (front rest : List (List ℕ × A)) → IsAscending (front ++ rest)
+    → put_entries (map_entries f rest) (as_members f front) ≡ as_members f (front ++ rest)
+unfolding as_members
+put_entries-map f front [] h = ap (as_members f) (sym (append-nil front))
+put_entries-map f front (e ∷ rest) h =
+    let whole = append_assoc front (e ∷ []) rest in
+    ap (put_entries (map_entries f rest)) (put-above f front e rest h)
+    ∙ put_entries-map f (front ++ e ∷ []) rest (subst IsAscending (sym whole) h)
+    ∙ ap (as_members f) whole
+
+module _ {A : Type 0} (reads : Data → Option A) (f : A → Data) (P : A → Type 0) (back : (x : A) → P x → reads (f x) ≡ Some x) where
+  reads_members-as_members : (es : List (List ℕ × A)) → All (λ e. P e.1) es → reads_members reads (as_members f es) ≡ Some es
+  unfolding as_members reads_members
+  reads_members-as_members [] all = refl
+  reads_members-as_members (e ∷ es) all =
+      goes_on _ _ e.1 _ (back e.1 (All-head (λ e. P e.1) e es all)) (goes_on _ _ es _ (reads_members-as_members es (All-tail (λ e. P e.1) e es all)) refl)
+
+  -- a map is read back
+  pub reads_map-map_object_of : (es : List (List ℕ × A)) → IsAscending es → All (λ e. P e.1) es → reads_map reads (map_object_of f es) ≡ Some es
+  unfolding reads_map as_members
+  reads_map-map_object_of es h all = ap (reads_members reads) (put_entries-map f [] es h) ∙ reads_members-as_members es all
+
+  -- a list that is left out where it is empty
+  pub list_back : (xs : List A) → All P xs → read_or (reads_array reads) [] (option_map (array_of f) (if_any xs)) ≡ Some xs
+  unfolding reads_array
+  list_back [] all = refl
+  list_back (x ∷ xs) all = reads_items-map reads f P back (x ∷ xs) all
+
+-- ---- positions
+
+as_usize-unsigned : (n : ℕ) → n < 2 ^ 64 → as_usize (number (unsigned n)) ≡ Some n
+unfolding as_usize
+as_usize-unsigned n h = let fits : nat_lt n (2 ^ 64) ≡ true = lt-ltb n (2 ^ 64) h in rw fits
+
+position_back : (p : Position) → IsHeldPosition p → reads_position (json_of_position p) ≡ Some p
+unfolding reads_position reads_pair
+position_back p h = rw (as_usize-unsigned p.line h.0, as_usize-unsigned p.character h.1)
+
+pub range_back : (r : PositionRange) → IsHeldRange r → reads_range (json_of_range r) ≡ Some r
+unfolding reads_range reads_pair
+range_back r h = rw (position_back r.start h.0, position_back r.end h.1)
+
+-- ---- flags and modes
+
+-- a flag that is left out where it is false
+pub flag_back : (b : Bool) → read_or as_bool false (if_true b) ≡ Some b
+flag_back true = refl
+flag_back false = refl
+
+-- a mode that is left out where there is none
+pub mode_back : (o : Option TypeScriptTypesResolutionMode) → read_or (reads_optional reads_mode) None (option_map json_of_mode o) ≡ Some o
+unfolding reads_optional reads_mode
+mode_back None = refl
+mode_back (Some Require) = refl
+mode_back (Some Import) = refl

@@ -1,0 +1,6 @@
+pub mod Held
+pub mod Object
+pub mod Position
+pub mod Read
+pub mod ResolutionMode
+pub mod Writer

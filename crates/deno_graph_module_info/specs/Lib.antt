@@ -1,0 +1,6 @@
+pub mod HeadTail
+pub mod ModuleInfo
+pub mod Pragma
+pub mod References
+pub mod Script
+pub mod Spelled

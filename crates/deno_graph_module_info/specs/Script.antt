@@ -1,0 +1,61 @@
+-- What tells a script from a module.
+use Rattle.std.specs.Prelude.{◌≡◌, Bool, true, false, List, All, IsTrue, Some, IsSomeAnd, ◌⊎◌}
+use Rattle.deno_graph_source.specs.declared.tree.node.Kind.{Kind}
+use Rattle.deno_graph_source.specs.declared.tree.node.Kind.TheVariants.{ImportDecl, NamedExport, ExportAll, ExportOther, Await, Function, ImportMeta}
+use Rattle.deno_graph_source.specs.declared.tree.node.Node.{Node}
+use Rattle.deno_graph_source.specs.Node.{kind_of}
+use Rattle.deno_graph_walk.specs.NodePath.{NodePath, node_below, LeadsTo, GoesOn}
+
+-- the items that only a module has: imports and exports
+abbrev pub is_module_item : Kind → Bool
+is_module_item (ImportDecl type_only phase src has_specifiers has_with) = true
+is_module_item (NamedExport type_only src has_with) = true
+is_module_item (ExportAll type_only src has_with) = true
+is_module_item ExportOther = true
+is_module_item _ = false
+
+abbrev pub is_await : Kind → Bool
+is_await Await = true
+is_await _ = false
+
+abbrev pub is_function : Kind → Bool
+is_function Function = true
+is_function _ = false
+
+abbrev pub is_import_meta : Kind → Bool
+is_import_meta ImportMeta = true
+is_import_meta _ = false
+
+abbrev pub IsAwait : Node → Type 0
+IsAwait node = IsTrue (is_await (kind_of node))
+
+abbrev pub IsFunction : Node → Type 0
+IsFunction node = IsTrue (is_function (kind_of node))
+
+abbrev pub IsImportMeta : Node → Type 0
+IsImportMeta node = IsTrue (is_import_meta (kind_of node))
+
+-- Nothing in the body makes it a module: no item imports or exports, each await stands inside a
+-- function, and there is no `import.meta`, at any depth.
+pub record IsScript (body : List Node) : Type 0 where
+  pub no_module_item : All (λ item. is_module_item (kind_of item) ≡ false) body
+  pub awaits_in_functions : (path : NodePath) → LeadsTo IsAwait body path → (front : NodePath) × GoesOn front path × LeadsTo IsFunction body front
+  pub no_import_meta : (path : NodePath) → ¬ LeadsTo IsImportMeta body path
+
+-- the child numbers lead from the node to one of which P holds
+abbrev pub LeadsBelow : (Node → Type 0) → Node → NodePath → Type 0
+LeadsBelow P node path = IsSomeAnd (node_below (Some node) path) P
+
+-- an await below the node that no function stands round, neither the node nor one between
+pub record IsBareAwait (node : Node) (path : NodePath) : Type 0 where
+  pub await : LeadsBelow IsAwait node path
+  pub bare : (front : NodePath) → GoesOn front path → ¬ LeadsBelow IsFunction node front
+
+-- the node or one below it makes a module: an `import.meta`, or a bare await where no function stands round the node
+abbrev pub MakesModule : Bool → Node → Type 0
+MakesModule inside_function node =
+    (path : NodePath) × (LeadsBelow IsImportMeta node path ⊎ ((inside_function ≡ false) × IsBareAwait node path))
+
+-- the node itself makes a module
+abbrev pub MakesModuleItself : Bool → Node → Type 0
+MakesModuleItself inside_function node = IsImportMeta node ⊎ ((inside_function ≡ false) × IsAwait node)

@@ -1,0 +1,3 @@
+pub mod Capturing
+pub mod Parsing
+pub mod Sources

@@ -1,0 +1,11 @@
+mod Attributes
+mod Barriers
+mod Captured
+mod Folding
+mod Found
+mod Lines
+mod ReadPieces
+mod References
+mod Runs
+mod Splits
+mod TextSteps

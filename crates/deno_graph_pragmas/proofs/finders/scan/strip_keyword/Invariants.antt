@@ -1,0 +1,12 @@
+-- The letters that are left of the word, read in what is left of the text, leave what all of it does.
+use Rattle.std.proofs.Common.{◌≡◌, drop}
+use Rattle.std.specs.Str.{chars, IsUtf8}
+use Rattle.std.specs.Str.Iter.{chars_rest}
+use Rattle.deno_graph_pragmas.specs.Reading.{after_keyword}
+use Rattle.deno_graph_pragmas.proofs.finders.scan.strip_keyword.Given as goal
+
+abbrev pub invariant-loop-letter : goal.invariant-loop-letter
+invariant-loop-letter l = record {
+  text : IsUtf8 (chars_rest l.rest);
+  left : after_keyword (drop l.letter-index l.word) (chars (chars_rest l.rest)) ≡ after_keyword l.word (chars l.text);
+}

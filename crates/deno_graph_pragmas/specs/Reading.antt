@@ -1,0 +1,102 @@
+-- What is left of a text behind its front, where that is read from left to right, each piece as long as it can be.
+-- It says how the finders go about their work. No promise of a public call names it.
+use Rattle.std.specs.Prelude.{◌≡◌, ◌⊎◌, ℕ, ◌+◌, ◌-◌, ◌++◌, length, ◌==◌, ◌&&◌, Bool, false, nat_lt, List, [], ◌∷◌, Option, Some, None, IsSome, IsTrue, codes, if◌then◌else◌, option_and_then}
+use Rattle.std.specs.Borrow.{Bor}
+use Rattle.std.specs.List.{list_all}
+use Rattle.std.specs.Option.{option_map}
+use Rattle.std.specs.Str.{chars, IsUtf8}
+use Rattle.unicode.specs.CaseFolding.{simple_fold}
+use Rattle.deno_graph_pragmas.specs.Piece.{Piece, one, any, some, run, exactly, keyword, whites, sign, quote, unquoted, is_in_line}
+use Rattle.deno_graph_pragmas.specs.Split.{Part}
+
+-- the characters of a text that is answered
+abbrev pub chars_left : Option (Bor (List ℕ)) → Option (List ℕ)
+chars_left answer = option_map (λ rest. chars rest.now) answer
+
+-- behind the characters that pass
+abbrev pub skip_while : (ℕ → Bool) → List ℕ → List ℕ
+skip_while test [] = []
+skip_while test (c ∷ text) = if test c then skip_while test text else c ∷ text
+
+-- behind one character that passes
+abbrev pub after_one : (ℕ → Bool) → List ℕ → Option (List ℕ)
+after_one test [] = None
+after_one test (c ∷ text) = if test c then Some text else None
+
+-- behind at least one
+abbrev pub after_some : (ℕ → Bool) → List ℕ → Option (List ℕ)
+after_some test text = option_map (skip_while test) (after_one test text)
+
+-- behind these characters
+abbrev pub after_exactly : List ℕ → List ℕ → Option (List ℕ)
+after_exactly [] text = Some text
+after_exactly (d ∷ word) [] = None
+after_exactly (d ∷ word) (c ∷ text) = if c == d then after_exactly word text else None
+
+-- behind these characters in any case
+abbrev pub after_keyword : List ℕ → List ℕ → Option (List ℕ)
+after_keyword [] text = Some text
+after_keyword (d ∷ word) [] = None
+after_keyword (d ∷ word) (c ∷ text) = if simple_fold c == simple_fold d then after_keyword word text else None
+
+abbrev pub after_piece : Piece → List ℕ → Option (List ℕ)
+after_piece (one test) text = after_one test text
+after_piece (any test) text = Some (skip_while test text)
+after_piece (some test) text = after_some test text
+after_piece (run test) text = after_some test text
+after_piece (exactly word) text = after_exactly word text
+after_piece (keyword word) text = after_keyword word text
+
+-- behind the pieces in turn
+abbrev pub after_pieces : List Piece → List ℕ → Option (List ℕ)
+after_pieces [] text = Some text
+after_pieces (first ∷ others) text = option_and_then (after_pieces others) (after_piece first text)
+
+-- a word of ASCII characters
+abbrev pub is_ascii : List ℕ → Bool
+is_ascii word = list_all (λ letter. nat_lt letter 128) word
+
+-- the word begins with a character above `*`, so with no white space and no star
+abbrev pub begins_dark : List ℕ → Bool
+begins_dark [] = false
+begins_dark (letter ∷ word) = nat_lt 42 letter && nat_lt letter 128
+
+-- K(name) W* `=` W*
+abbrev pub assignment : List ℕ → List Piece
+assignment name = keyword name ∷ whites ∷ sign "=" ∷ whites ∷ []
+
+-- The part stands where `rest` begins, with which `text` ends. It is what reading passes over as `piece`, and `back` can
+-- be read behind it.
+pub record IsReadAt (piece : Piece) (back : List Piece) (text rest : List ℕ) (part : Part) : Type 0 where
+  pub behind : List ℕ
+  pub captured : after_piece piece (chars rest) ≡ Some behind
+  pub back_read : IsSome (after_pieces back behind)
+  pub whole : chars rest ≡ chars part.text ++ behind
+  pub utf8 : IsUtf8 part.text
+  pub start : part.start ≡ length text - length rest
+  pub end : part.end ≡ part.start + length part.text
+
+-- what an attribute begins with, behind the white space before it: K(name) W* `=` W* Q
+abbrev pub attribute_front : List ℕ → List Piece
+attribute_front name = keyword name ∷ whites ∷ sign "=" ∷ whites ∷ quote ∷ []
+
+-- an attribute begins where `rest` does, with which `text` ends, and the part is its value
+pub record IsAttributeAt (name text rest : List ℕ) (part : Part) : Type 0 where
+  pub value : List ℕ
+  pub utf8 : IsUtf8 value
+  pub front : after_pieces (attribute_front name) (chars rest) ≡ Some (chars value)
+  pub read : IsReadAt unquoted (quote ∷ []) text value part
+
+-- no attribute begins with these characters
+abbrev pub HasNoAttribute : List ℕ → List ℕ → Type 0
+HasNoAttribute name text =
+    (value : List ℕ) → after_pieces (attribute_front name) text ≡ Some value → after_pieces (unquoted ∷ quote ∷ []) value ≡ None
+
+-- `/>` stands in the first line of the text
+abbrev pub IsClosedInLine : List ℕ → Type 0
+IsClosedInLine text =
+    (line : List ℕ) × (after : List ℕ) × IsTrue (list_all is_in_line line) × (text ≡ line ++ (codes "/>" ++ after))
+
+-- `line` is the text up to its first line feed
+abbrev pub IsFirstLine : List ℕ → List ℕ → Type 0
+IsFirstLine text line = IsTrue (list_all is_in_line line) × ((text ≡ line) ⊎ ((after : List ℕ) × (text ≡ line ++ 10 ∷ after)))

@@ -1,0 +1,36 @@
+//! The part of a text that a finder captures, read where `rest` begins, with which `text` ends.
+
+ghost use Rattle.std.specs.Prelude.{◌≡◌, ◌≤◌, List, [], ◌∷◌, None, IfSome, IsNone, length};
+ghost use Rattle.std.specs.Str.{chars};
+ghost use Rattle.deno_graph_pragmas.specs.Match.{part_of};
+ghost use Rattle.deno_graph_pragmas.specs.Piece.{dark_run, quote, unquoted};
+ghost use Rattle.deno_graph_pragmas.specs.Reading.{after_pieces, IsReadAt};
+
+use crate::finders::matches::Match;
+use crate::finders::scan::{before_quote, before_white_space};
+
+/// The characters up to the next quote. None where there is no quote.
+pub(super) fn capture_quoted<'a>(text: &str, rest: &'a str) -> Option<Match<'a>>
+    requires { length rest.now ≤ length text.now }
+    ensures found { IfSome result
+        (λ found. IsReadAt unquoted (quote ∷ []) text.now rest.now (part_of found)) }
+    ensures none { IsNone result
+        → after_pieces (unquoted ∷ quote ∷ []) (chars rest.now) ≡ None }
+{
+    let found = before_quote(rest)?;
+    Some(Match::at_start_of(rest, text, found))
+}
+
+/// The characters up to the next white space, or to the end. None where there are none.
+pub(super) fn capture_run<'a>(text: &str, rest: &'a str) -> Option<Match<'a>>
+    requires { length rest.now ≤ length text.now }
+    ensures found { IfSome result
+        (λ found. IsReadAt dark_run [] text.now rest.now (part_of found)) }
+    ensures none { IsNone result → after_pieces (dark_run ∷ []) (chars rest.now) ≡ None }
+{
+    let found = before_white_space(rest);
+    if found.is_empty() {
+        return None;
+    }
+    Some(Match::at_start_of(rest, text, found))
+}

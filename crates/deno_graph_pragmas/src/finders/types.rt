@@ -1,0 +1,106 @@
+//! Pragmas that name types.
+
+ghost use Rattle.std.specs.Prelude.{◌≡◌, ◌∷◌, ◌↔◌, IfSome, IsNone, IsTrue, false, true};
+ghost use Rattle.std.specs.Str.{chars, IsUtf8};
+ghost use Rattle.deno_graph_pragmas.specs.Finders.{deno_types, quoted_pragma, quoteless_deno_types, quoteless_pragma, ts_self_types, ts_types};
+ghost use Rattle.deno_graph_pragmas.specs.Match.{pragma_part_of, Captures, IsQuotedIn, IsSliceIn};
+ghost use Rattle.deno_graph_pragmas.specs.Piece.{whites};
+ghost use Rattle.deno_graph_pragmas.specs.Reading.{after_pieces, assignment, begins_dark, chars_left, is_ascii};
+ghost use Rattle.deno_graph_pragmas.specs.Split.{HasSplit, IsCaptured, IsSliceOf, StandsInQuotes};
+
+use crate::finders::captured::{capture_quoted, capture_run};
+use crate::finders::matches::{DenoTypesPragmaMatch, Match};
+use crate::finders::scan::{skip_white_space, strip_assignment, strip_quote};
+
+/// The types of the module itself, as `@ts-self-types="./mod.d.ts"` names them: the text between
+/// the quotes, which isn't empty.
+pub fn find_ts_self_types(text: &str) -> Option<Match<'_>>
+    ensures found { IfSome result (Captures ts_self_types text.now) }
+    ensures none { IsNone result ↔ ¬ HasSplit ts_self_types text.now }
+    ensures slice { IfSome result (IsSliceIn text.now) }
+    ensures quotes { IfSome result (IsQuotedIn text.now) }
+{
+    find_quoted_pragma(text, "@ts-self-types")
+}
+
+/// The types of what is imported, as `@ts-types="./mod.d.ts"` names them: the text between the
+/// quotes, which isn't empty.
+pub fn find_ts_types(text: &str) -> Option<Match<'_>>
+    ensures found { IfSome result (Captures ts_types text.now) }
+    ensures none { IsNone result ↔ ¬ HasSplit ts_types text.now }
+    ensures slice { IfSome result (IsSliceIn text.now) }
+    ensures quotes { IfSome result (IsQuotedIn text.now) }
+{
+    find_quoted_pragma(text, "@ts-types")
+}
+
+/// The types of what is imported, as `@deno-types="./mod.d.ts"` names them: the text between the
+/// quotes, which isn't empty; or, where the text isn't so, the characters up to the next white
+/// space, as in `@deno-types=./mod.d.ts`.
+pub fn find_deno_types(text: &str) -> Option<DenoTypesPragmaMatch<'_>>
+    ensures quoted { IfSome result (λ found. found.is_quoteless ≡ false
+        → IsCaptured deno_types text.now (pragma_part_of found)) }
+    ensures quoteless { IfSome result (λ found. found.is_quoteless ≡ true
+        → ¬ HasSplit deno_types text.now
+        × IsCaptured quoteless_deno_types text.now (pragma_part_of found)) }
+    ensures none { IsNone result
+        ↔ (¬ HasSplit deno_types text.now × ¬ HasSplit quoteless_deno_types text.now) }
+    ensures slice { IfSome result (λ found. IsSliceOf text.now (pragma_part_of found)) }
+    ensures quotes { IfSome result (λ found. found.is_quoteless ≡ false
+        → StandsInQuotes text.now (pragma_part_of found)) }
+{
+    match find_quoted_pragma(text, "@deno-types") {
+        Some(found) => Some(DenoTypesPragmaMatch::new(found, false)),
+        None => {
+            let found = find_quoteless_pragma(text, "@deno-types")?;
+            Some(DenoTypesPragmaMatch::new(found, true))
+        }
+    }
+}
+
+fn find_quoted_pragma<'a>(text: &'a str, name: &str) -> Option<Match<'a>>
+    requires ascii { IsTrue (is_ascii name.now) }
+    requires dark { IsTrue (begins_dark name.now) }
+    ensures found { IfSome result (Captures (quoted_pragma name.now) text.now) }
+    ensures none { IsNone result ↔ ¬ HasSplit (quoted_pragma name.now) text.now }
+    ensures slice { IfSome result (IsSliceIn text.now) }
+    ensures quotes { IfSome result (IsQuotedIn text.now) }
+{
+    let value = strip_pragma_and_quote(text, name)?;
+    let found = capture_quoted(text, value)?;
+    if found.as_str().is_empty() {
+        return None;
+    }
+    Some(found)
+}
+
+fn find_quoteless_pragma<'a>(text: &'a str, name: &str) -> Option<Match<'a>>
+    requires ascii { IsTrue (is_ascii name.now) }
+    requires dark { IsTrue (begins_dark name.now) }
+    ensures found { IfSome result (Captures (quoteless_pragma name.now) text.now) }
+    ensures none { IsNone result ↔ ¬ HasSplit (quoteless_pragma name.now) text.now }
+    ensures slice { IfSome result (IsSliceIn text.now) }
+{
+    let value = strip_pragma(text, name)?;
+    capture_run(text, value)
+}
+
+/// White space, the name in any case, and an equals sign with white space round it.
+fn strip_pragma<'a>(text: &'a str, name: &str) -> Option<&'a str>
+    requires { IsTrue (is_ascii name.now) }
+    ensures left { chars_left result
+        ≡ after_pieces (whites ∷ assignment name.now) (chars text.now) }
+    ensures utf8 { IfSome result (λ rest. IsUtf8 rest.now) }
+{
+    strip_assignment(skip_white_space(text), name)
+}
+
+/// The same, and a quote.
+fn strip_pragma_and_quote<'a>(text: &'a str, name: &str) -> Option<&'a str>
+    requires { IsTrue (is_ascii name.now) }
+    ensures left { chars_left result
+        ≡ after_pieces (quoted_pragma name.now).front (chars text.now) }
+    ensures utf8 { IfSome result (λ rest. IsUtf8 rest.now) }
+{
+    strip_quote(strip_pragma(text, name)?)
+}

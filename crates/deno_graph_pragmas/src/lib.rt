@@ -1,0 +1,4 @@
+//! Pragmas in the comments of a module.
+#![tactic(auto)]
+
+pub mod finders;

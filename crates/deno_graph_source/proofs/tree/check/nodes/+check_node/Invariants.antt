@@ -1,0 +1,9 @@
+-- The nodes of the children so far have no fault.
+use Rattle.std.proofs.Common.{take}
+use Rattle.std.specs.List.{All, flat_map}
+use Rattle.deno_graph_source.specs.Check.{IsSound}
+use Rattle.deno_graph_source.specs.Node.{nodes_in}
+use Rattle.deno_graph_source.proofs.tree.check.nodes.+check_node.Given as goal
+
+abbrev pub invariant-loop-child : goal.invariant-loop-child
+invariant-loop-child l = All (IsSound l.text) (flat_map nodes_in (take l.child-index l.child-items))

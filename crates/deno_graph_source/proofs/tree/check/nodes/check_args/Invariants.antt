@@ -1,0 +1,8 @@
+-- The ranges of the arguments so far are ranges of the text.
+use Rattle.std.proofs.Common.{take}
+use Rattle.std.specs.List.{All}
+use Rattle.deno_graph_text.specs.SourceRange.{IsTextRange}
+use Rattle.deno_graph_source.proofs.tree.check.nodes.check_args.Given as goal
+
+abbrev pub invariant-loop-arg : goal.invariant-loop-arg
+invariant-loop-arg l = All (λ arg. IsTextRange l.text arg.range) (take l.arg-index l.args)

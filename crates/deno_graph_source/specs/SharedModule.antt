@@ -1,0 +1,13 @@
+-- What the copies of one source share.
+use Rattle.deno_graph_source.specs.ParsedSource.{ParsedModule}
+use Rattle.deno_graph_source.specs.declared.tree.parsed_source.SharedModule.{SharedModule}
+
+-- all of a module but its mark
+abbrev pub shared_of : ParsedModule → SharedModule
+shared_of source = record {
+  specifier = source.specifier;
+  media_type = source.media_type;
+  text_info = source.text;
+  program = source.program;
+  comments = source.comments;
+}

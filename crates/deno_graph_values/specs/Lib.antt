@@ -1,0 +1,3 @@
+pub mod ResolutionMode
+pub mod TextMap
+pub mod formers

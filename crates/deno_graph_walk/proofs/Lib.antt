@@ -1,0 +1,15 @@
+pub mod Ascending
+pub mod Counts
+pub mod Depth
+pub mod Entries
+pub mod Items
+pub mod ListedPaths
+pub mod Listings
+pub mod NodePaths
+pub mod Nodes
+pub mod Passed
+pub mod Progress
+pub mod Rounds
+pub mod Stacks
+pub mod Steps
+pub mod Walks

@@ -1,0 +1,101 @@
+//! `modinfo` for a process that has a parser of its own: a static library for C, Rust, Python and
+//! whatever else calls functions of C. `include/modinfo.h` declares what it exports.
+#![tactic(auto)]
+
+ghost use Rattle.std.specs.Prelude.{◌<◌};
+ghost use Rattle.modinfo_c.specs.Call.{IsAnswered};
+
+use modinfo::{Command, Fault};
+use std::alloc::{AllocError, Global};
+
+/// The answer stands in the caller's room.
+const ANSWERED: u8 = 0;
+
+/// A fault's name stands in the caller's room.
+const FAULT: u8 = 1;
+
+/// The caller's room is too small for the answer or the fault's name.
+const TOO_SMALL: u8 = 2;
+
+/// `modinfo analyze`, from one piece of memory into another. Answers the status, and leaves in
+/// `length` how many bytes were, or with status 2 would be, written.
+#[unsafe(no_mangle)]
+pub extern "C" fn modinfo_analyze(
+    alloc: Global,
+    document: &[u8],
+    answer: &mut [u8],
+    length: &mut usize,
+) -> u8
+    ensures { IsAnswered answer.old answer.new length.new result }
+{
+    call(alloc, Command::Analyze, document, answer, length)
+}
+
+/// `modinfo convert`, likewise.
+#[unsafe(no_mangle)]
+pub extern "C" fn modinfo_convert(
+    alloc: Global,
+    document: &[u8],
+    answer: &mut [u8],
+    length: &mut usize,
+) -> u8
+    ensures { IsAnswered answer.old answer.new length.new result }
+{
+    call(alloc, Command::Convert, document, answer, length)
+}
+
+/// `modinfo reach`, likewise.
+#[unsafe(no_mangle)]
+pub extern "C" fn modinfo_reach(
+    alloc: Global,
+    document: &[u8],
+    answer: &mut [u8],
+    length: &mut usize,
+) -> u8
+    ensures { IsAnswered answer.old answer.new length.new result }
+{
+    call(alloc, Command::Reach, document, answer, length)
+}
+
+fn call(
+    alloc: Global,
+    command: Command,
+    document: &[u8],
+    answer: &mut [u8],
+    length: &mut usize,
+) -> u8
+    ensures { IsAnswered answer.old answer.new length.new result }
+{
+    let mut input = document;
+    match command.answer(alloc, &mut input) {
+        Ok(line) => put(line.as_str(), ANSWERED, answer, length),
+        Err(fault) => put_name(alloc, &fault, answer, length),
+    }
+}
+
+fn put_name(alloc: Global, fault: &Fault, answer: &mut [u8], length: &mut usize) -> u8
+    ensures { IsAnswered answer.old answer.new length.new result }
+{
+    match name_of(alloc, fault) {
+        Ok(name) => put(name.as_str(), FAULT, answer, length),
+        Err(_) => put("OutOfMemory", FAULT, answer, length),
+    }
+}
+
+fn name_of(alloc: Global, fault: &Fault) -> Result<String, AllocError> {
+    format!(in alloc; "{fault}")
+}
+
+/// Copies a text to the front of the room, if it fits.
+fn put(text: &str, status: u8, answer: &mut [u8], length: &mut usize) -> u8
+    requires { status < 2 }
+    ensures { IsAnswered answer.old answer.new length.new result }
+{
+    let bytes = text.as_bytes();
+    *length = bytes.len();
+    if bytes.len() > answer.len() {
+        return TOO_SMALL;
+    }
+    answer[..bytes.len()].copy_from_slice(bytes);
+    status
+}

@@ -1,0 +1,129 @@
+//! Readers and writers that fail, at each of their calls in turn.
+
+use std::io::{Error, ErrorKind, Read, Result, Write};
+use std::test::Fail;
+
+const DOCUMENT: &str =
+    r#"{"mediaType":"TypeScript","program":{"body":[{"kind":"ImportDecl","range":[0,16],"src":{"range":[7,15],"value":"./b.ts"}}],"range":[0,16]},"source":"import \"./b.ts\";","specifier":"file:///b.ts"}"#;
+
+const PRINTED: &str =
+    "{\"dependencies\":[{\"kind\":\"import\",\"sideEffect\":true,\"specifier\":\"./b.ts\",\"specifierRange\":[[0,7],[0,15]],\"type\":\"static\"}]}\n";
+
+/// Gives its bytes one at a time, and fails at one of its reads, counted from zero.
+#[derive(Drop)]
+struct FailingReader<'a> {
+    bytes: &'a [u8],
+    reads_before: usize,
+    kind: ErrorKind,
+}
+
+impl Read for FailingReader<'_> {
+    fn read(&mut self, buf: &mut [u8]) -> Result<usize> {
+        if self.reads_before == 0 {
+            self.reads_before = usize::MAX;
+            return Err(Error::from(self.kind));
+        }
+        self.reads_before -= 1;
+        let Some((first, rest)) = self.bytes.split_first() else {
+            return Ok(0);
+        };
+        let Some(place) = buf.first_mut() else {
+            return Ok(0);
+        };
+        *place = *first;
+        self.bytes = rest;
+        Ok(1)
+    }
+}
+
+/// Keeps so many bytes, one a write, and then fails.
+#[derive(Drop)]
+struct FailingWriter {
+    kept: Vec<u8>,
+    room: usize,
+}
+
+impl Write for FailingWriter {
+    fn write(&mut self, buf: &[u8]) -> Result<usize> {
+        if self.kept.len() >= self.room {
+            return Err(Error::from(ErrorKind::BrokenPipe));
+        }
+        let Some(first) = buf.first() else {
+            return Ok(0);
+        };
+        self.kept.push(*first)?;
+        Ok(1)
+    }
+
+    fn flush(&mut self) -> Result<()> {
+        if self.kept.len() >= self.room {
+            return Err(Error::from(ErrorKind::BrokenPipe));
+        }
+        Ok(())
+    }
+}
+
+#[test]
+fn a_failed_read_gives_nothing(rt: HostRuntime) -> std::result::Result<(), Fail> {
+    let bytes = DOCUMENT.as_bytes();
+    for reads_before in 0..=bytes.len() {
+        for kind in [ErrorKind::UnexpectedEof, ErrorKind::Interrupted] {
+            let reader = FailingReader {
+                bytes,
+                reads_before,
+                kind,
+            };
+            let mut output = Vec::new(rt.alloc());
+            let mut errors = Vec::new(rt.alloc());
+            let status = modinfo::serve(rt.alloc(), &["analyze"], reader, &mut output, &mut errors);
+            // A read that was interrupted is tried again.
+            if kind == ErrorKind::Interrupted {
+                assert_eq!(rt; status, 0);
+                assert_eq!(rt; output.as_slice(), PRINTED.as_bytes());
+                assert!(rt; errors.is_empty());
+            } else {
+                assert_eq!(rt; status, 1);
+                assert!(rt; output.is_empty());
+                assert_eq!(rt; errors.as_slice(), b"modinfo: Input\n".as_slice());
+            }
+        }
+    }
+    Ok(())
+}
+
+#[test]
+fn a_failed_write_leaves_a_beginning(rt: HostRuntime) -> std::result::Result<(), Fail> {
+    let whole = PRINTED.as_bytes();
+    for room in 0..=whole.len() {
+        let mut output = FailingWriter {
+            kept: Vec::new(rt.alloc()),
+            room,
+        };
+        let mut errors = Vec::new(rt.alloc());
+        let input = DOCUMENT.as_bytes();
+        let status = modinfo::serve(rt.alloc(), &["analyze"], input, &mut output, &mut errors);
+        assert_eq!(rt; status, 1);
+        assert!(rt; whole.starts_with(output.kept.as_slice()));
+        assert_eq!(rt; output.kept.len(), room);
+        assert_eq!(rt; errors.as_slice(), b"modinfo: Output\n".as_slice());
+    }
+    Ok(())
+}
+
+#[test]
+fn a_failed_write_to_errors_is_passed_over(rt: HostRuntime) -> std::result::Result<(), Fail> {
+    for (words, status) in [(["analyze"], 1), (["parse"], 2)] {
+        for room in 0..10 {
+            let mut errors = FailingWriter {
+                kept: Vec::new(rt.alloc()),
+                room,
+            };
+            let mut output = Vec::new(rt.alloc());
+            let input = b"".as_slice();
+            let answered = modinfo::serve(rt.alloc(), &words, input, &mut output, &mut errors);
+            assert_eq!(rt; answered, status);
+            assert!(rt; output.is_empty());
+        }
+    }
+    Ok(())
+}

@@ -1,0 +1,85 @@
+//! What a row can call.
+
+pub mod arguments;
+pub mod attributes;
+pub mod comments;
+pub mod finders;
+pub mod infos;
+pub mod jsdoc;
+pub mod modules;
+pub mod serve;
+pub mod texts;
+
+use crate::row_fault::RowFault;
+use deno_graph_source::tree::ParsedSource;
+use modinfo::notation::read_document;
+use serde_json::Value;
+use std::alloc::Global;
+
+/// What the call of these words answers on this input, in the lines that state it in a row.
+pub fn answer_of(alloc: Global, words: &[&str], input: &[u8]) -> Result<String, RowFault> {
+    let Some((name, words)) = words.split_first() else {
+        return Err(RowFault::Row("it calls nothing"));
+    };
+    match *name {
+        "serve" => serve::serve(alloc, words, input),
+        "beginnings" => serve::beginnings(alloc, words, input),
+        name => of_json(alloc, name, words, input),
+    }
+}
+
+/// What a call on the JSON value that the input is answers.
+pub fn of_json(
+    alloc: Global,
+    name: &str,
+    words: &[&str],
+    input: &[u8],
+) -> Result<String, RowFault> {
+    let value = Value::from_str(alloc, text_of(input)?)?;
+    of_value(alloc, name, words, &value)
+}
+
+/// The input as a text.
+pub fn text_of(input: &[u8]) -> Result<&str, RowFault> {
+    std::str::from_utf8(input).map_err(|_| RowFault::Row("its input is no UTF-8"))
+}
+
+/// What a call on a JSON value answers.
+fn of_value(alloc: Global, name: &str, words: &[&str], value: &Value) -> Result<String, RowFault> {
+    match name {
+        "js_string" => texts::js_string(alloc, value),
+        "source_fault" => modules::fault(alloc, value),
+        "parse_jsdoc_import_decl" | "parse_jsdoc_dynamic_import" | "scan" => {
+            jsdoc::of_text(alloc, name, value)
+        }
+        "from_value" => infos::read(alloc, value),
+        "module_graph_1_to_2" => infos::converted(alloc, value),
+        "reach" => infos::reached(alloc, words, value),
+        name if name.starts_with("find_") || name.starts_with("is_comment_") => {
+            finders::find(alloc, name, value)
+        }
+        "from_source_pos"
+        | "as_source_pos"
+        | "from_source_range"
+        | "as_source_range"
+        | "range_text" => { texts::of_positions(alloc, name, words, value) }
+        name => {
+            let source = read_document(alloc, value)?.into_source(alloc)?;
+            of_source(alloc, name, &source)
+        }
+    }
+}
+
+/// What a call on the source of a document answers.
+fn of_source(alloc: Global, name: &str, source: &ParsedSource) -> Result<String, RowFault> {
+    match name {
+        "argument_of" => arguments::argument(alloc, source),
+        "parse_dynamic_import_attributes" => attributes::of_call(alloc, source),
+        "parse_import_attributes" => attributes::of_declaration(alloc, source),
+        "parse_import_attributes_from_object_lit" => attributes::of_object(alloc, source),
+        "comments" => comments::listed(alloc, source),
+        "media_type" => modules::media_type(alloc, source),
+        "every_way" => modules::every_way(alloc, source),
+        _ => Err(RowFault::Row("it calls nothing that is known")),
+    }
+}

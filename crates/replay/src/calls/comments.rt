@@ -1,0 +1,45 @@
+//! Where comments are filed.
+
+use crate::answer::push_line;
+use crate::row_fault::RowFault;
+use deno_graph_source::tree::{CommentKind, DependencyComment, ParsedSource};
+use std::alloc::Global;
+
+/// A line for each comment of a document: how and where it is filed, at each position of the source,
+/// and then how many there are in all.
+pub fn listed(alloc: Global, source: &ParsedSource) -> Result<String, RowFault> {
+    let comments = source.comments();
+    let mut answer = String::new(alloc);
+    for pos in 0..=source.text().as_str().len() {
+        for comment in comments.get_leading(pos).unwrap_or(&[]) {
+            push_comment(alloc, &mut answer, "leading", pos, comment)?;
+        }
+        for comment in comments.get_trailing(pos).unwrap_or(&[]) {
+            push_comment(alloc, &mut answer, "trailing", pos, comment)?;
+        }
+    }
+    let count = comments.iter_unstable(alloc)?.len();
+    push_line(
+        &mut answer,
+        "answer",
+        format!(in alloc; "{count} comments")?.as_str(),
+    )?;
+    Ok(answer)
+}
+
+fn push_comment(
+    alloc: Global,
+    answer: &mut String,
+    side: &str,
+    pos: usize,
+    comment: &DependencyComment,
+) -> Result<(), RowFault> {
+    let kind = match comment.kind {
+        CommentKind::Line => "line",
+        CommentKind::Block => "block",
+    };
+    let (start, end) = (comment.range.start, comment.range.end);
+    let text = comment.text.as_str();
+    let line = format!(in alloc; "{side} {pos} {kind} {start}..{end} {text:?}")?;
+    Ok(push_line(answer, "answer", line.as_str())?)
+}

@@ -1,0 +1,64 @@
+//! The finders of pragmas.
+
+use crate::answer::{named, valued};
+use crate::row_fault::RowFault;
+use deno_graph_info::analysis::{
+    Match, find_deno_types, find_jsx_import_source, find_jsx_import_source_types,
+    find_path_reference, find_resolution_mode, find_source_mapping_url, find_ts_self_types,
+    find_ts_types, find_types_reference, is_comment_triple_slash_reference,
+};
+use serde_json::{Value, json};
+use std::alloc::Global;
+
+/// What the finder of this name finds in a text.
+pub fn find(alloc: Global, name: &str, value: &Value) -> Result<String, RowFault> {
+    let Some(text) = value.as_str() else {
+        return Err(RowFault::Row("its input is no text"));
+    };
+    match name {
+        "is_comment_triple_slash_reference" => {
+            named(
+                alloc,
+                if is_comment_triple_slash_reference(text) {
+                    "true"
+                } else {
+                    "false"
+                },
+            )
+        }
+        "find_deno_types" => match find_deno_types(text) {
+            None => named(alloc, "null"),
+            Some(found) => {
+                let (start, end) = (found.range.start, found.range.end);
+                let (quoteless, text) = (found.is_quoteless, found.text);
+                valued(
+                    alloc,
+                    &json!(in alloc; { "quoteless": quoteless, "range": [start, end], "text": text })?,
+                )
+            }
+        },
+        "find_path_reference" => matched(alloc, find_path_reference(text)),
+        "find_types_reference" => matched(alloc, find_types_reference(text)),
+        "find_resolution_mode" => matched(alloc, find_resolution_mode(text)),
+        "find_jsx_import_source" => matched(alloc, find_jsx_import_source(text)),
+        "find_jsx_import_source_types" => matched(alloc, find_jsx_import_source_types(text)),
+        "find_source_mapping_url" => matched(alloc, find_source_mapping_url(text)),
+        "find_ts_self_types" => matched(alloc, find_ts_self_types(text)),
+        "find_ts_types" => matched(alloc, find_ts_types(text)),
+        _ => Err(RowFault::Row("it calls nothing that is known")),
+    }
+}
+
+fn matched(alloc: Global, found: Option<Match<'_>>) -> Result<String, RowFault> {
+    match found {
+        None => named(alloc, "null"),
+        Some(found) => {
+            let (range, text) = (found.range(), found.as_str());
+            let (start, end) = (range.start, range.end);
+            valued(
+                alloc,
+                &json!(in alloc; { "range": [start, end], "text": text })?,
+            )
+        }
+    }
+}

@@ -1,0 +1,48 @@
+//! Information on modules, read from JSON: what is read, converted and reached.
+
+use crate::answer::{named, valued};
+use crate::row_fault::RowFault;
+use deno_graph_info::analysis::{ConvertFault, InfoFault, ModuleInfo, module_graph_1_to_2};
+use deno_graph_info::reach::reach;
+use serde_json::Value;
+use std::alloc::Global;
+use std::collections::BTreeMap;
+
+/// What `from_value` reads, written again.
+pub fn read(alloc: Global, value: &Value) -> Result<String, RowFault> {
+    match ModuleInfo::from_value(alloc, value) {
+        Ok(info) => valued(alloc, &info.to_value(alloc)?),
+        Err(InfoFault::OutOfMemory) => Err(RowFault::OutOfMemory),
+        Err(fault) => named(alloc, format!(in alloc; "{fault}")?.as_str()),
+    }
+}
+
+/// What `module_graph_1_to_2` makes of a value. Where it refuses, the value has to be unchanged.
+pub fn converted(alloc: Global, value: &Value) -> Result<String, RowFault> {
+    let mut again = value.clone()?;
+    match module_graph_1_to_2(alloc, &mut again) {
+        Ok(()) => valued(alloc, &again),
+        Err(_) if again != *value => named(alloc, "refused, and changed"),
+        Err(ConvertFault::OutOfMemory) => Err(RowFault::OutOfMemory),
+        Err(fault) => named(alloc, format!(in alloc; "{fault}")?.as_str()),
+    }
+}
+
+/// What `reach` reaches from the root that is named, over an object of keys and information.
+pub fn reached(alloc: Global, words: &[&str], value: &Value) -> Result<String, RowFault> {
+    let ([root], Some(members)) = (words, value.as_object()) else {
+        return Err(RowFault::Row("it names no root or has no object"));
+    };
+    let mut modules = BTreeMap::new(alloc);
+    for (key, info) in members.iter() {
+        let info = ModuleInfo::from_value(alloc, info).map_err(|_| RowFault::Row(
+            "an information of it can't be read",
+        ))?;
+        drop(modules.insert(key.clone()?, info)?);
+    }
+    let mut keys = Vec::new(alloc);
+    for key in reach(alloc, &modules, root)? {
+        keys.push(Value::String(key))?;
+    }
+    valued(alloc, &Value::Array(keys))
+}

@@ -1,0 +1,65 @@
+//! Imports in JSDoc comments.
+
+use crate::answer::{named, valued};
+use crate::row_fault::RowFault;
+use deno_graph_analysis::jsdoc::{
+    JsDocImport, NoParse, parse_jsdoc_dynamic_import, parse_jsdoc_import_decl, scan,
+};
+use deno_graph_info::analysis::TypeScriptTypesResolutionMode;
+use serde_json::{Value, json};
+use std::alloc::{AllocError, Global};
+
+/// What a parser or the scan finds in a text.
+pub fn of_text(alloc: Global, name: &str, value: &Value) -> Result<String, RowFault> {
+    let Some(text) = value.as_str() else {
+        return Err(RowFault::Row("its input is no text"));
+    };
+    match name {
+        "parse_jsdoc_import_decl" => parsed(alloc, parse_jsdoc_import_decl(text)),
+        "parse_jsdoc_dynamic_import" => parsed(alloc, parse_jsdoc_dynamic_import(text)),
+        _ => scanned(alloc, text),
+    }
+}
+
+fn parsed(
+    alloc: Global,
+    found: Result<(&str, JsDocImport<'_>), NoParse>,
+) -> Result<String, RowFault> {
+    match found {
+        Err(NoParse) => named(alloc, "NoParse"),
+        Ok((rest, import)) => {
+            let (start, end) = (import.specifier_range.start, import.specifier_range.end);
+            let (mode, specifier) = (mode_value(alloc, &import)?, import.specifier);
+            valued(
+                alloc,
+                &json!(in alloc; { "mode": mode, "range": [start, end], "rest": rest, "specifier": specifier })?,
+            )
+        }
+    }
+}
+
+fn scanned(alloc: Global, text: &str) -> Result<String, RowFault> {
+    let found = scan(alloc, text)?;
+    let mut imports = Vec::new(alloc);
+    for import in found.imports.iter() {
+        let (start, end) = (import.specifier_range.start, import.specifier_range.end);
+        let (mode, specifier) = (mode_value(alloc, import)?, import.specifier);
+        imports.push(
+            json!(in alloc; { "mode": mode, "range": [start, end], "specifier": specifier })?,
+        )?;
+    }
+    let (decl_starts, dynamic_starts) = (found.decl_starts, found.dynamic_starts);
+    let imports = Value::Array(imports);
+    valued(
+        alloc,
+        &json!(in alloc; { "declStarts": decl_starts, "dynamicStarts": dynamic_starts, "imports": imports })?,
+    )
+}
+
+fn mode_value(alloc: Global, import: &JsDocImport<'_>) -> Result<Value, AllocError> {
+    match import.resolution_mode {
+        None => Ok(Value::Null),
+        Some(TypeScriptTypesResolutionMode::Import) => json!(in alloc; "import"),
+        Some(TypeScriptTypesResolutionMode::Require) => json!(in alloc; "require"),
+    }
+}

@@ -1,0 +1,110 @@
+//! Modules as a whole.
+
+use crate::answer::{named, valued};
+use crate::row_fault::RowFault;
+use deno_graph_analysis::ast::{module_info, module_info_from_program};
+use deno_graph_analysis::dep::{DependencyDescriptor, analyze_program_dependencies};
+use deno_graph_info::analysis::{self, ModuleInfo};
+use deno_graph_source::text::{PositionRange, SourceRange, SourceTextInfo};
+use deno_graph_source::tree::{ParsedSource, source_fault};
+use deno_graph_source::values::TryClone;
+use modinfo::notation::read_document;
+use serde_json::Value;
+use std::alloc::Global;
+
+/// What `source_fault` finds in a document.
+pub fn fault(alloc: Global, value: &Value) -> Result<String, RowFault> {
+    let document = read_document(alloc, value)?;
+    match source_fault(
+        alloc,
+        document.source,
+        &document.program,
+        &document.comments,
+    )? {
+        None => named(alloc, "null"),
+        Some(fault) => named(alloc, format!(in alloc; "{fault}")?.as_str()),
+    }
+}
+
+/// The media type of a document, and whether it has types.
+pub fn media_type(alloc: Global, source: &ParsedSource) -> Result<String, RowFault> {
+    let media_type = source.media_type();
+    let kind = if media_type.is_typed() {
+        "typed"
+    } else {
+        "untyped"
+    };
+    named(alloc, format!(in alloc; "{media_type:?} {kind}")?.as_str())
+}
+
+/// What `module_info` finds, if every other way to it leads there too.
+pub fn every_way(alloc: Global, source: &ParsedSource) -> Result<String, RowFault> {
+    let info = module_info(alloc, source)?;
+    if by_copies(alloc, source, &info)? && by_dependencies(alloc, source, &info)? {
+        valued(alloc, &info.to_value(alloc)?)
+    } else {
+        named(alloc, "other ways lead elsewhere")
+    }
+}
+
+/// Whether copies are equal, and the parts of the source give the same as the whole.
+fn by_copies(alloc: Global, source: &ParsedSource, info: &ModuleInfo) -> Result<bool, RowFault> {
+    let by_parts = module_info_from_program(
+        alloc,
+        source.media_type(),
+        source.program(),
+        source.text_info_lazy(),
+        source.comments(),
+    )?;
+    Ok(
+        by_parts == *info
+            && info.try_clone(alloc)? == *info
+            && source.program().try_clone(alloc)? == *source.program()
+            && source.comments().try_clone(alloc)? == *source.comments(),
+    )
+}
+
+/// Whether the descriptors that borrow from the tree say the same as those of the information.
+fn by_dependencies(
+    alloc: Global,
+    source: &ParsedSource,
+    info: &ModuleInfo,
+) -> Result<bool, RowFault> {
+    let found = analyze_program_dependencies(alloc, source.program(), source.comments())?;
+    let text_info = source.text_info_lazy();
+    Ok(
+        found.len() == info.dependencies.len()
+            && found
+                .iter()
+                .zip(info.dependencies.iter())
+                .all(|(borrowed, owned)| is_same(text_info, borrowed, owned)),
+    )
+}
+
+/// Whether both have the same kind, specifier, range and attributes.
+fn is_same(
+    text_info: &SourceTextInfo,
+    borrowed: &DependencyDescriptor<'_>,
+    owned: &analysis::DependencyDescriptor,
+) -> bool {
+    match (borrowed, owned) {
+        (DependencyDescriptor::Static(borrowed), analysis::DependencyDescriptor::Static(owned)) => {
+            borrowed.kind == owned.kind
+                && borrowed.specifier == owned.specifier.as_str()
+                && is_at(text_info, borrowed.specifier_range, &owned.specifier_range)
+                && borrowed.is_side_effect == owned.is_side_effect
+                && borrowed.import_attributes == owned.import_attributes
+        }
+        (DependencyDescriptor::Dynamic(borrowed), analysis::DependencyDescriptor::Dynamic(owned)) =>
+            {
+                borrowed.kind == owned.kind
+                    && is_at(text_info, borrowed.argument_range, &owned.argument_range)
+                    && borrowed.import_attributes == owned.import_attributes
+            }
+        _ => false,
+    }
+}
+
+fn is_at(text_info: &SourceTextInfo, range: SourceRange, positions: &PositionRange) -> bool {
+    positions.as_source_range(text_info) == Some(range)
+}

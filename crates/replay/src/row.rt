@@ -1,0 +1,100 @@
+use crate::answer::push_line;
+use crate::files::Block;
+use crate::row_fault::RowFault;
+use std::alloc::Global;
+use std::fs;
+use std::rt::Files;
+
+/// A row: what is called, on what, and what it has to answer, in lines.
+#[derive(Debug, Drop)]
+pub struct Row<'a> {
+    pub words: Vec<&'a str>,
+    pub input: Vec<u8>,
+    pub expected: String,
+    has_input: bool,
+}
+
+impl<'a> Row<'a> {
+    /// The row of this block. The files that it names are read.
+    pub fn read<R: Files + AllocGlobal>(rt: &R, block: &Block<'a>) -> Result<Row<'a>, RowFault> {
+        let mut row = Row {
+            words: Vec::new(rt.alloc()),
+            input: Vec::new(rt.alloc()),
+            expected: String::new(rt.alloc()),
+            has_input: false,
+        };
+        for (word, rest) in block.lines.iter() {
+            row.read_line(rt, word, rest)?;
+        }
+        Ok(row)
+    }
+
+    fn read_line<R>(&mut self, rt: &R, word: &'a str, rest: &'a str) -> Result<(), RowFault>
+    where
+        R: Files + AllocGlobal,
+    {
+        match word {
+            "call" => self.read_call(rest),
+            "input" => self.read_input(rest),
+            "input-from" => self.read_bytes(fs::read(rt, rest)?.as_slice()),
+            "bytes" => self.read_bytes(bytes_of(rt.alloc(), rest)?.as_slice()),
+            "status" => self.read_status(rest),
+            "output" | "errors" | "answer" => self.read_answer(word, rest),
+            "output-from" => self.read_lines("output", fs::read_to_string(rt, rest)?.as_str()),
+            "answer-from" => self.read_lines("answer", fs::read_to_string(rt, rest)?.as_str()),
+            _ => Err(RowFault::Row("a line of it begins with no word of a row")),
+        }
+    }
+
+    fn read_call(&mut self, words: &'a str) -> Result<(), RowFault> {
+        for word in words.split_whitespace() {
+            self.words.push(word)?;
+        }
+        match self.words.first() {
+            Some(name) if *name == "serve" || *name == "beginnings" => self.read_status("0"),
+            _ => Ok(()),
+        }
+    }
+
+    /// The status of a run of the program, which stands before what it writes.
+    fn read_status(&mut self, status: &str) -> Result<(), RowFault> {
+        self.expected.clear();
+        self.read_answer("status", status)
+    }
+
+    fn read_answer(&mut self, word: &str, rest: &str) -> Result<(), RowFault> {
+        Ok(push_line(&mut self.expected, word, rest)?)
+    }
+
+    /// A further line of the input.
+    fn read_input(&mut self, line: &str) -> Result<(), RowFault> {
+        if self.has_input {
+            self.input.push(b'\n')?;
+        }
+        self.read_bytes(line.as_bytes())
+    }
+
+    fn read_bytes(&mut self, bytes: &[u8]) -> Result<(), RowFault> {
+        self.has_input = true;
+        Ok(self.input.extend_from_slice(bytes)?)
+    }
+
+    fn read_lines(&mut self, word: &str, text: &str) -> Result<(), RowFault> {
+        for line in text.lines() {
+            self.read_answer(word, line)?;
+        }
+        Ok(())
+    }
+}
+
+/// Bytes in hexadecimal, with spaces between them.
+fn bytes_of(alloc: Global, text: &str) -> Result<Vec<u8>, RowFault> {
+    let mut bytes = Vec::new(alloc);
+    for word in text.split_whitespace() {
+        match u8::from_str_radix(word, 16) {
+            Ok(byte) => bytes.push(byte)?,
+            Err(_) => return Err(RowFault::Row("its bytes are not in hexadecimal")),
+        }
+    }
+    Ok(bytes)
+}

@@ -1,0 +1,60 @@
+use deno_graph_source::text::{JsString, Position, SourceTextInfo};
+use deno_graph_source::values::TryClone;
+use std::process::Abort;
+use std::rc::RcStr;
+use std::test::Fail;
+
+/// The boundary has this position, and the position gives it back.
+fn assert_position(rt: &impl Abort, info: &SourceTextInfo, pos: usize, expected: Position) {
+    assert!(rt; info.text().is_char_boundary(pos));
+    assert_eq!(rt; Position::from_source_pos(pos, info), expected, "{pos}");
+    assert_eq!(rt; expected.as_source_pos(info), Some(pos));
+}
+
+/// Counts along the text, and compares at each boundary.
+fn assert_positions_along(rt: &impl Abort, info: &SourceTextInfo) {
+    let mut expected = Position::zeroed();
+    let mut pos = 0usize;
+    for c in info.text().chars() {
+        assert_position(rt, info, pos, expected);
+        expected = if c == '\n' {
+            Position {
+                line: expected.line.wrapping_add(1),
+                character: 0,
+            }
+        } else {
+            Position {
+                line: expected.line,
+                character: expected.character.wrapping_add(1),
+            }
+        };
+        pos = pos.wrapping_add(c.len_utf8());
+    }
+    assert_position(rt, info, pos, expected);
+}
+
+#[test]
+fn positions_are_right_all_along_long_texts(rt: HostRuntime) -> Result<(), Fail> {
+    for (part, count) in [
+        ("ab", 700),
+        ("aé€😀", 200),
+        ("é\n\nabcdefghijklmnopqrstuvwxyz€\n", 60),
+    ] {
+        let text = part.repeat(rt.alloc(), count)?;
+        let info = SourceTextInfo::new(rt.alloc(), RcStr::from_str(rt.alloc(), text.as_str())?)?;
+        assert_positions_along(&rt, &info);
+        assert!(rt; info.try_clone(rt.alloc())? == info);
+    }
+    Ok(())
+}
+
+#[test]
+fn strings_are_equal_by_their_units(rt: HostRuntime) -> Result<(), Fail> {
+    let alloc = rt.alloc();
+    let pair = JsString::from_units(alloc, &[0xD83D, 0xDE00])?;
+    assert!(rt; pair == JsString::from_str(alloc, "\u{1f600}")?);
+    let lone = JsString::from_units(alloc, &[0xD83D])?;
+    assert!(rt; lone != JsString::from_str(alloc, "\u{fffd}")?);
+    assert!(rt; lone.try_clone(alloc)? == lone);
+    Ok(())
+}

@@ -1,0 +1,62 @@
+"""Analyzes each of the named documents in this one process, and prints what ./modinfo prints.
+
+    python3 analyze.py LIBRARY DOCUMENT ..
+
+LIBRARY is libmodinfo.so, which `tools/build_library` makes.
+"""
+
+import ctypes
+import sys
+
+ANSWERED, FAULT, TOO_SMALL = 0, 1, 2
+
+
+class Modinfo:
+    """The functions of include/modinfo.h."""
+
+    def __init__(self, path):
+        self.library = ctypes.CDLL(path)
+        for name in ("modinfo_analyze", "modinfo_convert", "modinfo_reach"):
+            function = getattr(self.library, name)
+            function.restype = ctypes.c_uint8
+            function.argtypes = [
+                ctypes.c_char_p,
+                ctypes.c_size_t,
+                ctypes.c_char_p,
+                ctypes.c_size_t,
+                ctypes.POINTER(ctypes.c_size_t),
+            ]
+
+    def call(self, name, document, room=4096):
+        """The answer's line; a ValueError with the fault's name where the document is refused."""
+        length = ctypes.c_size_t()
+        while True:
+            answer = ctypes.create_string_buffer(room)
+            status = getattr(self.library, name)(
+                document, len(document), answer, room, ctypes.byref(length)
+            )
+            if status != TOO_SMALL:
+                break
+            room = length.value
+        text = answer.raw[: length.value].decode()
+        if status == FAULT:
+            raise ValueError(text)
+        return text
+
+
+def main():
+    modinfo = Modinfo(sys.argv[1])
+    status = 0
+    for name in sys.argv[2:]:
+        with open(name, "rb") as file:
+            document = file.read()
+        try:
+            print(modinfo.call("modinfo_analyze", document), end="", flush=True)
+        except ValueError as fault:
+            print(f"modinfo: {fault}", file=sys.stderr)
+            status = 1
+    return status
+
+
+if __name__ == "__main__":
+    sys.exit(main())
