@@ -1,9 +1,10 @@
 //! The dynamic import, as `{import("./types.ts").Type}`.
 
-ghost use Rattle.std.specs.Prelude.{◌≡◌, ◌≤◌, ℕ, List, IfOk, IfSome, IsOkAnd, codes, length};
+ghost use Rattle.std.specs.Prelude.{◌≡◌, ◌≤◌, ℕ, List, IfOk, IfSome, IsOkAnd, codes, length, option_map};
 ghost use Rattle.std.specs.Str.{chars};
 ghost use Rattle.deno_graph_jsdoc.specs.JsDocGrammar.{◌·◌, Is, IsSpace, IsOptions, IsSecond, IsUpTo};
 ghost use Rattle.deno_graph_jsdoc.specs.JsDocImport.{Import, HasArguments, IsDynamicEnd, IsDynamicImport, Parses, import_of, rest_and_import};
+ghost use Rattle.deno_graph_jsdoc.specs.JsDocBraces.{Finds, IsUnclosed};
 ghost use Rattle.deno_graph_jsdoc.specs.JsDocReading.{Reads, Anything, NoSpace, rest_of, rest_and_mode};
 
 use super::attributes::block;
@@ -34,6 +35,19 @@ pub(crate) fn behind_import(input: &str) -> Option<(&str, JsDocImport<'_>)>
     let (rest, import) = arguments(input)?;
     let rest = through_brace(rest)?;
     Some((rest, import))
+}
+
+/// The import that a dynamic import states, from behind its `import` on.
+///
+/// At most the last `unclosed` bytes of `input` have no `}`, so the closing one isn't looked for.
+pub(crate) fn find_import(input: &str, unclosed: usize) -> Option<JsDocImport<'_>>
+    requires { IsUnclosed (chars input.now) unclosed }
+    ensures found { Finds IsDynamicEnd (chars input.now) (option_map import_of result) }
+    ensures within { IfSome result (λ import. (import.specifier_range.start ≤ import.specifier_range.end)
+        × (import.specifier_range.end ≤ length input.now)) }
+{
+    let (rest, import) = arguments(input)?;
+    (rest.len() > unclosed).then_some(import)
 }
 
 /// What is behind a brace and the first `import` behind it, where no `}` is between.
