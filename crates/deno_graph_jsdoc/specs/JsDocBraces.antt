@@ -4,6 +4,7 @@ use Rattle.std.specs.Str.{IsUtf8, chars, skip_leading_whitespace}
 use Rattle.deno_graph_jsdoc.specs.JsDocGrammar.{◌·◌, Is, Lacks}
 use Rattle.deno_graph_jsdoc.specs.JsDocImport.{Import, IsSource, Parses, rest_and_import, size}
 use Rattle.deno_graph_jsdoc.specs.JsDocReading.{Anything, Reads}
+use Rattle.deno_graph_jsdoc.specs.declared.import.JsDocImport.{JsDocImport}
 use Rattle.deno_graph_jsdoc.specs.declared.grammar.declaration.NamesEnd.{NamesEnd}
 
 -- a back of the text lacks `}` exactly where it takes at most so many bytes
@@ -18,6 +19,10 @@ Finds G input answer = (rest : List ℕ) × Parses G input (option_map (λ impor
 abbrev pub IsBehindBrace : List ℕ → List ℕ → Type 0
 IsBehindBrace behind text =
     ((inside : List ℕ) × Lacks 125 inside × (text ≡ inside ++ 125 ∷ behind)) ⊎ ((front : List ℕ) × (behind ≡ front ++ text))
+
+-- the specifier ends among so many bytes
+abbrev pub IsWithin : JsDocImport → ℕ → Type 0
+IsWithin import count = (import.specifier_range.start ≤ import.specifier_range.end) × (import.specifier_range.end ≤ count)
 
 -- the source that stands behind a `}` and white space, as it is read there
 pub record IsNamesEnd (end : NamesEnd) : Type 0 where

@@ -10,8 +10,8 @@ use crate::grammar::{declaration, dynamic};
 use crate::import::{JsDocImport, Scan};
 use std::alloc::{AllocError, Global};
 
-/// All imports that `text`, the text of a comment, states: the dynamic imports from each `{` on, and
-/// the declarations from each `@import` on.
+/// All imports that `text`, the text of a comment, states: the dynamic imports from each `{` on,
+/// and the declarations from each `@import` on.
 ///
 /// The error is want of memory.
 pub fn scan<'a>(alloc: Global, text: &'a str) -> Result<Scan<'a>, AllocError>
@@ -48,15 +48,16 @@ pub fn scan<'a>(alloc: Global, text: &'a str) -> Result<Scan<'a>, AllocError>
     })
 }
 
-/// Puts the import that a parser found, if it found one, into its place by its start, unless one with
-/// that start is there. Its range is counted from `by` bytes before.
+/// Puts the import that a parser found, if it found one, into its place by its start, unless one
+/// with that start is there. Its range is counted from `by` bytes before.
 fn add<'a>(
     imports: &mut Vec<JsDocImport<'a>>,
     found: Option<JsDocImport<'a>>,
     by: usize,
 ) -> Result<(), AllocError>
     requires ascending { Ascend (map import_of imports.old.items) }
-    requires order { IfSome found (λ import. import.specifier_range.start ≤ import.specifier_range.end) }
+    requires order { IfSome found
+        (λ import. import.specifier_range.start ≤ import.specifier_range.end) }
     requires fits { IfSome found (λ import. import.specifier_range.end + by < 2 ^ 64) }
     ensures { OnOk result (MatchOption found.entry (imports.new.items ≡ imports.old.items)
         (λ import. GainsImport (map import_of imports.old.items)

@@ -82,7 +82,8 @@ pub(crate) fn unclosed_len(text: &str) -> usize
 /// What is behind an identifier, and its name: an Alphabetic character and all others up to white
 /// space, `:` or `-`.
 pub(crate) fn ident(input: &str) -> Option<(&str, &str)>
-    ensures { Reads EndOfIdent (λ name text. IsIdent text × (name ≡ text)) (chars input.now) (rest_and_text result) }
+    ensures { Reads EndOfIdent (λ name text. IsIdent text × (name ≡ text))
+        (chars input.now) (rest_and_text result) }
 {
     let end = input.find(ends_ident).unwrap_or(input.len());
     let name = &input[..end];
