@@ -359,3 +359,12 @@ no_arguments middle none = no_tail_at_all Open EndsArguments EndsDynamicImport T
 pub behind_arguments : (middle behind : List ℕ) (import : Import) (o : Option (List ℕ × Unit {0})) → Parses HasArguments middle (Some (behind, import))
     → Reads Anything (λ (_ : Unit {0}). Through) behind o → Parses IsDynamicEnd middle (option_map (λ (x : List ℕ × Unit {0}). (x.0, import)) o)
 behind_arguments middle behind import o found more = longer Open EndsArguments EndsDynamicImport Through end_apart end_together middle behind import o found more
+
+-- where the arguments of a dynamic import end, its text goes on to the end of the text
+pub HasArguments-back : (middle : List ℕ) (import : Import) (behind : List ℕ) → HasArguments middle import behind → (front : List ℕ) × (middle ≡ front ++ behind)
+HasArguments-back middle import behind s =
+    let tail = s.tail in (
+      s.before ++ (s.quote ++ tail.piece),
+      s.whole ∙ ap (λ t. s.before ++ (s.quote ++ t)) tail.whole ∙ ap (λ t. s.before ++ t) (sym (append_assoc s.quote tail.piece behind))
+          ∙ sym (append_assoc s.before (s.quote ++ tail.piece) behind),
+    )

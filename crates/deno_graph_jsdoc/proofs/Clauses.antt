@@ -163,6 +163,18 @@ clause_names input rest found = (
   ],
 )
 
+-- a brace begins only names
+pub clause_unclosed : (input inside : List ℕ) → Begins (Is (codes "{")) input inside → Reads NoSpace (λ (_ : Unit {0}). IsNames · IsSpace) input None → Reads NoSpace Clause input None
+clause_unclosed input inside brace none = λ other behind stop b. elim (clause_apart b) [
+  | inl names ↦ none other behind stop names
+  | inr others ↦ elim others [
+    | inl namespace ↦
+        let heads : ◌≡◌ {A = ℕ} 123 42 = same_first brace (Begins-split namespace).1 in
+        omega (arith, heads)
+    | inr name ↦ first_of_name 123 opening_brace name brace
+  ]
+]
+
 module _ (input : List ℕ) (no_names : Reads NoSpace (λ (_ : Unit {0}). IsNames · IsSpace) input None) where
   pub clause_namespace : (rest : List ℕ) → Reads NoSpace (λ (_ : Unit {0}). IsNamespace) input (Some (rest, tt)) → Reads NoSpace Clause input (Some (rest, tt))
   clause_namespace rest found = (

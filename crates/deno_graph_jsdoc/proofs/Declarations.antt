@@ -1,9 +1,10 @@
 -- Declarations: a clause, and then a source.
 use Rattle.std.proofs.Common.{ℕ, Option, Some, None, List, refl, codes, option_map}
-use Rattle.deno_graph_jsdoc.specs.JsDocGrammar.{◌·◌, Is, IsSpace, IsGap, IsClause}
+use Rattle.std.specs.Str.{skip_leading_whitespace}
+use Rattle.deno_graph_jsdoc.specs.JsDocGrammar.{◌·◌, Is, IsSpace, IsGap, IsClause, Lacks}
 use Rattle.deno_graph_jsdoc.specs.JsDocImport.{Import, Parses, IsDeclaration, IsDeclarationEnd, IsSource, EndsDeclaration, size, moved}
 use Rattle.deno_graph_jsdoc.specs.JsDocReading.{Begins, Anything, NoSpace, Reads}
-use Rattle.deno_graph_jsdoc.proofs.Clauses.{Head}
+use Rattle.deno_graph_jsdoc.proofs.Clauses.{Head, clause_names, clause_unclosed, head_read, names_read, names_unclosed}
 use Rattle.deno_graph_jsdoc.proofs.Imports.{no_first, behind_first}
 use Rattle.deno_graph_jsdoc.proofs.Readings.{IsSolid-word, NoSpace-before, regroup_3, ungroup_3, textwise}
 
@@ -31,6 +32,19 @@ no_clause input none = no_first NoSpace First From Whole EndsDeclaration apart t
 pub behind_clause : (input middle : List ℕ) (head : Reads NoSpace Head input (Some (middle, tt))) (o : Option (List ℕ × Import)) → Parses IsSource middle o
     → Parses IsDeclarationEnd input (option_map (λ x. (x.0, moved (size head.0.piece) x.1)) o)
 behind_clause input middle head o source = behind_first NoSpace First From Whole EndsDeclaration apart together follows input middle head o source
+
+-- a declaration of names in braces, by what is behind the closing one
+module _ (input clause inside : List ℕ) (gap : Reads NoSpace (λ (_ : Unit {0}). IsGap) input (Some (clause, tt)))
+    (opens : Reads Anything (λ (_ : Unit {0}). Is (codes "{")) clause (Some (inside, tt))) where
+  pub names_without_end : Reads Anything (λ (_ : Unit {0}). Lacks 125 · Is (codes "}")) inside None → Parses IsDeclarationEnd input None
+  names_without_end none =
+      no_clause input (head_read input clause None gap (clause_unclosed clause inside opens.0 (names_unclosed clause inside opens none)))
+
+  module _ (behind : List ℕ) (close : Reads Anything (λ (_ : Unit {0}). Lacks 125 · Is (codes "}")) inside (Some (behind, tt))) where
+    pub names_head : Reads NoSpace Head input (Some (skip_leading_whitespace behind, tt))
+    names_head =
+        head_read input clause (Some (skip_leading_whitespace behind, tt)) gap
+        (clause_names clause (skip_leading_whitespace behind) (names_read clause inside opens behind close))
 
 -- the word with which a declaration begins
 abbrev pub AtWord : Unit {0} → List ℕ → Type 0

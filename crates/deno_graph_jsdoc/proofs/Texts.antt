@@ -6,7 +6,7 @@ use Rattle.std.proofs.lemmas.Str.{IsUtf8-from_ascii, IsUtf8-past_char, IsUtf8-ta
 use Rattle.std.specs.List.{AllByRecursion}
 use Rattle.std.specs.Option.{MatchOption, unwrap_or}
 use Rattle.std.specs.Str.{IsAscii, IsUtf8, IsCharBoundary, NonePass, NoCharPasses, chars}
-use Rattle.std.specs.Str.Pattern.{FindsBy, FindsChar, FindsCharPrefix, FindsText, FindsTextPrefix, StripsPrefix, SplitsAroundMatch}
+use Rattle.std.specs.Str.Pattern.{FindsBy, FindsChar, FindsCharPrefix, RFindsChar, FindsText, FindsTextPrefix, StripsPrefix, SplitsAroundMatch}
 use denote.Ref.{Bor}
 use lib.Utf8.{encodes, encode}
 use Rattle.deno_graph_jsdoc.specs.JsDocGrammar.{Is, Lacks}
@@ -68,6 +68,24 @@ split_chars mark input (Some x) utf8 ascii (i, j, found, front, back, order, fro
     let whole : chars input ≡ chars (take i input) ++ mark ∷ chars (drop j input) =
     ap chars (sym (take-append-drop i input)) ∙ chars-append (take i input) (drop i input) before ∙ ap (λ t. chars (take i input) ++ t) behind in (
       subst (λ t. Lacks mark (chars t)) (sym front) (Lacks-chars mark (take i input) before found.0),
+      whole ∙ (λ k. chars (sym front k) ++ mark ∷ chars (sym back k)),
+    )
+
+-- the characters before and behind the last of a mark
+pub rsplit_chars : (mark : ℕ) (input before rest : List ℕ) → IsUtf8 input → mark < 128 → SplitsAroundMatch (RFindsChar mark) input before rest
+    → Lacks mark (chars rest) × (chars input ≡ chars before ++ mark ∷ chars rest)
+rsplit_chars mark input before rest utf8 ascii (i, j, found, front, back, order, front_size, back_size) =
+    let at = found.1 in
+    let inside : i < length input = omega (arith, at.ends, len_utf8_bounds mark) in
+    let byte : get_or input i 0 ≡ mark = at.byte ascii in
+    let boundary : IsCharBoundary input i = IsCharBoundary-before_ascii input i inside (omega (arith, byte)) in
+    let start : IsUtf8 (take i input) = IsUtf8-take input i utf8 boundary in
+    let from : IsUtf8 (drop i input) = IsUtf8-drop input i utf8 boundary in
+    let behind : chars (drop i input) ≡ mark ∷ chars (drop j input) = chars_past_char (drop i input) (drop j input) mark from at.split in
+    let past : IsUtf8 (drop j input) = IsUtf8-past_char (drop i input) (drop j input) mark from at.split in
+    let whole : chars input ≡ chars (take i input) ++ mark ∷ chars (drop j input) =
+    ap chars (sym (take-append-drop i input)) ∙ chars-append (take i input) (drop i input) start ∙ ap (λ t. chars (take i input) ++ t) behind in (
+      subst (λ t. Lacks mark (chars t)) (sym back) (Lacks-chars mark (drop j input) past found.0),
       whole ∙ (λ k. chars (sym front k) ++ mark ∷ chars (sym back k)),
     )
 

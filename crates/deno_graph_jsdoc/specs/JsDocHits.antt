@@ -15,9 +15,13 @@ pub record IsHit (text : List ℕ) (import : Import) : Type 0 where
   pub states : IsDynamicImport back here rest ⊎ IsDeclaration back here rest
   pub place : import ≡ moved (size front) here
 
+-- each start is above those before it
+abbrev pub Ascend : List Import → Type 0
+Ascend imports = AllPairs (λ (import later : Import). import.start < later.start) imports
+
 -- the list has all hits of the text and nothing else, each start above those before it
 pub record AreHits (text : List ℕ) (imports : List Import) : Type 0 where
-  pub ascending : AllPairs (λ (import later : Import). import.start < later.start) imports
+  pub ascending : Ascend imports
   pub exact : (import : Import) → Contains imports import ↔ IsHit text import
 
 -- a front of the text
@@ -51,7 +55,7 @@ EndsWithAt = Anything · Is (codes "@")
 
 -- the new list has this import, or one with its start, and else what the old one has; it ascends as that does
 pub record GainsImport (old : List Import) (import : Import) (new : List Import) : Type 0 where
-  pub ascending : AllPairs (λ (import later : Import). import.start < later.start) new
+  pub ascending : Ascend new
   pub only : (other : Import) → Contains new other → Contains old other ⊎ (import ≡ other)
   pub kept : (other : Import) → Contains old other → Contains new other
   pub there : (other : Import) × Contains new other × (other.start ≡ import.start)

@@ -1,4 +1,5 @@
 pub mod JsDocGrammar
 pub mod JsDocReading
 pub mod JsDocImport
+pub mod JsDocBraces
 pub mod JsDocHits

@@ -4,4 +4,4 @@ pub(crate) mod attributes;
 pub(crate) mod declaration;
 pub(crate) mod dynamic;
 pub mod laws;
-mod parts;
+pub(crate) mod parts;

@@ -8,7 +8,8 @@ use std::ops::Range;
 pub struct JsDocImport<'a> {
     /// The text between the quotes.
     pub specifier: &'a str,
-    /// Where that text stands, without its quotes, in bytes from the start of the text that was read.
+    /// Where that text stands, without its quotes, in bytes from the start of the text that was
+    /// read.
     pub specifier_range: Range<usize>,
     /// How types are resolved, where an attribute says so.
     pub resolution_mode: Option<TypeScriptTypesResolutionMode>,
@@ -35,7 +36,8 @@ impl<'a> JsDocImport<'a> {
 /// What a pass over the text of a comment found.
 #[derive(Debug, Drop)]
 pub struct Scan<'a> {
-    /// The imports by ascending start, each once. Their ranges are in bytes from the start of the text.
+    /// The imports by ascending start, each once. Their ranges are in bytes from the start of the
+    /// text.
     pub imports: Vec<JsDocImport<'a>>,
     /// How often the parser of dynamic imports was started: once at each `import` that is the first
     /// behind some `{` with no `}` between.

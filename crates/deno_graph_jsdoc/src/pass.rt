@@ -1,24 +1,29 @@
 //! All imports that the text of a comment states, found in one pass.
 
-ghost use Rattle.std.specs.Prelude.{◌≡◌, ◌+◌, ◌<◌, ◌≤◌, ◌^◌, ◌↔◌, ℕ, IfOk, OnOk, IsTrue, IfSome, MatchOption, map, length};
-ghost use Rattle.std.specs.List.{AllPairs};
+ghost use Rattle.std.specs.Prelude.{◌≡◌, ◌+◌, ◌<◌, ◌≤◌, ◌^◌, ◌↔◌, IfOk, OnOk, IsTrue, IfSome, MatchOption, map};
 ghost use Rattle.std.specs.Str.{chars};
-ghost use Rattle.deno_graph_jsdoc.specs.JsDocImport.{Import, import_of, moved};
-ghost use Rattle.deno_graph_jsdoc.specs.JsDocHits.{AreHits, HasFronts, EndsAtDynamicImport, EndsAtDeclaration, LeavesOpen, EndsWithAt, GainsImport};
+ghost use Rattle.deno_graph_jsdoc.specs.JsDocImport.{import_of, moved};
+ghost use Rattle.deno_graph_jsdoc.specs.JsDocHits.{Ascend, AreHits, HasFronts, EndsAtDynamicImport, EndsAtDeclaration, LeavesOpen, EndsWithAt, GainsImport};
 
+use crate::grammar::parts::unclosed_len;
 use crate::grammar::{declaration, dynamic};
 use crate::import::{JsDocImport, Scan};
 use std::alloc::{AllocError, Global};
 
-/// All imports that `text`, the text of a comment, states: the dynamic imports from each `{` on, and
-/// the declarations from each `@import` on.
+/// All imports that `text`, the text of a comment, states: the dynamic imports from each `{` on,
+/// and the declarations from each `@import` on.
 ///
 /// The error is want of memory.
 pub fn scan<'a>(alloc: Global, text: &'a str) -> Result<Scan<'a>, AllocError>
-    ensures hits { IfOk result (λ scan. AreHits (chars text.now) (map import_of scan.imports.items)) }
-    ensures dynamic { IfOk result (λ scan. HasFronts EndsAtDynamicImport (chars text.now) scan.dynamic_starts) }
-    ensures declarations { IfOk result (λ scan. HasFronts EndsAtDeclaration (chars text.now) scan.decl_starts) }
+    ensures hits { IfOk result
+        (λ scan. AreHits (chars text.now) (map import_of scan.imports.items)) }
+    ensures dynamic { IfOk result
+        (λ scan. HasFronts EndsAtDynamicImport (chars text.now) scan.dynamic_starts) }
+    ensures declarations { IfOk result
+        (λ scan. HasFronts EndsAtDeclaration (chars text.now) scan.decl_starts) }
 {
+    let unclosed = unclosed_len(text);
+    let mut known = None;
     let mut imports = Vec::new(alloc);
     let mut dynamic_starts = 0;
     let mut decl_starts = 0;
@@ -27,11 +32,12 @@ pub fn scan<'a>(alloc: Global, text: &'a str) -> Result<Scan<'a>, AllocError>
         let by = text.len() - behind.len();
         if ends_with_at(before) {
             decl_starts += 1;
-            add(&mut imports, declaration::behind_import(behind), by)?;
+            let found = declaration::find_import(behind, unclosed, &mut known);
+            add(&mut imports, found, by)?;
         }
         if leaves_open(before) {
             dynamic_starts += 1;
-            add(&mut imports, dynamic::behind_import(behind), by)?;
+            add(&mut imports, dynamic::find_import(behind, unclosed), by)?;
         }
         rest = behind;
     }
@@ -42,20 +48,22 @@ pub fn scan<'a>(alloc: Global, text: &'a str) -> Result<Scan<'a>, AllocError>
     })
 }
 
-/// Puts the import that a parser found, if it found one, into its place by its start, unless one with
-/// that start is there. Its range is counted from `by` bytes before.
+/// Puts the import that a parser found, if it found one, into its place by its start, unless one
+/// with that start is there. Its range is counted from `by` bytes before.
 fn add<'a>(
     imports: &mut Vec<JsDocImport<'a>>,
-    found: Option<(&'a str, JsDocImport<'a>)>,
+    found: Option<JsDocImport<'a>>,
     by: usize,
 ) -> Result<(), AllocError>
-    requires ascending { AllPairs (λ (import later : Import). import.start < later.start) (map import_of imports.old.items) }
-    requires order { IfSome found (λ parsed. parsed.1.specifier_range.start ≤ parsed.1.specifier_range.end) }
-    requires fits { IfSome found (λ parsed. parsed.1.specifier_range.end + by < 2 ^ 64) }
+    requires ascending { Ascend (map import_of imports.old.items) }
+    requires order { IfSome found
+        (λ import. import.specifier_range.start ≤ import.specifier_range.end) }
+    requires fits { IfSome found (λ import. import.specifier_range.end + by < 2 ^ 64) }
     ensures { OnOk result (MatchOption found.entry (imports.new.items ≡ imports.old.items)
-        (λ parsed. GainsImport (map import_of imports.old.items) (moved by (import_of parsed.1)) (map import_of imports.new.items))) }
+        (λ import. GainsImport (map import_of imports.old.items)
+        (moved by (import_of import)) (map import_of imports.new.items))) }
 {
-    let Some((_, import)) = found else {
+    let Some(import) = found else {
         return Ok(());
     };
     insert(imports, import.moved(by))
@@ -66,8 +74,9 @@ pub fn insert<'a>(
     imports: &mut Vec<JsDocImport<'a>>,
     import: JsDocImport<'a>,
 ) -> Result<(), AllocError>
-    requires ascending { AllPairs (λ (import later : Import). import.start < later.start) (map import_of imports.old.items) }
-    ensures { OnOk result (GainsImport (map import_of imports.old.items) (import_of import.entry) (map import_of imports.new.items)) }
+    requires ascending { Ascend (map import_of imports.old.items) }
+    ensures { OnOk result (GainsImport (map import_of imports.old.items)
+        (import_of import.entry) (map import_of imports.new.items)) }
 {
     let start = import.specifier_range.start;
     let at = imports

@@ -8,7 +8,7 @@ use Rattle.deno_graph_jsdoc.specs.JsDocHits.{AreHits, GainsImport, IsHit}
 use Rattle.deno_graph_jsdoc.specs.JsDocImport.{Import, import_of, moved}
 use Rattle.deno_graph_jsdoc.specs.declared.import.JsDocImport.{JsDocImport}
 use Rattle.deno_graph_jsdoc.proofs.Hits.{hit_placed}
-use Rattle.deno_graph_jsdoc_imports.specs.JsDocList.{AreApart, AreImports, GainsImports, IsImportOf, IsJsDoc, IsQuotedAt}
+use Rattle.deno_graph_jsdoc_imports.specs.JsDocList.{AreApart, AreImports, GainsImports, IsImportOf, IsJsDoc, IsMovedHit, IsQuotedAt}
 use Rattle.deno_graph_jsdoc_imports.proofs.Places.{one_import, quoted_at}
 use Rattle.deno_graph_source.specs.Source.{IsSpelled}
 use Rattle.deno_graph_source.specs.declared.tree.comments.DependencyComment.{DependencyComment}
@@ -73,38 +73,22 @@ Gathered-start comments = record {
   complete = λ comment has. absurd (omega (arith, has.1));
 }
 
-pub Gathered-skip : (comments done : List DependencyComment) (comment : DependencyComment) (imports : List Import) → (IsJsDoc comment → ⊥) → Gathered comments done imports
-    → Gathered comments (done ++ comment ∷ []) imports
-Gathered-skip comments done comment imports none gathered = record {
-  ascending = gathered.ascending;
-  sound = gathered.sound;
-  complete = λ other has import is. by_place other (Contains-push_cases done comment other has) import is;
-}
-  where
-    by_place : (other : DependencyComment) → Contains done other ⊎ (comment ≡ other) → (import : Import) → IsImportOf other import → Contains imports import
-    by_place other (inl has) import is = gathered.complete other has import is
-    by_place other (inr same) import is = absurd (none (subst IsJsDoc (sym same) is.jsdoc))
-
--- what the text of a comment adds
-abbrev pub Adds : DependencyComment → Import → Type 0
-Adds comment import = (hit : Import) × IsHit (chars comment.text) hit × (import ≡ moved (comment.range.start + 2) hit)
-
 module _ (text : List ℕ) (comments : List DependencyComment) (spelled : All (IsSpelled text) comments) (apart : AreApart comments) where
   pub Gathered-more : (done : List DependencyComment) (comment : DependencyComment) (imports more : List Import) → Contains comments comment → IsJsDoc comment → IsUtf8 comment.text
-      → Gathered comments done imports → GainsImports imports (Adds comment) more → Gathered comments (done ++ comment ∷ []) more
+      → Gathered comments done imports → GainsImports imports (IsMovedHit comment) more → Gathered comments (done ++ comment ∷ []) more
   Gathered-more done comment imports more inside jsdoc utf8 gathered gains = record {
     ascending = gains.ascending;
     sound = sound;
     complete = λ other has import is. by_place other (Contains-push_cases done comment other has) import is;
   }
     where
-      import_of_added : (import : Import) → Adds comment import → IsImportOf comment import
+      import_of_added : (import : Import) → IsMovedHit comment import → IsImportOf comment import
       import_of_added import (hit, is_hit, place) = record { jsdoc = jsdoc; hit = hit; is_hit = is_hit; place = place }
 
       sound : (import : Import) → Contains more import → (comment : DependencyComment) × Contains comments comment × IsUtf8 comment.text × IsImportOf comment import
       sound import has = by_new (gains.only import has)
         where
-          by_new : Contains imports import ⊎ Adds comment import → (comment : DependencyComment) × Contains comments comment × IsUtf8 comment.text × IsImportOf comment import
+          by_new : Contains imports import ⊎ IsMovedHit comment import → (comment : DependencyComment) × Contains comments comment × IsUtf8 comment.text × IsImportOf comment import
           by_new (inl old) = gathered.sound import old
           by_new (inr new) = (comment, inside, utf8, import_of_added import new)
 
@@ -130,6 +114,15 @@ Gathered-imports comments imports gathered = record {
         (from.0, from.1, from.3)),
     λ some. gathered.complete some.0 some.1 import some.2,
   );
+}
+
+-- the imports of all JSDoc comments are those of all comments
+pub Gathered-jsdoc : (comments chosen : List DependencyComment) (imports : List Import) → ((comment : DependencyComment) → Contains comments comment → IsJsDoc comment → Contains chosen comment)
+    → Gathered comments chosen imports → Gathered comments comments imports
+Gathered-jsdoc comments chosen imports has gathered = record {
+  ascending = gathered.ascending;
+  sound = gathered.sound;
+  complete = λ comment inside import is. gathered.complete comment (has comment inside is.jsdoc) import is;
 }
 
 pub Gathered-quoted : (comments done : List DependencyComment) (imports : List Import) → Gathered comments done imports → (text : List ℕ) → All (IsSpelled text) comments → (import : Import) → Contains imports import

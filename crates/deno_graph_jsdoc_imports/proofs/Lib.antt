@@ -1,3 +1,4 @@
 pub mod Gathered
 pub mod InfoLemmas
 pub mod Places
+pub mod Chosen

@@ -37,6 +37,10 @@ AreApart comments =
 abbrev pub IsJsDoc : DependencyComment → Type 0
 IsJsDoc comment = (comment.kind ≡ Block) × ((rest : List ℕ) × (comment.text ≡ codes "*" ++ rest))
 
+-- `chosen` has the JSDoc comments of `comments` and nothing else
+abbrev pub AreJsDocOf : List DependencyComment → List DependencyComment → Type 0
+AreJsDocOf comments chosen = (comment : DependencyComment) → Contains chosen comment ↔ (Contains comments comment × IsJsDoc comment)
+
 -- `import` is a hit of the text of such a comment, its place counted from the start of the source
 pub record IsImportOf (comment : DependencyComment) (import : Import) : Type 0 where
   pub jsdoc : IsJsDoc comment
@@ -48,6 +52,10 @@ pub record IsImportOf (comment : DependencyComment) (import : Import) : Type 0 w
 pub record AreImports (comments : List DependencyComment) (imports : List Import) : Type 0 where
   pub ascending : AllPairs (λ (import later : Import). import.start < later.start) imports
   pub exact : (import : Import) → Contains imports import ↔ ((comment : DependencyComment) × Contains comments comment × IsImportOf comment import)
+
+-- `import` is a hit of the text of the comment, its place counted from the start of the source
+abbrev pub IsMovedHit : DependencyComment → Import → Type 0
+IsMovedHit comment import = (hit : Import) × IsHit (chars comment.text) hit × (import ≡ moved (comment.range.start + 2) hit)
 
 -- the new list ascends and has the imports of which `P` holds besides those of the old one; of imports with one
 -- start it may have only one

@@ -19,8 +19,8 @@ use std::alloc::{AllocError, Global};
 /// ranges take in the two quotes. None in files of other types than JavaScript, Jsx, Mjs and Cjs.
 ///
 /// The comments are those of a valid source: each is written in the text at its range, and unequal
-/// ones share no byte. Their order, and how often each is there, makes no difference. The error is want
-/// of memory.
+/// ones share no byte. Their order, and how often each is there, makes no difference. The error is
+/// want of memory.
 pub fn jsdoc_imports(
     alloc: Global,
     media_type: MediaType,
@@ -31,7 +31,8 @@ pub fn jsdoc_imports(
     requires apart { AreApart (map (λ comment. comment.now) comments.now) }
     ensures list { IfOk result (λ infos. IsJsDocList (reads_jsdoc media_type) text_info.now
         (map (λ comment. comment.now) comments.now) infos.items) }
-    ensures covers { IfOk result (λ infos. All (λ info. CoversQuoted text_info.now info.specifier) infos.items) }
+    ensures covers { IfOk result
+        (λ infos. All (λ info. CoversQuoted text_info.now info.specifier) infos.items) }
 {
     if !reads_jsdoc(media_type) {
         return Ok(Vec::new(alloc));

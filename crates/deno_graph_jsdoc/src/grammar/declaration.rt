@@ -1,9 +1,10 @@
 //! The declaration, as `@import { Type } from "./types.ts"`.
 
-ghost use Rattle.std.specs.Prelude.{◌≡◌, ◌≤◌, ℕ, List, IfOk, IfSome, IsOkAnd, codes, length};
+ghost use Rattle.std.specs.Prelude.{◌≡◌, ◌<◌, ◌≤◌, ◌↔◌, ℕ, List, IfOk, IfSome, IsOkAnd, IsSomeAnd, IsTrue, codes, length, option_map};
 ghost use Rattle.std.specs.Str.{chars};
 ghost use Rattle.deno_graph_jsdoc.specs.JsDocGrammar.{◌·◌, Is, IsSpace, IsGap, IsIdent, IsClause, IsNames, IsNamespace, IsName, IsWith};
 ghost use Rattle.deno_graph_jsdoc.specs.JsDocImport.{Import, IsDeclaration, IsDeclarationEnd, IsSource, Parses, import_of, rest_and_import};
+ghost use Rattle.deno_graph_jsdoc.specs.JsDocBraces.{Finds, IsNextEnd, IsUnclosed, IsWithin, Keeps};
 ghost use Rattle.deno_graph_jsdoc.specs.JsDocReading.{Reads, Anything, NoSpace, rest_of, rest_and_mode};
 
 use super::attributes::block;
@@ -13,10 +14,12 @@ use deno_graph_values::TypeScriptTypesResolutionMode;
 
 /// The import declaration with which `input` begins, and what is behind it.
 ///
-/// `@import`, white space, what is imported (names in braces, `* as` a name, or a name), `from` and a
-/// quoted specifier; then `with` and attributes, which are left to the rest where they don't parse.
+/// `@import`, white space, what is imported (names in braces, `* as` a name, or a name), `from` and
+/// a quoted specifier; then `with` and attributes, which are left to the rest where they don't
+/// parse.
 pub fn parse_jsdoc_import_decl(input: &str) -> Result<(&str, JsDocImport<'_>), NoParse>
-    ensures found { IfOk result (λ parsed. IsDeclaration (chars input.now) (import_of parsed.1) (chars parsed.0.now)) }
+    ensures found { IfOk result
+        (λ parsed. IsDeclaration (chars input.now) (import_of parsed.1) (chars parsed.0.now)) }
     ensures only { (import : Import) (rest : List ℕ) → IsDeclaration (chars input.now) import rest
         → IsOkAnd result (λ parsed. (import ≡ import_of parsed.1) × (rest ≡ chars parsed.0.now)) }
 {
@@ -28,12 +31,88 @@ pub fn parse_jsdoc_import_decl(input: &str) -> Result<(&str, JsDocImport<'_>), N
 /// The declaration from behind its `@import` on, and what is behind it.
 pub(crate) fn behind_import(input: &str) -> Option<(&str, JsDocImport<'_>)>
     ensures parsed { Parses IsDeclarationEnd (chars input.now) (rest_and_import result) }
-    ensures within { IfSome result (λ parsed. (parsed.1.specifier_range.start ≤ parsed.1.specifier_range.end)
-        × (parsed.1.specifier_range.end ≤ length input.now)) }
+    ensures within { IfSome result (λ parsed. IsWithin parsed.1 (length input.now)) }
 {
     let from = clause_behind(input)?;
     let (rest, import) = source(from)?;
     Some((rest, import.moved(input.len() - from.len())))
+}
+
+/// What is behind the `}` of names, read once for all declarations whose names end there.
+#[derive(Drop)]
+pub(crate) struct NamesEnd<'a> {
+    /// All that is behind it.
+    behind: &'a str,
+    /// The same from its first character on that is no white space.
+    from: &'a str,
+    /// The import that `from` begins with, and what is behind that.
+    source: Option<(&'a str, JsDocImport<'a>)>,
+}
+
+/// The import that a declaration states, from behind its `@import` on.
+///
+/// The last `unclosed` bytes of `input` have no `}`, and no more. `known` is kept from one
+/// declaration of a text to the next, so that no `}` is looked for twice and nothing behind one is
+/// read twice.
+pub(crate) fn find_import<'a>(
+    input: &'a str,
+    unclosed: usize,
+    known: &mut Option<NamesEnd<'a>>,
+) -> Option<JsDocImport<'a>>
+    requires unclosed { IsUnclosed (chars input.now) unclosed }
+    requires keeps { Keeps (chars input.now) known.old }
+    ensures found { Finds IsDeclarationEnd (chars input.now) (option_map import_of result) }
+    ensures within { IfSome result (λ import. IsWithin import (length input.now)) }
+    ensures keeps { Keeps (chars input.now) known.new }
+{
+    let clause = gap(input)?;
+    let Some(inside) = word(clause, "{") else {
+        let (_, import) = behind_import(input)?;
+        return Some(import);
+    };
+    advance(known, inside, unclosed);
+    let end = known.as_ref()?;
+    let (_, import) = end.source.as_ref()?;
+    Some(import.moved(input.len() - end.from.len()))
+}
+
+/// Makes `known` what is behind the next `}` of `input`, None where it has none.
+fn advance<'a>(known: &mut Option<NamesEnd<'a>>, input: &'a str, unclosed: usize)
+    requires unclosed { IsUnclosed (chars input.now) unclosed }
+    requires keeps { Keeps (chars input.now) known.old }
+    ensures { IsNextEnd (chars input.now) known.new }
+{
+    if !is_ahead(known, input) {
+        *known = names_end(input, unclosed);
+    }
+}
+
+/// Whether the `}` that is known stands in `input`, and not before it.
+fn is_ahead(known: &Option<NamesEnd<'_>>, input: &str) -> bool
+    ensures { IsTrue result
+        ↔ IsSomeAnd known.now (λ end. length end.behind.now < length input.now) }
+{
+    match known {
+        Some(end) => end.behind.len() < input.len(),
+        None => false,
+    }
+}
+
+/// What is behind the next `}` of `input`.
+fn names_end(input: &str, unclosed: usize) -> Option<NamesEnd<'_>>
+    requires { IsUnclosed (chars input.now) unclosed }
+    ensures { IsNextEnd (chars input.now) result }
+{
+    if input.len() <= unclosed {
+        return None;
+    }
+    let behind = through_brace(input)?;
+    let from = skip_space(behind);
+    Some(NamesEnd {
+        behind,
+        from,
+        source: source(from),
+    })
 }
 
 /// What is behind white space, a clause and white space.
@@ -81,8 +160,7 @@ fn name(input: &str) -> Option<&str>
 /// The import that a declaration states, from its `from` on, and what is behind it.
 pub(crate) fn source(input: &str) -> Option<(&str, JsDocImport<'_>)>
     ensures parsed { Parses IsSource (chars input.now) (rest_and_import result) }
-    ensures within { IfSome result (λ parsed. (parsed.1.specifier_range.start ≤ parsed.1.specifier_range.end)
-        × (parsed.1.specifier_range.end ≤ length input.now)) }
+    ensures within { IfSome result (λ parsed. IsWithin parsed.1 (length input.now)) }
 {
     let quoted = token(input, "from")?;
     let (behind, specifier) = quote(quoted)?;

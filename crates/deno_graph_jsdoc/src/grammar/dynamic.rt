@@ -1,9 +1,10 @@
 //! The dynamic import, as `{import("./types.ts").Type}`.
 
-ghost use Rattle.std.specs.Prelude.{◌≡◌, ◌≤◌, ℕ, List, IfOk, IfSome, IsOkAnd, codes, length};
+ghost use Rattle.std.specs.Prelude.{◌≡◌, ◌≤◌, ℕ, List, IfOk, IfSome, IsOkAnd, codes, length, option_map};
 ghost use Rattle.std.specs.Str.{chars};
 ghost use Rattle.deno_graph_jsdoc.specs.JsDocGrammar.{◌·◌, Is, IsSpace, IsOptions, IsSecond, IsUpTo};
 ghost use Rattle.deno_graph_jsdoc.specs.JsDocImport.{Import, HasArguments, IsDynamicEnd, IsDynamicImport, Parses, import_of, rest_and_import};
+ghost use Rattle.deno_graph_jsdoc.specs.JsDocBraces.{Finds, IsUnclosed, IsWithin};
 ghost use Rattle.deno_graph_jsdoc.specs.JsDocReading.{Reads, Anything, NoSpace, rest_of, rest_and_mode};
 
 use super::attributes::block;
@@ -13,10 +14,12 @@ use deno_graph_values::TypeScriptTypesResolutionMode;
 
 /// The dynamic import in braces with which `input` begins, and what is behind it.
 ///
-/// `{`, anything up to the first `import`, an argument list of a quoted specifier and maybe attributes, and
-/// anything up to `}`. Only the first `import` is tried, and no `}` stands before it.
+/// `{`, anything up to the first `import`, an argument list of a quoted specifier and maybe
+/// attributes, and anything up to `}`. Only the first `import` is tried, and no `}` stands before
+/// it.
 pub fn parse_jsdoc_dynamic_import(input: &str) -> Result<(&str, JsDocImport<'_>), NoParse>
-    ensures found { IfOk result (λ parsed. IsDynamicImport (chars input.now) (import_of parsed.1) (chars parsed.0.now)) }
+    ensures found { IfOk result
+        (λ parsed. IsDynamicImport (chars input.now) (import_of parsed.1) (chars parsed.0.now)) }
     ensures only { (import : Import) (rest : List ℕ) → IsDynamicImport (chars input.now) import rest
         → IsOkAnd result (λ parsed. (import ≡ import_of parsed.1) × (rest ≡ chars parsed.0.now)) }
 {
@@ -28,22 +31,36 @@ pub fn parse_jsdoc_dynamic_import(input: &str) -> Result<(&str, JsDocImport<'_>)
 /// The dynamic import from behind its `import` on, and what is behind it.
 pub(crate) fn behind_import(input: &str) -> Option<(&str, JsDocImport<'_>)>
     ensures parsed { Parses IsDynamicEnd (chars input.now) (rest_and_import result) }
-    ensures within { IfSome result (λ parsed. (parsed.1.specifier_range.start ≤ parsed.1.specifier_range.end)
-        × (parsed.1.specifier_range.end ≤ length input.now)) }
+    ensures within { IfSome result (λ parsed. IsWithin parsed.1 (length input.now)) }
 {
     let (rest, import) = arguments(input)?;
     let rest = through_brace(rest)?;
     Some((rest, import))
 }
 
+/// The import that a dynamic import states, from behind its `import` on.
+///
+/// The last `unclosed` bytes of `input` have no `}`, and no more, so the closing one isn't looked
+/// for.
+pub(crate) fn find_import(input: &str, unclosed: usize) -> Option<JsDocImport<'_>>
+    requires { IsUnclosed (chars input.now) unclosed }
+    ensures found { Finds IsDynamicEnd (chars input.now) (option_map import_of result) }
+    ensures within { IfSome result (λ import. IsWithin import (length input.now)) }
+{
+    let (rest, import) = arguments(input)?;
+    (rest.len() > unclosed).then_some(import)
+}
+
 /// What is behind a brace and the first `import` behind it, where no `}` is between.
 fn first_import(input: &str) -> Option<&str>
-    ensures { Reads Anything (λ _. Is (codes "{") · IsUpTo (codes "import")) (chars input.now) (rest_of result) }
+    ensures { Reads Anything (λ _. Is (codes "{") · IsUpTo (codes "import"))
+        (chars input.now) (rest_of result) }
 {
     up_to_import(word(input, "{")?)
 }
 
-/// What is behind the first `import`, where no `}` is before it. It is looked for up to the first `}`.
+/// What is behind the first `import`, where no `}` is before it. It is looked for up to the first
+/// `}`.
 fn up_to_import(input: &str) -> Option<&str>
     ensures { Reads Anything (λ _. IsUpTo (codes "import")) (chars input.now) (rest_of result) }
 {
@@ -60,8 +77,7 @@ fn up_to_import(input: &str) -> Option<&str>
 /// The import that the argument list behind an `import` states, and what is behind the list.
 pub(crate) fn arguments(input: &str) -> Option<(&str, JsDocImport<'_>)>
     ensures parsed { Parses HasArguments (chars input.now) (rest_and_import result) }
-    ensures within { IfSome result (λ parsed. (parsed.1.specifier_range.start ≤ parsed.1.specifier_range.end)
-        × (parsed.1.specifier_range.end ≤ length input.now)) }
+    ensures within { IfSome result (λ parsed. IsWithin parsed.1 (length input.now)) }
 {
     let quoted = token(skip_space(input), "(")?;
     let (behind, specifier) = quote(quoted)?;

@@ -4,6 +4,7 @@
 ghost use Rattle.std.specs.Prelude.{◌≡◌, ◌<◌, codes};
 ghost use Rattle.std.specs.Str.{IsAscii, chars, skip_leading_whitespace};
 ghost use Rattle.deno_graph_jsdoc.specs.JsDocGrammar.{◌·◌, Is, IsSpace, IsGap, IsQuote, IsBetween, IsIdent, Lacks, begins_ident, ends_ident};
+ghost use Rattle.deno_graph_jsdoc.specs.JsDocBraces.{IsUnclosed};
 ghost use Rattle.deno_graph_jsdoc.specs.JsDocReading.{Reads, Anything, NoSpace, EndOfIdent, rest_of, rest_and_text};
 
 /// What is behind the white space, or all where there is none.
@@ -68,10 +69,21 @@ pub(crate) fn through_brace(input: &str) -> Option<&str>
     Some(rest)
 }
 
+/// How many bytes at the end of a text have no `}`: those behind the last one, or all.
+pub(crate) fn unclosed_len(text: &str) -> usize
+    ensures { IsUnclosed (chars text.now) result }
+{
+    match text.rsplit_once('}') {
+        Some((_, behind)) => behind.len(),
+        None => text.len(),
+    }
+}
+
 /// What is behind an identifier, and its name: an Alphabetic character and all others up to white
 /// space, `:` or `-`.
 pub(crate) fn ident(input: &str) -> Option<(&str, &str)>
-    ensures { Reads EndOfIdent (λ name text. IsIdent text × (name ≡ text)) (chars input.now) (rest_and_text result) }
+    ensures { Reads EndOfIdent (λ name text. IsIdent text × (name ≡ text))
+        (chars input.now) (rest_and_text result) }
 {
     let end = input.find(ends_ident).unwrap_or(input.len());
     let name = &input[..end];

@@ -1,32 +1,34 @@
 -- One `import` after another.
-use Rattle.std.proofs.Common.{◌≡◌, ◌≢◌, ℕ, ◌+◌, ◌-◌, ◌<◌, inl, Option, Some, None, List, [], ◌++◌, length, map, refl, sym, ap, ◌∙◌, subst, codes, arith, rules, Vec, Global}
+use Rattle.std.proofs.Common.{◌≡◌, ◌≢◌, ℕ, ◌+◌, ◌-◌, ◌<◌, inl, Option, Some, None, List, [], ◌++◌, append_assoc, length, map, option_map, refl, sym, ap, ◌∙◌, subst, codes, arith, rules, Vec, Global}
 use Rattle.std.proofs.lemmas.Bool.{both_ways}
 use Rattle.std.proofs.lemmas.Str.{length-le-encodes}
 use Rattle.std.specs.Option.{MatchOption}
 use Rattle.std.specs.Str.{IsUtf8, chars}
-use denote.Ref.{Bor}
+use Rattle.deno_graph_jsdoc.specs.declared.grammar.declaration.NamesEnd.{NamesEnd}
 use Rattle.deno_graph_jsdoc.specs.declared.import.JsDocImport.{JsDocImport}
-use Rattle.deno_graph_jsdoc.specs.JsDocImport.{import_of, rest_and_import, moved, size}
+use Rattle.deno_graph_jsdoc.specs.JsDocBraces.{Keeps}
+use Rattle.deno_graph_jsdoc.specs.JsDocImport.{import_of, moved, size}
 use Rattle.deno_graph_jsdoc.specs.JsDocHits.{GainsImport}
+use Rattle.deno_graph_jsdoc.proofs.Braces.{IsUnclosed-back, Keeps-back}
 use Rattle.deno_graph_jsdoc.proofs.Imports.{size_before}
 use Rattle.deno_graph_jsdoc.proofs.Passes.{Found, Found-start, Found-hits, Found-dynamics, Found-decls, Takes, dynamic_skip, dynamic_take, decl_skip, decl_take, next, next_whole, next_cut, next_longer, next_skips, declaration_here, at_declaration, dynamic_here, at_dynamic}
-use Rattle.deno_graph_jsdoc.proofs.Sites.{word}
+use Rattle.deno_graph_jsdoc.proofs.Sites.{word, Skips}
 use Rattle.deno_graph_jsdoc.proofs.Texts.{split_word}
 use Rattle.deno_graph_jsdoc.proofs.Words.{IsAscii-from_test}
 use Rattle.deno_graph_jsdoc.proofs.pass.scan.Goals as goal
-use Rattle.deno_graph_jsdoc.proofs.pass.scan.Goals.{In-Some, In_default, then-ends_with_at+in_ok-add, else-ends_with_at}
+use Rattle.deno_graph_jsdoc.proofs.pass.scan.Goals.{After-leaves_open, In-Some, In_default, then-ends_with_at+in_ok-add, else-ends_with_at}
 
 pub loop-before-init : goal.loop-before-init
 loop-before-init c =
-    (search rules, ([], refl, inl refl, subst (λ (items : List JsDocImport). Found (chars c.args.text.now) (map import_of items) 0 0 [] []) (sym c.new-imports.ensures.items) (Found-start (chars c.args.text.now))))
+    (search rules, ([], refl, inl refl, subst (λ (items : List JsDocImport). Found (chars c.args.text.now) (map import_of items) 0 0 [] []) (sym c.new-imports.ensures.items) (Found-start (chars c.args.text.now))), tt)
 
 -- what `add` leaves
-takes : (text behind after : List ℕ) (old new : List JsDocImport) (found : Option (Bor (List ℕ) × JsDocImport)) (by : ℕ) → by ≡ size after
-    → MatchOption found (new ≡ old) (λ parsed. GainsImport (map import_of old) (moved by (import_of parsed.1)) (map import_of new))
-    → Takes after (map import_of old) (rest_and_import found) (map import_of new)
-takes text behind after old new None by is same = ap (map import_of) same
-takes text behind after old new (Some parsed) by is gains =
-    subst (λ n. GainsImport (map import_of old) (moved n (import_of parsed.1)) (map import_of new)) is gains
+takes : (rest after : List ℕ) (old new : List JsDocImport) (found : Option JsDocImport) (by : ℕ) → by ≡ size after
+    → MatchOption found (new ≡ old) (λ import. GainsImport (map import_of old) (moved by (import_of import)) (map import_of new))
+    → Takes after (map import_of old) (option_map (λ import. (rest, import)) (option_map import_of found)) (map import_of new)
+takes rest after old new None by is same = ap (map import_of) same
+takes rest after old new (Some import) by is gains =
+    subst (λ n. GainsImport (map import_of old) (moved n (import_of import)) (map import_of new)) is gains
 
 -- the `import` that was found
 split : (c : In-Some) → (chars c.loop-before.rest.now ≡ chars c.in-Some.before.now ++ (word ++ chars c.in-Some.behind.now))
@@ -67,71 +69,107 @@ overflow_add-dynamic_starts c =
     let few = c.loop-before.invariant.1.3.few_dynamics in
     omega (arith, few, bytes here, longer here, length-le-encodes (after here))
 
-pub loop-before-preserved-in_ok-add-2 : goal.loop-before-preserved-in_ok-add-2
-loop-before-preserved-in_ok-add-2 c =
-    let here = (goal.at.loop-before-preserved-in_ok-add-2 c).In-Some in
+pub find_import-found-requires-clause-unclosed : goal.find_import-found-requires-clause-unclosed
+find_import-found-requires-clause-unclosed c =
+    let here = (goal.at.find_import-found-requires-clause-unclosed c).In-Some in
+    IsUnclosed-back (chars c.args.text.now) (after here) (chars c.in-Some.behind.now) c.unclosed_len-unclosed.result (through here) c.unclosed_len-unclosed.ensures
+
+-- what is known of the braces behind a later place
+still : (c : In-Some) → Keeps (chars c.in-Some.behind.now) c.loop-before.known
+still c =
+    Keeps-back (chars c.loop-before.rest.now) (chars c.in-Some.before.now ++ word) (chars c.in-Some.behind.now) c.loop-before.known
+    ((split c).0 ∙ sym (append_assoc (chars c.in-Some.before.now) word (chars c.in-Some.behind.now))) c.loop-before.invariant.2
+
+pub find_import-found-requires-clause-keeps : goal.find_import-found-requires-clause-keeps
+find_import-found-requires-clause-keeps c = still (goal.at.find_import-found-requires-clause-keeps c).In-Some
+
+pub find_import-requires : goal.find_import-requires
+find_import-requires c =
+    let here = (goal.at.find_import-requires c).In-Some in
+    IsUnclosed-back (chars c.args.text.now) (after here) (chars c.in-Some.behind.now) c.unclosed_len-unclosed.result (through here) c.unclosed_len-unclosed.ensures
+
+skips : (c : In-Some) → Skips (chars c.args.text.now) c.loop-before.invariant.1.0 (after c)
+skips c = next_skips (chars c.args.text.now) c.loop-before.invariant.1.0 (chars c.in-Some.before.now) (chars c.in-Some.behind.now) c.loop-before.invariant.1.2 (whole c) (split c).1
+
+by : (c : In-Some) → length c.args.text.now - length c.in-Some.behind.now ≡ size (after c)
+by c = omega (arith, bytes c)
+
+-- what is found and kept behind the declaration that may begin here
+abbrev Declared : (c : After-leaves_open) → In-Some → Type 0
+Declared c here =
+    Found (chars c.args.text.now) (map import_of c.if-ends_with_at.imports.items) c.loop-before.dynamic_starts c.if-ends_with_at.decl_starts c.loop-before.invariant.1.0 (after here)
+    × Keeps (chars c.in-Some.behind.now) c.if-ends_with_at.known
+
+declared : (c : After-leaves_open) → Declared c (goal.at.After-leaves_open c).In-Some
+declared c =
+    let here = (goal.at.After-leaves_open c).In-Some in
     let i = c.loop-before.invariant.1 in
     let text = chars c.args.text.now in
     let before = chars c.in-Some.before.now in
     let behind = chars c.in-Some.behind.now in
-    let skips = next_skips text i.0 before behind i.2 (whole here) (split here).1 in
-    let by : length c.args.text.now - length c.in-Some.behind.now ≡ size (after here) = omega (arith, bytes here) in
-    let declared : Found text (map import_of c.if-ends_with_at.imports.items) c.loop-before.dynamic_starts c.if-ends_with_at.decl_starts i.0 (after here) = elim c.if-ends_with_at.branch [
+    let State : Vec JsDocImport Global → ℕ → Option NamesEnd → Type 0 = λ imports count known. Found text (map import_of imports.items) c.loop-before.dynamic_starts count i.0 (after here)
+    × Keeps behind known in
+    elim c.if-ends_with_at.branch [
       | then-ends_with_at+in_ok-add w ↦
-          let found = decl_take text i.0 (after here) behind (through here) skips (longer here) (map import_of w.add.new.imports.items) (rest_and_import w.behind_import.result) i.3
-          (declaration_here text i.0 before behind i.2 (whole here) (split here).1 (c.ends_with_at.ensures.0 w.if-ends_with_at.true)) w.behind_import.ensures.parsed
-          (takes text behind (after here) c.loop-before.imports.items w.add.new.imports.items w.behind_import.result (length c.args.text.now - length c.in-Some.behind.now) by w.in_ok-add.ensures) in
-          subst (λ (v : Vec JsDocImport Global). Found text (map import_of v.items) c.loop-before.dynamic_starts c.if-ends_with_at.decl_starts i.0 (after here)) (sym w.imports-is)
-          (subst (λ n. Found text (map import_of w.add.new.imports.items) c.loop-before.dynamic_starts n i.0 (after here)) (sym w.decl_starts-is) found)
+          let answer = w.find_import-found.ensures.found in
+          let found = decl_take text i.0 (after here) behind (through here) (skips here) (longer here) (map import_of w.add.new.imports.items)
+          (option_map (λ import. (answer.0, import)) (option_map import_of w.find_import-found.result)) i.3
+          (declaration_here text i.0 before behind i.2 (whole here) (split here).1 (c.ends_with_at.ensures.0 w.if-ends_with_at.true)) answer.1
+          (takes answer.0 (after here) c.loop-before.imports.items w.add.new.imports.items w.find_import-found.result (length c.args.text.now - length c.in-Some.behind.now) (by here)
+          w.in_ok-add.ensures) in
+          subst (λ v. State v c.if-ends_with_at.decl_starts c.if-ends_with_at.known) (sym w.imports-is)
+          (subst (λ n. State w.add.new.imports n c.if-ends_with_at.known) (sym w.decl_starts-is)
+          (subst (State w.add.new.imports (c.loop-before.decl_starts + 1)) (sym w.known-is) (found, w.find_import-found.ensures.keeps)))
       | else-ends_with_at w ↦
-          let found = decl_skip text i.0 (after here) behind (through here) skips (longer here) i.3
+          let found = decl_skip text i.0 (after here) behind (through here) (skips here) (longer here) i.3
           (λ site. both_ways c.ends_with_at.result w.if-ends_with_at.false (c.ends_with_at.ensures.1 (at_declaration text i.0 before behind i.2 (whole here) (split here).1 site))) in
-          subst (λ (v : Vec JsDocImport Global). Found text (map import_of v.items) c.loop-before.dynamic_starts c.if-ends_with_at.decl_starts i.0 (after here)) (sym w.imports-is)
-          (subst (λ n. Found text (map import_of c.loop-before.imports.items) c.loop-before.dynamic_starts n i.0 (after here)) (sym w.decl_starts-is) found)
-    ] in (
+          subst (λ v. State v c.if-ends_with_at.decl_starts c.if-ends_with_at.known) (sym w.imports-is)
+          (subst (λ n. State c.loop-before.imports n c.if-ends_with_at.known) (sym w.decl_starts-is)
+          (subst (State c.loop-before.imports c.loop-before.decl_starts) (sym w.known-is) (found, still here)))
+    ]
+
+pub loop-before-preserved-in_ok-add-2 : goal.loop-before-preserved-in_ok-add-2
+loop-before-preserved-in_ok-add-2 c =
+    let at = goal.at.loop-before-preserved-in_ok-add-2 c in
+    let here = at.In-Some in
+    let i = c.loop-before.invariant.1 in
+    let text = chars c.args.text.now in
+    let before = chars c.in-Some.before.now in
+    let behind = chars c.in-Some.behind.now in
+    let so_far = declared at.After-leaves_open in
+    let answer = c.find_import.ensures.found in (
       search rules,
       (
         after here,
         through here,
         next_cut text i.0 before behind i.2 (whole here) (split here).1,
-        dynamic_take text i.0 (after here) behind (through here) skips (longer here) (map import_of c.add-then-leaves_open.new.imports.items)
-            (rest_and_import c.behind_import-then-leaves_open.result) declared
-            (dynamic_here text i.0 before behind i.2 (whole here) (split here).1 (c.leaves_open.ensures.0 c.if-leaves_open.true)) c.behind_import-then-leaves_open.ensures.parsed
-            (takes text behind (after here) c.if-ends_with_at.imports.items c.add-then-leaves_open.new.imports.items c.behind_import-then-leaves_open.result
-            (length c.args.text.now - length c.in-Some.behind.now) by c.in_ok-add-2.ensures),
+        dynamic_take text i.0 (after here) behind (through here) (skips here) (longer here) (map import_of c.add-then-leaves_open.new.imports.items)
+            (option_map (λ import. (answer.0, import)) (option_map import_of c.find_import.result)) so_far.0
+            (dynamic_here text i.0 before behind i.2 (whole here) (split here).1 (c.leaves_open.ensures.0 c.if-leaves_open.true)) answer.1
+            (takes answer.0 (after here) c.if-ends_with_at.imports.items c.add-then-leaves_open.new.imports.items c.find_import.result
+            (length c.args.text.now - length c.in-Some.behind.now) (by here) c.in_ok-add-2.ensures),
       ),
+      so_far.1,
     )
 
 pub loop-before-preserved : goal.loop-before-preserved
 loop-before-preserved c =
-    let here = (goal.at.loop-before-preserved c).In-Some in
+    let at = goal.at.loop-before-preserved c in
+    let here = at.In-Some in
     let i = c.loop-before.invariant.1 in
     let text = chars c.args.text.now in
     let before = chars c.in-Some.before.now in
     let behind = chars c.in-Some.behind.now in
-    let skips = next_skips text i.0 before behind i.2 (whole here) (split here).1 in
-    let by : length c.args.text.now - length c.in-Some.behind.now ≡ size (after here) = omega (arith, bytes here) in
-    let declared : Found text (map import_of c.if-ends_with_at.imports.items) c.loop-before.dynamic_starts c.if-ends_with_at.decl_starts i.0 (after here) = elim c.if-ends_with_at.branch [
-      | then-ends_with_at+in_ok-add w ↦
-          let found = decl_take text i.0 (after here) behind (through here) skips (longer here) (map import_of w.add.new.imports.items) (rest_and_import w.behind_import.result) i.3
-          (declaration_here text i.0 before behind i.2 (whole here) (split here).1 (c.ends_with_at.ensures.0 w.if-ends_with_at.true)) w.behind_import.ensures.parsed
-          (takes text behind (after here) c.loop-before.imports.items w.add.new.imports.items w.behind_import.result (length c.args.text.now - length c.in-Some.behind.now) by w.in_ok-add.ensures) in
-          subst (λ (v : Vec JsDocImport Global). Found text (map import_of v.items) c.loop-before.dynamic_starts c.if-ends_with_at.decl_starts i.0 (after here)) (sym w.imports-is)
-          (subst (λ n. Found text (map import_of w.add.new.imports.items) c.loop-before.dynamic_starts n i.0 (after here)) (sym w.decl_starts-is) found)
-      | else-ends_with_at w ↦
-          let found = decl_skip text i.0 (after here) behind (through here) skips (longer here) i.3
-          (λ site. both_ways c.ends_with_at.result w.if-ends_with_at.false (c.ends_with_at.ensures.1 (at_declaration text i.0 before behind i.2 (whole here) (split here).1 site))) in
-          subst (λ (v : Vec JsDocImport Global). Found text (map import_of v.items) c.loop-before.dynamic_starts c.if-ends_with_at.decl_starts i.0 (after here)) (sym w.imports-is)
-          (subst (λ n. Found text (map import_of c.loop-before.imports.items) c.loop-before.dynamic_starts n i.0 (after here)) (sym w.decl_starts-is) found)
-    ] in (
+    let so_far = declared at.After-leaves_open in (
       search rules,
       (
         after here,
         through here,
         next_cut text i.0 before behind i.2 (whole here) (split here).1,
-        dynamic_skip text i.0 (after here) behind (through here) skips (longer here) declared
+        dynamic_skip text i.0 (after here) behind (through here) (skips here) (longer here) so_far.0
             (λ site. both_ways c.leaves_open.result c.if-leaves_open.false (c.leaves_open.ensures.1 (at_dynamic text i.0 before behind i.2 (whole here) (split here).1 site))),
       ),
+      so_far.1,
     )
 
 -- no `import` is left

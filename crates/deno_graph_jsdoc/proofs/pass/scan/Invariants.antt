@@ -1,8 +1,10 @@
--- What was found behind the fronts up to where the search for the next `import` begins.
+-- What was found behind the fronts up to where the search for the next `import` begins, and what is kept
+-- of the braces from there on.
 use Rattle.std.proofs.Common.{◌≡◌, List, ℕ, ◌++◌, length, map}
 use denote.Text.{Utf8}
 use denote.Shadow.{shadow}
 use Rattle.std.specs.Str.{chars}
+use Rattle.deno_graph_jsdoc.specs.JsDocBraces.{Keeps}
 use Rattle.deno_graph_jsdoc.specs.JsDocImport.{import_of}
 use Rattle.deno_graph_jsdoc.proofs.Passes.{Found}
 use Rattle.deno_graph_jsdoc.proofs.Sites.{IsCut}
@@ -12,6 +14,7 @@ abbrev pub invariant-loop-before : goal.invariant-loop-before
 invariant-loop-before l =
     shadow (Utf8 l.rest) × ((front : List ℕ) × (chars l.text ≡ front ++ chars l.rest) × IsCut front
     × Found (chars l.text) (map import_of l.imports.items) l.dynamic_starts l.decl_starts front front)
+    × Keeps (chars l.rest) l.known
 
 abbrev pub decreases-loop-before : goal.decreases-loop-before
 decreases-loop-before l = length l.rest

@@ -6,4 +6,4 @@ use Rattle.deno_graph_jsdoc_imports.proofs.imports.imports_of.Given as goal
 
 abbrev pub invariant-loop-comment : goal.invariant-loop-comment
 invariant-loop-comment l =
-    Gathered (map (λ c. c.now) l.comments) (map (λ c. c.now) (take l.comment-index l.comments)) (map import_of l.imports.items)
+    Gathered (map (λ c. c.now) l.comments) (map (λ c. c.now) (take l.comment-index l.comment-items)) (map import_of l.imports.items)

@@ -1,5 +1,5 @@
 -- The first `import`, where it stands before the first brace.
-use Rattle.std.proofs.Common.{◌≡◌, ◌⊎◌, inl, inr, Some, None, List, ℕ, ◌++◌, ◌∷◌, codes, refl, lit<, rules, sym, ap, ◌∙◌, subst, arith}
+use Rattle.std.proofs.Common.{◌≡◌, ◌⊎◌, inl, inr, Some, None, List, ℕ, ◌++◌, ◌∷◌, codes, refl, lit<, rules, sym, subst, arith}
 use Rattle.std.specs.Str.{IsUtf8, chars}
 use denote.Ref.{Bor}
 use Rattle.deno_graph_jsdoc.specs.JsDocGrammar.{Lacks}
