@@ -14,7 +14,8 @@ use Rattle.deno_graph_analyzers.specs.declared.analyze_error.AnalyzeError.TheVar
 
 -- the info is that of the input's text, read as its media type, with this tree and these comments
 abbrev pub StatesInfo : Input → Program → FiledComments → ModuleInfo → Type 0
-StatesInfo input program comments info = IsModuleInfo input.text input.media_type program comments info
+StatesInfo input program comments info =
+    IsModuleInfo input.text input.media_type program comments info
 
 -- the info is that of the tree and comments that the parse function has for the input
 pub record IsInfoOf (parses : ParseFunction) (input : Input) (info : ModuleInfo) : Type 0 where
@@ -31,6 +32,7 @@ AnalyzesAs parses input (Err OutOfMemory) = Unit {0}
 
 -- what an analyzer answers once a parser has answered: the info of its source, or its error
 abbrev pub IsAnalysisOf : Result ParsedModule ParseError → Result ModuleInfo AnalyzeError → Type 0
-IsAnalysisOf (Ok source) (Ok info) = IsModuleInfo source.text source.media_type source.program source.comments info
+IsAnalysisOf (Ok source) (Ok info) =
+    IsModuleInfo source.text source.media_type source.program source.comments info
 IsAnalysisOf (Ok source) (Err error) = error ≡ OutOfMemory
 IsAnalysisOf (Err error) answer = answer ≡ Err (analyze_error_of error)

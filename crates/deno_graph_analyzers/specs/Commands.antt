@@ -24,7 +24,11 @@ pub record Unmarked : Type 0 where
   pub comments : FiledComments
 
 abbrev pub unmarked : ParsedModule → Unmarked
-unmarked source = record { input = input_of source; program = source.program; comments = source.comments }
+unmarked source = record {
+  input = input_of source;
+  program = source.program;
+  comments = source.comments;
+}
 
 -- the sources, each aside from its mark
 abbrev pub seen : Sources → List ℕ → Option Unmarked
@@ -32,13 +36,18 @@ seen sources key = option_map unmarked (source_at sources key)
 
 -- what is kept of an outcome: a tree with its comments, and nothing of a diagnostic
 abbrev pub source_of_outcome : Input → Option Outcome → Option Unmarked
-source_of_outcome input (Some (parsed program comments)) = Some (record { input = input; program = program; comments = comments })
+source_of_outcome input (Some (parsed program comments)) =
+    Some (record { input = input; program = program; comments = comments })
 source_of_outcome input (Some (refused diagnostic)) = None
 source_of_outcome input None = None
 
 -- an input, by the parts that a command has
 abbrev pub input : Parts → List ℕ → MediaType → Input
-input specifier text media_type = record { specifier = specifier_text specifier; text = text; media_type = media_type }
+input specifier text media_type = record {
+  specifier = specifier_text specifier;
+  text = text;
+  media_type = media_type;
+}
 
 -- The last successful Analyze or Parse of a specifier since its last Remove, among the commands so
 -- far, of which the newest comes first; else what stood there at the start.
@@ -47,11 +56,16 @@ module _ (parses : ParseFunction) (start : List ℕ → Option Unmarked) where
   latest [] key = start key
   latest (Analyze specifier source media_type ∷ past) key =
       let asked = input specifier (rc_str_bytes source) media_type in
-      if bytes_eq asked.specifier key then option_or (source_of_outcome asked (parses asked)) (latest past key) else latest past key
+      if bytes_eq asked.specifier key
+      then option_or (source_of_outcome asked (parses asked)) (latest past key)
+      else latest past key
   latest (Parse specifier source media_type scope ∷ past) key =
       let asked = input specifier (rc_str_bytes source) media_type in
-      if bytes_eq asked.specifier key then option_or (source_of_outcome asked (parses asked)) (latest past key) else latest past key
-  latest (Remove specifier ∷ past) key = if bytes_eq (specifier_text specifier) key then None else latest past key
+      if bytes_eq asked.specifier key
+      then option_or (source_of_outcome asked (parses asked)) (latest past key)
+      else latest past key
+  latest (Remove specifier ∷ past) key =
+      if bytes_eq (specifier_text specifier) key then None else latest past key
 
 -- a number for each media type
 abbrev pub media_type_number : MediaType → ℕ
@@ -72,7 +86,8 @@ media_type_number media.Other = 12
 -- the source has this text and this media type
 abbrev pub has_text : Input → Option Unmarked → Bool
 has_text asked None = false
-has_text asked (Some source) = bytes_eq source.input.text asked.text && nat_eq (media_type_number source.input.media_type) (media_type_number asked.media_type)
+has_text asked (Some source) = bytes_eq source.input.text asked.text
+    && nat_eq (media_type_number source.input.media_type) (media_type_number asked.media_type)
 
 module _ (parses : ParseFunction) (start : List ℕ → Option Unmarked) where
   -- the parser has to be asked, since the last successful command had another text or media type
@@ -88,19 +103,26 @@ module _ (parses : ParseFunction) (start : List ℕ → Option Unmarked) where
   -- how many of the commands that follow the past are misses
   abbrev pub misses : List Command → List Command → ℕ
   misses past [] = 0
-  misses past (command ∷ commands) = (if is_miss past command then 1 else 0) + misses (command ∷ past) commands
+  misses past (command ∷ commands) =
+      (if is_miss past command then 1 else 0) + misses (command ∷ past) commands
 
   -- the answer is that of the parser alone, and to a Remove the latest source of its specifier
   abbrev pub IsAnswer : List Command → Command → Answer → Type 0
-  IsAnswer past (Analyze specifier source media_type) (Analyzed (Ok info)) = IsInfoOf parses (input specifier (rc_str_bytes source) media_type) info
-  IsAnswer past (Analyze specifier source media_type) (Analyzed (Err diagnostic)) = parses (input specifier (rc_str_bytes source) media_type) ≡ Some (refused diagnostic)
-  IsAnswer past (Parse specifier source media_type scope) (Parsed (Ok module_source)) = IsParsed parses (input specifier (rc_str_bytes source) media_type) module_source
-  IsAnswer past (Parse specifier source media_type scope) (Parsed (Err diagnostic)) = parses (input specifier (rc_str_bytes source) media_type) ≡ Some (refused diagnostic)
-  IsAnswer past (Remove specifier) (Removed found) = option_map unmarked found ≡ latest parses start past (specifier_text specifier)
+  IsAnswer past (Analyze specifier source media_type) (Analyzed (Ok info)) =
+      IsInfoOf parses (input specifier (rc_str_bytes source) media_type) info
+  IsAnswer past (Analyze specifier source media_type) (Analyzed (Err diagnostic)) =
+      parses (input specifier (rc_str_bytes source) media_type) ≡ Some (refused diagnostic)
+  IsAnswer past (Parse specifier source media_type scope) (Parsed (Ok module_source)) =
+      IsParsed parses (input specifier (rc_str_bytes source) media_type) module_source
+  IsAnswer past (Parse specifier source media_type scope) (Parsed (Err diagnostic)) =
+      parses (input specifier (rc_str_bytes source) media_type) ≡ Some (refused diagnostic)
+  IsAnswer past (Remove specifier) (Removed found) =
+      option_map unmarked found ≡ latest parses start past (specifier_text specifier)
   IsAnswer past _ _ = ⊥
 
   -- there is an answer to each command in turn
   abbrev pub AreAnswers : List Command → List Command → List Answer → Type 0
   AreAnswers past [] [] = Unit {0}
-  AreAnswers past (command ∷ commands) (answer ∷ answers) = IsAnswer past command answer × AreAnswers (command ∷ past) commands answers
+  AreAnswers past (command ∷ commands) (answer ∷ answers) =
+      IsAnswer past command answer × AreAnswers (command ∷ past) commands answers
   AreAnswers past _ _ = ⊥

@@ -29,34 +29,45 @@ as_parsed (Err diagnostic) = Err (parse.Diagnostic diagnostic)
 
 module _ {P : Type 0} (parses : P → ParseFunction) (count : P → ℕ) (is_sound : P → Type 0) where
   -- a text was parsed without its scopes, and what the parser answered was analyzed
-  pub record Analyzes (asked : Input) (old : State P) (result : Result ModuleInfo AnalyzeError) (new : State P) : Type 0 where
+  pub record Analyzes (asked : Input) (old : State P) (result : Result ModuleInfo AnalyzeError)
+      (new : State P) : Type 0 where
     pub answer : Result ParsedModule ParseError
     pub captures : Captures parses count is_sound false asked old answer new
     pub analysis : IsAnalysisOf answer result
 
   -- the source of a specifier was taken away
-  pub record Removes (specifier : List ℕ) (old : State P) (answer : Option ParsedModule) (new : State P) : Type 0 where
+  pub record Removes (specifier : List ℕ) (old : State P) (answer : Option ParsedModule)
+      (new : State P) : Type 0 where
     pub found : answer ≡ source_at old.sources specifier
     pub sources : new.sources ≡ without old.sources specifier
     pub parser : new.parser ≡ old.parser
 
   -- a command was carried out as the single call of its name is, with this answer
   abbrev pub Ran : State P → Command → Answer → State P → Type 0
-  Ran old (Analyze specifier source media_type) (Analyzed answer) new = Analyzes (input specifier (rc_str_bytes source) media_type) old (as_analyzed answer) new
-  Ran old (Parse specifier source media_type scope) (Parsed answer) new = Captures parses count is_sound scope (input specifier (rc_str_bytes source) media_type) old (as_parsed answer) new
+  Ran old (Analyze specifier source media_type) (Analyzed answer) new =
+      Analyzes (input specifier (rc_str_bytes source) media_type) old (as_analyzed answer) new
+  Ran old (Parse specifier source media_type scope) (Parsed answer) new =
+      Captures parses count is_sound scope (input specifier (rc_str_bytes source) media_type)
+      old (as_parsed answer) new
   Ran old (Remove specifier) (Removed found) new = Removes (specifier_text specifier) old found new
   Ran old _ _ new = ⊥
 
   -- the commands were carried out one after another, with these answers
   abbrev pub Runs : State P → List Command → List Answer → State P → Type 0
   Runs old [] [] new = new ≡ old
-  Runs old (command ∷ commands) (answer ∷ answers) new = (next : State P) × Ran old command answer next × Runs next commands answers new
+  Runs old (command ∷ commands) (answer ∷ answers) new =
+      (next : State P) × Ran old command answer next × Runs next commands answers new
   Runs old _ _ new = ⊥
 
-  -- memory was refused to the command: before its call, or as the single call of its name answers that
+  -- memory was refused to the command: before its call, or as the single call of its name
+  -- answers that
   abbrev pub WasRefused : State P → Command → State P → Type 0
-  WasRefused old (Analyze specifier source media_type) new = (new ≡ old) ⊎ Analyzes (input specifier (rc_str_bytes source) media_type) old (Err analyze.OutOfMemory) new
-  WasRefused old (Parse specifier source media_type scope) new = (new ≡ old) ⊎ Captures parses count is_sound scope (input specifier (rc_str_bytes source) media_type) old (Err parse.OutOfMemory) new
+  WasRefused old (Analyze specifier source media_type) new = (new ≡ old)
+      ⊎ Analyzes (input specifier (rc_str_bytes source) media_type)
+      old (Err analyze.OutOfMemory) new
+  WasRefused old (Parse specifier source media_type scope) new = (new ≡ old)
+      ⊎ Captures parses count is_sound scope (input specifier (rc_str_bytes source) media_type)
+      old (Err parse.OutOfMemory) new
   WasRefused old (Remove specifier) new = new ≡ old
 
   -- memory was refused to one of the commands, and those before it were carried out in full

@@ -20,7 +20,8 @@ pub(crate) fn captured<P: EsParser, S: ParsedSourceStore>(
     store: &mut S,
     options: ParseOptions<'_>,
 ) -> Result<ParsedSource, ParseError>
-    ensures { Captures P.parses P.count P.is_sound options.entry.scope_analysis (asked options.entry)
+    ensures { Captures P.parses P.count P.is_sound
+        options.entry.scope_analysis (asked options.entry)
         (record { parser = parser.old; sources = S.sources store.old }) result
         (record { parser = parser.new; sources = S.sources store.new }) }
 {
@@ -36,7 +37,8 @@ pub(crate) fn captured_info<P: EsParser, S: ParsedSourceStore>(
     source: RcStr,
     media_type: MediaType,
 ) -> Result<ModuleInfo, AnalyzeError>
-    ensures { Analyzes P.parses P.count P.is_sound (input specifier.now (rc_str_bytes source) media_type)
+    ensures { Analyzes P.parses P.count P.is_sound
+        (input specifier.now (rc_str_bytes source) media_type)
         (record { parser = parser.old; sources = S.sources store.old }) result
         (record { parser = parser.new; sources = S.sources store.new }) }
 {

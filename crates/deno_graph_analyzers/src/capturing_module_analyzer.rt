@@ -51,7 +51,8 @@ impl<P: EsParser, S: ParsedSourceStore> EsParser for CapturingModuleAnalyzer<P, 
 
     ghost count = { λ it. P.count it.parser };
 
-    ghost is_sound = { λ it. P.is_sound it.parser × IsFaithful (P.parses it.parser) (S.sources it.store) };
+    ghost is_sound = { λ it. P.is_sound it.parser
+        × IsFaithful (P.parses it.parser) (S.sources it.store) };
 
     /// Answers the source in the store where it has the options' text and media type. Otherwise
     /// the parser is asked, and its answer is kept under the specifier.
@@ -63,15 +64,19 @@ impl<P: EsParser, S: ParsedSourceStore> EsParser for CapturingModuleAnalyzer<P, 
         alloc: Global,
         options: ParseOptions<'_>,
     ) -> Result<ParsedSource, ParseError>
-        ensures captures { Captures P.parses P.count P.is_sound options.entry.scope_analysis (asked options.entry)
+        ensures captures { Captures P.parses P.count P.is_sound
+            options.entry.scope_analysis (asked options.entry)
             (record { parser = self.old.parser; sources = S.sources self.old.store }) result
             (record { parser = self.new.parser; sources = S.sources self.new.store }) }
         ensures function { P.parses self.new.parser ≡ P.parses self.old.parser }
         ensures counted { (P.count self.old.parser ≤ P.count self.new.parser)
             × (P.count self.new.parser ≤ P.count self.old.parser + 1) }
-        ensures sound { P.is_sound self.old.parser × IsFaithful (P.parses self.old.parser) (S.sources self.old.store)
-            → P.is_sound self.new.parser × IsFaithful (P.parses self.new.parser) (S.sources self.new.store) }
-        ensures answer { P.is_sound self.old.parser × IsFaithful (P.parses self.old.parser) (S.sources self.old.store)
+        ensures sound { P.is_sound self.old.parser
+            × IsFaithful (P.parses self.old.parser) (S.sources self.old.store)
+            → P.is_sound self.new.parser
+            × IsFaithful (P.parses self.new.parser) (S.sources self.new.store) }
+        ensures answer { P.is_sound self.old.parser
+            × IsFaithful (P.parses self.old.parser) (S.sources self.old.store)
             → AnswersAs (P.parses self.old.parser) (asked options.entry) result }
     {
         captured(alloc, &mut self.parser, &mut self.store, options)
@@ -81,7 +86,8 @@ impl<P: EsParser, S: ParsedSourceStore> EsParser for CapturingModuleAnalyzer<P, 
 impl<P: EsParser, S: ParsedSourceStore> ModuleAnalyzer for CapturingModuleAnalyzer<P, S> {
     ghost parses = { λ it. P.parses it.parser };
 
-    ghost is_sound = { λ it. P.is_sound it.parser × IsFaithful (P.parses it.parser) (S.sources it.store) };
+    ghost is_sound = { λ it. P.is_sound it.parser
+        × IsFaithful (P.parses it.parser) (S.sources it.store) };
 
     /// Parses as `parse_program` does, without scopes, and analyzes what that answers. An error
     /// leaves the store as the parse left it.
@@ -92,14 +98,19 @@ impl<P: EsParser, S: ParsedSourceStore> ModuleAnalyzer for CapturingModuleAnalyz
         source: RcStr,
         media_type: MediaType,
     ) -> Result<ModuleInfo, AnalyzeError>
-        ensures analyzes { Analyzes P.parses P.count P.is_sound (input specifier.now (rc_str_bytes source) media_type)
+        ensures analyzes { Analyzes P.parses P.count P.is_sound
+            (input specifier.now (rc_str_bytes source) media_type)
             (record { parser = self.old.parser; sources = S.sources self.old.store }) result
             (record { parser = self.new.parser; sources = S.sources self.new.store }) }
         ensures function { P.parses self.new.parser ≡ P.parses self.old.parser }
-        ensures sound { P.is_sound self.old.parser × IsFaithful (P.parses self.old.parser) (S.sources self.old.store)
-            → P.is_sound self.new.parser × IsFaithful (P.parses self.new.parser) (S.sources self.new.store) }
-        ensures answer { P.is_sound self.old.parser × IsFaithful (P.parses self.old.parser) (S.sources self.old.store)
-            → AnalyzesAs (P.parses self.old.parser) (input specifier.now (rc_str_bytes source) media_type) result }
+        ensures sound { P.is_sound self.old.parser
+            × IsFaithful (P.parses self.old.parser) (S.sources self.old.store)
+            → P.is_sound self.new.parser
+            × IsFaithful (P.parses self.new.parser) (S.sources self.new.store) }
+        ensures answer { P.is_sound self.old.parser
+            × IsFaithful (P.parses self.old.parser) (S.sources self.old.store)
+            → AnalyzesAs (P.parses self.old.parser)
+            (input specifier.now (rc_str_bytes source) media_type) result }
     {
         captured_info(
             alloc,
@@ -122,8 +133,10 @@ impl<P: EsParser, S: ParsedSourceStore> ParsedSourceStore for CapturingModuleAna
         specifier: Url,
         source: ParsedSource,
     ) -> Result<Option<ParsedSource>, AllocError>
-        ensures former { IfOk result (λ former. former ≡ source_at (S.sources self.old.store) (specifier_text specifier)) }
-        ensures ok { OnOk result (S.sources self.new.store ≡ with_source (S.sources self.old.store) (specifier_text specifier) source) }
+        ensures former { IfOk result (λ former.
+            former ≡ source_at (S.sources self.old.store) (specifier_text specifier)) }
+        ensures ok { OnOk result (S.sources self.new.store
+            ≡ with_source (S.sources self.old.store) (specifier_text specifier) source) }
         ensures err { OnErr result (S.sources self.new.store ≡ S.sources self.old.store) }
         ensures parser { self.new.parser ≡ self.old.parser }
     {
@@ -143,8 +156,10 @@ impl<P: EsParser, S: ParsedSourceStore> ParsedSourceStore for CapturingModuleAna
         alloc: Global,
         specifier: &Url,
     ) -> Result<Option<ParsedSource>, AllocError>
-        ensures former { IfOk result (λ former. former ≡ source_at (S.sources self.old.store) (specifier_text specifier.now)) }
-        ensures ok { OnOk result (S.sources self.new.store ≡ without (S.sources self.old.store) (specifier_text specifier.now)) }
+        ensures former { IfOk result (λ former.
+            former ≡ source_at (S.sources self.old.store) (specifier_text specifier.now)) }
+        ensures ok { OnOk result (S.sources self.new.store
+            ≡ without (S.sources self.old.store) (specifier_text specifier.now)) }
         ensures err { OnErr result (S.sources self.new.store ≡ S.sources self.old.store) }
         ensures parser { self.new.parser ≡ self.old.parser }
     {
@@ -156,8 +171,10 @@ impl<P: EsParser, S: ParsedSourceStore> ParsedSourceStore for CapturingModuleAna
         alloc: Global,
         specifier: &Url,
     ) -> Result<Option<ParsedSource>, AllocError>
-        ensures found { IfOk result (λ found. found ≡ source_at (S.sources self.new.store) (specifier_text specifier.now)) }
-        ensures ok { OnOk result (S.sources self.new.store ≡ with_mark (S.sources self.old.store) (specifier_text specifier.now)) }
+        ensures found { IfOk result (λ found.
+            found ≡ source_at (S.sources self.new.store) (specifier_text specifier.now)) }
+        ensures ok { OnOk result (S.sources self.new.store
+            ≡ with_mark (S.sources self.old.store) (specifier_text specifier.now)) }
         ensures err { OnErr result (S.sources self.new.store ≡ S.sources self.old.store) }
         ensures parser { self.new.parser ≡ self.old.parser }
     {

@@ -9,8 +9,9 @@ use url::Url;
 pub trait ModuleAnalyzer {
     ghost use Rattle.std.specs.Prelude.{◌≡◌};
     ghost use Rattle.std.specs.Rc.{rc_str_bytes};
-    ghost use Rattle.deno_graph_parser.specs.Parsing.{ParseFunction, specifier_text};
+    ghost use Rattle.deno_graph_parser.specs.Parsing.{ParseFunction};
     ghost use Rattle.deno_graph_analyzers.specs.Analysis.{AnalyzesAs};
+    ghost use Rattle.deno_graph_analyzers.specs.Commands.{input};
 
     /// The outcomes of parsing.
     ghost parses: { Self → ParseFunction };
@@ -32,5 +33,5 @@ pub trait ModuleAnalyzer {
         ensures sound { is_sound self.old → is_sound self.new }
         // A sound analyzer answers by the outcome.
         ensures answer { is_sound self.old → AnalyzesAs (parses self.old)
-            (record { specifier = specifier_text specifier.now; text = rc_str_bytes source; media_type = media_type }) result };
+            (input specifier.now (rc_str_bytes source) media_type) result };
 }

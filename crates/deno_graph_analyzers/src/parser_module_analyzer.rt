@@ -29,8 +29,8 @@ impl<'a, P: EsParser> ParserModuleAnalyzer<'a, P> {
 impl<'a, P: EsParser> ModuleAnalyzer for ParserModuleAnalyzer<'a, P> {
     ghost use Rattle.std.specs.Prelude.{◌≡◌};
     ghost use Rattle.std.specs.Rc.{rc_str_bytes};
-    ghost use Rattle.deno_graph_parser.specs.Parsing.{specifier_text};
     ghost use Rattle.deno_graph_analyzers.specs.Analysis.{AnalyzesAs};
+    ghost use Rattle.deno_graph_analyzers.specs.Commands.{input};
 
     ghost parses = { λ it. P.parses it.parser.now };
 
@@ -47,7 +47,7 @@ impl<'a, P: EsParser> ModuleAnalyzer for ParserModuleAnalyzer<'a, P> {
         ensures function { P.parses self.new.parser.now ≡ P.parses self.old.parser.now }
         ensures sound { P.is_sound self.old.parser.now → P.is_sound self.new.parser.now }
         ensures answer { P.is_sound self.old.parser.now → AnalyzesAs (P.parses self.old.parser.now)
-            (record { specifier = specifier_text specifier.now; text = rc_str_bytes source; media_type = media_type }) result }
+            (input specifier.now (rc_str_bytes source) media_type) result }
     {
         let options = ParseOptions {
             specifier,

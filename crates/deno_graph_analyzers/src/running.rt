@@ -26,25 +26,39 @@ pub fn run<P: EsParser, S: ParsedSourceStore>(
     commands: &[Command],
 ) -> Result<Vec<Answer>, AllocError>
     ensures ran { IfOk result (λ answers. Runs P.parses P.count P.is_sound
-        (record { parser = analyzer.old.parser; sources = S.sources analyzer.old.store }) commands.now answers.items
+        (record { parser = analyzer.old.parser; sources = S.sources analyzer.old.store })
+        commands.now answers.items
         (record { parser = analyzer.new.parser; sources = S.sources analyzer.new.store })) }
-    ensures refused { OnErr result ((analyzer.new ≡ analyzer.old) ⊎ EndsEarly P.parses P.count P.is_sound
-        (record { parser = analyzer.old.parser; sources = S.sources analyzer.old.store }) commands.now
+    ensures refused { OnErr result ((analyzer.new ≡ analyzer.old)
+        ⊎ EndsEarly P.parses P.count P.is_sound
+        (record { parser = analyzer.old.parser; sources = S.sources analyzer.old.store })
+        commands.now
         (record { parser = analyzer.new.parser; sources = S.sources analyzer.new.store })) }
     ensures function { P.parses analyzer.new.parser ≡ P.parses analyzer.old.parser }
-    ensures sound { P.is_sound analyzer.old.parser × IsFaithful (P.parses analyzer.old.parser) (S.sources analyzer.old.store)
-        → P.is_sound analyzer.new.parser × IsFaithful (P.parses analyzer.new.parser) (S.sources analyzer.new.store) }
+    ensures sound { P.is_sound analyzer.old.parser
+        × IsFaithful (P.parses analyzer.old.parser) (S.sources analyzer.old.store)
+        → P.is_sound analyzer.new.parser
+        × IsFaithful (P.parses analyzer.new.parser) (S.sources analyzer.new.store) }
     // Begun sound, each answer is that of the parser alone.
-    ensures replies { P.is_sound analyzer.old.parser × IsFaithful (P.parses analyzer.old.parser) (S.sources analyzer.old.store)
-        → IfOk result (λ answers. AreAnswers (P.parses analyzer.old.parser) (seen (S.sources analyzer.old.store)) [] commands.now answers.items) }
+    ensures replies { P.is_sound analyzer.old.parser
+        × IsFaithful (P.parses analyzer.old.parser) (S.sources analyzer.old.store)
+        → IfOk result (λ answers.
+        AreAnswers (P.parses analyzer.old.parser) (seen (S.sources analyzer.old.store))
+        [] commands.now answers.items) }
     // The parser is asked at most once for each miss.
-    ensures counted { P.is_sound analyzer.old.parser × IsFaithful (P.parses analyzer.old.parser) (S.sources analyzer.old.store)
+    ensures counted { P.is_sound analyzer.old.parser
+        × IsFaithful (P.parses analyzer.old.parser) (S.sources analyzer.old.store)
         → OnOk result (P.count analyzer.new.parser ≤ P.count analyzer.old.parser
-        + misses (P.parses analyzer.old.parser) (seen (S.sources analyzer.old.store)) [] commands.now) }
+        + misses (P.parses analyzer.old.parser) (seen (S.sources analyzer.old.store))
+        [] commands.now) }
     // An empty store is a sound beginning.
-    ensures from_empty { P.is_sound analyzer.old.parser → S.sources analyzer.old.store ≡ no_sources
-        → IfOk result (λ answers. AreAnswers (P.parses analyzer.old.parser) (λ _. None) [] commands.now answers.items) }
-    ensures counted_from_empty { P.is_sound analyzer.old.parser → S.sources analyzer.old.store ≡ no_sources
+    ensures from_empty { P.is_sound analyzer.old.parser
+        → S.sources analyzer.old.store ≡ no_sources
+        → IfOk result (λ answers.
+        AreAnswers (P.parses analyzer.old.parser) (λ _. None)
+        [] commands.now answers.items) }
+    ensures counted_from_empty { P.is_sound analyzer.old.parser
+        → S.sources analyzer.old.store ≡ no_sources
         → OnOk result (P.count analyzer.new.parser ≤ P.count analyzer.old.parser
         + misses (P.parses analyzer.old.parser) (λ _. None) [] commands.now) }
 {
@@ -60,7 +74,8 @@ fn answers_to<P: EsParser, S: ParsedSourceStore>(
     ensures ran { IfOk result (λ answers. Runs P.parses P.count P.is_sound
         (record { parser = parser.old; sources = S.sources store.old }) commands.now answers.items
         (record { parser = parser.new; sources = S.sources store.new })) }
-    ensures refused { OnErr result (((parser.new ≡ parser.old) × (store.new ≡ store.old)) ⊎ EndsEarly P.parses P.count P.is_sound
+    ensures refused { OnErr result (((parser.new ≡ parser.old) × (store.new ≡ store.old))
+        ⊎ EndsEarly P.parses P.count P.is_sound
         (record { parser = parser.old; sources = S.sources store.old }) commands.now
         (record { parser = parser.new; sources = S.sources store.new })) }
 {

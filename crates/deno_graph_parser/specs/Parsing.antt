@@ -32,11 +32,23 @@ ParseFunction = Input → Option Outcome
 
 -- what the options ask to parse
 abbrev pub asked : ParseOptions → Input
-asked options = record { specifier = specifier_text options.specifier.now; text = rc_str_bytes options.source; media_type = options.media_type }
+asked options = record {
+  specifier = specifier_text options.specifier.now;
+  text = rc_str_bytes options.source;
+  media_type = options.media_type;
+}
+
+-- the text and the media type of a source, under the text of a specifier
+abbrev pub input_under : List ℕ → ParsedModule → Input
+input_under specifier source = record {
+  specifier = specifier;
+  text = source.text;
+  media_type = source.media_type;
+}
 
 -- what a source was parsed from, and what came of it
 abbrev pub input_of : ParsedModule → Input
-input_of source = record { specifier = specifier_text source.specifier; text = source.text; media_type = source.media_type }
+input_of source = input_under (specifier_text source.specifier) source
 
 abbrev pub outcome_of : ParsedModule → Outcome
 outcome_of source = parsed source.program source.comments

@@ -1,6 +1,6 @@
 ghost use Rattle.std.specs.Prelude.{◌≡◌, ◌+◌, ◌≤◌, ◌⊎◌, ◌↔◌, IsTrue, Some, IfSome, IfNone, IfOk, OnOk, OnErr};
 ghost use Rattle.std.specs.Rc.{rc_str_bytes};
-ghost use Rattle.deno_graph_parser.specs.Capturing.{IsFaithful, HasText, IsHit, asked_for, AnswersFromStore, AnswersFromParser};
+ghost use Rattle.deno_graph_parser.specs.Capturing.{IsFaithful, HasText, IsHit, once_asked, AnswersFromStore, AnswersFromParser};
 ghost use Rattle.deno_graph_parser.specs.Parsing.{AnswersAs, asked, specifier_text};
 ghost use Rattle.deno_graph_parser.specs.Sources.{source_at, with_source};
 
@@ -24,22 +24,25 @@ pub fn capture<P: EsParser, S: ParsedSourceStore>(
     options: ParseOptions<'_>,
 ) -> Result<ParsedSource, ParseError>
     ensures hit { IsHit (S.sources store.old) (asked options.entry)
-        → AnswersFromStore (asked_for options.entry.scope_analysis (S.sources store.old) (asked options.entry).specifier)
-        (asked options.entry) parser.old result parser.new (S.sources store.new) }
+        → AnswersFromStore (once_asked options.entry (S.sources store.old)) (asked options.entry)
+        parser.old result parser.new (S.sources store.new) }
     ensures miss { ¬ IsHit (S.sources store.old) (asked options.entry)
         → AnswersFromParser (P.parses parser.old) (P.is_sound parser.old)
-        (asked_for options.entry.scope_analysis (S.sources store.old) (asked options.entry).specifier)
-        (asked options.entry) result (S.sources store.new) }
+        (once_asked options.entry (S.sources store.old)) (asked options.entry)
+        result (S.sources store.new) }
     ensures err { OnErr result
         ((S.sources store.new ≡ S.sources store.old)
-        ⊎ (S.sources store.new ≡ asked_for options.entry.scope_analysis (S.sources store.old) (asked options.entry).specifier)) }
+        ⊎ (S.sources store.new ≡ once_asked options.entry (S.sources store.old))) }
     ensures function { P.parses parser.new ≡ P.parses parser.old }
-    ensures counted { (P.count parser.old ≤ P.count parser.new) × (P.count parser.new ≤ P.count parser.old + 1) }
+    ensures counted { (P.count parser.old ≤ P.count parser.new)
+        × (P.count parser.new ≤ P.count parser.old + 1) }
     ensures sound { P.is_sound parser.old → P.is_sound parser.new }
     // A store that is faithful to a sound parser stays so, and the answer is then the parser's.
-    ensures faithful { P.is_sound parser.old → IsFaithful (P.parses parser.old) (S.sources store.old)
+    ensures faithful { P.is_sound parser.old
+        → IsFaithful (P.parses parser.old) (S.sources store.old)
         → IsFaithful (P.parses parser.new) (S.sources store.new) }
-    ensures answer { P.is_sound parser.old → IsFaithful (P.parses parser.old) (S.sources store.old)
+    ensures answer { P.is_sound parser.old
+        → IsFaithful (P.parses parser.old) (S.sources store.old)
         → AnswersAs (P.parses parser.old) (asked options.entry) result }
 {
     match matching(ask(alloc, store, &options)?, &options) {
@@ -54,8 +57,9 @@ fn ask<S: ParsedSourceStore>(
     store: &mut S,
     options: &ParseOptions<'_>,
 ) -> Result<Option<ParsedSource>, AllocError>
-    ensures found { IfOk result (λ found. found ≡ source_at (S.sources store.new) (asked options.now).specifier) }
-    ensures ok { OnOk result (S.sources store.new ≡ asked_for options.now.scope_analysis (S.sources store.old) (asked options.now).specifier) }
+    ensures found { IfOk result (λ found.
+        found ≡ source_at (S.sources store.new) (asked options.now).specifier) }
+    ensures ok { OnOk result (S.sources store.new ≡ once_asked options.now (S.sources store.old)) }
     ensures err { OnErr result (S.sources store.new ≡ S.sources store.old) }
 {
     if options.scope_analysis {
@@ -67,7 +71,8 @@ fn ask<S: ParsedSourceStore>(
 
 /// The source where it has the options' text and media type.
 fn matching(found: Option<ParsedSource>, options: &ParseOptions<'_>) -> Option<ParsedSource>
-    ensures hit { IfSome result (λ source. (found ≡ Some source) × HasText (asked options.now) source) }
+    ensures hit { IfSome result (λ source.
+        (found ≡ Some source) × HasText (asked options.now) source) }
     ensures miss { IfNone result (IfSome found (λ source. ¬ HasText (asked options.now) source)) }
 {
     let source = found?;
@@ -91,11 +96,14 @@ fn parse_anew<P: EsParser, S: ParsedSourceStore>(
     store: &mut S,
     options: ParseOptions<'_>,
 ) -> Result<ParsedSource, ParseError>
-    ensures answer { P.is_sound parser.old → AnswersAs (P.parses parser.old) (asked options.entry) result }
-    ensures kept { IfOk result (λ source. S.sources store.new ≡ with_source (S.sources store.old) (asked options.entry).specifier source) }
+    ensures answer { P.is_sound parser.old
+        → AnswersAs (P.parses parser.old) (asked options.entry) result }
+    ensures kept { IfOk result (λ source. S.sources store.new
+        ≡ with_source (S.sources store.old) (asked options.entry).specifier source) }
     ensures err { OnErr result (S.sources store.new ≡ S.sources store.old) }
     ensures function { P.parses parser.new ≡ P.parses parser.old }
-    ensures counted { (P.count parser.old ≤ P.count parser.new) × (P.count parser.new ≤ P.count parser.old + 1) }
+    ensures counted { (P.count parser.old ≤ P.count parser.new)
+        × (P.count parser.new ≤ P.count parser.old + 1) }
     ensures sound { P.is_sound parser.old → P.is_sound parser.new }
 {
     let specifier = options.specifier.clone()?;

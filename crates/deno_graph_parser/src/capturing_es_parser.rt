@@ -1,5 +1,5 @@
 ghost use Rattle.std.specs.Prelude.{◌≡◌, ◌+◌, ◌≤◌, ◌⊎◌, OnErr};
-ghost use Rattle.deno_graph_parser.specs.Capturing.{IsFaithful, IsHit, asked_for, AnswersFromStore, AnswersFromParser};
+ghost use Rattle.deno_graph_parser.specs.Capturing.{IsFaithful, IsHit, once_asked, AnswersFromStore, AnswersFromParser};
 ghost use Rattle.deno_graph_parser.specs.Parsing.{AnswersAs, asked};
 
 use crate::capturing::capture;
@@ -37,7 +37,8 @@ impl<'a, P: EsParser, S: ParsedSourceStore> EsParser for CapturingEsParser<'a, P
 
     ghost count = { λ it. P.count it.parser.now };
 
-    ghost is_sound = { λ it. P.is_sound it.parser.now × IsFaithful (P.parses it.parser.now) (S.sources it.store.now) };
+    ghost is_sound = { λ it. P.is_sound it.parser.now
+        × IsFaithful (P.parses it.parser.now) (S.sources it.store.now) };
 
     /// Answers the source in the store where it has the options' text and media type. Otherwise
     /// the parser is asked, and its answer is kept under the specifier.
@@ -50,23 +51,28 @@ impl<'a, P: EsParser, S: ParsedSourceStore> EsParser for CapturingEsParser<'a, P
         options: ParseOptions<'_>,
     ) -> Result<ParsedSource, ParseError>
         ensures hit { IsHit (S.sources self.old.store.now) (asked options.entry)
-            → AnswersFromStore (asked_for options.entry.scope_analysis (S.sources self.old.store.now) (asked options.entry).specifier)
-            (asked options.entry) self.old.parser.now result self.new.parser.now (S.sources self.new.store.now) }
+            → AnswersFromStore (once_asked options.entry (S.sources self.old.store.now))
+            (asked options.entry) self.old.parser.now result self.new.parser.now
+            (S.sources self.new.store.now) }
         ensures miss { ¬ IsHit (S.sources self.old.store.now) (asked options.entry)
             → AnswersFromParser (P.parses self.old.parser.now) (P.is_sound self.old.parser.now)
-            (asked_for options.entry.scope_analysis (S.sources self.old.store.now) (asked options.entry).specifier)
-            (asked options.entry) result (S.sources self.new.store.now) }
+            (once_asked options.entry (S.sources self.old.store.now)) (asked options.entry)
+            result (S.sources self.new.store.now) }
         ensures err { OnErr result
             ((S.sources self.new.store.now ≡ S.sources self.old.store.now)
-            ⊎ (S.sources self.new.store.now ≡ asked_for options.entry.scope_analysis (S.sources self.old.store.now) (asked options.entry).specifier)) }
+            ⊎ (S.sources self.new.store.now
+            ≡ once_asked options.entry (S.sources self.old.store.now))) }
         ensures same_parser { self.new.parser.ghost_name ≡ self.old.parser.ghost_name }
         ensures same_store { self.new.store.ghost_name ≡ self.old.store.ghost_name }
         ensures function { P.parses self.new.parser.now ≡ P.parses self.old.parser.now }
         ensures counted { (P.count self.old.parser.now ≤ P.count self.new.parser.now)
             × (P.count self.new.parser.now ≤ P.count self.old.parser.now + 1) }
-        ensures sound { P.is_sound self.old.parser.now × IsFaithful (P.parses self.old.parser.now) (S.sources self.old.store.now)
-            → P.is_sound self.new.parser.now × IsFaithful (P.parses self.new.parser.now) (S.sources self.new.store.now) }
-        ensures answer { P.is_sound self.old.parser.now × IsFaithful (P.parses self.old.parser.now) (S.sources self.old.store.now)
+        ensures sound { P.is_sound self.old.parser.now
+            × IsFaithful (P.parses self.old.parser.now) (S.sources self.old.store.now)
+            → P.is_sound self.new.parser.now
+            × IsFaithful (P.parses self.new.parser.now) (S.sources self.new.store.now) }
+        ensures answer { P.is_sound self.old.parser.now
+            × IsFaithful (P.parses self.old.parser.now) (S.sources self.old.store.now)
             → AnswersAs (P.parses self.old.parser.now) (asked options.entry) result }
     {
         capture(alloc, self.parser, self.store, options)

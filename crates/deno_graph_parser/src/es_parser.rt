@@ -30,8 +30,10 @@ pub trait EsParser: Drop {
         // No call changes an outcome.
         ensures function { parses self.new ≡ parses self.old }
         // The count rises by at most one.
-        ensures counted { (count self.old ≤ count self.new) × (count self.new ≤ count self.old + 1) }
+        ensures counted { (count self.old ≤ count self.new)
+            × (count self.new ≤ count self.old + 1) }
         ensures sound { is_sound self.old → is_sound self.new }
         // A sound parser answers its outcome.
-        ensures answer { is_sound self.old → AnswersAs (parses self.old) (asked options.entry) result };
+        ensures answer { is_sound self.old
+            → AnswersAs (parses self.old) (asked options.entry) result };
 }

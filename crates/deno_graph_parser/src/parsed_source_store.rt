@@ -19,8 +19,10 @@ pub trait ParsedSourceStore: Drop {
         specifier: Url,
         source: ParsedSource,
     ) -> Result<Option<ParsedSource>, AllocError>
-        ensures former { IfOk result (λ former. former ≡ source_at (sources self.old) (specifier_text specifier)) }
-        ensures ok { OnOk result (sources self.new ≡ with_source (sources self.old) (specifier_text specifier) source) }
+        ensures former { IfOk result (λ former.
+            former ≡ source_at (sources self.old) (specifier_text specifier)) }
+        ensures ok { OnOk result (sources self.new
+            ≡ with_source (sources self.old) (specifier_text specifier) source) }
         ensures err { OnErr result (sources self.new ≡ sources self.old) };
 
     /// The source under `specifier`, or `None` where there is none.
@@ -29,7 +31,8 @@ pub trait ParsedSourceStore: Drop {
         alloc: Global,
         specifier: &Url,
     ) -> Result<Option<ParsedSource>, AllocError>
-        ensures { IfOk result (λ found. found ≡ source_at (sources self.now) (specifier_text specifier.now)) };
+        ensures { IfOk result (λ found.
+            found ≡ source_at (sources self.now) (specifier_text specifier.now)) };
 
     /// Takes the source under `specifier` away and answers it. Where memory is refused all stays
     /// as it was.
@@ -38,8 +41,10 @@ pub trait ParsedSourceStore: Drop {
         alloc: Global,
         specifier: &Url,
     ) -> Result<Option<ParsedSource>, AllocError>
-        ensures former { IfOk result (λ former. former ≡ source_at (sources self.old) (specifier_text specifier.now)) }
-        ensures ok { OnOk result (sources self.new ≡ without (sources self.old) (specifier_text specifier.now)) }
+        ensures former { IfOk result (λ former.
+            former ≡ source_at (sources self.old) (specifier_text specifier.now)) }
+        ensures ok { OnOk result (sources self.new
+            ≡ without (sources self.old) (specifier_text specifier.now)) }
         ensures err { OnErr result (sources self.new ≡ sources self.old) };
 
     /// The source under `specifier` with the mark that its scopes were analysed, which it then has
@@ -49,7 +54,9 @@ pub trait ParsedSourceStore: Drop {
         alloc: Global,
         specifier: &Url,
     ) -> Result<Option<ParsedSource>, AllocError>
-        ensures found { IfOk result (λ found. found ≡ source_at (sources self.new) (specifier_text specifier.now)) }
-        ensures ok { OnOk result (sources self.new ≡ with_mark (sources self.old) (specifier_text specifier.now)) }
+        ensures found { IfOk result (λ found.
+            found ≡ source_at (sources self.new) (specifier_text specifier.now)) }
+        ensures ok { OnOk result (sources self.new
+            ≡ with_mark (sources self.old) (specifier_text specifier.now)) }
         ensures err { OnErr result (sources self.new ≡ sources self.old) };
 }

@@ -8,11 +8,15 @@ use Rattle.deno_graph_parser.specs.declared.parse_error.ParseDiagnostic.{ParseDi
 -- the first source with a text
 abbrev pub source_with : List ℕ → List ParsedModule → Option ParsedModule
 source_with text [] = None
-source_with text (source ∷ sources) = if bytes_eq source.text text then Some source else source_with text sources
+source_with text (source ∷ sources) =
+    if bytes_eq source.text text then Some source else source_with text sources
 
 -- what is said of all other texts
 abbrev pub unknown_text : ParseDiagnostic
-unknown_text = record { message = codes "unknown text"; position = record { line = 0; character = 0 } }
+unknown_text = record {
+  message = codes "unknown text";
+  position = record { line = 0; character = 0 };
+}
 
 abbrev pub outcome_of_found : Option ParsedModule → Outcome
 outcome_of_found (Some source) = outcome_of source

@@ -79,7 +79,8 @@ fn parsed(
     known: &ParsedSource,
     options: ParseOptions<'_>,
 ) -> Result<ParsedSource, ParseError>
-    ensures answer { IfOk result (λ source. (input_of source ≡ asked options.entry) × (outcome_of source ≡ outcome_of known.now)) }
+    ensures answer { IfOk result (λ source. (input_of source ≡ asked options.entry)
+        × (outcome_of source ≡ outcome_of known.now)) }
     ensures error { IfErr result (λ error. error ≡ ParseError.OutOfMemory) }
 {
     let made = ParsedSource::new(
