@@ -26,9 +26,9 @@ first_argument_is node callee args arg is shaped at none =
     omega arith
 
 -- the node of an argument has, with all below it, the children that it needs
-pub argument_shaped : (node : Node) (callee : Callee) (number : ℕ) (argument : Node) → All IsShaped (nodes_in node)
-    → argument_node callee (children_of node) number ≡ Some argument → All IsShaped (nodes_in argument)
-argument_shaped node callee number argument shaped at =
-    let k = callee_count callee + number in
+pub argument_shaped : (node : Node) (callee : Callee) (index : ℕ) (argument : Node) → All IsShaped (nodes_in node)
+    → argument_node callee (children_of node) index ≡ Some argument → All IsShaped (nodes_in argument)
+argument_shaped node callee index argument shaped at =
+    let k = callee_count callee + index in
     All-child_nodes IsShaped node argument
     (k, slice_get_within (children_of node) k argument at, get_or_from_slice_get (children_of node) k argument argument at) shaped

@@ -7,7 +7,7 @@ use Rattle.deno_graph_source.specs.declared.tree.node.Node.{Node}
 use Rattle.deno_graph_source.specs.Node.{kind_of, is_object}
 use Rattle.deno_graph_dependency.specs.declared.import_attributes.ImportAttributes.{ImportAttributes}
 use Rattle.deno_graph_dependency.specs.declared.import_attributes.ImportAttributes.TheVariants as attributes
-use Rattle.deno_graph_dep.specs.Attributes.{static_key, value_node, has_static_keys, known_object, ObjectGives, ValueGives, NumberGives, key_at, IsLookedAt, LookedAtGive}
+use Rattle.deno_graph_dep.specs.Attributes.{static_key, value_node, has_static_keys, known_object, ObjectGives, ValueGives, IndexGives, key_at, IsLookedAt, LookedAtGive}
 
 -- the value that is a known object
 known_value : (v : Option Node) (object : Node)
@@ -43,7 +43,7 @@ known_gives : (object : Node) (result : ImportAttributes) → is_object (kind_of
     → ValueGives (Some object) result
 known_gives object result is h = rw is h
 
--- the property with this number
+-- the property with this index
 module _ (xs : List Node) (i : ℕ) (y : Node) (within : i < length xs) (at : y ≡ get_or xs i y) where
   here : slice_get xs i ≡ Some y
   here = slice_get_read xs (length xs) i y refl within at
@@ -55,40 +55,40 @@ module _ (xs : List Node) (i : ℕ) (y : Node) (within : i < length xs) (at : y 
   value_here = ap (option_and_then value_node) here
 
 -- there is nothing past the end
-past_the_end : (xs : List Node) (number : ℕ) → length xs ≤ number → IsLookedAt xs number → ⊥
-past_the_end xs number past looked =
-    let none : key_at xs number ≡ None = ap (option_and_then static_key) (slice_get_past xs number past) in
+past_the_end : (xs : List Node) (index : ℕ) → length xs ≤ index → IsLookedAt xs index → ⊥
+past_the_end xs index past looked =
+    let none : key_at xs index ≡ None = ap (option_and_then static_key) (slice_get_past xs index past) in
     ⊎_elim (λ k. none-some (codes "with") (sym none ∙ k)) (λ k. none-some (codes "assert") (sym none ∙ k.0)) looked
 
--- the last number below a bound that is looked at, and the object that is its value
+-- the last index below a bound that is looked at, and the object that is its value
 pub record LastBelow (xs : List Node) (bound : ℕ) (object : Node) : Type 0 where
-  pub number : ℕ
-  pub below : number < bound
-  pub looked_at : IsLookedAt xs number
-  pub none_between : (greater : ℕ) → number < greater → greater < bound → IsLookedAt xs greater → ⊥
-  pub value : option_and_then value_node (slice_get xs number) ≡ Some object
+  pub index : ℕ
+  pub below : index < bound
+  pub looked_at : IsLookedAt xs index
+  pub none_between : (greater : ℕ) → index < greater → greater < bound → IsLookedAt xs greater → ⊥
+  pub value : option_and_then value_node (slice_get xs index) ≡ Some object
   pub is : is_object (kind_of object) ≡ true
   pub keys : has_static_keys object ≡ true
 
 abbrev pub IsLastBelow : List Node → ℕ → Option Node → Type 0
-IsLastBelow xs bound None = (number : ℕ) → number < bound → IsLookedAt xs number → ⊥
+IsLastBelow xs bound None = (index : ℕ) → index < bound → IsLookedAt xs index → ⊥
 IsLastBelow xs bound (Some object) = LastBelow xs bound object
 
--- what is known of the numbers below a bound: whether one has `with`, that no looked-at value is unknown, and the last of these
+-- what is known of the indices below a bound: whether one has `with`, that no looked-at value is unknown, and the last of these
 pub record LookedAtBelow (xs : List Node) (bound : ℕ) (after_with : Bool) (last : Option Node) : Type 0 where
-  pub with_below : after_with ≡ true → (number : ℕ) × (number < bound) × (key_at xs number ≡ Some (codes "with"))
-  pub no_with : after_with ≡ false → (number : ℕ) → number < bound → key_at xs number ≢ Some (codes "with")
-  pub known : (number : ℕ) → number < bound → IsLookedAt xs number → NumberGives xs number attributes.Unknown → ⊥
+  pub with_below : after_with ≡ true → (index : ℕ) × (index < bound) × (key_at xs index ≡ Some (codes "with"))
+  pub no_with : after_with ≡ false → (index : ℕ) → index < bound → key_at xs index ≢ Some (codes "with")
+  pub known : (index : ℕ) → index < bound → IsLookedAt xs index → IndexGives xs index attributes.Unknown → ⊥
   pub last_is : IsLastBelow xs bound last
 
 -- whether a property is looked at, after whether a `with` came before it
 abbrev pub IsClause : Node → Bool → Type 0
 IsClause y after_with = (static_key y ≡ Some (codes "with")) ⊎ ((static_key y ≡ Some (codes "assert")) × (after_with ≡ false))
 
--- what holds of each number below a bound, and of the bound, holds of each below the next
-below_next : (P : ℕ → Type 0) (i : ℕ) → ((number : ℕ) → number < i → P number) → P i → (number : ℕ) → number < i + 1 → P number
-below_next P i before here number below =
-    ⊎_elim (λ lt. before number lt) (λ ge. let same : i ≡ number = omega arith in subst P same here) (cases_lt number i)
+-- what holds of each index below a bound, and of the bound, holds of each below the next
+below_next : (P : ℕ → Type 0) (i : ℕ) → ((index : ℕ) → index < i → P index) → P i → (index : ℕ) → index < i + 1 → P index
+below_next P i before here index below =
+    ⊎_elim (λ lt. before index lt) (λ ge. let same : i ≡ index = omega arith in subst P same here) (cases_lt index i)
 
 -- one more property
 module _ (xs : List Node) (i : ℕ) (y : Node) (within : i < length xs) (at : y ≡ get_or xs i y)
@@ -107,15 +107,15 @@ module _ (xs : List Node) (i : ℕ) (y : Node) (within : i < length xs) (at : y 
       )) looked
 
   module _ (has_with : Bool) (tested : (has_with ≡ true) ↔ (static_key y ≡ Some (codes "with"))) where
-    with_next : (after_with || has_with) ≡ true → (number : ℕ) × (number < i + 1) × (key_at xs number ≡ Some (codes "with"))
+    with_next : (after_with || has_with) ≡ true → (index : ℕ) × (index < i + 1) × (key_at xs index ≡ Some (codes "with"))
     with_next e =
         ⊎_elim (λ before. let found = so_far.with_below before in (found.0, (let below = found.1 in omega arith), found.2))
         (λ now. (i, omega arith, key_here xs i y within at ∙ tested.0 now)) (or_cases after_with has_with e)
 
-    no_with_next : (after_with || has_with) ≡ false → (number : ℕ) → number < i + 1 → key_at xs number ≢ Some (codes "with")
+    no_with_next : (after_with || has_with) ≡ false → (index : ℕ) → index < i + 1 → key_at xs index ≢ Some (codes "with")
     no_with_next e =
         let both = or_parts after_with has_with e in
-        below_next (λ number. key_at xs number ≢ Some (codes "with")) i (so_far.no_with both.0)
+        below_next (λ index. key_at xs index ≢ Some (codes "with")) i (so_far.no_with both.0)
         (λ k. both_ways has_with both.1 (tested.1 (sym (key_here xs i y within at) ∙ k)))
 
     -- a property that is no clause is passed over
@@ -123,19 +123,19 @@ module _ (xs : List Node) (i : ℕ) (y : Node) (within : i < length xs) (at : y 
     LookedAtBelow-skip no_clause = record {
       with_below = with_next;
       no_with = no_with_next;
-      known = below_next (λ number. IsLookedAt xs number → NumberGives xs number attributes.Unknown → ⊥) i so_far.known
+      known = below_next (λ index. IsLookedAt xs index → IndexGives xs index attributes.Unknown → ⊥) i so_far.known
           (λ looked. absurd (no_clause (is_clause looked)));
       last_is = same_last last so_far.last_is;
     }
       where
         same_last : (o : Option Node) → IsLastBelow xs i o → IsLastBelow xs (i + 1) o
-        same_last None none = below_next (λ number. IsLookedAt xs number → ⊥) i none (λ looked. no_clause (is_clause looked))
+        same_last None none = below_next (λ index. IsLookedAt xs index → ⊥) i none (λ looked. no_clause (is_clause looked))
         same_last (Some object) found = record {
-          number = found.number;
+          index = found.index;
           below = let below = found.below in omega arith;
           looked_at = found.looked_at;
           none_between = λ greater after below.
-              below_next (λ number. found.number < number → IsLookedAt xs number → ⊥) i (λ number below after. found.none_between number after below)
+              below_next (λ index. found.index < index → IsLookedAt xs index → ⊥) i (λ index below after. found.none_between index after below)
               (λ after looked. no_clause (is_clause looked)) greater below after;
           value = found.value;
           is = found.is;
@@ -151,10 +151,10 @@ module _ (xs : List Node) (i : ℕ) (y : Node) (within : i < length xs) (at : y 
         record {
           with_below = with_next;
           no_with = no_with_next;
-          known = below_next (λ number. IsLookedAt xs number → NumberGives xs number attributes.Unknown → ⊥) i so_far.known
+          known = below_next (λ index. IsLookedAt xs index → IndexGives xs index attributes.Unknown → ⊥) i so_far.known
               (λ looked unknown. known_is_not_unknown object found.1 found.2 (subst (λ v. ValueGives v attributes.Unknown) value unknown));
           last_is = record {
-            number = i;
+            index = i;
             below = omega arith;
             looked_at = looked_at clause;
             none_between = λ greater after below looked. omega arith;
@@ -175,9 +175,9 @@ module _ (xs : List Node) (i : ℕ) (y : Node) (within : i < length xs) (at : y 
 -- nothing is looked at
 pub LookedAtGive-none : (xs : List Node) (bound : ℕ) (after_with : Bool) (last : Option Node) → length xs ≤ bound → last ≡ None
     → LookedAtBelow xs bound after_with last → LookedAtGive xs attributes.None
-LookedAtGive-none xs bound after_with last end none all number looked =
-    ⊎_elim (λ below. let last_is = subst (IsLastBelow xs bound) none all.last_is in last_is number below looked)
-    (λ past. past_the_end xs number (omega arith) looked) (cases_lt number bound)
+LookedAtGive-none xs bound after_with last end none all index looked =
+    ⊎_elim (λ below. let last_is = subst (IsLastBelow xs bound) none all.last_is in last_is index below looked)
+    (λ past. past_the_end xs index (omega arith) looked) (cases_lt index bound)
 
 -- the last object that is looked at decides
 pub LookedAtGive-last : (xs : List Node) (bound : ℕ) (after_with : Bool) (last : Option Node) (object : Node) (result : ImportAttributes)
@@ -189,9 +189,9 @@ LookedAtGive-last xs bound after_with last object result end is all gives =
     by_result attributes.None found g = let keys = found.keys in absurd (rw keys at g)
     by_result attributes.Unknown found g = let keys = found.keys in absurd (rw keys at g)
     by_result (attributes.Known entries) found g = record {
-      known = λ number looked.
-          ⊎_elim (λ below. all.known number below looked) (λ past. absurd (past_the_end xs number (omega arith) looked)) (cases_lt number bound);
-      greatest = found.number;
+      known = λ index looked.
+          ⊎_elim (λ below. all.known index below looked) (λ past. absurd (past_the_end xs index (omega arith) looked)) (cases_lt index bound);
+      greatest = found.index;
       looked_at = found.looked_at;
       none_greater = λ greater after looked.
           ⊎_elim (λ below. found.none_between greater after below looked) (λ past. past_the_end xs greater (omega arith) looked) (cases_lt greater bound);

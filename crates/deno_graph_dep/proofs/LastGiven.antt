@@ -33,9 +33,9 @@ push_cases (z ∷ xs) y x (suc n) e = ⊎_elim (λ h. inl h) (λ h. inr (ap (λ 
 GivesLast-push : (gives : Giving) (xs : List Node) (y : Node) (name : List ℕ) (value : ImportAttribute)
     → ((other : ImportAttribute) → gives y ≢ Some (name, other)) → GivesLast gives xs name value → GivesLast gives (xs ++ y ∷ []) name value
 GivesLast-push gives xs y name value none given = record {
-  number = given.number;
+  index = given.index;
   property = given.property;
-  there = push_before xs y given.property given.number given.there;
+  there = push_before xs y given.property given.index given.there;
   given = given.given;
   last = λ greater other v after at g.
       ⊎_elim (λ before. given.last greater other v after before g)
@@ -46,19 +46,19 @@ GivesLast-pop : (gives : Giving) (xs : List Node) (y : Node) (name : List ℕ) (
     → ((other : ImportAttribute) → gives y ≢ Some (name, other)) → GivesLast gives (xs ++ y ∷ []) name value → GivesLast gives xs name value
 GivesLast-pop gives xs y name value none given =
     ⊎_elim (λ before. record {
-      number = given.number;
+      index = given.index;
       property = given.property;
       there = before;
       given = given.given;
       last = λ greater other v after at g. given.last greater other v after (push_before xs y other greater at) g;
     })
-    (λ end. absurd (none value (ap gives end.1 ∙ given.given))) (push_cases xs y given.property given.number given.there)
+    (λ end. absurd (none value (ap gives end.1 ∙ given.given))) (push_cases xs y given.property given.index given.there)
 
 -- a property that gives a value for a key gives it last
 GivesLast-end : (gives : Giving) (xs : List Node) (y : Node) (name : List ℕ) (value : ImportAttribute)
     → gives y ≡ Some (name, value) → GivesLast gives (xs ++ y ∷ []) name value
 GivesLast-end gives xs y name value is = record {
-  number = length xs;
+  index = length xs;
   property = y;
   there = push_end xs y;
   given = is;
@@ -71,10 +71,10 @@ GivesLast-same : (gives : Giving) (xs : List Node) (y : Node) (name : List ℕ) 
     → gives y ≡ Some (name, last) → GivesLast gives (xs ++ y ∷ []) name value → last ≡ value
 GivesLast-same gives xs y name value last is given =
     ⊎_elim (λ before.
-    let within : given.number < length xs = slice_get_within xs given.number given.property before in
+    let within : given.index < length xs = slice_get_within xs given.index given.property before in
     absurd (given.last (length xs) y last within (push_end xs y) is))
     (λ end. (some_pair_parts name name last value (sym is ∙ ap gives end.1 ∙ given.given)).1)
-    (push_cases xs y given.property given.number given.there)
+    (push_cases xs y given.property given.index given.there)
 
 -- nothing is given by no property
 pub HoldsLast-nil : (gives : Giving) → HoldsLast gives [] []

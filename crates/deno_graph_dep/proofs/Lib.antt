@@ -6,3 +6,5 @@ pub mod LastGiven
 pub mod Spelling
 pub mod Spine
 pub mod Stating
+pub mod Unique
+pub mod UniqueAttributes

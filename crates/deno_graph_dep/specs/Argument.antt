@@ -40,10 +40,12 @@ abbrev pub quasi_part : List ℕ → List Part
 quasi_part [] = []
 quasi_part (c ∷ points) = known (lossy_text (c ∷ points)) ∷ []
 
--- the parts of a template: its first quasi, and then each child as an unknown with the quasi after it
+-- the parts of a template: its first quasi, and then each child as an unknown with the quasi after
+-- it
 abbrev pub template_parts : List (List ℕ) → List Part
 template_parts [] = []
-template_parts (first ∷ rest) = quasi_part first ++ flat_map (λ quasi. unknown ∷ quasi_part quasi) rest
+template_parts (first ∷ rest) =
+    quasi_part first ++ flat_map (λ quasi. unknown ∷ quasi_part quasi) rest
 
 -- a template without children is the text of its one quasi
 abbrev pub template_form : List (List ℕ) → Form
@@ -71,14 +73,17 @@ is_sum _ = false
 abbrev pub Step : Type 0
 Step = BinaryOp × Node
 
--- The left spine of a node: the node, its left child, that one's left child, and so on while they are
--- binary. Its steps are those of the binary nodes from the node in, and `first` is the operand below them.
+-- The left spine of a node: the node, its left child, that one's left child, and so on while they
+-- are binary. Its steps are those of the binary nodes from the node in, and `first` is the operand
+-- below them.
 abbrev pub LeftSpine : Node → List Step → Node → Type 0
 LeftSpine node [] first = (node ≡ first) × (is_binary (kind_of node) ≡ false)
 LeftSpine node (step ∷ below) first =
-    (kind_of node ≡ Binary step.0) × ((left : Node) × (children_of node ≡ left ∷ step.1 ∷ []) × LeftSpine left below first)
+    (kind_of node ≡ Binary step.0)
+    × ((left : Node) × (children_of node ≡ left ∷ step.1 ∷ []) × LeftSpine left below first)
 
--- the operands of a spine from left to right: the first, and then the right children from the innermost out
+-- the operands of a spine from left to right: the first, and then the right children from the
+-- innermost out
 abbrev pub operands_of : List Step → Node → List Node
 operands_of [] first = first ∷ []
 operands_of (step ∷ below) first = operands_of below first ++ step.1 ∷ []
@@ -102,7 +107,9 @@ sum_form steps first =
 abbrev pub HasFormAt : Kind → Node → Form → Type 0
 HasFormAt (Str points) node form = form ≡ text (lossy_text points)
 HasFormAt (Template quasis) node form = form ≡ template_form quasis
-HasFormAt (Binary op) node form = (steps : List Step) × (first : Node) × (LeftSpine node steps first) × (form ≡ sum_form steps first)
+HasFormAt (Binary op) node form =
+    (steps : List Step) × (first : Node) × (LeftSpine node steps first)
+    × (form ≡ sum_form steps first)
 HasFormAt _ node form = form ≡ expression
 
 -- the form of a node as an argument

@@ -1,4 +1,4 @@
--- What an object literal says of the attributes of an import, by the numbers of its properties.
+-- What an object literal says of the attributes of an import, by the indices of its properties.
 use Rattle.std.specs.Prelude.{◌≡◌, ◌≢◌, ℕ, ◌<◌, ◌-◌, ◌↔◌, ◌⊎◌, Bool, not, ◌&&◌, if◌then◌else◌, List, length, codes, Option, Some, None, is_some, option_map, option_and_then, slice_get, MatchBool}
 use Rattle.std.specs.List.{list_all}
 use Rattle.std.specs.Str.{bytes_eq}
@@ -41,7 +41,8 @@ value_node property = slice_get (children_of property) (length (children_of prop
 
 -- the static value of a property: a string literal without lone surrogates
 abbrev pub static_value : Node → Option (List ℕ)
-static_value property = option_and_then (λ value. text_of_kind (kind_of value)) (value_node property)
+static_value property =
+    option_and_then (λ value. text_of_kind (kind_of value)) (value_node property)
 
 -- each property of an object literal has a static key
 abbrev pub has_static_keys : Node → Bool
@@ -57,7 +58,10 @@ Giving = Node → Option (List ℕ × ImportAttribute)
 
 -- in a declaration a static key with a static value gives it, and other properties give nothing
 abbrev pub declared : Giving
-declared property = option_and_then (λ name. option_map (λ value. (name, attribute.Known value)) (static_value property)) (static_key property)
+declared property =
+    option_and_then (λ name.
+    option_map (λ value. (name, attribute.Known value)) (static_value property))
+    (static_key property)
 
 -- what is known of a value: the text of a static one
 abbrev pub attribute_of : Option (List ℕ) → ImportAttribute
@@ -66,21 +70,24 @@ attribute_of None = attribute.Unknown
 
 -- in an object a static key gives what is known of its value
 abbrev pub stated : Giving
-stated property = option_map (λ name. (name, attribute_of (static_value property))) (static_key property)
+stated property =
+    option_map (λ name. (name, attribute_of (static_value property))) (static_key property)
 
--- of the properties that give this key, the one with the greatest number gives this value
-pub record GivesLast (gives : Giving) (properties : List Node) (name : List ℕ) (value : ImportAttribute) : Type 0 where
-  pub number : ℕ
+-- of the properties that give this key, the one with the greatest index gives this value
+pub record GivesLast (gives : Giving) (properties : List Node)
+    (name : List ℕ) (value : ImportAttribute) : Type 0 where
+  pub index : ℕ
   pub property : Node
-  pub there : slice_get properties number ≡ Some property
+  pub there : slice_get properties index ≡ Some property
   pub given : gives property ≡ Some (name, value)
-  pub last : (greater : ℕ) (other : Node) (other_value : ImportAttribute) → number < greater
+  pub last : (greater : ℕ) (other : Node) (other_value : ImportAttribute) → index < greater
       → slice_get properties greater ≡ Some other → gives other ≢ Some (name, other_value)
 
 -- each key has the value that is given last, and no other key has one
 pub record HoldsLast (gives : Giving) (properties : List Node) (entries : Entries) : Type 0 where
   pub ascending : IsAscending entries
-  pub values : (name : List ℕ) (value : ImportAttribute) → (value_at entries name ≡ Some value) ↔ GivesLast gives properties name value
+  pub values : (name : List ℕ) (value : ImportAttribute)
+      → (value_at entries name ≡ Some value) ↔ GivesLast gives properties name value
 
 -- known attributes, which are those that are given last
 abbrev pub KnowsLast : Giving → List Node → ImportAttributes → Type 0
@@ -95,43 +102,59 @@ DeclarationGives (Some clause) result = KnowsLast declared (children_of clause) 
 
 -- the attributes of an object literal
 abbrev pub ObjectGives : Node → ImportAttributes → Type 0
-ObjectGives object result = MatchBool (has_static_keys object) (KnowsLast stated (children_of object) result) (result ≡ attributes.Unknown)
+ObjectGives object result =
+    MatchBool (has_static_keys object)
+    (KnowsLast stated (children_of object) result)
+    (result ≡ attributes.Unknown)
 
 -- the attributes of the value of a property, which are unknown where it is no object literal
 abbrev pub ValueGives : Option Node → ImportAttributes → Type 0
 ValueGives None result = result ≡ attributes.Unknown
-ValueGives (Some value) result = MatchBool (is_object (kind_of value)) (ObjectGives value result) (result ≡ attributes.Unknown)
+ValueGives (Some value) result =
+    MatchBool (is_object (kind_of value)) (ObjectGives value result) (result ≡ attributes.Unknown)
 
--- the same of the property with this number
-abbrev pub NumberGives : List Node → ℕ → ImportAttributes → Type 0
-NumberGives properties number result = ValueGives (option_and_then value_node (slice_get properties number)) result
+-- the same of the property with this index
+abbrev pub IndexGives : List Node → ℕ → ImportAttributes → Type 0
+IndexGives properties index result =
+    ValueGives (option_and_then value_node (slice_get properties index)) result
 
--- the static key of the property with this number
+-- the static key of the property with this index
 abbrev pub key_at : List Node → ℕ → Option (List ℕ)
-key_at properties number = option_and_then static_key (slice_get properties number)
+key_at properties index = option_and_then static_key (slice_get properties index)
 
--- a number is looked at when its key is `with`, or is `assert` and no smaller number has `with`
+-- no smaller index has this key
+abbrev pub IsNoneBefore : List Node → ℕ → List ℕ → Type 0
+IsNoneBefore properties index name =
+    (smaller : ℕ) → smaller < index → key_at properties smaller ≢ Some name
+
+-- an index is looked at when its key is `with`, or is `assert` and no smaller index has `with`
 abbrev pub IsLookedAt : List Node → ℕ → Type 0
-IsLookedAt properties number =
-    (key_at properties number ≡ Some (codes "with"))
-    ⊎ ((key_at properties number ≡ Some (codes "assert")) × ((smaller : ℕ) → smaller < number → key_at properties smaller ≢ Some (codes "with")))
+IsLookedAt properties index =
+    (key_at properties index ≡ Some (codes "with"))
+    ⊎ ((key_at properties index ≡ Some (codes "assert"))
+    × IsNoneBefore properties index (codes "with"))
 
--- no looked-at value is unknown, and that of the greatest looked-at number gives this
+-- no looked-at value is unknown, and that of the greatest looked-at index gives this
 pub record GreatestGives (properties : List Node) (result : ImportAttributes) : Type 0 where
-  pub known : (number : ℕ) → IsLookedAt properties number → ¬ (NumberGives properties number attributes.Unknown)
+  pub known : (index : ℕ) → IsLookedAt properties index
+      → ¬ (IndexGives properties index attributes.Unknown)
   pub greatest : ℕ
   pub looked_at : IsLookedAt properties greatest
   pub none_greater : (greater : ℕ) → greatest < greater → ¬ (IsLookedAt properties greater)
-  pub given : NumberGives properties greatest result
+  pub given : IndexGives properties greatest result
 
--- the attributes of a call by the properties of its second argument: none where no number is looked at,
--- unknown where a looked-at value is, and else those of the greatest looked-at number
+-- the attributes of a call by the properties of its second argument: none where no index is looked
+-- at, unknown where a looked-at value is, and else those of the greatest looked-at index
 abbrev pub LookedAtGive : List Node → ImportAttributes → Type 0
-LookedAtGive properties attributes.None = (number : ℕ) → ¬ (IsLookedAt properties number)
-LookedAtGive properties attributes.Unknown = (number : ℕ) × (IsLookedAt properties number) × (NumberGives properties number attributes.Unknown)
-LookedAtGive properties (attributes.Known entries) = GreatestGives properties (attributes.Known entries)
+LookedAtGive properties attributes.None = (index : ℕ) → ¬ (IsLookedAt properties index)
+LookedAtGive properties attributes.Unknown =
+    (index : ℕ) × (IsLookedAt properties index)
+    × (IndexGives properties index attributes.Unknown)
+LookedAtGive properties (attributes.Known entries) =
+    GreatestGives properties (attributes.Known entries)
 
--- the attributes of a call, by its second argument: unknown unless that is an object literal with static keys alone, and not spread
+-- the attributes of a call, by its second argument: unknown unless that is an object literal with
+-- static keys alone, and not spread
 abbrev pub CallGives : Option (Arg × Node) → ImportAttributes → Type 0
 CallGives None result = result ≡ attributes.None
 CallGives (Some second) result =
@@ -142,9 +165,12 @@ CallGives (Some second) result =
 -- the object literal that is the value of a property, where each of its properties has a static key
 abbrev pub known_object : Node → Option Node
 known_object property =
-    option_and_then (λ value. if is_object (kind_of value) && has_static_keys value then Some value else None) (value_node property)
+    option_and_then (λ value.
+    if is_object (kind_of value) && has_static_keys value then Some value else None)
+    (value_node property)
 
 -- the entries with this value at a key, and every other key as it was
 pub record Puts (old new : Entries) (name : List ℕ) (value : ImportAttribute) : Type 0 where
   pub ascending : IsAscending new
-  pub values : (other : List ℕ) → value_at new other ≡ (if bytes_eq name other then Some value else value_at old other)
+  pub values : (other : List ℕ)
+      → value_at new other ≡ (if bytes_eq name other then Some value else value_at old other)

@@ -18,10 +18,13 @@ phase_kind Evaluation = dynamic_kind.Import
 phase_kind Source = dynamic_kind.ImportSource
 phase_kind Defer = dynamic_kind.ImportDefer
 
--- what a call with this callee is, where the first of the children is the callee if that is an expression
+-- what a call with this callee is, where the first of the children is the callee if that is an
+-- expression
 abbrev pub call_kind : Callee → List Node → Option DynamicDependencyKind
 call_kind (callee.Import phase) children = Some (phase_kind phase)
-call_kind callee.Expr children = if is_require (option_map kind_of (slice_get children 0)) then Some dynamic_kind.Require else None
+call_kind callee.Expr children =
+    if is_require (option_map kind_of (slice_get children 0)) then Some dynamic_kind.Require
+    else None
 call_kind callee.Super children = None
 
 -- what an import declaration is

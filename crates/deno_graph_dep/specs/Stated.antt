@@ -22,7 +22,7 @@ use Rattle.deno_graph_dep.specs.Attributes.{DeclarationGives, ObjectGives, CallG
 use Rattle.deno_graph_dep.specs.DependencyKind.{import_kind, export_kind, import_equals_kind, call_kind}
 use Rattle.deno_graph_dep.specs.Item.{Item, StaticItem, static_item, dynamic_item}
 use Rattle.deno_graph_dep.specs.Value.{SpellsItsText}
-use Rattle.deno_graph_walk.specs.Dependency.{may_name_module}
+use Rattle.deno_graph_walk.specs.Dependency.{is_dependency, may_name_module}
 
 -- the comments that are filed as leading at a position
 abbrev pub leading_at : FiledComments → ℕ → List DependencyComment
@@ -42,9 +42,10 @@ abbrev pub TypeGives : Option Node → ImportAttributes → Type 0
 TypeGives None result = result ≡ attributes.None
 TypeGives (Some object) result = ObjectGives object result
 
--- what a node with a specifier says: this kind, at this range, with the literal as its specifier, and the
--- comments that lead the node
-abbrev pub specified_item : FiledComments → Node → StaticDependencyKind → SourceRange → StrLit → Bool → ImportAttributes → StaticItem
+-- what a node with a specifier says: this kind, at this range, with the literal as its specifier,
+-- and the comments that lead the node
+abbrev pub specified_item : FiledComments → Node
+    → StaticDependencyKind → SourceRange → StrLit → Bool → ImportAttributes → StaticItem
 specified_item comments node kind range literal is_side_effect given = record {
   kind = kind;
   leading_comments = leading_at comments (range_of node).start;
@@ -56,27 +57,32 @@ specified_item comments node kind range literal is_side_effect given = record {
 }
 
 -- the item is that of a node with a specifier, with attributes as the node gives them
-abbrev pub StatesSpecifier : FiledComments → Node → StaticDependencyKind → SourceRange → StrLit → Bool → (ImportAttributes → Type 0) → Item → Type 0
+abbrev pub StatesSpecifier : FiledComments → Node
+    → StaticDependencyKind → SourceRange → StrLit → Bool → (ImportAttributes → Type 0)
+    → Item → Type 0
 StatesSpecifier comments node kind range literal is_side_effect Gives item =
-    (given : ImportAttributes) × Gives given × (item ≡ static_item (specified_item comments node kind range literal is_side_effect given))
+    (given : ImportAttributes) × Gives given
+    × (item ≡ static_item (specified_item comments node kind range literal is_side_effect given))
 
--- the node of an argument of a call, by its number
+-- the node of an argument of a call, by its index
 abbrev pub argument_node : Callee → List Node → ℕ → Option Node
-argument_node callee children number = slice_get children (callee_count callee + number)
+argument_node callee children index = slice_get children (callee_count callee + index)
 
 -- the second argument of a call, where it has one: whether it is spread, and its node
 abbrev pub second_argument : Callee → List Arg → List Node → Option (Arg × Node)
 second_argument callee args children =
-    option_and_then (λ arg. option_map (λ node. (arg, node)) (argument_node callee children 1)) (slice_get args 1)
+    option_and_then (λ arg.
+    option_map (λ node. (arg, node)) (argument_node callee children 1)) (slice_get args 1)
 
 -- the form of a first argument: nothing is known of one that is spread
 abbrev pub ArgumentHasForm : Arg → Node → Form → Type 0
 ArgumentHasForm arg argument form = MatchBool arg.spread (form ≡ expression) (HasForm argument form)
 
--- The item is that of a call of this kind: what is known of its first argument, this argument's range, and
--- the attributes that its second argument gives. Whatever texts its unknown parts are given, an argument
--- whose literals are readable spells the text that its expression has.
-pub record StatesCall (comments : FiledComments) (node : Node) (callee : Callee) (args : List Arg) (item : Item) : Type 0 where
+-- The item is that of a call of this kind: what is known of its first argument, this argument's
+-- range, and the attributes that its second argument gives. Whatever texts its unknown parts are
+-- given, an argument whose literals are readable spells the text that its expression has.
+pub record StatesCall (comments : FiledComments) (node : Node)
+    (callee : Callee) (args : List Arg) (item : Item) : Type 0 where
   pub kind : DynamicDependencyKind
   pub is_kind : call_kind callee (children_of node) ≡ Some kind
   pub arg : Arg
@@ -100,18 +106,25 @@ pub record StatesCall (comments : FiledComments) (node : Node) (callee : Callee)
 -- the item is what a node of this kind states
 abbrev pub StatesAt : FiledComments → Node → Kind → Item → Type 0
 StatesAt comments node (ImportDecl type_only phase src has_specifiers has_with) item =
-    StatesSpecifier comments node (import_kind type_only phase) (range_of node) src (not has_specifiers) (DeclarationGives (clause_of has_with node)) item
+    let Gives = DeclarationGives (clause_of has_with node) in
+    StatesSpecifier comments node (import_kind type_only phase) (range_of node) src
+    (not has_specifiers) Gives item
 StatesAt comments node (NamedExport type_only (Some src) has_with) item =
-    StatesSpecifier comments node (export_kind type_only) (range_of node) src false (DeclarationGives (clause_of has_with node)) item
+    let Gives = DeclarationGives (clause_of has_with node) in
+    StatesSpecifier comments node (export_kind type_only) (range_of node) src false Gives item
 StatesAt comments node (ExportAll type_only src has_with) item =
-    StatesSpecifier comments node (export_kind type_only) (range_of node) src false (DeclarationGives (clause_of has_with node)) item
+    let Gives = DeclarationGives (clause_of has_with node) in
+    StatesSpecifier comments node (export_kind type_only) (range_of node) src false Gives item
 StatesAt comments node (ImportEquals type_only is_export (Some external)) item =
-    StatesSpecifier comments node (import_equals_kind type_only is_export) (range_of node) external false NoneGiven item
+    StatesSpecifier comments node (import_equals_kind type_only is_export) (range_of node) external
+    false NoneGiven item
 StatesAt comments node (ImportType arg has_with) item =
-    StatesSpecifier comments node static_kind.ImportType (range_of node) arg false (TypeGives (clause_of has_with node)) item
+    let Gives = TypeGives (clause_of has_with node) in
+    StatesSpecifier comments node static_kind.ImportType (range_of node) arg false Gives item
 StatesAt comments node (ModuleDecl (Some name)) item =
     IsTrue (may_name_module (lossy_text name.value))
-    × StatesSpecifier comments node static_kind.MaybeTsModuleAugmentation name.range name false NoneGiven item
+    × StatesSpecifier comments node static_kind.MaybeTsModuleAugmentation name.range name
+    false NoneGiven item
 StatesAt comments node (Call callee args) item = StatesCall comments node callee args item
 StatesAt comments node _ item = ⊥
 
@@ -119,9 +132,15 @@ StatesAt comments node _ item = ⊥
 unfoldable pub States : FiledComments → Node → Item → Type 0
 States comments node item = StatesAt comments node (kind_of node) item
 
+-- the item is what a node of this kind states, and there is none where such a node is not listed
+abbrev pub StatesIfListed : FiledComments → Node → Kind → Option Item → Type 0
+StatesIfListed comments node kind (Some item) = StatesAt comments node kind item
+StatesIfListed comments node kind None = is_dependency kind (children_of node) ≡ false
+
 -- each item is what the node in its place states, and there are no more of either
 abbrev pub AllStated : FiledComments → List Node → List Item → Type 0
 AllStated comments [] [] = Unit {0}
 AllStated comments [] (item ∷ items) = ⊥
 AllStated comments (node ∷ nodes) [] = ⊥
-AllStated comments (node ∷ nodes) (item ∷ items) = States comments node item × AllStated comments nodes items
+AllStated comments (node ∷ nodes) (item ∷ items) =
+    States comments node item × AllStated comments nodes items

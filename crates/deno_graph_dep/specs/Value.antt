@@ -1,5 +1,5 @@
--- The text that an expression evaluates to, as far as the language says: of string literals, templates,
--- and sums that begin with a string, given the texts that the other operands contribute.
+-- The text that an expression evaluates to, as far as the language says: of string literals,
+-- templates, and sums that begin with a string, given the texts that the other operands contribute.
 use Rattle.std.specs.Prelude.{◌≡◌, ℕ, ◌+◌, if◌then◌else◌, List, [], ◌∷◌, ◌++◌, map, All}
 use Rattle.deno_graph_source.specs.declared.tree.node.Kind.{Kind}
 use Rattle.deno_graph_source.specs.declared.tree.node.Kind.TheVariants.{Str, Template, Binary}
@@ -14,29 +14,35 @@ use Rattle.deno_graph_dep.specs.Argument.{Form, text, parts, expression, Part, k
 abbrev pub Assignment : Type 0
 Assignment = NodePath → List ℕ
 
--- a template's text: its first quasi, the text given to its first child, its second quasi, and so on,
--- where the next child has the number n
+-- a template's text: its first quasi, the text given to its first child, its second quasi, and so
+-- on, where the next child has the index n
 abbrev pub template_text : Assignment → NodePath → ℕ → List (List ℕ) → List ℕ
 template_text given path n [] = []
 template_text given path n (quasi ∷ []) = lossy_text quasi
 template_text given path n (quasi ∷ next ∷ rest) =
     lossy_text quasi ++ (given (path ++ n ∷ []) ++ template_text given path (n + 1) (next ∷ rest))
 
--- what an operand contributes: a readable string literal its own text, any other the text given to it
+-- what an operand contributes: a readable string literal its own text, any other the text given to
+-- it
 abbrev pub ContributesAt : Assignment → NodePath → Kind → List ℕ → Type 0
-ContributesAt given path (Str points) contributed = IsReadable points × (contributed ≡ lossy_text points)
+ContributesAt given path (Str points) contributed =
+    IsReadable points × (contributed ≡ lossy_text points)
 ContributesAt given path _ contributed = contributed ≡ given path
 
--- The expression at a path has this text: a readable string literal; a template with readable quasis;
--- and a sum whose left child has a text, followed by what the right child contributes. Nothing else has one.
+-- The expression at a path has this text: a readable string literal; a template with readable
+-- quasis; and a sum whose left child has a text, followed by what the right child contributes.
+-- Nothing else has one.
 pub data HasText (given : Assignment) : NodePath → Node → List ℕ → Type 0 where
-  of_string : (path : NodePath) (node : Node) (points : List ℕ) → kind_of node ≡ Str points → IsReadable points
+  of_string : (path : NodePath) (node : Node) (points : List ℕ)
+      → kind_of node ≡ Str points → IsReadable points
       → HasText given path node (lossy_text points)
-  of_template : (path : NodePath) (node : Node) (quasis : List (List ℕ)) → kind_of node ≡ Template quasis → All IsReadable quasis
+  of_template : (path : NodePath) (node : Node) (quasis : List (List ℕ))
+      → kind_of node ≡ Template quasis → All IsReadable quasis
       → HasText given path node (template_text given path 0 quasis)
-  of_sum : (path : NodePath) (node left right : Node) (front back : List ℕ) → kind_of node ≡ Binary Add
-      → children_of node ≡ left ∷ right ∷ []
-      → HasText given (path ++ 0 ∷ []) left front → ContributesAt given (path ++ 1 ∷ []) (kind_of right) back
+  of_sum : (path : NodePath) (node left right : Node) (front back : List ℕ)
+      → kind_of node ≡ Binary Add → children_of node ≡ left ∷ right ∷ []
+      → HasText given (path ++ 0 ∷ []) left front
+      → ContributesAt given (path ++ 1 ∷ []) (kind_of right) back
       → HasText given path node (front ++ back)
 
 -- the parts joined, with the k-th unknown replaced by the k-th of the texts
@@ -46,7 +52,7 @@ joined (known known_text ∷ ps) texts = known_text ++ joined ps texts
 joined (unknown ∷ ps) [] = joined ps []
 joined (unknown ∷ ps) (given_text ∷ texts) = given_text ++ joined ps texts
 
--- the paths of children, where the first has the number n
+-- the paths of children, where the first has the index n
 abbrev pub child_paths : ℕ → List Node → List NodePath
 child_paths n [] = []
 child_paths n (child ∷ children) = (n ∷ []) ∷ child_paths (n + 1) children
@@ -61,11 +67,13 @@ unknown_operands path [] first = unknown_path path first
 unknown_operands path (step ∷ below) first =
     unknown_operands (path ++ 0 ∷ []) below first ++ unknown_path (path ++ 1 ∷ []) step.1
 
--- the unknowns of a node of a kind: a template's children, or the operands of a sum that are no string literals
+-- the unknowns of a node of a kind: a template's children, or the operands of a sum that are no
+-- string literals
 abbrev pub AreUnknownsAt : Kind → Node → List NodePath → Type 0
 AreUnknownsAt (Template quasis) node paths = paths ≡ child_paths 0 (children_of node)
 AreUnknownsAt (Binary op) node paths =
-    (steps : List Step) × (first : Node) × (LeftSpine node steps first) × (paths ≡ unknown_operands [] steps first)
+    (steps : List Step) × (first : Node) × (LeftSpine node steps first)
+    × (paths ≡ unknown_operands [] steps first)
 AreUnknownsAt _ node paths = paths ≡ []
 
 abbrev pub AreUnknowns : Node → List NodePath → Type 0
@@ -81,7 +89,8 @@ abbrev pub HasReadableLiteralsAt : Kind → Node → Type 0
 HasReadableLiteralsAt (Str points) node = IsReadable points
 HasReadableLiteralsAt (Template quasis) node = All IsReadable quasis
 HasReadableLiteralsAt (Binary op) node =
-    (steps : List Step) (first : Node) → LeftSpine node steps first → All (λ operand. IsReadableAt (kind_of operand)) (operands_of steps first)
+    (steps : List Step) (first : Node) → LeftSpine node steps first
+    → All (λ operand. IsReadableAt (kind_of operand)) (operands_of steps first)
 HasReadableLiteralsAt _ node = Unit {0}
 
 abbrev pub HasReadableLiterals : Node → Type 0
@@ -91,7 +100,8 @@ HasReadableLiterals node = HasReadableLiteralsAt (kind_of node) node
 abbrev pub Spells : Assignment → Node → Form → Type 0
 Spells given node (text known_text) = HasText given [] node known_text
 Spells given node (parts ps) =
-    (unknowns : List NodePath) × (AreUnknowns node unknowns) × (HasText given [] node (joined ps (map given unknowns)))
+    (unknowns : List NodePath) × (AreUnknowns node unknowns)
+    × (HasText given [] node (joined ps (map given unknowns)))
 Spells given node expression = Unit {0}
 
 -- whatever the unknown parts are, a form with readable literals spells the node's text

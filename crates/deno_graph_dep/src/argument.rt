@@ -57,9 +57,9 @@ fn copied<'a>(
 
 /// What is known of the text that an argument evaluates to.
 ///
-/// A string literal, and a template without expressions, is its text. A template, and a sum that begins
-/// with a string literal, is its parts in turn: literals as they are (of a template the empty ones are
-/// left out), and `Expr` for every other expression. Anything else is `Expr`.
+/// A string literal, and a template without expressions, is its text. A template, and a sum that
+/// begins with a string literal, is its parts in turn: literals as they are (of a template the
+/// empty ones are left out), and `Expr` for every other expression. Anything else is `Expr`.
 pub fn argument_of<'a>(alloc: Global, node: &'a Node) -> Result<DynamicArgument<'a>, AllocError>
     requires { All IsShaped (nodes_in node.now) }
     ensures form { IfOk result (λ argument. HasForm node.now (form_seen argument)) }
@@ -102,7 +102,8 @@ fn template_parts<'a>(
     first: &'a JsString,
     rest: &'a [JsString],
 ) -> Result<Vec<DynamicTemplatePart<'a>>, AllocError>
-    ensures { IfOk result (λ parts. map part_seen parts.items ≡ template_parts (first.now ∷ rest.now)) }
+    ensures { IfOk result (λ parts.
+        map part_seen parts.items ≡ template_parts (first.now ∷ rest.now)) }
 {
     let mut parts = Vec::new(alloc);
     push_quasi(&mut parts, first)?;
@@ -118,7 +119,8 @@ fn push_quasi<'a>(
     parts: &mut Vec<DynamicTemplatePart<'a>>,
     quasi: &'a JsString,
 ) -> Result<(), AllocError>
-    ensures { OnOk result (map part_seen parts.new.items ≡ map part_seen parts.old.items ++ quasi_part quasi.now) }
+    ensures { OnOk result (map part_seen parts.new.items
+        ≡ map part_seen parts.old.items ++ quasi_part quasi.now) }
 {
     if !quasi.is_empty() {
         parts.push(DynamicTemplatePart::String(quasi.to_str_lossy()))?;

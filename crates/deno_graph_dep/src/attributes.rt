@@ -10,10 +10,12 @@ use deno_graph_source::tree::{Arg, Kind, Node, PropKey};
 use deno_graph_source::values::{Text, TextMap};
 use std::alloc::{AllocError, Global};
 
-/// The attributes of an import or export declaration, whose clause is the object literal after `with`.
+/// The attributes of an import or export declaration, whose clause is the object literal after
+/// `with`.
 ///
-/// `None` without a clause. Else each static key with a static value; other properties are skipped, and a
-/// later property takes the place of an earlier one with its key. Fails only where memory is refused.
+/// `None` without a clause. Else each static key with a static value; other properties are skipped,
+/// and a later property takes the place of an earlier one with its key. Fails only where memory is
+/// refused.
 pub fn parse_import_attributes(
     alloc: Global,
     clause: Option<&Node>,
@@ -32,18 +34,20 @@ pub fn parse_import_attributes(
     Ok(ImportAttributes::Known(attributes))
 }
 
-/// The attributes of a dynamic import, whose second argument is an object literal with the clause `with`, or
-/// `assert` as it was once called.
+/// The attributes of a dynamic import, whose second argument is an object literal with the clause
+/// `with`, or `assert` as it was once called.
 ///
-/// `None` without a second argument, or without such a clause. `Unknown` where the argument is spread or no
-/// object literal, or has a property without a static key, and where the value of a clause is no object
-/// literal or unknown by `parse_import_attributes_from_object_lit`. Else what that says of the last clause.
-/// An `assert` after a `with` is no clause. Fails only where memory is refused.
+/// `None` without a second argument, or without such a clause. `Unknown` where the argument is
+/// spread or no object literal, or has a property without a static key, and where the value of a
+/// clause is no object literal or unknown by `parse_import_attributes_from_object_lit`. Else what
+/// that says of the last clause. An `assert` after a `with` is no clause. Fails only where memory
+/// is refused.
 pub fn parse_dynamic_import_attributes(
     alloc: Global,
     argument: Option<(&Arg, &Node)>,
 ) -> Result<ImportAttributes, AllocError>
-    ensures { IfOk result (CallGives (option_map (λ second. (second.0.now, second.1.now)) argument.entry)) }
+    ensures { IfOk result (CallGives
+        (option_map (λ second. (second.0.now, second.1.now)) argument.entry)) }
 {
     let Some((argument, node)) = argument else {
         return Ok(ImportAttributes::None);
@@ -56,9 +60,9 @@ pub fn parse_dynamic_import_attributes(
 
 /// The attributes that an object literal states, such as the one in an import type.
 ///
-/// `Unknown` where a property has no static key. Else each key, `Known` with a static value and `Unknown`
-/// with another; a later property takes the place of an earlier one with its key. Fails only where memory is
-/// refused.
+/// `Unknown` where a property has no static key. Else each key, `Known` with a static value and
+/// `Unknown` with another; a later property takes the place of an earlier one with its key. Fails
+/// only where memory is refused.
 pub fn parse_import_attributes_from_object_lit(
     alloc: Global,
     object: &Node,
@@ -75,7 +79,8 @@ pub fn parse_import_attributes_from_object_lit(
     Ok(ImportAttributes::Known(attributes))
 }
 
-/// The attributes of the last clause among properties with static keys, if the values of all are known.
+/// The attributes of the last clause among properties with static keys, if the values of all are
+/// known.
 fn last_clause_attributes(
     alloc: Global,
     properties: &[Node],
@@ -107,7 +112,8 @@ fn is_clause(property: &Node, after_with: bool) -> bool
     has_key(property, "with") || (!after_with && has_key(property, "assert"))
 }
 
-/// The object literal that is the value of a property, where each of its properties has a static key.
+/// The object literal that is the value of a property, where each of its properties has a static
+/// key.
 fn known_object(property: &Node) -> Option<&Node>
     ensures { option_copied result ≡ known_object property.now }
 {
@@ -126,7 +132,8 @@ fn put_attribute(
     key: &str,
     value: Option<&str>,
 ) -> Result<(), AllocError>
-    ensures { OnOk result (Puts attributes.old attributes.new key.now (attribute_of (option_copied value.entry))) }
+    ensures { OnOk result (Puts attributes.old attributes.new
+        key.now (attribute_of (option_copied value.entry))) }
 {
     let attribute = match value {
         Some(value) => ImportAttribute::Known(Text::from_str(alloc, value)?),
@@ -165,7 +172,8 @@ fn has_key(property: &Node, key: &str) -> bool
 
 /// The static key and the static value of a property that has both.
 fn static_entry(property: &Node) -> Option<(&str, &str)>
-    ensures { option_map (λ entry. (entry.0.now, ImportAttribute.Known entry.1.now)) result ≡ declared property.now }
+    ensures { option_map (λ entry. (entry.0.now, ImportAttribute.Known entry.1.now)) result
+        ≡ declared property.now }
 {
     Some((static_key(property)?, static_value(property)?))
 }
@@ -196,6 +204,3 @@ fn literal_text(node: &Node) -> Option<&str>
         _ => None,
     }
 }
-
-#[cfg(test)]
-mod tests;

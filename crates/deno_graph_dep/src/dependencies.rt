@@ -11,9 +11,9 @@ use deno_graph_source::tree::{Comments, Program};
 use deno_graph_walk::Walk;
 use std::alloc::{AllocError, Global};
 
-/// The dependencies of a module in tree order, each exactly once: a call after those inside it, every
-/// other before them. What is inside imports and exports is not read. The only error is that memory
-/// was refused.
+/// The dependencies of a module in tree order, each exactly once: a call after those inside it,
+/// every other before them. What is inside imports and exports is not read. The only error is that
+/// memory was refused.
 pub fn analyze_program_dependencies<'a>(
     alloc: Global,
     program: &'a Program,
@@ -22,15 +22,19 @@ pub fn analyze_program_dependencies<'a>(
     requires { All IsShaped (nodes_of program.now) }
 
     // They are what the nodes at the paths of the listing state, in its order.
-    ensures listing { IfOk result (λ found. AreDependencies comments.now program.now.body (map item_of found.items)) }
+    ensures listing { IfOk result (λ found.
+        AreDependencies comments.now program.now.body (map item_of found.items)) }
 
     // These nodes are those that plain recursion lists.
-    ensures recursive { IfOk result (λ found. AllStated comments.now (listed_below program.now.body) (map item_of found.items)) }
+    ensures recursive { IfOk result (λ found.
+        AllStated comments.now (listed_below program.now.body) (map item_of found.items)) }
 {
     let mut walk = Walk::new(alloc, program);
     let mut found = Vec::new(alloc);
     'nodes: while let Some(node) = walk.step()? {
-        found.push(describe(alloc, comments, node)?)?;
+        if let Some(descriptor) = describe(alloc, comments, node)? {
+            found.push(descriptor)?;
+        }
     }
     Ok(found)
 }

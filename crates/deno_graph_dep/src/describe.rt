@@ -1,15 +1,15 @@
-#![tactic(auto, unfolding(deno_graph_source::specs::Node::kind_of, deno_graph_source::specs::Node::children_of, deno_graph_source::specs::Node::range_of, crate::specs::Stated::States, deno_graph_walk::specs::Dependency::is_listed))]
+#![tactic(auto, unfolding(deno_graph_source::specs::Node::kind_of, deno_graph_source::specs::Node::children_of, deno_graph_source::specs::Node::range_of))]
 
-ghost use Rattle.std.specs.Prelude.{◌≡◌, ◌<◌, true, false, IfOk, All};
+ghost use Rattle.std.specs.Prelude.{◌≡◌, ◌<◌, false, IfOk, All};
 ghost use Rattle.std.specs.Option.{option_copied, option_map};
 ghost use Rattle.deno_graph_source.specs.Node.{children_of, kind_of, nodes_in, range_of, IsShaped};
 ghost use Rattle.deno_graph_source.specs.declared.tree.node.Kind.TheVariants.{Call};
 ghost use Rattle.deno_graph_dep.specs.DependencyKind.{call_kind, export_kind, import_equals_kind, import_kind, phase_kind};
-ghost use Rattle.deno_graph_walk.specs.Dependency.{is_listed, is_require};
+ghost use Rattle.deno_graph_walk.specs.Dependency.{is_require};
 ghost use Rattle.deno_graph_dep.specs.Argument.{form_seen};
 ghost use Rattle.deno_graph_dep.specs.Item.{item_of, static_item_of};
 ghost use Rattle.deno_graph_dep.specs.Value.{SpellsItsText};
-ghost use Rattle.deno_graph_dep.specs.Stated.{ArgumentHasForm, argument_node, clause_of, leading_at, second_argument, States, StatesCall, TypeGives, specified_item};
+ghost use Rattle.deno_graph_dep.specs.Stated.{ArgumentHasForm, argument_node, clause_of, leading_at, second_argument, StatesIfListed, TypeGives, specified_item};
 
 use crate::argument::{DynamicArgument, argument_of};
 use crate::attributes::{
@@ -23,18 +23,19 @@ use deno_graph_info::analysis::{DynamicDependencyKind, ImportAttributes, StaticD
 use deno_graph_source::tree::{
     Arg, Callee, Comments, DependencyComment, ImportPhase, Kind, Node, StrLit,
 };
-use deno_graph_walk::listed::is_require;
+use deno_graph_walk::listed::{is_require, may_name_module};
 use std::alloc::{AllocError, Global};
 
-/// The dependency that a listed node states. The only error is that memory was refused.
+/// The dependency that a node states, or `None` where the node is not listed. The only error is
+/// that memory was refused.
 pub(crate) fn describe<'a>(
     alloc: Global,
     comments: &'a Comments,
     node: &'a Node,
-) -> Result<DependencyDescriptor<'a>, AllocError>
-    requires listed { is_listed node.now ≡ true }
-    requires shaped { All IsShaped (nodes_in node.now) }
-    ensures { IfOk result (λ found. States comments.now node.now (item_of found)) }
+) -> Result<Option<DependencyDescriptor<'a>>, AllocError>
+    requires { All IsShaped (nodes_in node.now) }
+    ensures { IfOk result (λ found.
+        StatesIfListed comments.now node.now (kind_of node.now) (option_map item_of found)) }
 {
     match &node.kind {
         Kind::ImportDecl {
@@ -48,7 +49,7 @@ pub(crate) fn describe<'a>(
             let attributes = parse_import_attributes(alloc, clause_of(*has_with, node))?;
             let mut found = specified(comments, node, kind, src, attributes);
             found.is_side_effect = !*has_specifiers;
-            Ok(found.into())
+            Ok(Some(found.into()))
         }
         Kind::NamedExport {
             type_only,
@@ -61,7 +62,8 @@ pub(crate) fn describe<'a>(
             has_with,
         } => {
             let attributes = parse_import_attributes(alloc, clause_of(*has_with, node))?;
-            Ok(specified(comments, node, export_kind(*type_only), src, attributes).into())
+            let kind = export_kind(*type_only);
+            Ok(Some(specified(comments, node, kind, src, attributes).into()))
         }
         Kind::ImportEquals {
             type_only,
@@ -69,21 +71,22 @@ pub(crate) fn describe<'a>(
             external: Some(external),
         } => {
             let kind = import_equals_kind(*type_only, *is_export);
-            Ok(specified(comments, node, kind, external, ImportAttributes::None).into())
+            let attributes = ImportAttributes::None;
+            Ok(Some(specified(comments, node, kind, external, attributes).into()))
         }
         Kind::ImportType { arg, has_with } => {
             let attributes = type_attributes(alloc, clause_of(*has_with, node))?;
             let kind = StaticDependencyKind::ImportType;
-            Ok(specified(comments, node, kind, arg, attributes).into())
+            Ok(Some(specified(comments, node, kind, arg, attributes).into()))
         }
-        Kind::ModuleDecl { name: Some(name) } => {
+        Kind::ModuleDecl { name: Some(name) } if may_name_module(name.value.to_str_lossy()) => {
             let kind = StaticDependencyKind::MaybeTsModuleAugmentation;
             let mut found = specified(comments, node, kind, name, ImportAttributes::None);
             found.range = name.range;
-            Ok(found.into())
+            Ok(Some(found.into()))
         }
         Kind::Call { callee, args } => call(alloc, comments, node, *callee, args.as_slice()),
-        _ => unreachable!(),
+        _ => Ok(None),
     }
 }
 
@@ -95,7 +98,9 @@ fn specified<'a>(
     literal: &'a StrLit,
     import_attributes: ImportAttributes,
 ) -> StaticDependencyDescriptor<'a>
-    ensures { static_item_of result ≡ specified_item comments.now node.now kind (range_of node.now) literal.now false import_attributes }
+    ensures { static_item_of result
+        ≡ specified_item comments.now node.now kind (range_of node.now) literal.now
+        false import_attributes }
 {
     StaticDependencyDescriptor {
         kind,
@@ -108,28 +113,28 @@ fn specified<'a>(
     }
 }
 
-/// The dependency of a call of `import` or `require`.
+/// The dependency of a call of `import` or `require` with an argument, or `None` of another call.
 fn call<'a>(
     alloc: Global,
     comments: &'a Comments,
     node: &'a Node,
     callee: Callee,
     args: &'a [Arg],
-) -> Result<DependencyDescriptor<'a>, AllocError>
+) -> Result<Option<DependencyDescriptor<'a>>, AllocError>
     requires is_call { kind_of node.now ≡ Call callee args.now }
-    requires listed { is_listed node.now ≡ true }
     requires shaped { All IsShaped (nodes_in node.now) }
-    ensures { IfOk result (λ found. StatesCall comments.now node.now callee args.now (item_of found)) }
+    ensures { IfOk result (λ found.
+        StatesIfListed comments.now node.now (Call callee args.now) (option_map item_of found)) }
 {
     let children = node.children.as_slice();
     let Some(kind) = call_kind(callee, children) else {
-        unreachable!()
+        return Ok(None);
     };
     let Some(arg) = args.first() else {
-        unreachable!()
+        return Ok(None);
     };
     let Some(argument) = argument_node(callee, children, 0) else {
-        unreachable!()
+        return Ok(None);
     };
     let second = second_argument(callee, args, children);
     let descriptor = DynamicDependencyDescriptor {
@@ -140,7 +145,7 @@ fn call<'a>(
         argument_range: arg.range,
         import_attributes: parse_dynamic_import_attributes(alloc, second)?,
     };
-    Ok(descriptor.into())
+    Ok(Some(descriptor.into()))
 }
 
 /// What is known of a first argument: nothing, where it is spread.
@@ -184,14 +189,14 @@ fn phase_kind(phase: ImportPhase) -> DynamicDependencyKind
     }
 }
 
-/// The node of an argument of a call, by its number.
-fn argument_node(callee: Callee, children: &[Node], number: usize) -> Option<&Node>
-    requires { number < 2 }
-    ensures { option_copied result ≡ argument_node callee children.now number }
+/// The node of an argument of a call, by its index.
+fn argument_node(callee: Callee, children: &[Node], index: usize) -> Option<&Node>
+    requires { index < 2 }
+    ensures { option_copied result ≡ argument_node callee children.now index }
 {
     match callee {
-        Callee::Expr => children.get(1 + number),
-        _ => children.get(number),
+        Callee::Expr => children.get(1 + index),
+        _ => children.get(index),
     }
 }
 
@@ -201,7 +206,8 @@ fn second_argument<'a>(
     args: &'a [Arg],
     children: &'a [Node],
 ) -> Option<(&'a Arg, &'a Node)>
-    ensures { option_map (λ second. (second.0.now, second.1.now)) result ≡ second_argument callee args.now children.now }
+    ensures { option_map (λ second. (second.0.now, second.1.now)) result
+        ≡ second_argument callee args.now children.now }
 {
     let arg = args.get(1)?;
     let node = argument_node(callee, children, 1)?;

@@ -14,10 +14,20 @@ ghost use Rattle.deno_graph_walk.specs.Dependency.{is_listed};
 
 /// Only listed nodes state a dependency.
 pub fn only_listed_nodes_state()
-    ensures { (comments : FiledComments) (node : Node) (item : Item) → States comments node item → is_listed node ≡ true }
+    ensures { (comments : FiledComments) (node : Node) (item : Item)
+        → States comments node item → is_listed node ≡ true }
+{}
+
+/// A node states one dependency at most: two that it states are equal.
+pub fn what_a_node_states_is_unique()
+    ensures { (comments : FiledComments) (node : Node) (item other : Item)
+        → States comments node item → States comments node other → item ≡ other }
 {}
 
 /// Nothing is known of a first argument that is spread.
 pub fn a_spread_argument_is_unknown()
-    ensures { (comments : FiledComments) (node : Node) (callee : Callee) (args : List Arg) (arg : Arg) (item : DynamicItem) → kind_of node ≡ Call callee args → slice_get args 0 ≡ Some arg → arg.spread ≡ true → States comments node (dynamic_item item) → item.argument ≡ expression }
+    ensures { (comments : FiledComments) (node : Node) (callee : Callee)
+        (args : List Arg) (arg : Arg) (item : DynamicItem)
+        → kind_of node ≡ Call callee args → slice_get args 0 ≡ Some arg → arg.spread ≡ true
+        → States comments node (dynamic_item item) → item.argument ≡ expression }
 {}

@@ -25,4 +25,5 @@ attribute_at (Known entries) key = option_and_then known_value (value_at entries
 
 -- a type of module that isn't code: `text`, `bytes` or `css`
 abbrev pub IsAssetType : Option (List ℕ) → Type 0
-IsAssetType type = (type ≡ Some (codes "text")) ⊎ (type ≡ Some (codes "bytes")) ⊎ (type ≡ Some (codes "css"))
+IsAssetType type =
+    (type ≡ Some (codes "text")) ⊎ (type ≡ Some (codes "bytes")) ⊎ (type ≡ Some (codes "css"))

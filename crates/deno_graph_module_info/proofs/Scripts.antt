@@ -2,7 +2,7 @@
 use Rattle.std.proofs.Common.{◌≡◌, ℕ, Bool, true, false, ◌||◌, List, [], ◌∷◌, ◌++◌, Option, Some, None, slice_get, IsTrue, IsSomeAnd, ◌⊎◌, inl, inr, ap, sym, refl, subst, ◌∙◌, All}
 use Rattle.deno_graph_source.specs.declared.tree.node.Node.{Node}
 use Rattle.deno_graph_source.specs.Node.{kind_of, children_of}
-use Rattle.deno_graph_walk.specs.NodePath.{NodePath, node_below, LeadsTo, GoesOn}
+use Rattle.deno_graph_walk.specs.NodePath.{NodePath, node_below, LeadsTo, IsStrictPrefix}
 use Rattle.deno_graph_module_info.specs.Script.{is_function, IsAwait, IsFunction, IsImportMeta, LeadsBelow, IsBareAwait, MakesModule, IsScript, is_module_item}
 
 -- a path below a child is a path below its parent
@@ -29,13 +29,13 @@ bare_above node child k path at outside bare = record {
   bare = λ front goes leads. here front goes leads;
 }
   where
-    here : (front : NodePath) → GoesOn front (k ∷ path) → LeadsBelow IsFunction node front → ⊥
+    here : (front : NodePath) → IsStrictPrefix front (k ∷ path) → LeadsBelow IsFunction node front → ⊥
     here [] goes leads = not_both outside leads
     here (j ∷ front) goes leads =
         let same : k ≡ j = cc in
-        let rest : path ≡ front ++ (goes.number ∷ goes.rest) = cc in
+        let rest : path ≡ front ++ (goes.index ∷ goes.rest) = cc in
         let below : LeadsBelow IsFunction child front = of_child IsFunction node child k front at (subst (λ n. LeadsBelow IsFunction node (n ∷ front)) (sym same) leads) in
-        bare.bare front (record { number = goes.number; rest = goes.rest; joined = rest }) below
+        bare.bare front (record { index = goes.index; rest = goes.rest; joined = rest }) below
 
 -- what a child makes, its parent makes
 pub MakesModule-above : (inside : Bool) (node child : Node) (k : ℕ) → slice_get (children_of node) k ≡ Some child
@@ -51,7 +51,7 @@ bare_below : (node child : Node) (k : ℕ) (path : NodePath) → slice_get (chil
 bare_below node child k path at bare = record {
   await = of_child IsAwait node child k path at bare.await;
   bare = λ front goes leads. bare.bare (k ∷ front)
-      (record { number = goes.number; rest = goes.rest; joined = ap (λ p. k ∷ p) goes.joined })
+      (record { index = goes.index; rest = goes.rest; joined = ap (λ p. k ∷ p) goes.joined })
       (below_child IsFunction node child k front at leads);
 }
 
@@ -71,7 +71,7 @@ MakesModule-cases inside node (k ∷ path, inl meta) =
     inr (k, child.0, child.1, (path, inl (of_child IsImportMeta node child.0 k path child.1 meta)))
 MakesModule-cases inside node (k ∷ path, inr bare) =
     let child = no_child IsAwait node k path (slice_get (children_of node) k) refl bare.1.await in
-    let open_node : is_function (kind_of node) ≡ false = not_true (is_function (kind_of node)) (bare.1.bare [] (record { number = k; rest = path; joined = refl })) in
+    let open_node : is_function (kind_of node) ≡ false = not_true (is_function (kind_of node)) (bare.1.bare [] (record { index = k; rest = path; joined = refl })) in
     inr (k, child.0, child.1, (path, inr (both_false bare.0 open_node, bare_below node child.0 k path child.1 bare.1)))
   where
     not_true : (b : Bool) → (IsTrue b → ⊥) → b ≡ false
@@ -81,16 +81,16 @@ MakesModule-cases inside node (k ∷ path, inr bare) =
     both_false : {a b : Bool} → a ≡ false → b ≡ false → (a || b) ≡ false
     both_false {a} {b} e f = rw (e, f)
 
-no_front_of_nothing : (front : NodePath) → GoesOn front [] → ⊥
-no_front_of_nothing [] goes = let e = goes.joined in cc
-no_front_of_nothing (j ∷ front) goes = let e = goes.joined in cc
+no_prefix_of_nothing : (front : NodePath) → IsStrictPrefix front [] → ⊥
+no_prefix_of_nothing [] goes = let e = goes.joined in cc
+no_prefix_of_nothing (j ∷ front) goes = let e = goes.joined in cc
 
 -- an await below a node that makes no module stands in a function: round the node, the node itself, or one between
 await_in_function : (inside : Bool) (node : Node) (path : NodePath) → LeadsBelow IsAwait node path → ¬ MakesModule inside node
-    → (inside ≡ true) ⊎ ((front : NodePath) × GoesOn front path × LeadsBelow IsFunction node front)
+    → (inside ≡ true) ⊎ ((front : NodePath) × IsStrictPrefix front path × LeadsBelow IsFunction node front)
 await_in_function true node [] await not_made = inl refl
 await_in_function false node [] await not_made =
-    absurd (not_made ([], inr (refl, record { await = await; bare = λ front goes leads. no_front_of_nothing front goes })))
+    absurd (not_made ([], inr (refl, record { await = await; bare = λ front goes leads. no_prefix_of_nothing front goes })))
 await_in_function inside node (k ∷ path) await not_made =
     let child = no_child IsAwait node k path (slice_get (children_of node) k) refl await in
     by_node (is_function (kind_of node)) refl child.0 child.1
@@ -102,15 +102,15 @@ await_in_function inside node (k ∷ path) await not_made =
     by_inside false c e f = cc
 
     by_node : (b : Bool) → is_function (kind_of node) ≡ b → (child : Node) → slice_get (children_of node) k ≡ Some child
-        → ((inside || is_function (kind_of node)) ≡ true) ⊎ ((front : NodePath) × GoesOn front path × LeadsBelow IsFunction child front)
-        → (inside ≡ true) ⊎ ((front : NodePath) × GoesOn front (k ∷ path) × LeadsBelow IsFunction node front)
-    by_node true is child at below = inr ([], record { number = k; rest = path; joined = refl }, is)
+        → ((inside || is_function (kind_of node)) ≡ true) ⊎ ((front : NodePath) × IsStrictPrefix front path × LeadsBelow IsFunction child front)
+        → (inside ≡ true) ⊎ ((front : NodePath) × IsStrictPrefix front (k ∷ path) × LeadsBelow IsFunction node front)
+    by_node true is child at below = inr ([], record { index = k; rest = path; joined = refl }, is)
     by_node false is child at (inl e) = inl (by_inside inside (is_function (kind_of node)) e is)
     by_node false is child at (inr found) =
         let goes = found.1 in
         inr (
           k ∷ found.0,
-          record { number = goes.number; rest = goes.rest; joined = ap (λ p. k ∷ p) goes.joined },
+          record { index = goes.index; rest = goes.rest; joined = ap (λ p. k ∷ p) goes.joined },
           below_child IsFunction node child k found.0 at found.2,
         )
 
@@ -133,20 +133,20 @@ IsScript-made body items none = record {
   no_import_meta = λ path leads. metas path leads;
 }
   where
-    awaits : (path : NodePath) → LeadsTo IsAwait body path → (front : NodePath) × GoesOn front path × LeadsTo IsFunction body front
+    awaits : (path : NodePath) → LeadsTo IsAwait body path → (front : NodePath) × IsStrictPrefix front path × LeadsTo IsFunction body front
     awaits [] leads = absurd leads
     awaits (k ∷ path) leads =
         let item = of_item IsAwait body k path (slice_get body k) refl leads in
         from_item k path item.0 item.1 (await_in_function false item.0 path item.2 (none k item.0 item.1))
       where
         from_item : (k : ℕ) (path : NodePath) (item : Node) → slice_get body k ≡ Some item
-            → (false ≡ true) ⊎ ((front : NodePath) × GoesOn front path × LeadsBelow IsFunction item front)
-            → (front : NodePath) × GoesOn front (k ∷ path) × LeadsTo IsFunction body front
+            → (false ≡ true) ⊎ ((front : NodePath) × IsStrictPrefix front path × LeadsBelow IsFunction item front)
+            → (front : NodePath) × IsStrictPrefix front (k ∷ path) × LeadsTo IsFunction body front
         from_item k path item at (inl e) = cc
         from_item k path item at (inr found) =
             let goes = found.1 in (
               k ∷ found.0,
-              record { number = goes.number; rest = goes.rest; joined = ap (λ p. k ∷ p) goes.joined },
+              record { index = goes.index; rest = goes.rest; joined = ap (λ p. k ∷ p) goes.joined },
               in_body IsFunction body k item found.0 at found.2,
             )
 
@@ -163,10 +163,10 @@ IsScript-makes_none body k item at script (path, inr (outside, bare)) =
     let found = script.awaits_in_functions (k ∷ path) (in_body IsAwait body k item path at bare.await) in
     here found.0 found.1 found.2
   where
-    here : (front : NodePath) → GoesOn front (k ∷ path) → LeadsTo IsFunction body front → ⊥
+    here : (front : NodePath) → IsStrictPrefix front (k ∷ path) → LeadsTo IsFunction body front → ⊥
     here [] goes leads = leads
     here (j ∷ front) goes leads =
         let same : k ≡ j = let e = goes.joined in cc in
-        let rest : path ≡ front ++ (goes.number ∷ goes.rest) = let e = goes.joined in cc in
-        bare.bare front (record { number = goes.number; rest = goes.rest; joined = rest })
+        let rest : path ≡ front ++ (goes.index ∷ goes.rest) = let e = goes.joined in cc in
+        bare.bare front (record { index = goes.index; rest = goes.rest; joined = rest })
         (subst (λ o. IsSomeAnd (node_below o front) IsFunction) (ap (slice_get body) (sym same) ∙ at) leads)

@@ -20,9 +20,10 @@ tail_comments program comments = trailing_at comments program.range.end
 abbrev pub comments_before_items : Option Node → Program → FiledComments → List DependencyComment
 comments_before_items (Some item) program comments = leading_at comments (range_of item).start
 comments_before_items None program comments =
-    if program.has_shebang then tail_comments program comments else leading_at comments program.range.start
+    if program.has_shebang then tail_comments program comments
+    else leading_at comments program.range.start
 
--- The comments at the head: those that lead the first item. Where there is no item, they are those that trail the end
--- of a program with a shebang, and those that lead the start of any other.
+-- The comments at the head: those that lead the first item. Where there is no item, they are those
+-- that trail the end of a program with a shebang, and those that lead the start of any other.
 abbrev pub head_comments : Program → FiledComments → List DependencyComment
 head_comments program comments = comments_before_items (slice_get program.body 0) program comments

@@ -29,7 +29,8 @@ use Rattle.deno_graph_module_info.specs.Script.{IsScript}
 use Rattle.deno_graph_module_info.specs.Spelled.{CoversAsWritten, CoversBare, CoversQuoted}
 
 -- a static dependency with the positions of its specifier, and these types
-abbrev pub static_dependency_of : List ℕ → StaticItem → Option SpecifierWithRange → StaticDependencyDescriptor
+abbrev pub static_dependency_of :
+    List ℕ → StaticItem → Option SpecifierWithRange → StaticDependencyDescriptor
 static_dependency_of source item types = record {
   kind = item.kind;
   types_specifier = types;
@@ -51,7 +52,8 @@ argument_of_form (parts ps) = argument.Template (map template_part_of ps)
 argument_of_form expression = argument.Expr
 
 -- a dynamic dependency with the positions of its argument, and these types
-abbrev pub dynamic_dependency_of : List ℕ → DynamicItem → Option SpecifierWithRange → DynamicDependencyDescriptor
+abbrev pub dynamic_dependency_of :
+    List ℕ → DynamicItem → Option SpecifierWithRange → DynamicDependencyDescriptor
 dynamic_dependency_of source item types = record {
   kind = item.kind;
   types_specifier = types;
@@ -70,13 +72,16 @@ abbrev pub comments_before : Item → List DependencyComment
 comments_before (static_item item) = item.leading_comments
 comments_before (dynamic_item item) = item.leading_comments
 
--- the ranges of a dependency are ranges of the text, and the comments before it stand in the text as they say
+-- the ranges of a dependency are ranges of the text, and the comments before it stand in the text
+-- as they say
 pub record FitsText (source : List ℕ) (item : Item) : Type 0 where
   pub ranges : HasTextRanges source item
   pub comments : All (IsSpelled source) (comments_before item)
 
--- the dependency is the item with its positions in the text, and the types that the comments before it name
-pub record Describes (source : List ℕ) (item : Item) (dependency : DependencyDescriptor) : Type 0 where
+-- the dependency is the item with its positions in the text, and the types that the comments before
+-- it name
+pub record Describes (source : List ℕ) (item : Item)
+    (dependency : DependencyDescriptor) : Type 0 where
   pub types : Option SpecifierWithRange
   pub names_types : NamesTypes source (comments_before item) types
   pub is : dependency ≡ dependency_of source item types
@@ -90,30 +95,40 @@ types_of (Dynamic dependency) = dependency.types_specifier
 abbrev pub CoversTypes : List ℕ → DependencyDescriptor → Type 0
 CoversTypes source dependency = IfSome (types_of dependency) (CoversAsWritten source)
 
--- The dependencies of a program: those of its listing, each once and in tree order, with their positions in the text and
--- the types that the comments before them name.
-pub record AreDescribed (source : List ℕ) (program : Program) (comments : FiledComments) (dependencies : List DependencyDescriptor) : Type 0 where
+-- The dependencies of a program: those of its listing, each once and in tree order, with their
+-- positions in the text and the types that the comments before them name.
+pub record AreDescribed (source : List ℕ) (program : Program) (comments : FiledComments)
+    (dependencies : List DependencyDescriptor) : Type 0 where
   pub items : List Item
   pub are_dependencies : AreDependencies comments program.body items
   pub describe : AllZip (Describes source) items dependencies
 
--- What is said of a module: its dependencies, whether it is a script, and what the pragmas in the comments at its head
--- and at its tail name.
-pub record IsModuleInfo (source : List ℕ) (media_type : MediaType) (program : Program) (comments : FiledComments) (info : ModuleInfo) : Type 0 where
+-- What is said of a module: its dependencies, whether it is a script, and what the pragmas in the
+-- comments at its head and at its tail name.
+pub record IsModuleInfo (source : List ℕ) (media_type : MediaType)
+    (program : Program) (comments : FiledComments) (info : ModuleInfo) : Type 0 where
   pub is_script : IsTrue info.is_script ↔ IsScript program.body
   pub dependencies : AreDescribed source program comments info.dependencies
   pub ts_references : AreReferences source (head_comments program comments) info.ts_references
   pub self_types_specifier :
-      NamesFirst source self_types (comments_for_types media_type (head_comments program comments)) info.self_types_specifier
+      NamesFirst source self_types
+      (comments_for_types media_type (head_comments program comments))
+      info.self_types_specifier
   pub jsx_import_source :
-      NamesFirst source jsx_import_source (comments_for_jsx media_type (head_comments program comments)) info.jsx_import_source
+      NamesFirst source jsx_import_source
+      (comments_for_jsx media_type (head_comments program comments))
+      info.jsx_import_source
   pub jsx_import_source_types :
-      NamesFirst source jsx_import_source_types (comments_for_jsx media_type (head_comments program comments)) info.jsx_import_source_types
-  pub jsdoc_imports : IsJsDocList (reads_jsdoc media_type) source (comments_of comments) info.jsdoc_imports
-  pub source_map_url : NamesLast source source_mapping_url (tail_comments program comments) info.source_map_url
+      NamesFirst source jsx_import_source_types
+      (comments_for_jsx media_type (head_comments program comments))
+      info.jsx_import_source_types
+  pub jsdoc_imports :
+      IsJsDocList (reads_jsdoc media_type) source (comments_of comments) info.jsdoc_imports
+  pub source_map_url :
+      NamesLast source source_mapping_url (tail_comments program comments) info.source_map_url
 
--- each range of a specifier that a comment names covers that specifier in the source: with a quote on each side where it
--- is quoted, and else by itself
+-- each range of a specifier that a comment names covers that specifier in the source: with a quote
+-- on each side where it is quoted, and else by itself
 pub record HasExactRanges (source : List ℕ) (info : ModuleInfo) : Type 0 where
   pub dependencies : All (CoversTypes source) info.dependencies
   pub ts_references : All (CoversReference source) info.ts_references

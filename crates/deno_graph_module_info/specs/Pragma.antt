@@ -15,8 +15,8 @@ use Rattle.deno_graph_module_info.specs.declared.ast.head_pragmas.HeadPragma.{He
 use Rattle.deno_graph_module_info.specs.declared.ast.head_pragmas.HeadPragma.TheVariants.{TsSelfTypes, JsxImportSource, JsxImportSourceTypes}
 use Rattle.deno_graph_module_info.specs.Spelled.{CoversBare, CoversQuoted}
 
--- A pragma: the pattern of the texts that have it, whether it counts in block comments alone, and whether its
--- specifier stands without quotes.
+-- A pragma: the pattern of the texts that have it, whether it counts in block comments alone, and
+-- whether its specifier stands without quotes.
 pub record Pragma : Type 0 where
   pub pattern : Pattern
   pub is_in_blocks_alone : Bool
@@ -29,7 +29,8 @@ abbrev pub quoteless : Pattern → Pragma
 quoteless pattern = record { pattern = pattern; is_in_blocks_alone = false; is_quoteless = true }
 
 abbrev pub quoteless_in_blocks : Pattern → Pragma
-quoteless_in_blocks pattern = record { pattern = pattern; is_in_blocks_alone = true; is_quoteless = true }
+quoteless_in_blocks pattern =
+    record { pattern = pattern; is_in_blocks_alone = true; is_quoteless = true }
 
 abbrev pub self_types : Pragma
 self_types = quoted finder.ts_self_types
@@ -45,7 +46,8 @@ source_mapping_url = quoteless finder.source_mapping_url
 
 -- those that name the types of a dependency: where a comment has several of them, the first counts
 abbrev pub dependency_types : List Pragma
-dependency_types = quoted finder.ts_types ∷ quoted finder.deno_types ∷ quoteless finder.quoteless_deno_types ∷ []
+dependency_types =
+    quoted finder.ts_types ∷ quoted finder.deno_types ∷ quoteless finder.quoteless_deno_types ∷ []
 
 -- the comment has the pragma
 pub record HasPragma (pragma : Pragma) (comment : DependencyComment) : Type 0 where
@@ -56,8 +58,8 @@ pub record HasPragma (pragma : Pragma) (comment : DependencyComment) : Type 0 wh
 abbrev pub quotes_beside : Bool → ℕ
 quotes_beside is_quoteless = if is_quoteless then 0 else 1
 
--- Where a part of a comment's text, from its start to its end, stands in the source, with its quotes. The text begins
--- two bytes behind the comment's start.
+-- Where a part of a comment's text, from its start to its end, stands in the source, with its
+-- quotes. The text begins two bytes behind the comment's start.
 abbrev pub range_in_source : ℕ → ℕ → ℕ → Bool → SourceRange
 range_in_source comment_start start end is_quoteless = record {
   start = comment_start + 2 + start - quotes_beside is_quoteless;
@@ -66,17 +68,20 @@ range_in_source comment_start start end is_quoteless = record {
 
 -- the positions of the ends of a range of the text
 abbrev pub positions_of : List ℕ → SourceRange → PositionRange
-positions_of source range = record { start = position_at source range.start; end = position_at source range.end }
+positions_of source range =
+    record { start = position_at source range.start; end = position_at source range.end }
 
 -- the specifier that a part of the comment's text is
 abbrev pub specifier_in : List ℕ → DependencyComment → Part → Bool → SpecifierWithRange
 specifier_in source comment part is_quoteless = record {
   text = part.text;
-  range = positions_of source (range_in_source comment.range.start part.start part.end is_quoteless);
+  range =
+      positions_of source (range_in_source comment.range.start part.start part.end is_quoteless);
 }
 
 -- the pragma of the comment names this specifier
-pub record Names (source : List ℕ) (pragma : Pragma) (comment : DependencyComment) (specifier : SpecifierWithRange) : Type 0 where
+pub record Names (source : List ℕ) (pragma : Pragma)
+    (comment : DependencyComment) (specifier : SpecifierWithRange) : Type 0 where
   pub part : Part
   pub is_captured : IsCaptured pragma.pattern comment.text part
   pub is_specifier : specifier ≡ specifier_in source comment part pragma.is_quoteless
@@ -102,32 +107,42 @@ pub record IsLastWith {X : Type 0} (P : X → Type 0) (xs : List X) (x : X) : Ty
   pub none_after : All (λ y. ¬ P y) after
   pub has : P x
 
--- the specifier is that of the first comment that has the pragma; there is none exactly where no comment has it
-abbrev pub NamesFirst : List ℕ → Pragma → List DependencyComment → Option SpecifierWithRange → Type 0
+-- the specifier is that of the first comment that has the pragma; there is none exactly where no
+-- comment has it
+abbrev pub NamesFirst :
+    List ℕ → Pragma → List DependencyComment → Option SpecifierWithRange → Type 0
 NamesFirst source pragma comments None = All (λ comment. ¬ HasPragma pragma comment) comments
 NamesFirst source pragma comments (Some specifier) =
-    (comment : DependencyComment) × IsFirstWith (HasPragma pragma) comments comment × Names source pragma comment specifier
+    (comment : DependencyComment) × IsFirstWith (HasPragma pragma) comments comment
+    × Names source pragma comment specifier
 
--- the specifier is that of the last comment that has the pragma; there is none exactly where no comment has it
+-- the specifier is that of the last comment that has the pragma; there is none exactly where no
+-- comment has it
 abbrev pub NamesLast : List ℕ → Pragma → List DependencyComment → Option SpecifierWithRange → Type 0
 NamesLast source pragma comments None = All (λ comment. ¬ HasPragma pragma comment) comments
 NamesLast source pragma comments (Some specifier) =
-    (comment : DependencyComment) × IsLastWith (HasPragma pragma) comments comment × Names source pragma comment specifier
+    (comment : DependencyComment) × IsLastWith (HasPragma pragma) comments comment
+    × Names source pragma comment specifier
 
--- the specifier is that of the first of the pragmas that the comment has; there is none exactly where it has none of them
-abbrev pub NamesByFirst : List ℕ → List Pragma → DependencyComment → Option SpecifierWithRange → Type 0
+-- the specifier is that of the first of the pragmas that the comment has; there is none exactly
+-- where it has none of them
+abbrev pub NamesByFirst :
+    List ℕ → List Pragma → DependencyComment → Option SpecifierWithRange → Type 0
 NamesByFirst source pragmas comment None = All (λ pragma. ¬ HasPragma pragma comment) pragmas
 NamesByFirst source pragmas comment (Some specifier) =
-    (pragma : Pragma) × IsFirstWith (λ p. HasPragma p comment) pragmas pragma × Names source pragma comment specifier
+    (pragma : Pragma) × IsFirstWith (λ p. HasPragma p comment) pragmas pragma
+    × Names source pragma comment specifier
 
 -- what a comment names as the types of the dependency behind it
 abbrev pub NamesTypesIn : List ℕ → Option DependencyComment → Option SpecifierWithRange → Type 0
 NamesTypesIn source None specifier = specifier ≡ None
-NamesTypesIn source (Some comment) specifier = NamesByFirst source dependency_types comment specifier
+NamesTypesIn source (Some comment) specifier =
+    NamesByFirst source dependency_types comment specifier
 
 -- what the comments before a dependency name as its types: only the last of them is read
 abbrev pub NamesTypes : List ℕ → List DependencyComment → Option SpecifierWithRange → Type 0
-NamesTypes source comments specifier = NamesTypesIn source (slice_get comments (length comments - 1)) specifier
+NamesTypes source comments specifier =
+    NamesTypesIn source (slice_get comments (length comments - 1)) specifier
 
 -- the comments that may name the types of the module itself: none in a file that holds types
 abbrev pub comments_for_types : MediaType → List DependencyComment → List DependencyComment

@@ -32,10 +32,13 @@ StatesMode text mode =
 
 -- what a triple-slash reference refers to: a path, or else types; or neither
 abbrev pub RefersTo : List ℕ → DependencyComment → Option TypeScriptReference → Type 0
-RefersTo source comment None = ¬ HasPragma path_reference comment × ¬ HasPragma types_reference comment
+RefersTo source comment None =
+    ¬ HasPragma path_reference comment × ¬ HasPragma types_reference comment
 RefersTo source comment (Some (Path specifier)) = Names source path_reference comment specifier
 RefersTo source comment (Some (Types specifier mode)) =
-    ¬ HasPragma path_reference comment × Names source types_reference comment specifier × StatesMode comment.text mode
+    ¬ HasPragma path_reference comment
+    × Names source types_reference comment specifier
+    × StatesMode comment.text mode
 
 -- the reference that a comment is, if it is one that refers to something
 abbrev pub IsReferenceOf : List ℕ → DependencyComment → Option TypeScriptReference → Type 0
@@ -44,7 +47,8 @@ IsReferenceOf source comment reference =
     ⊎ (IsTripleSlashReference comment × RefersTo source comment reference)
 
 -- the references are those that the comments are, in their order
-pub record AreReferences (source : List ℕ) (comments : List DependencyComment) (references : List TypeScriptReference) : Type 0 where
+pub record AreReferences (source : List ℕ) (comments : List DependencyComment)
+    (references : List TypeScriptReference) : Type 0 where
   pub each : List (Option TypeScriptReference)
   pub of_comments : AllZip (IsReferenceOf source) comments each
   pub those : references ≡ flat_map option_to_list each

@@ -4,7 +4,7 @@ use Rattle.deno_graph_source.specs.declared.tree.node.Kind.{Kind}
 use Rattle.deno_graph_source.specs.declared.tree.node.Kind.TheVariants.{ImportDecl, NamedExport, ExportAll, ExportOther, Await, Function, ImportMeta}
 use Rattle.deno_graph_source.specs.declared.tree.node.Node.{Node}
 use Rattle.deno_graph_source.specs.Node.{kind_of}
-use Rattle.deno_graph_walk.specs.NodePath.{NodePath, node_below, LeadsTo, GoesOn}
+use Rattle.deno_graph_walk.specs.NodePath.{NodePath, node_below, LeadsTo, IsStrictPrefix}
 
 -- the items that only a module has: imports and exports
 abbrev pub is_module_item : Kind → Bool
@@ -39,23 +39,27 @@ IsImportMeta node = IsTrue (is_import_meta (kind_of node))
 -- function, and there is no `import.meta`, at any depth.
 pub record IsScript (body : List Node) : Type 0 where
   pub no_module_item : All (λ item. is_module_item (kind_of item) ≡ false) body
-  pub awaits_in_functions : (path : NodePath) → LeadsTo IsAwait body path → (front : NodePath) × GoesOn front path × LeadsTo IsFunction body front
+  pub awaits_in_functions : (path : NodePath) → LeadsTo IsAwait body path
+      → (prefix : NodePath) × IsStrictPrefix prefix path × LeadsTo IsFunction body prefix
   pub no_import_meta : (path : NodePath) → ¬ LeadsTo IsImportMeta body path
 
--- the child numbers lead from the node to one of which P holds
+-- the child indices lead from the node to one of which P holds
 abbrev pub LeadsBelow : (Node → Type 0) → Node → NodePath → Type 0
 LeadsBelow P node path = IsSomeAnd (node_below (Some node) path) P
 
 -- an await below the node that no function stands round, neither the node nor one between
 pub record IsBareAwait (node : Node) (path : NodePath) : Type 0 where
   pub await : LeadsBelow IsAwait node path
-  pub bare : (front : NodePath) → GoesOn front path → ¬ LeadsBelow IsFunction node front
+  pub bare : (prefix : NodePath) → IsStrictPrefix prefix path → ¬ LeadsBelow IsFunction node prefix
 
--- the node or one below it makes a module: an `import.meta`, or a bare await where no function stands round the node
+-- the node or one below it makes a module: an `import.meta`, or a bare await where no function
+-- stands round the node
 abbrev pub MakesModule : Bool → Node → Type 0
 MakesModule inside_function node =
-    (path : NodePath) × (LeadsBelow IsImportMeta node path ⊎ ((inside_function ≡ false) × IsBareAwait node path))
+    (path : NodePath)
+    × (LeadsBelow IsImportMeta node path ⊎ ((inside_function ≡ false) × IsBareAwait node path))
 
 -- the node itself makes a module
 abbrev pub MakesModuleItself : Bool → Node → Type 0
-MakesModuleItself inside_function node = IsImportMeta node ⊎ ((inside_function ≡ false) × IsAwait node)
+MakesModuleItself inside_function node =
+    IsImportMeta node ⊎ ((inside_function ≡ false) × IsAwait node)

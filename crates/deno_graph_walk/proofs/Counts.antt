@@ -9,20 +9,16 @@ use Rattle.deno_graph_walk.specs.Dependency.{children_to_visit, dependency_rules
 use Rattle.deno_graph_walk.specs.Entered as by
 use Rattle.deno_graph_walk.specs.Entered.{entry_rules, IsEnteredBy, EnteredBy, IsCountOf}
 use Rattle.deno_graph_walk.specs.ListedPaths.{listed_paths}
-use Rattle.deno_graph_walk.specs.Listing.{Rules, IsReachable, IsReported, IsAfterInside, Precedes}
+use Rattle.deno_graph_walk.specs.Listing.{Rules, IsReachable, IsListed, IsAfterInside, Precedes}
 use Rattle.deno_graph_walk.specs.NodePath.{NodePath, node_at}
-use Rattle.deno_graph_walk.specs.Stack.{frame_of, is_before, is_after, index_of, next_path, paths_to_come, StandsIn, to_come, IsPassed, IsStackOf}
+use Rattle.deno_graph_walk.specs.Stack.{frame_of, is_before, is_after, index_of, next_path, paths_to_come, next_of, StandsIn, to_come, IsPassed, IsStackOf}
 use Rattle.deno_graph_walk.specs.declared.stack.Stack.{Stack}
 use Rattle.deno_graph_walk.proofs.Ascending.{Member, Ascending, Member-append, Member-left, Contains-from_Member, Member-from_Contains, AllPairs-from_Ascending, Ascending-from_AllPairs, Ascending-weaker}
 use Rattle.deno_graph_walk.proofs.Listings.{IsListing-listed_paths, Precedes-asymmetric}
-use Rattle.deno_graph_walk.proofs.NodePaths.{Below-from_GoesOn, GoesOn-from_Below, Apart-from_PartsBelow, PartsBelow-from_Apart}
+use Rattle.deno_graph_walk.proofs.NodePaths.{Below-from_IsStrictPrefix, IsStrictPrefix-from_Below, Apart-from_PartsBelow, PartsBelow-from_Apart}
 use Rattle.deno_graph_walk.proofs.Passed.{Around, Past, UpTo, Past-from_IsPassed, IsPassed-from_Past, Past-enter, Past-leave, Past-from_UpTo, UpTo-from_Past, Past-from_Around, Around-from_Past, next_path-inside, next_path-sibling, AreNext, to_come-not_past}
 use Rattle.deno_graph_walk.proofs.Rounds.{entries_close}
 use Rattle.deno_graph_walk.proofs.Steps.{Enters, Left, path_of, to_come-enter, to_come-leave, stands-left, stands-enter, stands-leave}
-
--- the path that is entered next
-abbrev pub next_of : List Node → Stack → NodePath
-next_of body stack = next_path body stack.frames.items stack.nodes.now
 
 next-first : (body : List Node) (old new : Stack) (node : Bor Node) (siblings : Bor (List Node)) → Enters old new node siblings
     → next_of body old ≡ path_of body old.frames.items node siblings
@@ -99,12 +95,12 @@ IsStackOf-leave body old new node siblings step s =
 
 -- the paths that were entered are the reachable ones that are passed
 reachable_entry : (rules : Rules) (body : List Node) (q : NodePath) → IsReachable rules body q
-    → IsReachable (entry_rules rules) body q × IsReported (entry_rules rules) body q
-reachable_entry rules body q r = (record { to_node = r.to_node; is_open = r.is_open }, reported (node_at body q) r.to_node)
+    → IsReachable (entry_rules rules) body q × IsListed (entry_rules rules) body q
+reachable_entry rules body q r = (record { to_node = r.to_node; is_open = r.is_open }, listed (node_at body q) r.to_node)
   where
-    reported : (o : Option Node) → IsSome o → IsSomeAnd o (λ node. IsTrue true)
-    reported (Some node) some = refl
-    reported None some = absurd (false≢true some)
+    listed : (o : Option Node) → IsSome o → IsSomeAnd o (λ node. IsTrue true)
+    listed (Some node) some = refl
+    listed None some = absurd (false≢true some)
 
 pub passed_are : (body : List Node) (stack : Stack) (s : IsStackOf body stack) (q : NodePath)
     → Contains s.passed q ↔ (IsReachable dependency_rules body q × IsPassed (next_of body stack) q)
@@ -179,25 +175,25 @@ is_inner body path node at after =
 entered_before : (body : List Node) (path q : NodePath) → UpTo path q → IsEnteredBy dependency_rules body path q
 entered_before body path q (inl a) = by.apart (PartsBelow-from_Apart q path a)
 entered_before body path q (inr (inl e)) = by.itself e
-entered_before body path q (inr (inr b)) = by.outer (GoesOn-from_Below q path b)
+entered_before body path q (inr (inr b)) = by.outer (IsStrictPrefix-from_Below q path b)
 
 up_to_entered : (body : List Node) (path q : NodePath) → (IsAfterInside dependency_rules body path → ⊥) → IsEnteredBy dependency_rules body path q → UpTo path q
 up_to_entered body path q never (by.apart a) = inl (Apart-from_PartsBelow q path a)
 up_to_entered body path q never (by.itself e) = inr (inl e)
-up_to_entered body path q never (by.outer g) = inr (inr (Below-from_GoesOn q path g))
+up_to_entered body path q never (by.outer g) = inr (inr (Below-from_IsStrictPrefix q path g))
 up_to_entered body path q never (by.inner g h) = absurd (never h)
 
 entered_after : (body : List Node) (path q : NodePath) → IsAfterInside dependency_rules body path → Around path q → IsEnteredBy dependency_rules body path q
 entered_after body path q h (inl a) = by.apart (PartsBelow-from_Apart q path a)
 entered_after body path q h (inr (inl e)) = by.itself e
-entered_after body path q h (inr (inr (inl b))) = by.outer (GoesOn-from_Below q path b)
-entered_after body path q h (inr (inr (inr b))) = by.inner (GoesOn-from_Below path q b) h
+entered_after body path q h (inr (inr (inl b))) = by.outer (IsStrictPrefix-from_Below q path b)
+entered_after body path q h (inr (inr (inr b))) = by.inner (IsStrictPrefix-from_Below path q b) h
 
 around_entered : (body : List Node) (path q : NodePath) → IsEnteredBy dependency_rules body path q → Around path q
 around_entered body path q (by.apart a) = inl (Apart-from_PartsBelow q path a)
 around_entered body path q (by.itself e) = inr (inl e)
-around_entered body path q (by.outer g) = inr (inr (inl (Below-from_GoesOn q path g)))
-around_entered body path q (by.inner g h) = inr (inr (inr (Below-from_GoesOn path q g)))
+around_entered body path q (by.outer g) = inr (inr (inl (Below-from_IsStrictPrefix q path g)))
+around_entered body path q (by.inner g h) = inr (inr (inr (Below-from_IsStrictPrefix path q g)))
 
 -- the count when a node is given before its inside
 pub count-enter : (body : List Node) (old new : Stack) (node : Bor Node) (siblings : Bor (List Node)) → Enters old new node siblings

@@ -52,17 +52,17 @@ module _ {A : Type 0} (rules : Rules) (f : Node → Option A) (listed : (node : 
   unfolding below
   below_child node n child e p = ap (λ o. option_and_then f (node_below o p)) e
 
-  inside_same : (nodes : List Node) (number : ℕ → ℕ) (at : NodePath → Option A) →
-      ((n : ℕ) (child : Node) → slice_get nodes n ≡ Some child → (p : NodePath) → at (number n ∷ p) ≡ below child p) →
+  inside_same : (nodes : List Node) (index : ℕ → ℕ) (at : NodePath → Option A) →
+      ((n : ℕ) (child : Node) → slice_get nodes n ≡ Some child → (p : NodePath) → at (index n ∷ p) ≡ below child p) →
       ((n : ℕ) (child : Node) → slice_get nodes n ≡ Some child → map Some (entries_at rules own child) ≡ map (below child) (paths_at rules child)) →
-      map Some (flat_map (entries_at rules own) nodes) ≡ map at (under number (map (paths_at rules) nodes))
-  inside_same [] number at says each = refl
-  inside_same (x ∷ nodes) number at says each =
+      map Some (flat_map (entries_at rules own) nodes) ≡ map at (under index (map (paths_at rules) nodes))
+  inside_same [] index at says each = refl
+  inside_same (x ∷ nodes) index at says each =
       map-append Some (entries_at rules own x) (flat_map (entries_at rules own) nodes) ∙
       (let a = each 0 x refl in
-      let b = map_map-as (λ q. number 0 ∷ q) at (below x) (says 0 x refl) (paths_at rules x) in
-      let c = inside_same nodes (λ n. number (suc n)) at (λ n child e. says (suc n) child e) (λ n child e. each (suc n) child e) in
-      let d = map-append at (map (λ q. number 0 ∷ q) (paths_at rules x)) (under (λ n. number (suc n)) (map (paths_at rules) nodes)) in
+      let b = map_map-as (λ q. index 0 ∷ q) at (below x) (says 0 x refl) (paths_at rules x) in
+      let c = inside_same nodes (λ n. index (suc n)) at (λ n child e. says (suc n) child e) (λ n child e. each (suc n) child e) in
+      let d = map-append at (map (λ q. index 0 ∷ q) (paths_at rules x)) (under (λ n. index (suc n)) (map (paths_at rules) nodes)) in
       cc)
 
   own_same : (node : Node) → map Some (own node) ≡ map (below node) (here (rules.is_listed node))

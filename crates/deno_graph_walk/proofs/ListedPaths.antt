@@ -17,7 +17,7 @@ pub paths_at-is : (rules : Rules) (node : Node) → paths_at rules node ≡ path
 unfolding paths_at
 paths_at-is rules node = by_children-is (path_step rules) node
 
--- an item of `under`: the number of a child, and then a path below it
+-- an item of `under`: the index of a child, and then a path below it
 pub record IsUnder (f : ℕ → ℕ) (pss : List (List NodePath)) (p : NodePath) : Type 0 where
   pub at : ℕ
   pub rest : NodePath
@@ -131,11 +131,11 @@ Found-from_Member rules (n ∷ p) node m =
     let u = Member-under (λ k. k) (map (paths_at rules) (children_of node)) (n ∷ p) h.1 in
     let e = u.is in
     let g = got_map (paths_at rules) (slice_get (children_of node) u.at) u.paths (sym (slice_get-map (paths_at rules) (children_of node) u.at) ∙ u.is_there) in
-    let number : u.at ≡ n = cc in
+    let index : u.at ≡ n = cc in
     let rest : u.rest ≡ p = cc in
     let Q : NodePath → Type 0 = λ q. Member (paths_at rules g.0) q in
     let R : List NodePath → Type 0 = λ ps. Member ps u.rest in
-    (h.0, (g.0, ap (λ k. slice_get (children_of node) k) (sym number) ∙ g.1, Found-from_Member rules p g.0 (subst Q rest (subst R (sym g.2) u.in_paths)))))
+    (h.0, (g.0, ap (λ k. slice_get (children_of node) k) (sym index) ∙ g.1, Found-from_Member rules p g.0 (subst Q rest (subst R (sym g.2) u.in_paths)))))
     (Member-placed rules node (here (rules.is_listed node)) inside (n ∷ p) (subst P (paths_at-is rules node) m))
 
 -- what is found is listed

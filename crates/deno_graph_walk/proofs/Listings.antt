@@ -5,12 +5,12 @@ use Rattle.std.proofs.lemmas.Bool.{false≢true, false_from_ne_true}
 use Rattle.deno_graph_source.specs.Node.{children_of}
 use Rattle.deno_graph_source.specs.declared.tree.node.Node.{Node}
 use Rattle.deno_graph_walk.specs.Listing as listing
-use Rattle.deno_graph_walk.specs.Listing.{Rules, IsReachable, IsReported, IsAfterInside, Precedes, IsListing}
+use Rattle.deno_graph_walk.specs.Listing.{Rules, IsReachable, IsListed, IsAfterInside, Precedes, IsListing}
 use Rattle.deno_graph_walk.specs.NodePath.{NodePath, node_below, node_at}
 use Rattle.deno_graph_walk.proofs.Ascending.{Member, Ascending, Ascending-unique, Ascending-weaker, Contains-from_Member, Member-from_Contains, AllPairs-from_Ascending, Ascending-from_AllPairs}
 use Rattle.deno_graph_walk.proofs.ListedPaths.{Found, Found-from_Member, Member-from_Found, is_after, Ascending-listed_paths, Member-under, Member-of_under, got_map}
 use Rattle.deno_graph_walk.specs.ListedPaths.{listed_paths, paths_at}
-use Rattle.deno_graph_walk.proofs.NodePaths.{Below, Below-from_GoesOn, GoesOn-from_Below, Apart-from_PartsBelow, PartsBelow-from_Apart, Before, apart, outer, inner, Before-asymmetric, Before-total, Before-transitive}
+use Rattle.deno_graph_walk.proofs.NodePaths.{Below, Below-from_IsStrictPrefix, IsStrictPrefix-from_Below, Apart-from_PartsBelow, PartsBelow-from_Apart, Before, apart, outer, inner, Before-asymmetric, Before-total, Before-transitive}
 use Rattle.std.proofs.lemmas.Option.{slice_get-map}
 
 after_true : (rules : Rules) (o : Option Node) → IsSomeAnd o (λ node. IsTrue (rules.is_after_inside node)) → is_after rules o ≡ true
@@ -32,14 +32,14 @@ ascends rules body = Ascending-listed_paths rules body
 pub Before-from_Precedes : (rules : Rules) (body : List Node) (p q : NodePath) → Precedes rules body p q → Before (after_at rules body) p q
 unfolding after_at
 Before-from_Precedes rules body p q (listing.apart a) = apart (Apart-from_PartsBelow p q a)
-Before-from_Precedes rules body p q (listing.outer_first g n) = outer (Below-from_GoesOn p q g) (false_from_ne_true (is_after rules (node_at body p)) (λ e. n (of_after_true rules (node_at body p) e)))
-Before-from_Precedes rules body p q (listing.inner_first g a) = inner (Below-from_GoesOn q p g) (after_true rules (node_at body q) a)
+Before-from_Precedes rules body p q (listing.outer_first g n) = outer (Below-from_IsStrictPrefix p q g) (false_from_ne_true (is_after rules (node_at body p)) (λ e. n (of_after_true rules (node_at body p) e)))
+Before-from_Precedes rules body p q (listing.inner_first g a) = inner (Below-from_IsStrictPrefix q p g) (after_true rules (node_at body q) a)
 
 pub Precedes-from_Before : (rules : Rules) (body : List Node) (p q : NodePath) → Before (after_at rules body) p q → Precedes rules body p q
 unfolding after_at
 Precedes-from_Before rules body p q (apart a) = listing.apart (PartsBelow-from_Apart p q a)
-Precedes-from_Before rules body p q (outer b f) = listing.outer_first (GoesOn-from_Below p q b) (λ h. false≢true (sym f ∙ after_true rules (node_at body p) h))
-Precedes-from_Before rules body p q (inner b t) = listing.inner_first (GoesOn-from_Below q p b) (of_after_true rules (node_at body q) t)
+Precedes-from_Before rules body p q (outer b f) = listing.outer_first (IsStrictPrefix-from_Below p q b) (λ h. false≢true (sym f ∙ after_true rules (node_at body p) h))
+Precedes-from_Before rules body p q (inner b t) = listing.inner_first (IsStrictPrefix-from_Below q p b) (of_after_true rules (node_at body q) t)
 
 -- the tree order goes one way at most
 pub Precedes-asymmetric : (rules : Rules) (body : List Node) (p q : NodePath) → Precedes rules body p q → Precedes rules body q p → ⊥
@@ -72,11 +72,11 @@ abbrev FoundIn : Rules → List Node → NodePath → Type 0
 FoundIn rules body [] = ⊥
 FoundIn rules body (n ∷ p) = (node : Node) × (slice_get body n ≡ Some node) × Found rules node p
 
-reported_found : (rules : Rules) (p : NodePath) (node : Node) → Found rules node p → IsSomeAnd (node_below (Some node) p) (λ m. IsTrue (rules.is_listed m))
-reported_found rules [] node f = f
-reported_found rules (n ∷ p) node f =
+found_is_listed : (rules : Rules) (p : NodePath) (node : Node) → Found rules node p → IsSomeAnd (node_below (Some node) p) (λ m. IsTrue (rules.is_listed m))
+found_is_listed rules [] node f = f
+found_is_listed rules (n ∷ p) node f =
     let P : Option Node → Type 0 = λ o. IsSomeAnd (node_below o p) (λ m. IsTrue (rules.is_listed m)) in
-    subst P (sym f.1.1) (reported_found rules p f.1.0 f.1.2)
+    subst P (sym f.1.1) (found_is_listed rules p f.1.0 f.1.2)
 
 open_found : (rules : Rules) (p front : NodePath) (node : Node) → Found rules node p → Below front p → IsSomeAnd (node_below (Some node) front) (λ m. IsTrue (rules.is_closed m)) → ⊥
 open_found rules [] [] node f b h = b
@@ -106,12 +106,12 @@ found_below rules (n ∷ p) node l o = (
       found_below rules p child (subst P e l) (λ front b h. o (n ∷ front) (refl, b) (subst (Q front) (sym e) h))),
 )
 
-reachable_found : (rules : Rules) (body : List Node) (p : NodePath) → FoundIn rules body p → IsReachable rules body p × IsReported rules body p
+reachable_found : (rules : Rules) (body : List Node) (p : NodePath) → FoundIn rules body p → IsReachable rules body p × IsListed rules body p
 reachable_found rules body [] f = absurd f
 reachable_found rules body (n ∷ p) f =
     let P : Option Node → Type 0 = λ o. IsSomeAnd (node_below o p) (λ m. IsTrue (rules.is_listed m)) in
-    let reported : IsReported rules body (n ∷ p) = subst P (sym f.1) (reported_found rules p f.0 f.2) in
-    (record { to_node = is_some_and (λ m. IsTrue (rules.is_listed m)) (node_at body (n ∷ p)) reported; is_open = λ front g h. open_in front (Below-from_GoesOn front (n ∷ p) g) h }, reported)
+    let listed : IsListed rules body (n ∷ p) = subst P (sym f.1) (found_is_listed rules p f.0 f.2) in
+    (record { to_node = is_some_and (λ m. IsTrue (rules.is_listed m)) (node_at body (n ∷ p)) listed; is_open = λ front g h. open_in front (Below-from_IsStrictPrefix front (n ∷ p) g) h }, listed)
   where
     open_in : (front : NodePath) → Below front (n ∷ p) → IsSomeAnd (node_at body front) (λ m. IsTrue (rules.is_closed m)) → ⊥
     open_in [] b h = h
@@ -120,14 +120,14 @@ reachable_found rules body (n ∷ p) f =
         let Q : ℕ → Type 0 = λ k. P (slice_get body k) in
         open_found rules p front f.0 f.2 b.1 (subst P f.1 (subst Q b.0 h))
 
-found_reachable : (rules : Rules) (body : List Node) (p : NodePath) → IsReachable rules body p → IsReported rules body p → FoundIn rules body p
+found_reachable : (rules : Rules) (body : List Node) (p : NodePath) → IsReachable rules body p → IsListed rules body p → FoundIn rules body p
 found_reachable rules body [] r l = absurd l
 found_reachable rules body (n ∷ p) r l =
     found_child rules body n p (slice_get body n) refl l (λ node e.
     let P : Option Node → Type 0 = λ c. IsSomeAnd (node_below c p) (λ m. IsTrue (rules.is_listed m)) in
     let Q : NodePath → Option Node → Type 0 = λ front c. IsSomeAnd (node_below c front) (λ m. IsTrue (rules.is_closed m)) in
     found_below rules p node (subst P e l)
-    (λ front b h. r.is_open (n ∷ front) (GoesOn-from_Below (n ∷ front) (n ∷ p) (refl, b)) (subst (Q front) (sym e) h)))
+    (λ front b h. r.is_open (n ∷ front) (IsStrictPrefix-from_Below (n ∷ front) (n ∷ p) (refl, b)) (subst (Q front) (sym e) h)))
 
 found_listed : (rules : Rules) (body : List Node) (p : NodePath) → Member (listed_paths rules body) p → FoundIn rules body p
 unfolding listed_paths

@@ -1,7 +1,7 @@
 -- How two paths stand to one another, by recursion on both.
 use Rattle.std.proofs.Common.{◌≡◌, ℕ, ◌<◌, [], ◌∷◌, ◌++◌, Bool, true, false, ◌⊎◌, inl, inr, ⊎_elim, sym, ap, ◌∙◌, refl, subst, arith}
 use Rattle.std.proofs.lemmas.Bool.{cases_order, false≢true}
-use Rattle.deno_graph_walk.specs.NodePath.{NodePath, GoesOn, PartsBelow}
+use Rattle.deno_graph_walk.specs.NodePath.{NodePath, IsStrictPrefix, PartsBelow}
 
 -- q goes on from p
 abbrev pub Below : NodePath → NodePath → Type 0
@@ -10,27 +10,27 @@ Below [] (n ∷ q) = Unit {0}
 Below (m ∷ p) [] = ⊥
 Below (m ∷ p) (n ∷ q) = (m ≡ n) × Below p q
 
--- p and q part at a number that is smaller in p
+-- p and q part at an index that is smaller in p
 abbrev pub Apart : NodePath → NodePath → Type 0
 Apart [] q = ⊥
 Apart (m ∷ p) [] = ⊥
 Apart (m ∷ p) (n ∷ q) = (m < n) ⊎ ((m ≡ n) × Apart p q)
 
-pub Below-from_GoesOn : (p q : NodePath) → GoesOn p q → Below p q
-Below-from_GoesOn p q g = let P : NodePath → Type 0 = λ r. Below p r in subst P (sym g.joined) (on p g.number g.rest)
+pub Below-from_IsStrictPrefix : (p q : NodePath) → IsStrictPrefix p q → Below p q
+Below-from_IsStrictPrefix p q g = let P : NodePath → Type 0 = λ r. Below p r in subst P (sym g.joined) (on p g.index g.rest)
   where
     on : (p : NodePath) (n : ℕ) (rest : NodePath) → Below p (p ++ (n ∷ rest))
     on [] n rest = tt
     on (m ∷ p) n rest = (refl, on p n rest)
 
-pub GoesOn-from_Below : (p q : NodePath) → Below p q → GoesOn p q
-GoesOn-from_Below [] [] b = absurd b
-GoesOn-from_Below [] (n ∷ q) b = record { number = n; rest = q; joined = refl }
-GoesOn-from_Below (m ∷ p) [] b = absurd b
-GoesOn-from_Below (m ∷ p) (n ∷ q) b =
-    let g = GoesOn-from_Below p q b.1 in
+pub IsStrictPrefix-from_Below : (p q : NodePath) → Below p q → IsStrictPrefix p q
+IsStrictPrefix-from_Below [] [] b = absurd b
+IsStrictPrefix-from_Below [] (n ∷ q) b = record { index = n; rest = q; joined = refl }
+IsStrictPrefix-from_Below (m ∷ p) [] b = absurd b
+IsStrictPrefix-from_Below (m ∷ p) (n ∷ q) b =
+    let g = IsStrictPrefix-from_Below p q b.1 in
     let e = g.joined in
-    record { number = g.number; rest = g.rest; joined = ap (λ x. x ∷ q) (sym b.0) ∙ ap (λ r. m ∷ r) e }
+    record { index = g.index; rest = g.rest; joined = ap (λ x. x ∷ q) (sym b.0) ∙ ap (λ r. m ∷ r) e }
 
 pub Apart-from_PartsBelow : (p q : NodePath) → PartsBelow p q → Apart p q
 Apart-from_PartsBelow p q h =
@@ -220,7 +220,7 @@ Before-transitive after p q r (inner a t) (apart b) = apart (Below-apart p q r a
 Before-transitive after p q r (inner a t) (outer b f) = absurd (false≢true (sym f ∙ t))
 Before-transitive after p q r (inner a t) (inner b u) = inner (Below-transitive r q p b a) u
 
--- the order below one number
+-- the order below one index
 pub Before-cons : (after : NodePath → Bool) (n : ℕ) (p q : NodePath) → Before (λ r. after (n ∷ r)) p q → Before after (n ∷ p) (n ∷ q)
 Before-cons after n p q (apart a) = apart (inr (refl, a))
 Before-cons after n p q (outer b f) = outer (refl, b) f

@@ -19,10 +19,10 @@ held None child e = cc
 held {P} (Some x) child e = let s : x.0 ≡ child = cc in subst P s x.1
 
 -- what holds of a node where it holds of its children holds of every node
-pub node_induction : (P : Node → Type 0) → ((node : Node) → ((number : ℕ) (child : Node) → slice_get (children_of node) number ≡ Some child → P child) → P node) → (node : Node) → P node
-node_induction P step = ind-Node P (λ x y is. step (roll-Node x) (λ number child e.
+pub node_induction : (P : Node → Type 0) → ((node : Node) → ((index : ℕ) (child : Node) → slice_get (children_of node) index ≡ Some child → P child) → P node) → (node : Node) → P node
+node_induction P step = ind-Node P (λ x y is. step (roll-Node x) (λ index child e.
     let same = children_of-roll x ∙ sym (ap (λ l. l.children) is) in
-    held (slice_get y.children number) child (sym (slice_get-map (λ e. e.0) y.children number) ∙ (ap (λ ks. slice_get ks number) (sym same) ∙ e))))
+    held (slice_get y.children index) child (sym (slice_get-map (λ e. e.0) y.children index) ∙ (ap (λ ks. slice_get ks index) (sym same) ∙ e))))
 
 -- two maps that undo each other at each item
 map_map-same : {A B : Type 0} (f : A → B) (g : B → A) (xs : List A) → ((n : ℕ) (x : A) → slice_get xs n ≡ Some x → g (f x) ≡ x) → map g (map f xs) ≡ xs
@@ -37,7 +37,7 @@ module _ {A : Type 0} (step : Node → List A → A) where
   both : Node → Node × A
   both = fold-Node (Node × A) (with_result step)
 
-  layer_same : (node : Node) → ((number : ℕ) (child : Node) → slice_get (children_of node) number ≡ Some child → (both child).0 ≡ child) → roll-Node (layers.map-Node (Node × A) Node (λ c. c.0) (layers.map-Node Node (Node × A) both (out-Node node))) ≡ node
+  layer_same : (node : Node) → ((index : ℕ) (child : Node) → slice_get (children_of node) index ≡ Some child → (both child).0 ≡ child) → roll-Node (layers.map-Node (Node × A) Node (λ c. c.0) (layers.map-Node Node (Node × A) both (out-Node node))) ≡ node
   unfolding children_of
   layer_same node h =
       let same = map_map-same both (λ c. c.0) (out-Node node).children h in
@@ -52,7 +52,7 @@ module _ {A : Type 0} (step : Node → List A → A) where
   unfolding by_children both children_of
   by_children-is_lem node =
       ap (λ c. c.1) (fold_out-Node (Node × A) (with_result step) node) ∙
-      (ap (λ n. step n (map (λ c. c.1) (map both (out-Node node).children))) (layer_same node (λ number child e. first_same child)) ∙
+      (ap (λ n. step n (map (λ c. c.1) (map both (out-Node node).children))) (layer_same node (λ index child e. first_same child)) ∙
       ap (step node) (map_map both (λ c. c.1) (out-Node node).children))
 
 pub by_children-is : {A : Type 0} (step : Node → List A → A) (node : Node) → by_children step node ≡ step node (map (by_children step) (children_of node))

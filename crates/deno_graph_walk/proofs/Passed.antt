@@ -12,7 +12,7 @@ use Rattle.deno_graph_walk.specs.Stack.{frame_of, index_of, frame_index, next_pa
 use Rattle.deno_graph_walk.specs.declared.stack.Frame.{Frame}
 use Rattle.deno_graph_walk.proofs.Ascending.{Member, Member-append, Member-map}
 use Rattle.deno_graph_walk.proofs.ListedPaths.{Member-under}
-use Rattle.deno_graph_walk.proofs.NodePaths.{Below, Apart, Below-from_GoesOn, GoesOn-from_Below, Apart-from_PartsBelow, PartsBelow-from_Apart}
+use Rattle.deno_graph_walk.proofs.NodePaths.{Below, Apart, Below-from_IsStrictPrefix, IsStrictPrefix-from_Below, Apart-from_PartsBelow, PartsBelow-from_Apart}
 use Rattle.deno_graph_walk.proofs.Stacks.{next_index}
 
 -- the same by recursion on both paths
@@ -20,16 +20,16 @@ abbrev pub Past : NodePath → NodePath → Type 0
 Past next q = Apart q next ⊎ Below q next
 
 pub Past-from_IsPassed : (next q : NodePath) → IsPassed next q → Past next q
-Past-from_IsPassed next q p = ⊎_elim (λ a. inl (Apart-from_PartsBelow q next a)) (λ b. inr (Below-from_GoesOn q next b)) p
+Past-from_IsPassed next q p = ⊎_elim (λ a. inl (Apart-from_PartsBelow q next a)) (λ b. inr (Below-from_IsStrictPrefix q next b)) p
 
 pub IsPassed-from_Past : (next q : NodePath) → Past next q → IsPassed next q
-IsPassed-from_Past next q p = ⊎_elim (λ a. inl (PartsBelow-from_Apart q next a)) (λ b. inr (GoesOn-from_Below q next b)) p
+IsPassed-from_Past next q p = ⊎_elim (λ a. inl (PartsBelow-from_Apart q next a)) (λ b. inr (IsStrictPrefix-from_Below q next b)) p
 
--- one number further on
+-- one index further on
 unnumbered : (m n : ℕ) (next q : NodePath) → m ≡ n → Past next q → Past (n ∷ next) (m ∷ q)
 unnumbered m n next q e p = ⊎_elim (λ a. inl (inr (e, a))) (λ b. inr (e, b)) p
 
--- the first number is smaller, or it is the same and the rest is past
+-- the first index is smaller, or it is the same and the rest is past
 past_cases : (m n : ℕ) (next q : NodePath) → Past (n ∷ next) (m ∷ q) → (m < n) ⊎ ((m ≡ n) × Past next q)
 past_cases m n next q p =
     ⊎_elim

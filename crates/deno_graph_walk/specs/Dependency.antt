@@ -25,9 +25,13 @@ children_to_visit node = if is_closed (kind_of node) then [] else children_of no
 
 -- a name that is a relative path
 abbrev pub is_relative : List ℕ → Bool
-is_relative name = starts_with nat_eq name (codes "./") || starts_with nat_eq name (codes "../") || starts_with nat_eq name (codes "/")
+is_relative name =
+    starts_with nat_eq name (codes "./")
+    || starts_with nat_eq name (codes "../")
+    || starts_with nat_eq name (codes "/")
 
--- a module declaration of this name may add to a module: a name with `*` is a pattern, unless it is a relative path
+-- a module declaration of this name may add to a module: a name with `*` is a pattern, unless it is
+-- a relative path
 abbrev pub may_name_module : List ℕ → Bool
 may_name_module name = not (list_any (λ byte. byte == 42) name) || is_relative name
 
@@ -36,15 +40,16 @@ abbrev pub is_require : Option Kind → Bool
 is_require (Some (Ident name)) = bytes_eq name (codes "require")
 is_require _ = false
 
--- a call of `import`, or of `require`, where the first of the children is the callee if that is an expression
+-- a call of `import`, or of `require`, where the first of the children is the callee if that is an
+-- expression
 abbrev pub is_module_call : Callee → List Node → Bool
 is_module_call (callee.Import phase) children = true
 is_module_call callee.Expr children = is_require (option_map kind_of (slice_get children 0))
 is_module_call callee.Super children = false
 
--- The kinds that are dependencies, with these children: imports, exports from a source, `require("..")` by
--- an import-equals, module declarations whose name may be a module's, and calls of `import` and `require`
--- with an argument.
+-- The kinds that are dependencies, with these children: imports, exports from a source,
+-- `require("..")` by an import-equals, module declarations whose name may be a module's, and calls
+-- of `import` and `require` with an argument.
 abbrev pub is_dependency : Kind → List Node → Bool
 is_dependency (ImportDecl type_only phase src has_specifiers has_with) children = true
 is_dependency (NamedExport type_only src has_with) children = is_some src
@@ -53,7 +58,8 @@ is_dependency (ImportEquals type_only is_export external) children = is_some ext
 is_dependency (ImportType arg has_with) children = true
 is_dependency (ModuleDecl None) children = false
 is_dependency (ModuleDecl (Some name)) children = may_name_module (lossy_text name.value)
-is_dependency (Call callee args) children = is_module_call callee children && is_some (slice_get args 0)
+is_dependency (Call callee args) children =
+    is_module_call callee children && is_some (slice_get args 0)
 is_dependency _ children = false
 
 -- the kinds that are listed after what is inside them: calls

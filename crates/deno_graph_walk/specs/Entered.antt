@@ -2,7 +2,7 @@
 use Rattle.std.specs.Prelude.{◌≡◌, ◌≢◌, ℕ, ◌-◌, ◌^◌, min, true, false, List, length, Contains, AllPairs, ◌↔◌}
 use Rattle.deno_graph_source.specs.declared.tree.node.Node.{Node}
 use Rattle.deno_graph_walk.specs.Listing.{Rules, IsAfterInside, IsReachable}
-use Rattle.deno_graph_walk.specs.NodePath.{NodePath, GoesOn, PartsBelow}
+use Rattle.deno_graph_walk.specs.NodePath.{NodePath, IsStrictPrefix, PartsBelow}
 
 -- the rules of a walk that gives every node that it enters, before what is inside it
 abbrev pub entry_rules : Rules → Rules
@@ -12,16 +12,17 @@ entry_rules rules = record {
   is_after_inside = λ node. false;
 }
 
--- The node at q is entered by the time that the node at p is given: q parts from p at a smaller index,
--- q is p or a front of it, or q goes on from p and the node at p comes after what is inside it.
+-- The node at q is entered by the time that the node at p is given: q parts from p at a smaller
+-- index, q is p or a prefix of it, or p is a strict prefix of q and the node at p comes after what
+-- is inside it.
 pub data IsEnteredBy (rules : Rules) (body : List Node) (p q : NodePath) : Type 0 where
   apart : PartsBelow q p → IsEnteredBy rules body p q
   itself : q ≡ p → IsEnteredBy rules body p q
-  outer : GoesOn q p → IsEnteredBy rules body p q
-  inner : GoesOn p q → IsAfterInside rules body p → IsEnteredBy rules body p q
+  outer : IsStrictPrefix q p → IsEnteredBy rules body p q
+  inner : IsStrictPrefix p q → IsAfterInside rules body p → IsEnteredBy rules body p q
 
--- This many paths have the property: there is a list of them, each once, of this length, and the count
--- is that, or the largest u64 where that is less.
+-- This many paths have the property: there is a list of them, each once, of this length, and the
+-- count is that, or the largest u64 where that is less.
 pub record IsCountOf (P : NodePath → Type 0) (count : ℕ) : Type 0 where
   pub paths : List NodePath
   pub distinct : AllPairs ◌≢◌ paths

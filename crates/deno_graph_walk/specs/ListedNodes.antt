@@ -1,10 +1,11 @@
 -- The listed nodes of a body: by its listing, and by plain recursion.
-use Rattle.std.specs.Prelude.{◌≡◌, List, map, Option, Some, None, option_and_then, if◌then◌else◌}
+use Rattle.std.specs.Prelude.{◌≡◌, List, [], map, Option, Some, None, option_and_then, if◌then◌else◌}
 use Rattle.std.specs.Borrow.{Bor}
 use Rattle.std.specs.List.{flat_map}
 use Rattle.std.specs.Option.{option_to_list}
 use Rattle.deno_graph_source.specs.declared.tree.node.Node.{Node}
-use Rattle.deno_graph_walk.specs.Dependency.{dependency_rules, is_listed}
+use Rattle.deno_graph_source.specs.Node.{kind_of}
+use Rattle.deno_graph_walk.specs.Dependency.{dependency_rules, is_listed, is_listed_after_inside}
 use Rattle.deno_graph_walk.specs.Listing.{IsListing}
 use Rattle.deno_graph_walk.specs.NodePath.{NodePath, node_at}
 use Rattle.deno_graph_walk.specs.Recursion.{entries_at}
@@ -26,6 +27,14 @@ pub record AreListed (body : List Node) (nodes : List Node) : Type 0 where
 -- the node itself, as a list of one or none
 abbrev pub own_nodes : Node → List Node
 own_nodes node = option_to_list (listed_node node)
+
+-- that, before what is inside the node, unless it is listed after that
+abbrev pub own_before : Node → List Node
+own_before node = if is_listed_after_inside (kind_of node) then [] else own_nodes node
+
+-- that, after what is inside the node, if it is listed there
+abbrev pub own_after : Node → List Node
+own_after node = if is_listed_after_inside (kind_of node) then own_nodes node else []
 
 -- the listed ones of a node and of all that is inside it, by plain recursion
 abbrev pub listed_in : Node → List Node

@@ -5,7 +5,7 @@ use Rattle.deno_graph_walk.specs.Listing.{Rules}
 use Rattle.deno_graph_walk.specs.NodePath.{NodePath}
 use Rattle.deno_graph_walk.specs.Recursion.{by_children}
 
--- the paths below consecutive children, where f n is the number of the n-th
+-- the paths below consecutive children, where f n is the index of the n-th
 abbrev pub under : (ℕ → ℕ) → List (List NodePath) → List NodePath
 under f [] = []
 under f (ps ∷ pss) = map (λ p. f 0 ∷ p) ps ++ under (λ n. f (suc n)) pss
@@ -16,7 +16,10 @@ here b = cond b ([] ∷ []) []
 
 -- what stands before, inside and after a node
 abbrev pub placed : {A : Type 0} → Rules → Node → List A → List A → List A
-placed rules node own inside = cond (rules.is_after_inside node) [] own ++ cond (rules.is_closed node) [] inside ++ cond (rules.is_after_inside node) own []
+placed rules node own inside =
+    cond (rules.is_after_inside node) [] own
+    ++ cond (rules.is_closed node) [] inside
+    ++ cond (rules.is_after_inside node) own []
 
 abbrev pub path_step : Rules → Node → List (List NodePath) → List NodePath
 path_step rules node below = placed rules node (here (rules.is_listed node)) (under (λ n. n) below)

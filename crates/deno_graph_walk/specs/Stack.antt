@@ -6,7 +6,7 @@ use Rattle.deno_graph_walk.specs.Dependency.{children_to_visit, dependency_rules
 use Rattle.deno_graph_walk.specs.Entered.{entry_rules}
 use Rattle.deno_graph_walk.specs.ListedPaths.{under, paths_at, listed_paths}
 use Rattle.deno_graph_walk.specs.Listing.{Rules}
-use Rattle.deno_graph_walk.specs.NodePath.{NodePath, GoesOn, PartsBelow}
+use Rattle.deno_graph_walk.specs.NodePath.{NodePath, IsStrictPrefix, PartsBelow}
 use Rattle.deno_graph_walk.specs.declared.stack.Frame.{Frame}
 use Rattle.deno_graph_walk.specs.declared.stack.Stack.{Stack}
 
@@ -18,7 +18,9 @@ abbrev pub Leaves : Stack → Stack → Option (Bor Node) → Type 0
 Leaves old new None =
     (old.frames.items ≡ []) × (new.frames.items ≡ []) × (new.nodes.now ≡ old.nodes.now)
 Leaves old new (Some node) =
-    (siblings : Bor (List Node)) × (old.frames.items ≡ new.frames.items ++ frame_of node siblings ∷ []) × (new.nodes.now ≡ siblings.now)
+    (siblings : Bor (List Node))
+    × (old.frames.items ≡ new.frames.items ++ frame_of node siblings ∷ [])
+    × (new.nodes.now ≡ siblings.now)
 
 -- a listed node that is given before what is inside it, and one that is given after that
 abbrev pub is_before : Rules → Node → Bool
@@ -46,21 +48,23 @@ next_path level (frame ∷ frames) nodes =
     frame_index level frame ∷ next_path (children_to_visit frame.node.now) frames nodes
 
 -- The paths that are still to come from this level in: those of the nodes to enter next, and from
--- the innermost frame out the path of a node that comes after its inside, and those of the siblings.
+-- the innermost frame out the path of a node that comes after its inside, and those of the
+-- siblings.
 abbrev pub paths_to_come : Rules → List Node → List Frame → List Node → List NodePath
 paths_to_come rules level [] nodes =
     under (λ n. n + index_of level nodes) (map (paths_at rules) nodes)
 paths_to_come rules level (frame ∷ frames) nodes =
     let node = frame.node.now in
     let index = frame_index level frame in
-    map (λ path. index ∷ path) (paths_to_come rules (children_to_visit node) frames nodes ++ once (is_after rules node) [])
+    let inside = paths_to_come rules (children_to_visit node) frames nodes in
+    map (λ path. index ∷ path) (inside ++ once (is_after rules node) [])
     ++ under (λ n. n + suc index) (map (paths_at rules) frame.siblings.now)
 
 -- the nodes are the last ones of a level
 abbrev pub AreLastOf : List Node → List Node → Type 0
 AreLastOf level nodes = (before : List Node) × (level ≡ before ++ nodes)
 
--- each entered node stands in the level that is inside the one before it, with its siblings after it
+-- each entered node stands in the level inside the one before it, with its siblings after it
 abbrev pub StandsIn : List Node → List Frame → List Node → Type 0
 StandsIn level [] nodes = AreLastOf level nodes
 StandsIn level (frame ∷ frames) nodes =
@@ -71,15 +75,26 @@ StandsIn level (frame ∷ frames) nodes =
 abbrev pub to_come : Rules → List Node → Stack → List NodePath
 to_come rules body stack = paths_to_come rules body stack.frames.items stack.nodes.now
 
--- a path is passed where it parts from the next one at a smaller index, or is a front of it
+-- the paths of all nodes that are entered in the end, and of those still to be entered
+abbrev pub entry_paths : List Node → List NodePath
+entry_paths body = listed_paths (entry_rules dependency_rules) body
+
+abbrev pub entries_to_come : List Node → Stack → List NodePath
+entries_to_come body stack = to_come (entry_rules dependency_rules) body stack
+
+-- the path of the node to enter next
+abbrev pub next_of : List Node → Stack → NodePath
+next_of body stack = next_path body stack.frames.items stack.nodes.now
+
+-- a path is passed where it parts from the next one at a smaller index, or is a prefix of it
 abbrev pub IsPassed : NodePath → NodePath → Type 0
-IsPassed next path = PartsBelow path next ⊎ GoesOn path next
+IsPassed next path = PartsBelow path next ⊎ IsStrictPrefix path next
 
 -- The stack stands in a body: it leads down from there, and what it counts are the paths that were
 -- entered, which all are passed and which those still to come follow.
 pub record IsStackOf (body : List Node) (stack : Stack) : Type 0 where
   pub stands : StandsIn body stack.frames.items stack.nodes.now
   pub passed : List NodePath
-  pub follow : listed_paths (entry_rules dependency_rules) body ≡ passed ++ to_come (entry_rules dependency_rules) body stack
-  pub all_passed : (path : NodePath) → Contains passed path → IsPassed (next_path body stack.frames.items stack.nodes.now) path
+  pub follow : entry_paths body ≡ passed ++ entries_to_come body stack
+  pub all_passed : (path : NodePath) → Contains passed path → IsPassed (next_of body stack) path
   pub counted : stack.entered ≡ min (length passed) (2 ^ 64 - 1)

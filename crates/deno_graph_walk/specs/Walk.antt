@@ -18,19 +18,26 @@ pub record WalkState : Type 0 where
   -- how many nodes were entered, up to the largest u64
   pub entered : ℕ
 
--- A step gives the first node still to come and takes it away, or none where nothing is still to come.
--- By then exactly those nodes are entered that stand before the node or round it, the node itself, and
--- what is inside it if it comes after that; at the end every node that is reachable.
+-- A step gives the first node still to come and takes it away, or none where nothing is still to
+-- come. By then exactly those nodes are entered that stand before the node or round it, the node
+-- itself, and what is inside it if it comes after that; at the end every node that is reachable.
 abbrev pub Gives : WalkState → WalkState → Option (Bor Node) → Type 0
 Gives old new None =
-    (old.to_come ≡ []) × (new.to_come ≡ []) × IsCountOf (IsReachable dependency_rules old.body) new.entered
+    (old.to_come ≡ []) × (new.to_come ≡ [])
+    × IsCountOf (IsReachable dependency_rules old.body) new.entered
 Gives old new (Some node) =
-    (path : NodePath) × (node_at old.body path ≡ Some node.now) × (old.to_come ≡ path ∷ new.to_come)
+    (path : NodePath)
+    × (node_at old.body path ≡ Some node.now)
+    × (old.to_come ≡ path ∷ new.to_come)
     × IsCountOf (EnteredBy dependency_rules old.body path) new.entered
 
 -- what a stack says of the body that it stands in
 abbrev pub state_of : List Node → Stack → WalkState
-state_of body stack = record { body = body; to_come = to_come dependency_rules body stack; entered = stack.entered }
+state_of body stack = record {
+  body = body;
+  to_come = to_come dependency_rules body stack;
+  entered = stack.entered;
+}
 
 -- the stack stands in the body, and what is still to come ends the body's listing
 pub record IsWalkOf (body : List Node) (stack : Stack) : Type 0 where

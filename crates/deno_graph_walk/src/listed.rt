@@ -25,7 +25,7 @@ pub fn is_listed(node: &Node) -> bool
 
 /// Whether a module declaration of this name may add to a module: a name with `*` is a pattern,
 /// unless it is a relative path.
-fn may_name_module(name: &str) -> bool
+pub fn may_name_module(name: &str) -> bool
     ensures { result ≡ may_name_module name.now }
 {
     !name.as_bytes().contains(&b'*') || is_relative(name)

@@ -42,7 +42,8 @@ impl<'a> Stack<'a> {
 
     /// Enters a node, so that what is inside it comes next. A refusal leaves all as it was.
     pub(crate) fn enter(&mut self, node: &'a Node, siblings: &'a [Node]) -> Result<(), AllocError>
-        ensures frames { OnOk result (self.new.frames.items ≡ self.old.frames.items ++ frame_of node.entry siblings.entry ∷ []) }
+        ensures frames { OnOk result (self.new.frames.items
+            ≡ self.old.frames.items ++ frame_of node.entry siblings.entry ∷ []) }
         ensures nodes { OnOk result (self.new.nodes.now ≡ children_to_visit node.now) }
         ensures entered { OnOk result (self.new.entered ≡ min (self.old.entered + 1) (2 ^ 64 - 1)) }
         ensures refused_frames { OnErr result (self.new.frames.items ≡ self.old.frames.items) }
@@ -70,9 +71,13 @@ impl<'a> Stack<'a> {
     /// `None` at the end. A refusal leaves what is still to come as it was.
     pub(crate) fn next_listed(&mut self) -> Result<Option<&'a Node>, AllocError>
         ensures stays { (body : List Node) → IsStackOf body self.old → IsStackOf body self.new }
-        ensures gives { (body : List Node) → IsStackOf body self.old → IfOk result (Gives (state_of body self.old) (state_of body self.new)) }
-        ensures refused { (body : List Node) → IsStackOf body self.old → OnErr result (to_come dependency_rules body self.new ≡ to_come dependency_rules body self.old) }
-        ensures rises { (body : List Node) → IsStackOf body self.old → self.old.entered ≤ self.new.entered }
+        ensures gives { (body : List Node) → IsStackOf body self.old
+            → IfOk result (Gives (state_of body self.old) (state_of body self.new)) }
+        ensures refused { (body : List Node) → IsStackOf body self.old
+            → OnErr result (to_come dependency_rules body self.new
+            ≡ to_come dependency_rules body self.old) }
+        ensures rises { (body : List Node) → IsStackOf body self.old
+            → self.old.entered ≤ self.new.entered }
     {
         'nodes: loop {
             if let Some((node, siblings)) = self.nodes.split_first() {

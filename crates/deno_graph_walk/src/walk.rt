@@ -78,7 +78,8 @@ impl<'a> Walk<'a> {
     /// A law for those who stop: what is still to come is an end of the listing, so that what was
     /// given until then is its beginning, and the walk goes on with the rest.
     pub fn goes_on_with_the_rest(&self)
-        ensures { (given : List NodePath) × IsListing dependency_rules self.now.body (given ++ self.now.to_come) }
+        ensures { (given : List NodePath)
+            × IsListing dependency_rules self.now.body (given ++ self.now.to_come) }
     {
         let _ = &self.program;
     }

@@ -10,7 +10,8 @@ use Rattle.deno_graph_json.specs.Object.{object_of, array_of}
 -- `{"type":"string","value":..}`, or `{"type":"expr"}`
 abbrev pub json_of_part : DynamicTemplatePart → Data
 json_of_part (StringPart value) =
-    object_of ((codes "type", Some (string (codes "string"))) ∷ (codes "value", Some (string value)) ∷ [])
+    object_of (
+    (codes "type", Some (string (codes "string"))) ∷ (codes "value", Some (string value)) ∷ [])
 json_of_part ExprPart = object_of ((codes "type", Some (string (codes "expr"))) ∷ [])
 
 -- a string as itself, a template as the array of its parts, and null where nothing is known

@@ -18,8 +18,8 @@ dynamic_kind_name ImportDefer = codes "importDefer"
 dynamic_kind_name ImportSource = codes "importSource"
 dynamic_kind_name Require = codes "require"
 
--- its table: `kind` is left out where it is `import`, `typesSpecifier` where there is none, `argument`
--- where nothing is known of it, and `importAttributes` where there are none
+-- its table: `kind` is left out where it is `import`, `typesSpecifier` where there is none,
+-- `argument` where nothing is known of it, and `importAttributes` where there are none
 abbrev pub dynamic_entries : DynamicDependencyDescriptor → List Entry
 dynamic_entries d =
     (codes "type", Some (string (codes "dynamic")))
@@ -27,7 +27,10 @@ dynamic_entries d =
     ∷ (codes "typesSpecifier", option_map json_of_specifier d.types_specifier)
     ∷ (codes "argument", unless (is_expr d.argument) (json_of_argument d.argument))
     ∷ (codes "argumentRange", Some (json_of_range d.argument_range))
-    ∷ (codes "importAttributes", unless (is_none d.import_attributes) (json_of_attributes d.import_attributes))
+    ∷ (
+      codes "importAttributes",
+      unless (is_none d.import_attributes) (json_of_attributes d.import_attributes),
+    )
     ∷ []
 
 abbrev pub json_of_dynamic : DynamicDependencyDescriptor → Data

@@ -1,5 +1,5 @@
--- What dependencies of a program are: lines and characters are whole numbers from 0 to the largest `usize`, and the
--- keys of known attributes ascend, as a map's do.
+-- What dependencies of a program are: lines and characters are whole numbers from 0 to the largest
+-- `usize`, and the keys of known attributes ascend, as a map's do.
 use Rattle.std.specs.Prelude.{IfSome}
 use Rattle.deno_graph_values.specs.TextMap.{IsAscending}
 use Rattle.deno_graph_json.specs.Held.{IsHeldRange}

@@ -16,4 +16,5 @@ json_of_attribute (KnownValue value) = string value
 abbrev pub json_of_attributes : ImportAttributes → Data
 json_of_attributes None = string (codes "none")
 json_of_attributes Unknown = string (codes "unknown")
-json_of_attributes (Known entries) = object_of ((codes "known", Some (map_object_of json_of_attribute entries)) ∷ [])
+json_of_attributes (Known entries) =
+    object_of ((codes "known", Some (map_object_of json_of_attribute entries)) ∷ [])

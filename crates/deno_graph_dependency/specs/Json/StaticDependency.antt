@@ -31,7 +31,10 @@ static_entries d =
     ∷ (codes "specifier", Some (string d.specifier))
     ∷ (codes "specifierRange", Some (json_of_range d.specifier_range))
     ∷ (codes "sideEffect", if_true d.is_side_effect)
-    ∷ (codes "importAttributes", unless (is_none d.import_attributes) (json_of_attributes d.import_attributes))
+    ∷ (
+      codes "importAttributes",
+      unless (is_none d.import_attributes) (json_of_attributes d.import_attributes),
+    )
     ∷ []
 
 abbrev pub json_of_static : StaticDependencyDescriptor → Data

@@ -31,7 +31,8 @@ reads_static_kind d = do
   name ← as_str d
   static_kind_named name
 
--- the members but `type`, of which `typesSpecifier`, `sideEffect` and `importAttributes` may be missing
+-- the members but `type`, of which `typesSpecifier`, `sideEffect` and `importAttributes` may be
+-- missing
 unfoldable pub reads_static : Members → Option StaticDependencyDescriptor
 reads_static ms = do
   kind ← member_at reads_static_kind (codes "kind") ms
