@@ -6,7 +6,7 @@ use deno_graph_source::values::{Items, Text};
 use std::alloc::{AllocError, Global};
 
 /// Where everything stands, since the source is empty.
-pub const NOWHERE: SourceRange = SourceRange { start: 0, end: 0 };
+const NOWHERE: SourceRange = SourceRange { start: 0, end: 0 };
 
 /// A call of `import` with a string, under so many other nodes.
 pub fn nested(alloc: Global, count: usize) -> Result<Items<Node>, AllocError> {

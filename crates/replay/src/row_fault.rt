@@ -1,3 +1,4 @@
+use deno_graph_info::analysis::InfoFault;
 use deno_graph_source::tree::SourceFault;
 use modinfo::Fault;
 use modinfo::notation::NotationFault;
@@ -74,6 +75,15 @@ impl From<SourceFault> for RowFault {
         match fault {
             SourceFault::OutOfMemory => RowFault::OutOfMemory,
             _ => RowFault::Row("its document has a fault"),
+        }
+    }
+}
+
+impl From<InfoFault> for RowFault {
+    fn from(fault: InfoFault) -> RowFault {
+        match fault {
+            InfoFault::OutOfMemory => RowFault::OutOfMemory,
+            _ => RowFault::Row("an information of it can't be read"),
         }
     }
 }

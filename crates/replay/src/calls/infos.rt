@@ -35,9 +35,7 @@ pub fn reached(alloc: Global, words: &[&str], value: &Value) -> Result<String, R
     };
     let mut modules = BTreeMap::new(alloc);
     for (key, info) in members.iter() {
-        let info = ModuleInfo::from_value(alloc, info).map_err(|_| RowFault::Row(
-            "an information of it can't be read",
-        ))?;
+        let info = ModuleInfo::from_value(alloc, info)?;
         drop(modules.insert(key.clone()?, info)?);
     }
     let mut keys = Vec::new(alloc);

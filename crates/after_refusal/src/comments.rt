@@ -1,0 +1,114 @@
+//! Comments, filed by hand.
+
+use crate::fault::Fault;
+use crate::outcome::{Outcome, check};
+use deno_graph_source::text::SourceRange;
+use deno_graph_source::tree::{CommentKind, Comments, DependencyComment};
+use deno_graph_source::values::{Text, TryClone};
+use std::alloc::{AllocError, Global};
+
+#[derive(Clone, Copy)]
+enum Side {
+    Leading,
+    Trailing,
+}
+
+/// Where one comment after another is filed: at new positions before, behind and between the others,
+/// and again and again at one.
+const FILINGS: [(Side, usize); 16] = [
+    (Side::Leading, 8),
+    (Side::Leading, 8),
+    (Side::Trailing, 8),
+    (Side::Leading, 4),
+    (Side::Leading, 12),
+    (Side::Leading, 8),
+    (Side::Leading, 0),
+    (Side::Leading, 6),
+    (Side::Leading, 8),
+    (Side::Leading, 8),
+    (Side::Trailing, 2),
+    (Side::Leading, 16),
+    (Side::Leading, 8),
+    (Side::Trailing, 8),
+    (Side::Leading, 8),
+    (Side::Leading, 8),
+];
+
+/// Positions up to one behind the last of them.
+const POSITIONS: usize = 18;
+
+/// A refused filing leaves every look-up as it was, and is answered when it is tried again.
+pub fn file_all(alloc: Global) -> Result<Outcome, Fault> {
+    let mut comments = Comments::new(alloc);
+    let mut outcome = Outcome::Answered;
+    for (side, pos) in FILINGS {
+        let before = comments.try_clone(alloc)?;
+        let comment = comment(alloc, pos)?;
+        if file(&mut comments, side, pos, comment).is_err() {
+            outcome = Outcome::Refused;
+            check(comments == before, "a refused filing changed the comments")?;
+            check(
+                look_ups_agree(&comments, &before),
+                "a refused filing changed a look-up",
+            )?;
+            check(
+                count(alloc, &comments)? == count(alloc, &before)?,
+                "a comment more or less",
+            )?;
+            file(&mut comments, side, pos, self::comment(alloc, pos)?)?;
+        }
+        check(
+            is_filed(&comments, &before, side, pos),
+            "a comment isn't where it was filed",
+        )?;
+    }
+    check(
+        count(alloc, &comments)? == FILINGS.len(),
+        "a comment is missing",
+    )?;
+    Ok(outcome)
+}
+
+fn comment(alloc: Global, start: usize) -> Result<DependencyComment, AllocError> {
+    Ok(DependencyComment {
+        kind: CommentKind::Line,
+        range: SourceRange {
+            start,
+            end: start.saturating_add(3),
+        },
+        text: Text::from_str(alloc, "a")?,
+    })
+}
+
+fn file(
+    comments: &mut Comments,
+    side: Side,
+    pos: usize,
+    comment: DependencyComment,
+) -> Result<(), AllocError> {
+    match side {
+        Side::Leading => comments.add_leading(pos, comment),
+        Side::Trailing => comments.add_trailing(pos, comment),
+    }
+}
+
+fn count(alloc: Global, comments: &Comments) -> Result<usize, AllocError> {
+    Ok(comments.iter_unstable(alloc)?.len())
+}
+
+fn look_ups_agree(comments: &Comments, before: &Comments) -> bool {
+    (0..POSITIONS).all(|pos| {
+        comments.get_leading(pos) == before.get_leading(pos)
+            && comments.get_trailing(pos) == before.get_trailing(pos)
+    })
+}
+
+/// Whether there is one comment more than before where one was filed.
+fn is_filed(comments: &Comments, before: &Comments, side: Side, pos: usize) -> bool {
+    let (now, then) = match side {
+        Side::Leading => (comments.get_leading(pos), before.get_leading(pos)),
+        Side::Trailing => (comments.get_trailing(pos), before.get_trailing(pos)),
+    };
+    let (now, then) = (now.unwrap_or(&[]), then.unwrap_or(&[]));
+    now.len() > then.len() && now.starts_with(then)
+}

@@ -1,0 +1,137 @@
+//! Steps of a walk.
+
+use crate::fault::Fault;
+use crate::outcome::{Outcome, check};
+use deno_graph_analysis::dep::Walk;
+use deno_graph_source::text::{JsString, SourceRange};
+use deno_graph_source::tree::{Kind, Node, Program, StrLit};
+use deno_graph_source::values::Items;
+use std::alloc::{AllocError, Global};
+
+const NOWHERE: SourceRange = SourceRange { start: 0, end: 0 };
+
+/// So many nodes of the deep tree are no dependencies.
+const DEPTH: usize = 2000;
+
+/// Its nodes that are dependencies, and two steps past them.
+const STEPS: usize = 5;
+
+const WIDTH: usize = 500_000;
+
+/// What a step gives, and how many nodes are entered then.
+type Given<'a> = (Option<&'a Node>, u64);
+
+/// A refused step keeps the nodes still to come, although it passed others that are no dependencies:
+/// each step after it gives what it would have given.
+pub fn through_a_deep_tree(alloc: Global) -> Result<Outcome, Fault> {
+    let program = program(deep(alloc)?);
+    let expected = all_given(alloc, &program)?;
+    let mut walk = Walk::new(alloc, &program);
+    let mut outcome = Outcome::Answered;
+    let mut entered_before = 0;
+    check(
+        expected.iter().filter(|(node, _)| node.is_some()).count() == 3,
+        "a dependency is missing",
+    )?;
+    for (node, entered) in expected.iter() {
+        let given = match walk.step() {
+            Ok(given) => given,
+            Err(_) => {
+                outcome = Outcome::Refused;
+                let is_between = entered_before <= walk.entered() && walk.entered() <= *entered;
+                check(is_between, "a refused step entered what it doesn't give")?;
+                walk.step()?
+            }
+        };
+        check(given == *node, "a step gives another node")?;
+        check(
+            walk.entered() == *entered,
+            "another number of nodes is entered",
+        )?;
+        entered_before = *entered;
+    }
+    Ok(outcome)
+}
+
+/// The first step enters one node, however many there are.
+pub fn into_a_wide_tree(alloc: Global) -> Result<Outcome, Fault> {
+    let program = program(wide(alloc)?);
+    let first = program.body.first();
+    let mut walk = Walk::new(alloc, &program);
+    let (given, outcome) = match walk.step() {
+        Ok(given) => (given, Outcome::Answered),
+        Err(_) => (walk.step()?, Outcome::Refused),
+    };
+    check(
+        given.is_some() && given == first,
+        "the first step gives another node",
+    )?;
+    check(
+        walk.entered() == 1,
+        "the first step enters another number of nodes",
+    )?;
+    Ok(outcome)
+}
+
+fn all_given<'a>(alloc: Global, program: &'a Program) -> Result<Vec<Given<'a>>, AllocError> {
+    let mut walk = Walk::new(alloc, program);
+    let mut all = Vec::with_capacity(alloc, STEPS)?;
+    for _ in 0..STEPS {
+        let node = walk.step()?;
+        all.push((node, walk.entered()))?;
+    }
+    Ok(all)
+}
+
+fn program(body: Items<Node>) -> Program {
+    Program {
+        range: NOWHERE,
+        body,
+        has_shebang: false,
+    }
+}
+
+/// An import type inside another, under many nodes that are no dependencies; and a third beside these.
+fn deep(alloc: Global) -> Result<Items<Node>, AllocError> {
+    let inner = import_type(alloc, "b", Items::new(alloc))?;
+    let mut node = import_type(alloc, "a", one(alloc, inner)?)?;
+    for _ in 0..DEPTH {
+        node = Node {
+            range: NOWHERE,
+            kind: Kind::Other,
+            children: one(alloc, node)?,
+        };
+    }
+    let mut body = one(alloc, node)?;
+    body.push(import_type(alloc, "c", Items::new(alloc))?)?;
+    Ok(body)
+}
+
+/// Import types of an empty text.
+fn wide(alloc: Global) -> Result<Items<Node>, AllocError> {
+    let mut body = Items::with_capacity(alloc, WIDTH)?;
+    for _ in 0..WIDTH {
+        body.push(import_type(alloc, "", Items::new(alloc))?)?;
+    }
+    Ok(body)
+}
+
+fn import_type(alloc: Global, text: &str, children: Items<Node>) -> Result<Node, AllocError> {
+    Ok(Node {
+        range: NOWHERE,
+        kind: Kind::ImportType {
+            arg: StrLit {
+                value: JsString::from_str(alloc, text)?,
+                range: NOWHERE,
+            },
+            has_with: false,
+        },
+        children,
+    })
+}
+
+fn one(alloc: Global, node: Node) -> Result<Items<Node>, AllocError> {
+    let mut items = Items::with_capacity(alloc, 1)?;
+    items.push(node)?;
+    Ok(items)
+}

@@ -1,0 +1,89 @@
+//! What is found in a module, in a line.
+
+use deno_graph_info::analysis::{
+    DependencyDescriptor, DynamicArgument, DynamicTemplatePart, JsDocImportInfo, ModuleInfo,
+};
+use std::alloc::{AllocError, Global};
+
+/// What is known of each dependency and each JSDoc import, in turn.
+pub fn found(alloc: Global, info: &ModuleInfo) -> Result<String, AllocError> {
+    let mut runs = Runs::new(alloc);
+    for dependency in info.dependencies.iter() {
+        runs.push(known(alloc, dependency)?)?;
+    }
+    for import in info.jsdoc_imports.iter() {
+        runs.push(imported(alloc, import)?)?;
+    }
+    runs.line(alloc)
+}
+
+fn known(alloc: Global, dependency: &DependencyDescriptor) -> Result<String, AllocError> {
+    match dependency {
+        DependencyDescriptor::Static(found) => {
+            format!(in alloc; "{:?}", found.specifier.as_str())
+        }
+        DependencyDescriptor::Dynamic(found) => match &found.argument {
+            DynamicArgument::String(text) => format!(in alloc; "{:?}", text.as_str()),
+            DynamicArgument::Template(parts) => of_parts(alloc, parts.as_slice()),
+            DynamicArgument::Expr => String::from_str(alloc, "an expression"),
+        },
+    }
+}
+
+fn of_parts(alloc: Global, parts: &[DynamicTemplatePart]) -> Result<String, AllocError> {
+    let mut runs = Runs::new(alloc);
+    for part in parts {
+        runs.push(match part {
+            DynamicTemplatePart::String { value } => format!(in alloc; "{:?}", value.as_str())?,
+            DynamicTemplatePart::Expr => String::from_str(alloc, "an expression")?,
+        })?;
+    }
+    format!(in alloc; "[{}]", runs.line(alloc)?)
+}
+
+fn imported(alloc: Global, import: &JsDocImportInfo) -> Result<String, AllocError> {
+    let (start, end) = (import.specifier.range.start, import.specifier.range.end);
+    format!(in alloc;
+        "{:?} from {}:{} to {}:{}",
+        import.specifier.text.as_str(),
+        start.line,
+        start.character,
+        end.line,
+        end.character
+    )
+}
+
+/// Texts, equal ones in a row once with their number.
+#[derive(Drop)]
+struct Runs {
+    runs: Vec<(String, usize)>,
+}
+
+impl Runs {
+    fn new(alloc: Global) -> Runs {
+        Runs {
+            runs: Vec::new(alloc),
+        }
+    }
+
+    fn push(&mut self, text: String) -> Result<(), AllocError> {
+        if let Some((last, count)) = self.runs.last_mut() {
+            if *last == text {
+                *count = count.saturating_add(1);
+                return Ok(());
+            }
+        }
+        Ok(self.runs.push((text, 1))?)
+    }
+
+    fn line(&self, alloc: Global) -> Result<String, AllocError> {
+        let mut line = String::new(alloc);
+        for (text, count) in self.runs.iter() {
+            if !line.is_empty() {
+                line.push_str(", ")?;
+            }
+            line.push_str(format!(in alloc; "{count} x {text}")?.as_str())?;
+        }
+        Ok(line)
+    }
+}
