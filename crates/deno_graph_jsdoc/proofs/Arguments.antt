@@ -246,7 +246,7 @@ options_apart options paren =
     omega (arith, heads)
 
 module _ (behind : List ℕ) where
-  with_options : (middle : List ℕ) (mode : Mode) → Reads Anything IsOptions (skip_leading_whitespace behind) (Some (middle, mode))
+  pub with_options : (middle : List ℕ) (mode : Mode) → Reads Anything IsOptions (skip_leading_whitespace behind) (Some (middle, mode))
       → (o : Option (List ℕ × Unit {0})) → Reads Anything (λ (_ : Unit {0}). Paren) (skip_leading_whitespace middle) o → OnlyEnd behind mode o
   with_options middle mode found None none = λ other rest b. elim (tail_apart b) [
     | inl options ↦
@@ -266,7 +266,7 @@ module _ (behind : List ℕ) where
     ],
   )
 
-  without_options : Reads Anything IsOptions (skip_leading_whitespace behind) None
+  pub without_options : Reads Anything IsOptions (skip_leading_whitespace behind) None
       → (o : Option (List ℕ × Unit {0})) → Reads Anything (λ (_ : Unit {0}). Paren) (skip_leading_whitespace behind) o → OnlyEnd behind None o
   without_options no_options None none = λ other rest b. elim (tail_apart b) [
     | inl options ↦

@@ -148,7 +148,7 @@ module _ (items : List JsDocImport) (pairs : AllPairs Ascends (map import_of ite
       (λ d. ap (λ (i : Import). i.start) (get_or-map import_of items at import d inside) ∙ same import)
 
 -- lists that ascend and have the same elements are the same
-tail_pairs : (x : Import) (xs : List Import) → AllPairs Ascends (x ∷ xs) → AllPairs Ascends xs
+pub tail_pairs : (x : Import) (xs : List Import) → AllPairs Ascends (x ∷ xs) → AllPairs Ascends xs
 tail_pairs x xs pairs i j d order inside = pairs (suc i) (suc j) d (omega arith) (omega arith)
 
 head_below : (x : Import) (xs : List Import) → AllPairs Ascends (x ∷ xs) → (z : Import) → Contains xs z → x.start < z.start

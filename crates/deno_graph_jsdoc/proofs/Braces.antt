@@ -19,20 +19,21 @@ pub Lacks-back : (mark : ℕ) (xs ys : List ℕ) → Lacks mark (xs ++ ys) → L
 Lacks-back mark [] ys all = all
 Lacks-back mark (x ∷ xs) ys all = Lacks-back mark xs ys all.1
 
--- a text has a first brace, or none
-pub first_brace : (text : List ℕ) → Lacks 125 text ⊎ ((inside : List ℕ) × (behind : List ℕ) × Lacks 125 inside × (text ≡ inside ++ 125 ∷ behind))
-first_brace [] = inl tt
-first_brace (c ∷ cs) = by_first (c == 125) refl (first_brace cs)
+-- a text has a first of a mark, or none
+abbrev pub FirstMark : ℕ → List ℕ → Type 0
+FirstMark mark text = Lacks mark text ⊎ ((inside : List ℕ) × (behind : List ℕ) × Lacks mark inside × (text ≡ inside ++ mark ∷ behind))
+
+pub first_mark : (mark : ℕ) (text : List ℕ) → FirstMark mark text
+first_mark mark [] = inl tt
+first_mark mark (c ∷ cs) = by_first (c == mark) refl (first_mark mark cs)
   where
-    by_rest : c ≢ 125 → Lacks 125 cs ⊎ ((inside : List ℕ) × (behind : List ℕ) × Lacks 125 inside × (cs ≡ inside ++ 125 ∷ behind))
-        → Lacks 125 (c ∷ cs) ⊎ ((inside : List ℕ) × (behind : List ℕ) × Lacks 125 inside × (c ∷ cs ≡ inside ++ 125 ∷ behind))
+    by_rest : c ≢ mark → FirstMark mark cs → FirstMark mark (c ∷ cs)
     by_rest other (inl lacks) = inl (other, lacks)
     by_rest other (inr (inside, behind, lacks, whole)) = inr (c ∷ inside, behind, (other, lacks), ap (λ t. c ∷ t) whole)
 
-    by_first : (is : Bool) → (c == 125) ≡ is → Lacks 125 cs ⊎ ((inside : List ℕ) × (behind : List ℕ) × Lacks 125 inside × (cs ≡ inside ++ 125 ∷ behind))
-        → Lacks 125 (c ∷ cs) ⊎ ((inside : List ℕ) × (behind : List ℕ) × Lacks 125 inside × (c ∷ cs ≡ inside ++ 125 ∷ behind))
-    by_first true is rest = inr ([], cs, tt, ap (λ d. d ∷ cs) (eqb-true c 125 is))
-    by_first false is rest = by_rest (eqb-false c 125 is) rest
+    by_first : (is : Bool) → (c == mark) ≡ is → FirstMark mark cs → FirstMark mark (c ∷ cs)
+    by_first true is rest = inr ([], cs, tt, ap (λ d. d ∷ cs) (eqb-true c mark is))
+    by_first false is rest = by_rest (eqb-false c mark is) rest
 
 -- how much at the end of a text has none
 pub IsUnclosed-none : (text : List ℕ) → Lacks 125 text → IsUnclosed text (size text)
@@ -143,9 +144,9 @@ opening input clause inside gap brace = (
 -- whether one is left is told by how much of the text is left
 pub brace_left : (text : List ℕ) (count : ℕ) → IsUnclosed text count → count < size text
     → (behind : List ℕ) × Reads Anything (λ (_ : Unit {0}). Lacks 125 · Is (codes "}")) text (Some (behind, tt))
-brace_left text count unclosed more = by_brace (first_brace text)
+brace_left text count unclosed more = by_brace (first_mark 125 text)
   where
-    by_brace : Lacks 125 text ⊎ ((inside : List ℕ) × (behind : List ℕ) × Lacks 125 inside × (text ≡ inside ++ 125 ∷ behind))
+    by_brace : FirstMark 125 text
         → (behind : List ℕ) × Reads Anything (λ (_ : Unit {0}). Lacks 125 · Is (codes "}")) text (Some (behind, tt))
     by_brace (inl lacks) = absurd (omega (arith, more, (unclosed [] text refl).1 lacks))
     by_brace (inr (inside, behind, lacks, whole)) = (behind, brace_read text inside behind lacks whole)

@@ -15,5 +15,7 @@ pub mod Unique
 pub mod UniqueImports
 pub mod Sites
 pub mod Hits
+pub mod Existence
+pub mod Collected
 pub mod Ascending
 pub mod Passes

@@ -237,7 +237,7 @@ Found-start text = record {
 }
 
 -- the new list has the import that it gains, where all are hits
-gained : (text : List ℕ) (old new : List Import) (import : Import) → ((other : Import) → Contains old other → IsHit text other) → IsHit text import → GainsImport old import new
+pub gained : (text : List ℕ) (old new : List Import) (import : Import) → ((other : Import) → Contains old other → IsHit text other) → IsHit text import → GainsImport old import new
     → Contains new import
 gained text old new import sound hit gains =
     let there = gains.there in
@@ -247,7 +247,7 @@ gained text old new import sound hit gains =
     by_place other (inl has) = sound other has
     by_place other (inr is) = subst (IsHit text) is hit
 
-gained_sound : (text : List ℕ) (old new : List Import) (import : Import) → ((other : Import) → Contains old other → IsHit text other) → IsHit text import → GainsImport old import new
+pub gained_sound : (text : List ℕ) (old new : List Import) (import : Import) → ((other : Import) → Contains old other → IsHit text other) → IsHit text import → GainsImport old import new
     → (other : Import) → Contains new other → IsHit text other
 gained_sound text old new import sound hit gains other has = by_place (gains.only other has)
   where

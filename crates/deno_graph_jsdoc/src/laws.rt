@@ -15,3 +15,8 @@ pub fn one_list_of_imports()
     ensures { (text : List ℕ) (imports others : List Import)
         → AreHits text imports → AreHits text others → imports ≡ others }
 {}
+
+/// Every text has a list of all its imports.
+pub fn a_list_of_imports()
+    ensures { (text : List ℕ) → (imports : List Import) × AreHits text imports }
+{}

@@ -73,6 +73,18 @@ Gathered-start comments = record {
   complete = λ comment has. absurd (omega (arith, has.1));
 }
 
+pub Gathered-skip : (comments done : List DependencyComment) (comment : DependencyComment) (imports : List Import) → (IsJsDoc comment → ⊥) → Gathered comments done imports
+    → Gathered comments (done ++ comment ∷ []) imports
+Gathered-skip comments done comment imports none gathered = record {
+  ascending = gathered.ascending;
+  sound = gathered.sound;
+  complete = λ other has import is. by_place other (Contains-push_cases done comment other has) import is;
+}
+  where
+    by_place : (other : DependencyComment) → Contains done other ⊎ (comment ≡ other) → (import : Import) → IsImportOf other import → Contains imports import
+    by_place other (inl has) import is = gathered.complete other has import is
+    by_place other (inr same) import is = absurd (none (subst IsJsDoc (sym same) is.jsdoc))
+
 module _ (text : List ℕ) (comments : List DependencyComment) (spelled : All (IsSpelled text) comments) (apart : AreApart comments) where
   pub Gathered-more : (done : List DependencyComment) (comment : DependencyComment) (imports more : List Import) → Contains comments comment → IsJsDoc comment → IsUtf8 comment.text
       → Gathered comments done imports → GainsImports imports (IsMovedHit comment) more → Gathered comments (done ++ comment ∷ []) more
@@ -132,6 +144,23 @@ Gathered-quoted comments done imports gathered text spelled import has =
     quoted_at text from.0 (All-contains (IsSpelled text) comments from.0 spelled from.1) (from.3).jsdoc.0 from.2 import (from.3).hit
     (hit_placed (chars (from.0).text) (from.3).hit (from.3).is_hit) (from.3).place
 
+-- all hits of a text, moved
+module _ (by : ℕ) (hits : List Import) (text : List ℕ) (are : AreHits text hits) where
+  pub moved_is_hit : (import : Import) → Contains (map (moved by) hits) import → (hit : Import) × IsHit text hit × (import ≡ moved by hit)
+  moved_is_hit import (i, inside, is) =
+      let within : i < length hits = omega (arith, inside, length-map hits (moved by)) in
+      let hit = get_or hits i import in
+      (hit, (are.exact hit).0 (Contains-get_or hits i import within), sym is ∙ get_or-map (moved by) hits i import import within)
+
+  pub hit_is_moved : (import : Import) → (hit : Import) × IsHit text hit × (import ≡ moved by hit) → Contains (map (moved by) hits) import
+  hit_is_moved import (hit, is_hit, place) =
+      let has = (are.exact hit).1 is_hit in
+      let inside = has.1 in (
+        has.0,
+        omega (arith, inside, length-map hits (moved by)),
+        get_or-map (moved by) hits has.0 hit import inside ∙ ap (moved by) has.2 ∙ sym place,
+      )
+
 -- one import after another
 module _ (by : ℕ) (items : List JsDocImport) where
   abbrev pub placed : List JsDocImport → List Import
@@ -153,24 +182,9 @@ module _ (by : ℕ) (items : List JsDocImport) where
   pub insert_all : (k : ℕ) (old new : List Import) (text : List ℕ) → length items ≤ k → AreHits text (map import_of items) → GainsImports old (Contains (placed (take k items))) new
       → GainsImports old (λ import. (hit : Import) × IsHit text hit × (import ≡ moved by hit)) new
   insert_all k old new text done hits gains =
-      GainsImports-as old new (Contains (map (moved by) (map import_of items))) (λ import. (hit : Import) × IsHit text hit × (import ≡ moved by hit)) to from
+      GainsImports-as old new (Contains (map (moved by) (map import_of items))) (λ import. (hit : Import) × IsHit text hit × (import ≡ moved by hit))
+      (moved_is_hit by (map import_of items) text hits) (hit_is_moved by (map import_of items) text hits)
       (subst (λ xs. GainsImports old (Contains xs) new) (ap placed (take_all k items done) ∙ twice items) gains)
-    where
-      to : (import : Import) → Contains (map (moved by) (map import_of items)) import → (hit : Import) × IsHit text hit × (import ≡ moved by hit)
-      to import (i, inside, is) =
-          let within : i < length (map import_of items) = omega (arith, length-map (map import_of items) (moved by)) in
-          let hit = get_or (map import_of items) i import in
-          let there : Contains (map import_of items) hit = Contains-get_or (map import_of items) i import within in
-          (hit, (hits.exact hit).0 there, sym is ∙ get_or-map (moved by) (map import_of items) i import import within)
-
-      from : (import : Import) → (hit : Import) × IsHit text hit × (import ≡ moved by hit) → Contains (map (moved by) (map import_of items)) import
-      from import (hit, is_hit, place) =
-          let has = (hits.exact hit).1 is_hit in
-          let inside = has.1 in (
-            has.0,
-            omega (arith, inside, length-map (map import_of items) (moved by)),
-            get_or-map (moved by) (map import_of items) has.0 hit import inside ∙ ap (moved by) has.2 ∙ sym place,
-          )
 
   pub item_hit : (k : ℕ) (d : JsDocImport) (text : List ℕ) → k < length items → AreHits text (map import_of items) → IsHit text (import_of (get_or items k d))
   item_hit k d text inside hits =

@@ -25,10 +25,11 @@ pub fn imports_of<'a>(
     requires spelled { (text : List ℕ) × All (IsSpelled text)
         (map (λ comment. comment.now) comments.now) }
     requires apart { AreApart (map (λ comment. comment.now) comments.now) }
-    ensures all { IfOk result
-        (λ imports. AreImports (map (λ comment. comment.now) comments.now) (map import_of imports.items)) }
+    ensures all { IfOk result (λ imports. AreImports
+        (map (λ comment. comment.now) comments.now) (map import_of imports.items)) }
     ensures quoted { IfOk result
-        (λ imports. (text : List ℕ) → All (IsSpelled text) (map (λ comment. comment.now) comments.now)
+        (λ imports. (text : List ℕ)
+        → All (IsSpelled text) (map (λ comment. comment.now) comments.now)
         → All (IsQuotedAt text) (map import_of imports.items)) }
 {
     let mut imports = Vec::new(alloc);
@@ -40,8 +41,8 @@ pub fn imports_of<'a>(
     Ok(imports)
 }
 
-/// The JSDoc comments by ascending start, so that what is put into a list from one after another goes
-/// to the list's end.
+/// The JSDoc comments by ascending start, so that what is put into a list from one after another
+/// goes to the list's end.
 fn jsdoc_by_start<'a>(
     alloc: Global,
     comments: &[&'a DependencyComment],
@@ -71,8 +72,9 @@ fn add_imports<'a>(
     requires ascending { Ascend (map import_of imports.old.items) }
     requires fits { comment.now.range.start + 2 + length comment.now.text < 2 ^ 64 }
     ensures utf8 { OnOk result (IsUtf8 comment.now.text) }
-    ensures gains { OnOk result
-        (GainsImports (map import_of imports.old.items) (IsMovedHit comment.now) (map import_of imports.new.items)) }
+    ensures gains { OnOk result (GainsImports
+        (map import_of imports.old.items) (IsMovedHit comment.now)
+        (map import_of imports.new.items)) }
 {
     let found = scan(alloc, comment.text.as_str())?;
     for import in &found.imports {

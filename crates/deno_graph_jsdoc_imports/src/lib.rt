@@ -3,6 +3,7 @@
 
 mod imports;
 mod infos;
+pub mod laws;
 
 pub use imports::{imports_of, reads_jsdoc};
 pub use infos::jsdoc_imports;
