@@ -1,5 +1,5 @@
 -- What is said of a list of comments by its members is so in any order.
-use Rattle.std.proofs.Common.{List, Bool, true, false, Contains}
+use Rattle.std.proofs.Common.{List, Bool, true, false}
 use Rattle.std.specs.List.Sorted.{IsPermutation}
 use Rattle.std.proofs.lemmas.List.Sorted.{Contains-permutation, IsPermutation-sym}
 use Rattle.deno_graph_info.specs.declared.analysis.js_doc_import_info.JsDocImportInfo.{JsDocImportInfo}

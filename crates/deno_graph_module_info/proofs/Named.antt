@@ -81,14 +81,6 @@ deno_types_named source comment part true specifier no_ts_types captured_quoted 
       record { part = part; is_captured = captured.1; is_specifier = is },
     )
 
--- ---- a specifier by its parts
-
-pub specifier_of_part : (source : List ℕ) (comment : DependencyComment) (part : Part) (is_quoteless : Bool) (text : List ℕ) (start end : ℕ) (specifier : SpecifierWithRange)
-    → text ≡ part.text → start ≡ part.start → end ≡ part.end
-    → specifier ≡ specifier_in source comment (record { text = text; start = start; end = end }) is_quoteless → specifier ≡ specifier_in source comment part is_quoteless
-specifier_of_part source comment part is_quoteless text start end specifier same_text same_start same_end is =
-    is ∙ (λ i. specifier_in source comment (record { text = same_text i; start = same_start i; end = same_end i }) is_quoteless)
-
 -- ---- lists in parts
 
 pub All-front : {X : Type 0} (P : X → Type 0) (xs ys : List X) → All P (xs ++ ys) → All P xs

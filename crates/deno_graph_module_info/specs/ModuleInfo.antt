@@ -1,5 +1,5 @@
 -- What the analysis of one module says.
-use Rattle.std.specs.Prelude.{◌≡◌, ◌↔◌, ℕ, List, [], map, All, IfSome, IsTrue, Option}
+use Rattle.std.specs.Prelude.{◌≡◌, ◌↔◌, ℕ, List, map, All, IfSome, IsTrue, Option}
 use Rattle.std.specs.List.{AllZip}
 use Rattle.deno_graph_source.specs.Comments.{FiledComments, comments_of}
 use Rattle.deno_graph_source.specs.Source.{IsSpelled}

@@ -6,7 +6,7 @@ ghost use Rattle.deno_graph_module_info.specs.Pragma.{comments_for_jsx, comments
 ghost use Rattle.deno_graph_module_info.specs.Spelled.{CoversBare, CoversQuoted};
 ghost use Rattle.deno_graph_pragmas.specs.Match.{part_of};
 
-use crate::ast::specifier::specifier_with_range;
+use crate::ast::specifier::found_specifier;
 use deno_graph_info::analysis::SpecifierWithRange;
 use deno_graph_pragmas::finders::{
     Match, find_jsx_import_source, find_jsx_import_source_types, find_ts_self_types,
@@ -128,14 +128,9 @@ fn first_specifier(
 {
     for comment in comments {
         if let Some(found) = pragma.find(comment) {
-            return Ok(Some(specifier_with_range(
-                alloc,
-                text_info,
-                comment,
-                found.as_str(),
-                found.range(),
-                pragma.is_quoteless(),
-            )?));
+            let is_quoteless = pragma.is_quoteless();
+            let specifier = found_specifier(alloc, text_info, comment, found, is_quoteless)?;
+            return Ok(Some(specifier));
         }
     }
     Ok(None)

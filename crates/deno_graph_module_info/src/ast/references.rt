@@ -2,7 +2,7 @@ ghost use Rattle.std.specs.Prelude.{◌≡◌, ◌↔◌, All, IfOk, IfSome, IsT
 ghost use Rattle.deno_graph_source.specs.Source.{IsSpelled};
 ghost use Rattle.deno_graph_module_info.specs.References.{AreReferences, CoversReference, IsReferenceOf, IsTripleSlashReference, RefersTo, StatesMode};
 
-use crate::ast::specifier::specifier_with_range;
+use crate::ast::specifier::found_specifier;
 use deno_graph_info::analysis::{TypeScriptReference, TypeScriptTypesResolutionMode};
 use deno_graph_pragmas::finders::{
     find_path_reference, find_resolution_mode, find_types_reference,
@@ -70,15 +70,13 @@ fn referred(
 {
     let text = comment.text.as_str();
     if let Some(found) = find_path_reference(text) {
-        let (text, range) = (found.as_str(), found.range());
-        let specifier = specifier_with_range(alloc, text_info, comment, text, range, false)?;
+        let specifier = found_specifier(alloc, text_info, comment, found, false)?;
         return Ok(Some(TypeScriptReference::Path(specifier)));
     }
     match find_types_reference(text) {
         Some(found) => {
             let resolution_mode = resolution_mode(text);
-            let (text, range) = (found.as_str(), found.range());
-            let specifier = specifier_with_range(alloc, text_info, comment, text, range, false)?;
+            let specifier = found_specifier(alloc, text_info, comment, found, false)?;
             Ok(Some(TypeScriptReference::Types {
                 specifier,
                 resolution_mode,

@@ -3,7 +3,7 @@ ghost use Rattle.deno_graph_source.specs.Source.{IsSpelled};
 ghost use Rattle.deno_graph_module_info.specs.Pragma.{source_mapping_url, NamesLast};
 ghost use Rattle.deno_graph_module_info.specs.Spelled.{CoversBare};
 
-use crate::ast::specifier::specifier_with_range;
+use crate::ast::specifier::found_specifier;
 use deno_graph_info::analysis::SpecifierWithRange;
 use deno_graph_pragmas::finders::find_source_mapping_url;
 use deno_graph_source::text::SourceTextInfo;
@@ -24,8 +24,7 @@ pub(crate) fn analyze_source_map_url(
     let mut rest = trailing_comments;
     'search: while let Some((comment, front)) = rest.split_last() {
         if let Some(found) = find_source_mapping_url(comment.text.as_str()) {
-            let (text, range) = (found.as_str(), found.range());
-            let specifier = specifier_with_range(alloc, text_info, comment, text, range, true)?;
+            let specifier = found_specifier(alloc, text_info, comment, found, true)?;
             return Ok(Some(specifier));
         }
         rest = front;

@@ -4,9 +4,11 @@ ghost use Rattle.std.specs.Prelude.{◌≡◌, ◌≤◌, false, IfOk};
 ghost use Rattle.deno_graph_source.specs.Source.{IsSpelled};
 ghost use Rattle.deno_graph_text.specs.SourceRange.{IsTextRange};
 ghost use Rattle.deno_graph_module_info.specs.Pragma.{positions_of, range_in_source, specifier_in, Covers};
+ghost use Rattle.deno_graph_pragmas.specs.Match.{part_of};
 ghost use Rattle.deno_graph_pragmas.specs.Split.{IsSliceOf, StandsInQuotes};
 
 use deno_graph_info::analysis::SpecifierWithRange;
+use deno_graph_pragmas::finders::Match;
 use deno_graph_source::text::{PositionRange, SourceRange, SourceTextInfo};
 use deno_graph_source::tree::DependencyComment;
 use deno_graph_source::values::Text;
@@ -35,6 +37,25 @@ pub(crate) fn specifier_with_range(
         text: Text::from_str(alloc, text)?,
         range: comment_source_to_position_range(comment.range, range, text_info, is_quoteless),
     })
+}
+
+/// The specifier that a finder found in a comment's text.
+pub(crate) fn found_specifier(
+    alloc: Global,
+    text_info: &SourceTextInfo,
+    comment: &DependencyComment,
+    found: Match<'_>,
+    is_quoteless: bool,
+) -> Result<SpecifierWithRange, AllocError>
+    requires spelled { IsSpelled text_info.now comment.now }
+    requires slice { IsSliceOf comment.now.text (part_of found) }
+    requires quoted { is_quoteless ≡ false → StandsInQuotes comment.now.text (part_of found) }
+    ensures is { IfOk result (λ specifier.
+        specifier ≡ specifier_in text_info.now comment.now (part_of found.entry) is_quoteless) }
+    ensures covers { IfOk result (Covers text_info.now is_quoteless) }
+{
+    let (text, range) = (found.as_str(), found.range());
+    specifier_with_range(alloc, text_info, comment, text, range, is_quoteless)
 }
 
 /// Where a part of a comment's text stands in the source: `inner_range` counts in bytes from the

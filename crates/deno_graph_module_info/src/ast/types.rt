@@ -3,7 +3,7 @@ ghost use Rattle.deno_graph_source.specs.Source.{IsSpelled};
 ghost use Rattle.deno_graph_module_info.specs.Pragma.{dependency_types, NamesByFirst, NamesTypes};
 ghost use Rattle.deno_graph_module_info.specs.Spelled.{CoversAsWritten};
 
-use crate::ast::specifier::specifier_with_range;
+use crate::ast::specifier::{found_specifier, specifier_with_range};
 use deno_graph_info::analysis::SpecifierWithRange;
 use deno_graph_pragmas::finders::{find_deno_types, find_ts_types};
 use deno_graph_source::text::SourceTextInfo;
@@ -40,8 +40,7 @@ fn types_in(
 {
     let text = comment.text.as_str();
     if let Some(found) = find_ts_types(text) {
-        let (text, range) = (found.as_str(), found.range());
-        let specifier = specifier_with_range(alloc, text_info, comment, text, range, false)?;
+        let specifier = found_specifier(alloc, text_info, comment, found, false)?;
         return Ok(Some(specifier));
     }
     match find_deno_types(text) {

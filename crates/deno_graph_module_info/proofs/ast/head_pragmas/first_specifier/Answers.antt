@@ -3,7 +3,7 @@ use Rattle.std.proofs.lemmas.List.{take_all}
 use Rattle.std.proofs.lemmas.List.Elements.{All-more, All-same}
 use Rattle.deno_graph_pragmas.specs.Match.{part_of}
 use Rattle.deno_graph_module_info.specs.Pragma.{HasPragma, head_pragma, specifier_in}
-use Rattle.deno_graph_module_info.proofs.Named.{first_at, found_names, found_pragma, specifier_of_part}
+use Rattle.deno_graph_module_info.proofs.Named.{first_at, found_names, found_pragma}
 use Rattle.deno_graph_module_info.proofs.ast.head_pragmas.first_specifier.Goals as goal
 
 pub returns-in-Some-clause-is : goal.returns-in-Some-clause-is
@@ -12,10 +12,10 @@ returns-in-Some-clause-is c =
     let comment = c.comment-item.result in
     let part = part_of c.in-Some.found in
     let found = c.in-Some.ensures.found in
-    let specifier = specifier_of_part c.args.text_info.now comment part c.is_quoteless.result _ _ _ _ c.as_str.ensures c.range.ensures.start c.range.ensures.end c.in_ok-specifier_with_range.ensures.is in (
+    let specifier = c.in_ok-specifier.ensures.is in (
       comment,
       first_at (HasPragma pragma) c.args.comments.now c.loop-comment.comment-index comment c.loop-comment-test.true c.comment-item.is c.loop-comment.invariant (found_pragma pragma comment part found),
-      found_names c.args.text_info.now pragma comment part _ found (specifier ∙ ap (specifier_in c.args.text_info.now comment part) c.is_quoteless.ensures.quoteless),
+      found_names c.args.text_info.now pragma comment part _ found (specifier ∙ ap (specifier_in c.args.text_info.now comment part) c.is_quoteless-is_quoteless.ensures.quoteless),
     )
 
 pub loop-comment-preserved : goal.loop-comment-preserved

@@ -1,5 +1,5 @@
 -- The comments in the order in which they are given are those that are filed.
-use Rattle.std.proofs.Common.{All, map}
+use Rattle.std.proofs.Common.{map}
 use Rattle.std.specs.List.Sorted.{IsPermutation}
 use Rattle.std.proofs.lemmas.List.Sorted.{All-permutation, IsPermutation-sym}
 use Rattle.deno_graph_jsdoc_imports.specs.JsDocList.{reads_jsdoc}

@@ -1,9 +1,8 @@
-use Rattle.std.proofs.Common.{◌≡◌, subst, refl, false}
+use Rattle.std.proofs.Common.{◌≡◌, subst, refl}
 use Rattle.deno_graph_pragmas.specs.Finders as finder
 use Rattle.deno_graph_pragmas.specs.Match.{part_of}
 use Rattle.deno_graph_pragmas.specs.Split.{HasSplit, IsCaptured}
 use Rattle.deno_graph_module_info.specs.References.{StatesMode}
-use Rattle.deno_graph_module_info.proofs.Named.{specifier_of_part}
 use Rattle.deno_graph_module_info.proofs.ast.references.referred.Goals as goal
 
 pub returns-in_ok-specifier-in-Some-find_types_reference-clause-is :
@@ -16,7 +15,7 @@ returns-in_ok-specifier-in-Some-find_types_reference-clause-is c =
       record {
         part = part;
         is_captured = subst (λ t. IsCaptured finder.types_reference t part) text c.in-Some-find_types_reference.ensures.found;
-        is_specifier = specifier_of_part c.args.text_info.now c.args.comment.now part false _ _ _ _ c.as_str-text-in-Some-find_types_reference.ensures c.range-range-in-Some-find_types_reference.ensures.start c.range-range-in-Some-find_types_reference.ensures.end (c.in_ok-specifier-in-Some-find_types_reference).ensures.is;
+        is_specifier = (c.in_ok-specifier-in-Some-find_types_reference).ensures.is;
       },
       subst (λ t. StatesMode t c.resolution_mode-resolution_mode.result) text c.resolution_mode-resolution_mode.ensures,
     )

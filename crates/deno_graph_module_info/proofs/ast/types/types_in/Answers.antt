@@ -1,8 +1,8 @@
-use Rattle.std.proofs.Common.{◌≡◌, subst, refl, false}
+use Rattle.std.proofs.Common.{◌≡◌, subst, refl}
 use Rattle.deno_graph_pragmas.specs.Finders as finder
 use Rattle.deno_graph_pragmas.specs.Match.{part_of, pragma_part_of}
 use Rattle.deno_graph_pragmas.specs.Split.{HasSplit, IsCaptured}
-use Rattle.deno_graph_module_info.proofs.Named.{ts_types_named, deno_types_named, specifier_of_part}
+use Rattle.deno_graph_module_info.proofs.Named.{ts_types_named, deno_types_named}
 use Rattle.deno_graph_module_info.proofs.ast.types.types_in.Goals as goal
 
 pub returns-in-Some-clause-is : goal.returns-in-Some-clause-is
@@ -10,7 +10,7 @@ returns-in-Some-clause-is c =
     let part = part_of c.in-Some.found in
     ts_types_named c.args.text_info.now c.args.comment.now part _
     (subst (λ t. IsCaptured finder.ts_types t part) c.as_str-text.ensures c.in-Some.ensures.found)
-    (specifier_of_part c.args.text_info.now c.args.comment.now part false _ _ _ _ c.as_str-text-in-Some.ensures c.range-range.ensures.start c.range-range.ensures.end c.in_ok-specifier.ensures.is)
+    c.in_ok-specifier.ensures.is
 
 pub returns-in_ok-specifier_with_range-in-Some-find_deno_types-clause-is :
     goal.returns-in_ok-specifier_with_range-in-Some-find_deno_types-clause-is
