@@ -1,4 +1,4 @@
-use crate::sources::{analyze, analyze_as, parsed, parser, remove, source_with};
+use crate::sources::{analyze, analyze_as, parse, parsed, parser, remove, source_with};
 use deno_graph_analyzers::{Answer, CapturingModuleAnalyzer, run};
 use deno_graph_parser::{DefaultParsedSourceStore, ParsedSourceStore};
 use deno_graph_source::tree::MediaType;
@@ -59,6 +59,36 @@ fn runs_from_an_empty_store(rt: HostRuntime) -> Result<(), Fail> {
     let answers = run(alloc, &mut analyzer, &commands)?;
     assert_eq!(rt; letters(alloc, &answers)?.as_str(), "mmdmn");
     assert_eq!(rt; calls.get(), 6);
+    Ok(())
+}
+
+#[test]
+fn a_run_parses_with_scopes_or_without(rt: HostRuntime) -> Result<(), Fail> {
+    let alloc = rt.alloc();
+    let calls = Rc::new(alloc, Cell::new(0))?;
+    let u = "file:///u.js";
+    let mut analyzer = CapturingModuleAnalyzer::new(
+        parser(alloc, &calls)?,
+        DefaultParsedSourceStore::new(alloc),
+    );
+    let mut commands = Vec::new(alloc);
+    commands.push(parse(alloc, u, "a", false)?)?;
+    commands.push(parse(alloc, u, "x", true)?)?;
+    commands.push(parse(alloc, u, "a", false)?)?;
+    let answers = run(alloc, &mut analyzer, &commands)?;
+    assert_eq!(rt; calls.get(), 2);
+    let a = parsed(alloc, u, "a")?;
+    let marked = parsed(alloc, u, "a")?.into_with_scope_analysis();
+    if let [
+        Answer::Parsed(Ok(first)),
+        Answer::Parsed(Err(_)),
+        Answer::Parsed(Ok(last)),
+    ] = answers.as_slice()
+    {
+        assert!(rt; *first == a && *last == marked);
+    } else {
+        assert!(rt; false);
+    }
     Ok(())
 }
 

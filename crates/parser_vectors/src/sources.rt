@@ -92,6 +92,21 @@ pub fn analyze(alloc: Global, specifier: &str, text: &str) -> Result<Command, Fa
     analyze_as(alloc, specifier, text, MediaType::JavaScript)
 }
 
+/// The command to parse a text, and its scopes too where `scope_analysis` says so.
+pub fn parse(
+    alloc: Global,
+    specifier: &str,
+    text: &str,
+    scope_analysis: bool,
+) -> Result<Command, Fail> {
+    Ok(Command::Parse {
+        specifier: Url::parse(alloc, specifier)?,
+        source: RcStr::from_str(alloc, text)?,
+        media_type: MediaType::JavaScript,
+        scope_analysis,
+    })
+}
+
 pub fn remove(alloc: Global, specifier: &str) -> Result<Command, Fail> {
     Ok(Command::Remove {
         specifier: Url::parse(alloc, specifier)?,
