@@ -7,7 +7,9 @@ pub mod fault;
 mod input;
 pub mod notation;
 mod program;
+pub mod tape;
 
 pub use command::Command;
 pub use fault::Fault;
+pub use input::parse_document;
 pub use program::serve;

@@ -1,5 +1,5 @@
 //! The notation in which a module comes to the program: its specifier, source, syntax tree and
-//! comments, as one JSON value. docs/FORMATS.md describes it.
+//! comments, as one JSON text. docs/FORMATS.md describes it.
 
 pub mod call;
 pub mod comments;
@@ -11,6 +11,7 @@ pub mod kind;
 pub mod literal;
 pub mod media_type;
 pub mod member;
+pub mod named;
 pub mod node;
 pub mod property;
 

@@ -1,36 +1,34 @@
 use crate::notation::comments::read_comments;
 use crate::notation::fault::NotationFault;
 use crate::notation::media_type::read_media_type;
-use crate::notation::member::{members_of, required, text};
+use crate::notation::member::{required, text};
+use crate::notation::named::Named;
 use crate::notation::node::read_program;
+use crate::tape::Element;
 use deno_graph_source::tree::{Comments, MediaType, Program};
-use serde_json::Value;
+use deno_graph_source::values::Text;
 use std::alloc::Global;
+use std::rc::RcStr;
 
-/// A module as a parser hands it over. Its specifier and source are borrowed from the JSON value;
-/// whether the specifier is a URL, and whether the tree fits the source, hasn't been looked at.
+/// A module as a parser hands it over. Whether the specifier is a URL, and whether the tree fits the
+/// source, hasn't been looked at.
 #[derive(Debug, Drop)]
-pub struct Document<'a> {
-    pub specifier: &'a str,
+pub struct Document {
+    pub specifier: Text,
     pub media_type: MediaType,
-    pub source: &'a str,
+    pub source: RcStr,
     pub program: Program,
     pub comments: Comments,
 }
 
 /// Reads a document. `Tree` where the value isn't in the notation.
-pub fn read_document(alloc: Global, value: &Value) -> Result<Document<'_>, NotationFault> {
-    let members = members_of(value)?;
-    let specifier = text(members, "specifier")?;
-    let media_type = read_media_type(text(members, "mediaType")?)?;
-    let source = text(members, "source")?;
-    let comments = read_comments(alloc, members)?;
-    let program = read_program(alloc, required(members, "program")?)?;
+pub fn read_document(alloc: Global, document: Element<'_, '_>) -> Result<Document, NotationFault> {
+    let members = Named::of(document)?;
     Ok(Document {
-        specifier,
-        media_type,
-        source,
-        program,
-        comments,
+        specifier: Text::from_str(alloc, text(members.specifier)?)?,
+        media_type: read_media_type(text(members.media_type)?)?,
+        source: RcStr::from_str(alloc, text(members.source)?)?,
+        comments: read_comments(alloc, &members)?,
+        program: read_program(alloc, required(members.program)?)?,
     })
 }

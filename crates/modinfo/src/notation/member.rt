@@ -1,73 +1,59 @@
-//! The members of a JSON object, each read as what the notation asks for.
+//! The members of a JSON object, each read as what the notation asks for. A member that is missing
+//! comes as none.
 
 use crate::notation::fault::NotationFault;
+use crate::tape::{Element, Elements};
 use deno_graph_source::text::SourceRange;
-use serde_json::{Map, Value};
 
-/// The members of `value`, which has to be an object.
-pub fn members_of(value: &Value) -> Result<&Map<String, Value>, NotationFault> {
-    value.as_object().ok_or(NotationFault::Tree)
+/// A member that has to be there.
+pub fn required<'t, 'a>(member: Option<Element<'t, 'a>>) -> Result<Element<'t, 'a>, NotationFault> {
+    member.ok_or(NotationFault::Tree)
 }
 
-/// The elements of `value`, which has to be an array.
-pub fn elements_of(value: &Value) -> Result<&[Value], NotationFault> {
-    match value {
-        Value::Array(elements) => Ok(elements.as_slice()),
-        _ => Err(NotationFault::Tree),
+/// The elements of a member, which has to be an array.
+pub fn elements<'t, 'a>(
+    member: Option<Element<'t, 'a>>,
+) -> Result<Elements<'t, 'a>, NotationFault> {
+    required(member)?.elements().ok_or(NotationFault::Tree)
+}
+
+/// The elements of a member: none where it is missing.
+pub fn optional_elements<'t, 'a>(
+    member: Option<Element<'t, 'a>>,
+) -> Result<Elements<'t, 'a>, NotationFault> {
+    match member {
+        None => Ok(Elements::none()),
+        Some(_) => elements(member),
     }
 }
 
-/// The member `name`, which has to be there.
-pub fn required<'a>(
-    members: &'a Map<String, Value>,
-    name: &str,
-) -> Result<&'a Value, NotationFault> {
-    members.get(name).ok_or(NotationFault::Tree)
+/// The text of a member.
+pub fn text<'a>(member: Option<Element<'_, 'a>>) -> Result<&'a str, NotationFault> {
+    required(member)?.as_str().ok_or(NotationFault::Tree)
 }
 
-/// The member `name`, where it is there and isn't null.
-pub fn optional<'a>(members: &'a Map<String, Value>, name: &str) -> Option<&'a Value> {
-    members.get(name).filter(|value| !value.is_null())
-}
-
-/// The text of the member `name`.
-pub fn text<'a>(members: &'a Map<String, Value>, name: &str) -> Result<&'a str, NotationFault> {
-    required(members, name)?.as_str().ok_or(NotationFault::Tree)
-}
-
-/// The member `name` as a truth value: false where it is missing.
-pub fn flag(members: &Map<String, Value>, name: &str) -> Result<bool, NotationFault> {
-    match members.get(name) {
+/// A member as a truth value: false where it is missing.
+pub fn flag(member: Option<Element<'_, '_>>) -> Result<bool, NotationFault> {
+    match member {
         None => Ok(false),
         Some(value) => value.as_bool().ok_or(NotationFault::Tree),
     }
 }
 
-/// The elements of the member `name`: none where it is missing.
-pub fn array<'a>(
-    members: &'a Map<String, Value>,
-    name: &str,
-) -> Result<&'a [Value], NotationFault> {
-    match members.get(name) {
-        None => Ok(&[]),
-        Some(value) => elements_of(value),
-    }
-}
-
-/// The member `range`: two offsets in bytes.
-pub fn range(members: &Map<String, Value>) -> Result<SourceRange, NotationFault> {
-    match elements_of(required(members, "range")?)? {
-        [start, end] => Ok(SourceRange {
-            start: offset(start)?,
-            end: offset(end)?,
+/// A range: two offsets in bytes.
+pub fn range(member: Option<Element<'_, '_>>) -> Result<SourceRange, NotationFault> {
+    match required(member)?.as_pair() {
+        Some((start, end)) => Ok(SourceRange {
+            start: start as usize,
+            end: end as usize,
         }),
-        _ => Err(NotationFault::Tree),
+        None => Err(NotationFault::Tree),
     }
 }
 
 /// An offset in bytes.
-pub fn offset(value: &Value) -> Result<usize, NotationFault> {
-    match value.as_u64() {
+pub fn offset(member: Option<Element<'_, '_>>) -> Result<usize, NotationFault> {
+    match required(member)?.as_u64() {
         Some(offset) => Ok(offset as usize),
         None => Err(NotationFault::Tree),
     }

@@ -2,52 +2,45 @@
 
 use crate::notation::fault::NotationFault;
 use crate::notation::kind::read_kind;
-use crate::notation::member::{flag, members_of, range, required};
+use crate::notation::member::{flag, range, required};
+use crate::notation::named::Named;
+use crate::tape::Element;
 use deno_graph_source::tree::{Node, Program};
 use deno_graph_source::values::Items;
-use serde_json::Value;
 use std::alloc::Global;
 
 /// A program, `{"range":[START,END],"body":[NODE ..],"shebang":BOOL}`.
-pub fn read_program(alloc: Global, value: &Value) -> Result<Program, NotationFault> {
-    let members = members_of(value)?;
-    let range = range(members)?;
-    let has_shebang = flag(members, "shebang")?;
-    let body = read_nodes(alloc, required(members, "body")?)?;
+pub fn read_program(alloc: Global, program: Element<'_, '_>) -> Result<Program, NotationFault> {
+    let members = Named::of(program)?;
     Ok(Program {
-        range,
-        body,
-        has_shebang,
+        range: range(members.range)?,
+        has_shebang: flag(members.shebang)?,
+        body: read_nodes(alloc, required(members.body)?)?,
     })
 }
 
 #[cycle(read)]
-fn read_nodes(alloc: Global, value: &Value) -> Result<Items<Node>, NotationFault> {
-    let Value::Array(values) = value else {
+fn read_nodes(alloc: Global, nodes: Element<'_, '_>) -> Result<Items<Node>, NotationFault> {
+    let Some(mut elements) = nodes.elements() else {
         return Err(NotationFault::Tree);
     };
-    let mut nodes = Vec::with_capacity(alloc, values.len())?;
-    for value in values {
-        nodes.push(read_node(alloc, value)?)?;
+    let mut read = Vec::with_capacity(alloc, elements.count())?;
+    while let Some(element) = elements.next() {
+        read.push(read_node(alloc, element)?)?;
     }
-    Ok(Items::from_vec(nodes))
+    Ok(Items::from_vec(read))
 }
 
 /// A node, with all nodes below it.
 #[cycle(read)]
-pub fn read_node(alloc: Global, value: &Value) -> Result<Node, NotationFault> {
-    let Value::Object(members) = value else {
-        return Err(NotationFault::Tree);
-    };
-    let range = range(members)?;
-    let kind = read_kind(alloc, members)?;
-    let children = match members.get("children") {
-        None => Items::new(alloc),
-        Some(children) => read_nodes(alloc, children)?,
-    };
+pub fn read_node(alloc: Global, node: Element<'_, '_>) -> Result<Node, NotationFault> {
+    let members = Named::of(node)?;
     Ok(Node {
-        range,
-        kind,
-        children,
+        range: range(members.range)?,
+        kind: read_kind(alloc, &members)?,
+        children: match members.children {
+            None => Items::new(alloc),
+            Some(children) => read_nodes(alloc, children)?,
+        },
     })
 }
