@@ -2,9 +2,9 @@
 
 use crate::fault::Fault;
 use crate::notation::{Document, read_document};
-use crate::tape::Tape;
 use deno_graph_source::tree::ParsedSource;
 use json::Scratch;
+use modinfo_tape::Tape;
 use serde_json::Value;
 use simdutf8::basic;
 use std::alloc::Global;

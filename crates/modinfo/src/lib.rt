@@ -7,7 +7,6 @@ pub mod fault;
 mod input;
 pub mod notation;
 mod program;
-pub mod tape;
 
 pub use command::Command;
 pub use fault::Fault;

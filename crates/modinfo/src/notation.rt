@@ -11,7 +11,6 @@ pub mod kind;
 pub mod literal;
 pub mod media_type;
 pub mod member;
-pub mod named;
 pub mod node;
 pub mod property;
 

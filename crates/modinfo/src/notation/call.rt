@@ -1,17 +1,16 @@
 //! Calls.
 
 use crate::notation::fault::NotationFault;
-use crate::notation::member::{elements, flag, range, text};
-use crate::notation::named::Named;
-use crate::tape::Element;
+use crate::notation::member::{elements_of, flag, members_of, range, required, text};
 use deno_graph_source::tree::{Arg, Callee, ImportPhase, Kind};
 use deno_graph_source::values::Items;
+use modinfo_tape::{Element, Members};
 use std::alloc::Global;
 
 /// A call.
-pub fn read_call(alloc: Global, members: &Named<'_, '_>) -> Result<Kind, NotationFault> {
-    let callee = read_callee(text(members.callee)?)?;
-    let args = read_args(alloc, members.args)?;
+pub fn read_call(alloc: Global, members: Members<'_, '_>) -> Result<Kind, NotationFault> {
+    let callee = read_callee(text(members, "callee")?)?;
+    let args = read_args(alloc, required(members, "args")?)?;
     Ok(Kind::Call { callee, args })
 }
 
@@ -28,19 +27,18 @@ fn read_callee(name: &str) -> Result<Callee, NotationFault> {
 }
 
 /// Arguments, `[{"range":[START,END],"spread":BOOL} ..]`.
-fn read_args(alloc: Global, member: Option<Element<'_, '_>>) -> Result<Items<Arg>, NotationFault> {
-    let mut elements = elements(member)?;
-    let mut args = Items::with_capacity(alloc, elements.count())?;
-    while let Some(element) = elements.next() {
-        args.push(read_arg(element)?)?;
+fn read_args(alloc: Global, value: Element<'_, '_>) -> Result<Items<Arg>, NotationFault> {
+    let mut values = elements_of(value)?;
+    let mut args = Items::with_capacity(alloc, values.count())?;
+    while let Some(value) = values.next() {
+        args.push(read_arg(value)?)?;
     }
     Ok(args)
 }
 
-fn read_arg(argument: Element<'_, '_>) -> Result<Arg, NotationFault> {
-    let members = Named::of(argument)?;
-    Ok(Arg {
-        spread: flag(members.spread)?,
-        range: range(members.range)?,
-    })
+fn read_arg(value: Element<'_, '_>) -> Result<Arg, NotationFault> {
+    let members = members_of(value)?;
+    let range = range(members)?;
+    let spread = flag(members, "spread")?;
+    Ok(Arg { spread, range })
 }

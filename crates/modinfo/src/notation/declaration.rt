@@ -2,27 +2,32 @@
 
 use crate::notation::fault::NotationFault;
 use crate::notation::literal::{optional_literal, read_literal};
-use crate::notation::member::{flag, text};
-use crate::notation::named::Named;
+use crate::notation::member::{flag, required, text};
 use deno_graph_source::tree::{ImportPhase, Kind};
+use modinfo_tape::Members;
 use std::alloc::Global;
 
 /// An import declaration.
-pub fn read_import_decl(alloc: Global, members: &Named<'_, '_>) -> Result<Kind, NotationFault> {
+pub fn read_import_decl(alloc: Global, members: Members<'_, '_>) -> Result<Kind, NotationFault> {
+    let type_only = flag(members, "typeOnly")?;
+    let phase = import_phase(members)?;
+    let has_specifiers = flag(members, "hasSpecifiers")?;
+    let has_with = flag(members, "hasWith")?;
+    let src = read_literal(alloc, required(members, "src")?)?;
     Ok(Kind::ImportDecl {
-        type_only: flag(members.type_only)?,
-        phase: import_phase(members)?,
-        has_specifiers: flag(members.has_specifiers)?,
-        has_with: flag(members.has_with)?,
-        src: read_literal(alloc, members.src)?,
+        type_only,
+        phase,
+        src,
+        has_specifiers,
+        has_with,
     })
 }
 
-fn import_phase(members: &Named<'_, '_>) -> Result<ImportPhase, NotationFault> {
-    if members.phase.is_none() {
+fn import_phase(members: Members<'_, '_>) -> Result<ImportPhase, NotationFault> {
+    if members.get("phase").is_none() {
         return Ok(ImportPhase::Evaluation);
     }
-    match text(members.phase)? {
+    match text(members, "phase")? {
         "evaluation" => Ok(ImportPhase::Evaluation),
         "source" => Ok(ImportPhase::Source),
         "defer" => Ok(ImportPhase::Defer),
@@ -31,43 +36,50 @@ fn import_phase(members: &Named<'_, '_>) -> Result<ImportPhase, NotationFault> {
 }
 
 /// An export of names, with or without a source.
-pub fn read_named_export(alloc: Global, members: &Named<'_, '_>) -> Result<Kind, NotationFault> {
+pub fn read_named_export(alloc: Global, members: Members<'_, '_>) -> Result<Kind, NotationFault> {
+    let type_only = flag(members, "typeOnly")?;
+    let has_with = flag(members, "hasWith")?;
+    let src = optional_literal(alloc, members, "src")?;
     Ok(Kind::NamedExport {
-        type_only: flag(members.type_only)?,
-        has_with: flag(members.has_with)?,
-        src: optional_literal(alloc, members.src)?,
+        type_only,
+        src,
+        has_with,
     })
 }
 
 /// An export of all names of another module.
-pub fn read_export_all(alloc: Global, members: &Named<'_, '_>) -> Result<Kind, NotationFault> {
+pub fn read_export_all(alloc: Global, members: Members<'_, '_>) -> Result<Kind, NotationFault> {
+    let type_only = flag(members, "typeOnly")?;
+    let has_with = flag(members, "hasWith")?;
+    let src = read_literal(alloc, required(members, "src")?)?;
     Ok(Kind::ExportAll {
-        type_only: flag(members.type_only)?,
-        has_with: flag(members.has_with)?,
-        src: read_literal(alloc, members.src)?,
+        type_only,
+        src,
+        has_with,
     })
 }
 
 /// An import-equals declaration.
-pub fn read_import_equals(alloc: Global, members: &Named<'_, '_>) -> Result<Kind, NotationFault> {
+pub fn read_import_equals(alloc: Global, members: Members<'_, '_>) -> Result<Kind, NotationFault> {
+    let type_only = flag(members, "typeOnly")?;
+    let is_export = flag(members, "isExport")?;
+    let external = optional_literal(alloc, members, "external")?;
     Ok(Kind::ImportEquals {
-        type_only: flag(members.type_only)?,
-        is_export: flag(members.is_export)?,
-        external: optional_literal(alloc, members.external)?,
+        type_only,
+        is_export,
+        external,
     })
 }
 
 /// An import type.
-pub fn read_import_type(alloc: Global, members: &Named<'_, '_>) -> Result<Kind, NotationFault> {
-    Ok(Kind::ImportType {
-        has_with: flag(members.has_with)?,
-        arg: read_literal(alloc, members.arg)?,
-    })
+pub fn read_import_type(alloc: Global, members: Members<'_, '_>) -> Result<Kind, NotationFault> {
+    let has_with = flag(members, "hasWith")?;
+    let arg = read_literal(alloc, required(members, "arg")?)?;
+    Ok(Kind::ImportType { arg, has_with })
 }
 
 /// A module or namespace, with or without a name that is a string.
-pub fn read_module_decl(alloc: Global, members: &Named<'_, '_>) -> Result<Kind, NotationFault> {
-    Ok(Kind::ModuleDecl {
-        name: optional_literal(alloc, members.name)?,
-    })
+pub fn read_module_decl(alloc: Global, members: Members<'_, '_>) -> Result<Kind, NotationFault> {
+    let name = optional_literal(alloc, members, "name")?;
+    Ok(Kind::ModuleDecl { name })
 }

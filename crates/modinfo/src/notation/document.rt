@@ -1,12 +1,11 @@
 use crate::notation::comments::read_comments;
 use crate::notation::fault::NotationFault;
 use crate::notation::media_type::read_media_type;
-use crate::notation::member::{required, text};
-use crate::notation::named::Named;
+use crate::notation::member::{members_of, required, text};
 use crate::notation::node::read_program;
-use crate::tape::Element;
 use deno_graph_source::tree::{Comments, MediaType, Program};
 use deno_graph_source::values::Text;
+use modinfo_tape::Element;
 use std::alloc::Global;
 use std::rc::RcStr;
 
@@ -22,13 +21,18 @@ pub struct Document {
 }
 
 /// Reads a document. `Tree` where the value isn't in the notation.
-pub fn read_document(alloc: Global, document: Element<'_, '_>) -> Result<Document, NotationFault> {
-    let members = Named::of(document)?;
+pub fn read_document(alloc: Global, value: Element<'_, '_>) -> Result<Document, NotationFault> {
+    let members = members_of(value)?;
+    let specifier = Text::from_str(alloc, text(members, "specifier")?)?;
+    let media_type = read_media_type(text(members, "mediaType")?)?;
+    let source = RcStr::from_str(alloc, text(members, "source")?)?;
+    let comments = read_comments(alloc, members)?;
+    let program = read_program(alloc, required(members, "program")?)?;
     Ok(Document {
-        specifier: Text::from_str(alloc, text(members.specifier)?)?,
-        media_type: read_media_type(text(members.media_type)?)?,
-        source: RcStr::from_str(alloc, text(members.source)?)?,
-        comments: read_comments(alloc, &members)?,
-        program: read_program(alloc, required(members.program)?)?,
+        specifier,
+        media_type,
+        source,
+        program,
+        comments,
     })
 }

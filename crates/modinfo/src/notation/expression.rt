@@ -3,24 +3,25 @@
 use crate::notation::fault::NotationFault;
 use crate::notation::literal::{read_string, read_strings};
 use crate::notation::member::{required, text};
-use crate::notation::named::Named;
 use deno_graph_source::tree::{BinaryOp, Kind};
 use deno_graph_source::values::Text;
+use modinfo_tape::Members;
 use std::alloc::Global;
 
 /// A string literal.
-pub fn read_str(alloc: Global, members: &Named<'_, '_>) -> Result<Kind, NotationFault> {
-    Ok(Kind::Str(read_string(alloc, required(members.value)?)?))
+pub fn read_str(alloc: Global, members: Members<'_, '_>) -> Result<Kind, NotationFault> {
+    Ok(Kind::Str(read_string(alloc, required(members, "value")?)?))
 }
 
 /// A template without a tag, by its quasis.
-pub fn read_template(alloc: Global, members: &Named<'_, '_>) -> Result<Kind, NotationFault> {
-    Ok(Kind::Template(read_strings(alloc, members.quasis)?))
+pub fn read_template(alloc: Global, members: Members<'_, '_>) -> Result<Kind, NotationFault> {
+    let quasis = read_strings(alloc, required(members, "quasis")?)?;
+    Ok(Kind::Template(quasis))
 }
 
 /// A binary expression.
-pub fn read_binary(members: &Named<'_, '_>) -> Result<Kind, NotationFault> {
-    match text(members.op)? {
+pub fn read_binary(members: Members<'_, '_>) -> Result<Kind, NotationFault> {
+    match text(members, "op")? {
         "add" => Ok(Kind::Binary(BinaryOp::Add)),
         "other" => Ok(Kind::Binary(BinaryOp::Other)),
         _ => Err(NotationFault::Tree),
@@ -28,6 +29,7 @@ pub fn read_binary(members: &Named<'_, '_>) -> Result<Kind, NotationFault> {
 }
 
 /// An identifier.
-pub fn read_ident(alloc: Global, members: &Named<'_, '_>) -> Result<Kind, NotationFault> {
-    Ok(Kind::Ident(Text::from_str(alloc, text(members.value)?)?))
+pub fn read_ident(alloc: Global, members: Members<'_, '_>) -> Result<Kind, NotationFault> {
+    let name = Text::from_str(alloc, text(members, "value")?)?;
+    Ok(Kind::Ident(name))
 }

@@ -10,14 +10,14 @@ use crate::notation::declaration::{
 use crate::notation::expression::{read_binary, read_ident, read_str, read_template};
 use crate::notation::fault::NotationFault;
 use crate::notation::member::text;
-use crate::notation::named::Named;
 use crate::notation::property::read_key_value;
 use deno_graph_source::tree::Kind;
+use modinfo_tape::Members;
 use std::alloc::Global;
 
 /// The kind that the member `kind` names, with what stands beside it.
-pub fn read_kind(alloc: Global, members: &Named<'_, '_>) -> Result<Kind, NotationFault> {
-    match text(members.kind)? {
+pub fn read_kind(alloc: Global, members: Members<'_, '_>) -> Result<Kind, NotationFault> {
+    match text(members, "kind")? {
         "ImportDecl" => read_import_decl(alloc, members),
         "NamedExport" => read_named_export(alloc, members),
         "ExportAll" => read_export_all(alloc, members),

@@ -1,63 +1,56 @@
 use crate::notation::fault::NotationFault;
-use crate::notation::member::{elements, range, required};
-use crate::notation::named::Named;
-use crate::tape::{Element, Elements};
+use crate::notation::member::{elements_of, members_of, optional, range, required};
 use deno_graph_source::text::JsString;
 use deno_graph_source::tree::StrLit;
 use deno_graph_source::values::Items;
+use modinfo_tape::{Element, Elements, Members};
 use std::alloc::Global;
 
-/// The string literal that a member is, or none where that is missing or null.
+/// The string literal at the member `name`, or none where that is missing or null.
 pub fn optional_literal(
     alloc: Global,
-    member: Option<Element<'_, '_>>,
+    members: Members<'_, '_>,
+    name: &str,
 ) -> Result<Option<StrLit>, NotationFault> {
-    match member {
-        Some(value) if !value.is_null() => Ok(Some(read_literal(alloc, member)?)),
-        _ => Ok(None),
+    match optional(members, name) {
+        None => Ok(None),
+        Some(value) => Ok(Some(read_literal(alloc, value)?)),
     }
 }
 
 /// A string literal, `{"value":STRING,"range":[START,END]}`.
-pub fn read_literal(
-    alloc: Global,
-    member: Option<Element<'_, '_>>,
-) -> Result<StrLit, NotationFault> {
-    let members = Named::of(required(member)?)?;
-    Ok(StrLit {
-        range: range(members.range)?,
-        value: read_string(alloc, required(members.value)?)?,
-    })
+pub fn read_literal(alloc: Global, value: Element<'_, '_>) -> Result<StrLit, NotationFault> {
+    let members = members_of(value)?;
+    let range = range(members)?;
+    let value = read_string(alloc, required(members, "value")?)?;
+    Ok(StrLit { value, range })
 }
 
-/// The strings of a member, which has to be an array of them.
+/// An array of strings.
 pub fn read_strings(
     alloc: Global,
-    member: Option<Element<'_, '_>>,
+    value: Element<'_, '_>,
 ) -> Result<Items<JsString>, NotationFault> {
-    let mut elements = elements(member)?;
-    let mut strings = Items::with_capacity(alloc, elements.count())?;
-    while let Some(element) = elements.next() {
-        strings.push(read_string(alloc, element)?)?;
+    let mut values = elements_of(value)?;
+    let mut strings = Items::with_capacity(alloc, values.count())?;
+    while let Some(value) = values.next() {
+        strings.push(read_string(alloc, value)?)?;
     }
     Ok(strings)
 }
 
 /// A string of the source: a text, or an array of units of UTF-16.
 pub fn read_string(alloc: Global, value: Element<'_, '_>) -> Result<JsString, NotationFault> {
-    if let Some(text) = value.as_str() {
-        return Ok(JsString::from_str(alloc, text)?);
-    }
-    match value.elements() {
-        Some(units) => read_units(alloc, units),
-        None => Err(NotationFault::Tree),
+    match value.as_str() {
+        Some(text) => Ok(JsString::from_str(alloc, text)?),
+        None => read_units(alloc, elements_of(value)?),
     }
 }
 
-fn read_units(alloc: Global, mut elements: Elements<'_, '_>) -> Result<JsString, NotationFault> {
-    let mut units = Vec::with_capacity(alloc, elements.count())?;
-    while let Some(element) = elements.next() {
-        units.push(read_unit(element)?)?;
+fn read_units(alloc: Global, mut values: Elements<'_, '_>) -> Result<JsString, NotationFault> {
+    let mut units = Vec::with_capacity(alloc, values.count())?;
+    while let Some(value) = values.next() {
+        units.push(read_unit(value)?)?;
     }
     Ok(JsString::from_units(alloc, units.as_slice())?)
 }

@@ -1,48 +1,66 @@
-//! The members of a JSON object, each read as what the notation asks for. A member that is missing
-//! comes as none.
+//! The members of a JSON object, each read as what the notation asks for.
+
+ghost use Rattle.std.specs.Prelude.{◌<◌, ◌≤◌, IfOk};
+ghost use Rattle.modinfo_tape.specs.Tape.{nodes_of, left_of, nodes_of_members};
 
 use crate::notation::fault::NotationFault;
-use crate::tape::{Element, Elements};
 use deno_graph_source::text::SourceRange;
+use modinfo_tape::{Element, Elements, Members};
 
-/// A member that has to be there.
-pub fn required<'t, 'a>(member: Option<Element<'t, 'a>>) -> Result<Element<'t, 'a>, NotationFault> {
-    member.ok_or(NotationFault::Tree)
+/// The members of `value`, which has to be an object.
+pub fn members_of<'t, 'a>(value: Element<'t, 'a>) -> Result<Members<'t, 'a>, NotationFault>
+    ensures { IfOk result (λ members. nodes_of_members members ≤ nodes_of value.entry) }
+{
+    value.members().ok_or(NotationFault::Tree)
 }
 
-/// The elements of a member, which has to be an array.
-pub fn elements<'t, 'a>(
-    member: Option<Element<'t, 'a>>,
-) -> Result<Elements<'t, 'a>, NotationFault> {
-    required(member)?.elements().ok_or(NotationFault::Tree)
+/// The elements of `value`, which has to be an array.
+pub fn elements_of<'t, 'a>(value: Element<'t, 'a>) -> Result<Elements<'t, 'a>, NotationFault>
+    ensures { IfOk result (λ elements. left_of elements < nodes_of value.entry) }
+{
+    value.elements().ok_or(NotationFault::Tree)
 }
 
-/// The elements of a member: none where it is missing.
-pub fn optional_elements<'t, 'a>(
-    member: Option<Element<'t, 'a>>,
-) -> Result<Elements<'t, 'a>, NotationFault> {
-    match member {
-        None => Ok(Elements::none()),
-        Some(_) => elements(member),
-    }
+/// The member `name`, which has to be there.
+pub fn required<'t, 'a>(
+    members: Members<'t, 'a>,
+    name: &str,
+) -> Result<Element<'t, 'a>, NotationFault> {
+    members.get(name).ok_or(NotationFault::Tree)
 }
 
-/// The text of a member.
-pub fn text<'a>(member: Option<Element<'_, 'a>>) -> Result<&'a str, NotationFault> {
-    required(member)?.as_str().ok_or(NotationFault::Tree)
+/// The member `name`, where it is there and isn't null.
+pub fn optional<'t, 'a>(members: Members<'t, 'a>, name: &str) -> Option<Element<'t, 'a>> {
+    members.get(name).filter(|value| !value.is_null())
 }
 
-/// A member as a truth value: false where it is missing.
-pub fn flag(member: Option<Element<'_, '_>>) -> Result<bool, NotationFault> {
-    match member {
+/// The text of the member `name`.
+pub fn text<'a>(members: Members<'_, 'a>, name: &str) -> Result<&'a str, NotationFault> {
+    required(members, name)?.as_str().ok_or(NotationFault::Tree)
+}
+
+/// The member `name` as a truth value: false where it is missing.
+pub fn flag(members: Members<'_, '_>, name: &str) -> Result<bool, NotationFault> {
+    match members.get(name) {
         None => Ok(false),
         Some(value) => value.as_bool().ok_or(NotationFault::Tree),
     }
 }
 
-/// A range: two offsets in bytes.
-pub fn range(member: Option<Element<'_, '_>>) -> Result<SourceRange, NotationFault> {
-    match required(member)?.as_pair() {
+/// The elements of the member `name`: none where it is missing.
+pub fn array<'t, 'a>(
+    members: Members<'t, 'a>,
+    name: &str,
+) -> Result<Elements<'t, 'a>, NotationFault> {
+    match members.get(name) {
+        None => Ok(Elements::none()),
+        Some(value) => elements_of(value),
+    }
+}
+
+/// The member `range`: two offsets in bytes.
+pub fn range(members: Members<'_, '_>) -> Result<SourceRange, NotationFault> {
+    match required(members, "range")?.as_pair() {
         Some((start, end)) => Ok(SourceRange {
             start: start as usize,
             end: end as usize,
@@ -52,8 +70,8 @@ pub fn range(member: Option<Element<'_, '_>>) -> Result<SourceRange, NotationFau
 }
 
 /// An offset in bytes.
-pub fn offset(member: Option<Element<'_, '_>>) -> Result<usize, NotationFault> {
-    match required(member)?.as_u64() {
+pub fn offset(value: Element<'_, '_>) -> Result<usize, NotationFault> {
+    match value.as_u64() {
         Some(offset) => Ok(offset as usize),
         None => Err(NotationFault::Tree),
     }

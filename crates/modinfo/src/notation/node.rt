@@ -2,45 +2,48 @@
 
 use crate::notation::fault::NotationFault;
 use crate::notation::kind::read_kind;
-use crate::notation::member::{flag, range, required};
-use crate::notation::named::Named;
-use crate::tape::Element;
+use crate::notation::member::{elements_of, flag, members_of, range, required};
 use deno_graph_source::tree::{Node, Program};
 use deno_graph_source::values::Items;
+use modinfo_tape::Element;
 use std::alloc::Global;
 
 /// A program, `{"range":[START,END],"body":[NODE ..],"shebang":BOOL}`.
-pub fn read_program(alloc: Global, program: Element<'_, '_>) -> Result<Program, NotationFault> {
-    let members = Named::of(program)?;
+pub fn read_program(alloc: Global, value: Element<'_, '_>) -> Result<Program, NotationFault> {
+    let members = members_of(value)?;
+    let range = range(members)?;
+    let has_shebang = flag(members, "shebang")?;
+    let body = read_nodes(alloc, required(members, "body")?)?;
     Ok(Program {
-        range: range(members.range)?,
-        has_shebang: flag(members.shebang)?,
-        body: read_nodes(alloc, required(members.body)?)?,
+        range,
+        body,
+        has_shebang,
     })
 }
 
 #[cycle(read)]
-fn read_nodes(alloc: Global, nodes: Element<'_, '_>) -> Result<Items<Node>, NotationFault> {
-    let Some(mut elements) = nodes.elements() else {
-        return Err(NotationFault::Tree);
-    };
-    let mut read = Vec::with_capacity(alloc, elements.count())?;
-    while let Some(element) = elements.next() {
-        read.push(read_node(alloc, element)?)?;
+fn read_nodes(alloc: Global, value: Element<'_, '_>) -> Result<Items<Node>, NotationFault> {
+    let mut values = elements_of(value)?;
+    let mut nodes = Vec::with_capacity(alloc, values.count())?;
+    while let Some(value) = values.next() {
+        nodes.push(read_node(alloc, value)?)?;
     }
-    Ok(Items::from_vec(read))
+    Ok(Items::from_vec(nodes))
 }
 
 /// A node, with all nodes below it.
 #[cycle(read)]
-pub fn read_node(alloc: Global, node: Element<'_, '_>) -> Result<Node, NotationFault> {
-    let members = Named::of(node)?;
+pub fn read_node(alloc: Global, value: Element<'_, '_>) -> Result<Node, NotationFault> {
+    let members = members_of(value)?;
+    let range = range(members)?;
+    let kind = read_kind(alloc, members)?;
+    let children = match members.get("children") {
+        None => Items::new(alloc),
+        Some(children) => read_nodes(alloc, children)?,
+    };
     Ok(Node {
-        range: range(members.range)?,
-        kind: read_kind(alloc, &members)?,
-        children: match members.children {
-            None => Items::new(alloc),
-            Some(children) => read_nodes(alloc, children)?,
-        },
+        range,
+        kind,
+        children,
     })
 }

@@ -5,7 +5,7 @@ use crate::row_fault::RowFault;
 use deno_graph_source::text::{JsString, Position, PositionRange, SourceRange, SourceTextInfo};
 use json::Scratch;
 use modinfo::notation::literal::read_string;
-use modinfo::tape::Tape;
+use modinfo_tape::Tape;
 use serde_json::{Value, json};
 use std::alloc::Global;
 use std::rc::RcStr;

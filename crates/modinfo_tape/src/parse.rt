@@ -1,16 +1,16 @@
 ghost use Rattle.std.specs.Prelude.{◌<◌, ◌≤◌, length, OnOk};
 
-use crate::fault::Fault;
-use crate::tape::Node;
+use crate::Node;
+use crate::fault::TapeFault;
 use json::{Reader, Token};
 
 /// Reads the next value. Arrays and objects may nest so deep in it.
-#[cycle(build)]
+#[cycle(read)]
 pub fn value<'a>(
     reader: &mut Reader<'a>,
     nodes: &mut Vec<Node<'a>>,
     depth: usize,
-) -> Result<(), Fault>
+) -> Result<(), TapeFault>
     ensures shorter { OnOk result (length reader.new < length reader.old) }
     ensures longer { length nodes.old.items ≤ length nodes.new.items }
 {
@@ -21,24 +21,28 @@ pub fn value<'a>(
         Some(Token::Null) => Ok(nodes.push(Node::Null)?),
         Some(Token::BeginArray) if depth > 0 => array(reader, nodes, depth - 1),
         Some(Token::BeginObject) if depth > 0 => object(reader, nodes, depth - 1),
-        _ => Err(Fault::Json),
+        _ => Err(TapeFault::Json),
     }
 }
 
 /// The node of a number.
-fn number<'a>(digits: &str) -> Result<Node<'a>, Fault> {
+fn number<'a>(digits: &str) -> Result<Node<'a>, TapeFault> {
     if let Ok(whole) = fast_float::parse_u64(digits.as_bytes()) {
         return Ok(Node::Whole(whole));
     }
     match fast_float::parse::<f64, _>(digits.as_bytes()) {
         Ok(number) if number.is_finite() => Ok(Node::Number),
-        _ => Err(Fault::Json),
+        _ => Err(TapeFault::Json),
     }
 }
 
 /// What stands behind the bracket that opens an array.
-#[cycle(build)]
-fn array<'a>(reader: &mut Reader<'a>, nodes: &mut Vec<Node<'a>>, depth: usize) -> Result<(), Fault>
+#[cycle(read)]
+fn array<'a>(
+    reader: &mut Reader<'a>,
+    nodes: &mut Vec<Node<'a>>,
+    depth: usize,
+) -> Result<(), TapeFault>
     ensures shorter { OnOk result (length reader.new < length reader.old) }
     ensures longer { length nodes.old.items ≤ length nodes.new.items }
 {
@@ -60,8 +64,12 @@ fn array<'a>(reader: &mut Reader<'a>, nodes: &mut Vec<Node<'a>>, depth: usize) -
 }
 
 /// What stands behind the brace that opens an object.
-#[cycle(build)]
-fn object<'a>(reader: &mut Reader<'a>, nodes: &mut Vec<Node<'a>>, depth: usize) -> Result<(), Fault>
+#[cycle(read)]
+fn object<'a>(
+    reader: &mut Reader<'a>,
+    nodes: &mut Vec<Node<'a>>,
+    depth: usize,
+) -> Result<(), TapeFault>
     ensures shorter { OnOk result (length reader.new < length reader.old) }
     ensures longer { length nodes.old.items ≤ length nodes.new.items }
 {
@@ -74,7 +82,7 @@ fn object<'a>(reader: &mut Reader<'a>, nodes: &mut Vec<Node<'a>>, depth: usize) 
                 value(reader, nodes, depth)?;
             }
             Ok(None) => break,
-            Err(_) => return Err(Fault::Json),
+            Err(_) => return Err(TapeFault::Json),
         }
     }
     nodes[at] = Node::Object {
