@@ -8,9 +8,7 @@ use deno_graph_info::analysis::{
 };
 use deno_graph_source::tree::{DependencyComment, ParsedSource};
 use deno_graph_source::values::TryClone;
-use modinfo::Fault;
-use modinfo::notation::read_document;
-use serde_json::Value;
+use modinfo::{Fault, parse_document};
 use std::alloc::{AllocError, Global};
 use std::test::Fail;
 
@@ -21,8 +19,7 @@ const DOCUMENT: &str = r#"{"mediaType":"TypeScript","program":{"body":[
 ],"range":[0,69]},"leading":[{"pos":5,"comments":[{"kind":"block","range":[0,4],"text":""}]}],"source":"/**/ import type { T } from \"a\" with { type: \"bytes\" }; require(\"b\");","specifier":"file:///a.ts"}"#;
 
 fn source(alloc: Global) -> Result<ParsedSource, Fault> {
-    let value = Value::from_str(alloc, DOCUMENT)?;
-    read_document(alloc, &value)?.into_source(alloc)
+    parse_document(alloc, DOCUMENT)?.into_source(alloc)
 }
 
 #[test]

@@ -1,6 +1,7 @@
 use crate::notation::NotationFault;
 use deno_graph_info::analysis::{ConvertFault, InfoFault};
 use deno_graph_source::tree::SourceFault;
+use modinfo_tape::TapeFault;
 use std::alloc::{AllocError, AllocFailed};
 use thiserror::Error;
 use url::ParseError;
@@ -11,7 +12,7 @@ pub enum Fault {
     /// A read failed, or the input isn't UTF-8.
     #[error("Input")]
     Input,
-    /// The input is no JSON, or nests deeper than 127.
+    /// The input is no JSON, nests deeper than 127 or has a number too large for a float.
     #[error("Json")]
     Json,
     /// The JSON isn't in the notation.
@@ -55,6 +56,15 @@ impl From<serde_json::Error> for Fault {
             Fault::OutOfMemory
         } else {
             Fault::Json
+        }
+    }
+}
+
+impl From<TapeFault> for Fault {
+    fn from(fault: TapeFault) -> Fault {
+        match fault {
+            TapeFault::Json => Fault::Json,
+            TapeFault::OutOfMemory => Fault::OutOfMemory,
         }
     }
 }

@@ -10,4 +10,5 @@ mod program;
 
 pub use command::Command;
 pub use fault::Fault;
+pub use input::parse_document;
 pub use program::serve;

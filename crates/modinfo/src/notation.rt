@@ -1,5 +1,5 @@
 //! The notation in which a module comes to the program: its specifier, source, syntax tree and
-//! comments, as one JSON value. docs/FORMATS.md describes it.
+//! comments, as one JSON text. docs/FORMATS.md describes it.
 
 pub mod call;
 pub mod comments;

@@ -12,7 +12,7 @@ pub mod texts;
 
 use crate::row_fault::RowFault;
 use deno_graph_source::tree::ParsedSource;
-use modinfo::notation::read_document;
+use modinfo::parse_document;
 use serde_json::Value;
 use std::alloc::Global;
 
@@ -35,8 +35,12 @@ pub fn of_json(
     words: &[&str],
     input: &[u8],
 ) -> Result<String, RowFault> {
-    let value = Value::from_str(alloc, text_of(input)?)?;
-    of_value(alloc, name, words, &value)
+    let text = text_of(input)?;
+    match name {
+        "js_string" => texts::js_string(alloc, text),
+        "source_fault" => modules::fault(alloc, text),
+        name => of_value(alloc, name, words, text),
+    }
 }
 
 /// The input as a text.
@@ -45,10 +49,9 @@ pub fn text_of(input: &[u8]) -> Result<&str, RowFault> {
 }
 
 /// What a call on a JSON value answers.
-fn of_value(alloc: Global, name: &str, words: &[&str], value: &Value) -> Result<String, RowFault> {
+fn of_value(alloc: Global, name: &str, words: &[&str], text: &str) -> Result<String, RowFault> {
+    let value = &Value::from_str(alloc, text)?;
     match name {
-        "js_string" => texts::js_string(alloc, value),
-        "source_fault" => modules::fault(alloc, value),
         "parse_jsdoc_import_decl" | "parse_jsdoc_dynamic_import" | "scan" => {
             jsdoc::of_text(alloc, name, value)
         }
@@ -64,7 +67,7 @@ fn of_value(alloc: Global, name: &str, words: &[&str], value: &Value) -> Result<
         | "as_source_range"
         | "range_text" => { texts::of_positions(alloc, name, words, value) }
         name => {
-            let source = read_document(alloc, value)?.into_source(alloc)?;
+            let source = parse_document(alloc, text)?.into_source(alloc)?;
             of_source(alloc, name, &source)
         }
     }

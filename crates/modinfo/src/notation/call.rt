@@ -4,11 +4,11 @@ use crate::notation::fault::NotationFault;
 use crate::notation::member::{elements_of, flag, members_of, range, required, text};
 use deno_graph_source::tree::{Arg, Callee, ImportPhase, Kind};
 use deno_graph_source::values::Items;
-use serde_json::{Map, Value};
+use modinfo_tape::{Element, Members};
 use std::alloc::Global;
 
 /// A call.
-pub fn read_call(alloc: Global, members: &Map<String, Value>) -> Result<Kind, NotationFault> {
+pub fn read_call(alloc: Global, members: Members<'_, '_>) -> Result<Kind, NotationFault> {
     let callee = read_callee(text(members, "callee")?)?;
     let args = read_args(alloc, required(members, "args")?)?;
     Ok(Kind::Call { callee, args })
@@ -27,16 +27,16 @@ fn read_callee(name: &str) -> Result<Callee, NotationFault> {
 }
 
 /// Arguments, `[{"range":[START,END],"spread":BOOL} ..]`.
-fn read_args(alloc: Global, value: &Value) -> Result<Items<Arg>, NotationFault> {
-    let values = elements_of(value)?;
-    let mut args = Items::with_capacity(alloc, values.len())?;
-    for value in values {
+fn read_args(alloc: Global, value: Element<'_, '_>) -> Result<Items<Arg>, NotationFault> {
+    let mut values = elements_of(value)?;
+    let mut args = Items::with_capacity(alloc, values.count())?;
+    while let Some(value) = values.next() {
         args.push(read_arg(value)?)?;
     }
     Ok(args)
 }
 
-fn read_arg(value: &Value) -> Result<Arg, NotationFault> {
+fn read_arg(value: Element<'_, '_>) -> Result<Arg, NotationFault> {
     let members = members_of(value)?;
     let range = range(members)?;
     let spread = flag(members, "spread")?;

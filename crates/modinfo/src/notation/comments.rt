@@ -2,25 +2,24 @@ use crate::notation::fault::NotationFault;
 use crate::notation::member::{array, elements_of, members_of, offset, range, required, text};
 use deno_graph_source::tree::{CommentKind, Comments, DependencyComment};
 use deno_graph_source::values::Text;
-use serde_json::{Map, Value};
+use modinfo_tape::{Element, Elements, Members};
 use std::alloc::Global;
 
 /// The comments of a document: its members `leading` and `trailing`, which are arrays of
 /// `{"pos":POSITION,"comments":[COMMENT ..]}`. They are filed in the order in which they stand.
-pub fn read_comments(
-    alloc: Global,
-    members: &Map<String, Value>,
-) -> Result<Comments, NotationFault> {
+pub fn read_comments(alloc: Global, members: Members<'_, '_>) -> Result<Comments, NotationFault> {
     let mut comments = Comments::new(alloc);
-    for entry in array(members, "leading")? {
-        let (pos, values) = read_entry(entry)?;
-        for value in values {
+    let mut leading = array(members, "leading")?;
+    while let Some(entry) = leading.next() {
+        let (pos, mut values) = read_entry(entry)?;
+        while let Some(value) = values.next() {
             comments.add_leading(pos, read_comment(alloc, value)?)?;
         }
     }
-    for entry in array(members, "trailing")? {
-        let (pos, values) = read_entry(entry)?;
-        for value in values {
+    let mut trailing = array(members, "trailing")?;
+    while let Some(entry) = trailing.next() {
+        let (pos, mut values) = read_entry(entry)?;
+        while let Some(value) = values.next() {
             comments.add_trailing(pos, read_comment(alloc, value)?)?;
         }
     }
@@ -28,7 +27,7 @@ pub fn read_comments(
 }
 
 /// The position of an entry, in bytes, and the comments that are filed there.
-fn read_entry(value: &Value) -> Result<(usize, &[Value]), NotationFault> {
+fn read_entry<'t, 'a>(value: Element<'t, 'a>) -> Result<(usize, Elements<'t, 'a>), NotationFault> {
     let members = members_of(value)?;
     let pos = offset(required(members, "pos")?)?;
     let values = elements_of(required(members, "comments")?)?;
@@ -36,7 +35,7 @@ fn read_entry(value: &Value) -> Result<(usize, &[Value]), NotationFault> {
 }
 
 /// A comment, `{"kind":"line","range":[START,END],"text":TEXT}` or one of the kind `block`.
-fn read_comment(alloc: Global, value: &Value) -> Result<DependencyComment, NotationFault> {
+fn read_comment(alloc: Global, value: Element<'_, '_>) -> Result<DependencyComment, NotationFault> {
     let members = members_of(value)?;
     let kind = comment_kind(text(members, "kind")?)?;
     let range = range(members)?;

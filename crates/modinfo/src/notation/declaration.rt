@@ -4,14 +4,11 @@ use crate::notation::fault::NotationFault;
 use crate::notation::literal::{optional_literal, read_literal};
 use crate::notation::member::{flag, required, text};
 use deno_graph_source::tree::{ImportPhase, Kind};
-use serde_json::{Map, Value};
+use modinfo_tape::Members;
 use std::alloc::Global;
 
 /// An import declaration.
-pub fn read_import_decl(
-    alloc: Global,
-    members: &Map<String, Value>,
-) -> Result<Kind, NotationFault> {
+pub fn read_import_decl(alloc: Global, members: Members<'_, '_>) -> Result<Kind, NotationFault> {
     let type_only = flag(members, "typeOnly")?;
     let phase = import_phase(members)?;
     let has_specifiers = flag(members, "hasSpecifiers")?;
@@ -26,8 +23,8 @@ pub fn read_import_decl(
     })
 }
 
-fn import_phase(members: &Map<String, Value>) -> Result<ImportPhase, NotationFault> {
-    if !members.contains_key("phase") {
+fn import_phase(members: Members<'_, '_>) -> Result<ImportPhase, NotationFault> {
+    if members.get("phase").is_none() {
         return Ok(ImportPhase::Evaluation);
     }
     match text(members, "phase")? {
@@ -39,10 +36,7 @@ fn import_phase(members: &Map<String, Value>) -> Result<ImportPhase, NotationFau
 }
 
 /// An export of names, with or without a source.
-pub fn read_named_export(
-    alloc: Global,
-    members: &Map<String, Value>,
-) -> Result<Kind, NotationFault> {
+pub fn read_named_export(alloc: Global, members: Members<'_, '_>) -> Result<Kind, NotationFault> {
     let type_only = flag(members, "typeOnly")?;
     let has_with = flag(members, "hasWith")?;
     let src = optional_literal(alloc, members, "src")?;
@@ -54,7 +48,7 @@ pub fn read_named_export(
 }
 
 /// An export of all names of another module.
-pub fn read_export_all(alloc: Global, members: &Map<String, Value>) -> Result<Kind, NotationFault> {
+pub fn read_export_all(alloc: Global, members: Members<'_, '_>) -> Result<Kind, NotationFault> {
     let type_only = flag(members, "typeOnly")?;
     let has_with = flag(members, "hasWith")?;
     let src = read_literal(alloc, required(members, "src")?)?;
@@ -66,10 +60,7 @@ pub fn read_export_all(alloc: Global, members: &Map<String, Value>) -> Result<Ki
 }
 
 /// An import-equals declaration.
-pub fn read_import_equals(
-    alloc: Global,
-    members: &Map<String, Value>,
-) -> Result<Kind, NotationFault> {
+pub fn read_import_equals(alloc: Global, members: Members<'_, '_>) -> Result<Kind, NotationFault> {
     let type_only = flag(members, "typeOnly")?;
     let is_export = flag(members, "isExport")?;
     let external = optional_literal(alloc, members, "external")?;
@@ -81,20 +72,14 @@ pub fn read_import_equals(
 }
 
 /// An import type.
-pub fn read_import_type(
-    alloc: Global,
-    members: &Map<String, Value>,
-) -> Result<Kind, NotationFault> {
+pub fn read_import_type(alloc: Global, members: Members<'_, '_>) -> Result<Kind, NotationFault> {
     let has_with = flag(members, "hasWith")?;
     let arg = read_literal(alloc, required(members, "arg")?)?;
     Ok(Kind::ImportType { arg, has_with })
 }
 
 /// A module or namespace, with or without a name that is a string.
-pub fn read_module_decl(
-    alloc: Global,
-    members: &Map<String, Value>,
-) -> Result<Kind, NotationFault> {
+pub fn read_module_decl(alloc: Global, members: Members<'_, '_>) -> Result<Kind, NotationFault> {
     let name = optional_literal(alloc, members, "name")?;
     Ok(Kind::ModuleDecl { name })
 }

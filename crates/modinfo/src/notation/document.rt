@@ -4,26 +4,28 @@ use crate::notation::media_type::read_media_type;
 use crate::notation::member::{members_of, required, text};
 use crate::notation::node::read_program;
 use deno_graph_source::tree::{Comments, MediaType, Program};
-use serde_json::Value;
+use deno_graph_source::values::Text;
+use modinfo_tape::Element;
 use std::alloc::Global;
+use std::rc::RcStr;
 
-/// A module as a parser hands it over. Its specifier and source are borrowed from the JSON value;
-/// whether the specifier is a URL, and whether the tree fits the source, hasn't been looked at.
+/// A module as a parser hands it over. Whether the specifier is a URL, and whether the tree fits the
+/// source, hasn't been looked at.
 #[derive(Debug, Drop)]
-pub struct Document<'a> {
-    pub specifier: &'a str,
+pub struct Document {
+    pub specifier: Text,
     pub media_type: MediaType,
-    pub source: &'a str,
+    pub source: RcStr,
     pub program: Program,
     pub comments: Comments,
 }
 
 /// Reads a document. `Tree` where the value isn't in the notation.
-pub fn read_document(alloc: Global, value: &Value) -> Result<Document<'_>, NotationFault> {
+pub fn read_document(alloc: Global, value: Element<'_, '_>) -> Result<Document, NotationFault> {
     let members = members_of(value)?;
-    let specifier = text(members, "specifier")?;
+    let specifier = Text::from_str(alloc, text(members, "specifier")?)?;
     let media_type = read_media_type(text(members, "mediaType")?)?;
-    let source = text(members, "source")?;
+    let source = RcStr::from_str(alloc, text(members, "source")?)?;
     let comments = read_comments(alloc, members)?;
     let program = read_program(alloc, required(members, "program")?)?;
     Ok(Document {

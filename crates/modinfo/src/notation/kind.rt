@@ -12,11 +12,11 @@ use crate::notation::fault::NotationFault;
 use crate::notation::member::text;
 use crate::notation::property::read_key_value;
 use deno_graph_source::tree::Kind;
-use serde_json::{Map, Value};
+use modinfo_tape::Members;
 use std::alloc::Global;
 
 /// The kind that the member `kind` names, with what stands beside it.
-pub fn read_kind(alloc: Global, members: &Map<String, Value>) -> Result<Kind, NotationFault> {
+pub fn read_kind(alloc: Global, members: Members<'_, '_>) -> Result<Kind, NotationFault> {
     match text(members, "kind")? {
         "ImportDecl" => read_import_decl(alloc, members),
         "NamedExport" => read_named_export(alloc, members),

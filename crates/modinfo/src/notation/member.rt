@@ -1,42 +1,46 @@
 //! The members of a JSON object, each read as what the notation asks for.
 
+ghost use Rattle.std.specs.Prelude.{◌<◌, ◌≤◌, IfOk};
+ghost use Rattle.modinfo_tape.specs.Tape.{nodes_of, left_of, nodes_of_members};
+
 use crate::notation::fault::NotationFault;
 use deno_graph_source::text::SourceRange;
-use serde_json::{Map, Value};
+use modinfo_tape::{Element, Elements, Members};
 
 /// The members of `value`, which has to be an object.
-pub fn members_of(value: &Value) -> Result<&Map<String, Value>, NotationFault> {
-    value.as_object().ok_or(NotationFault::Tree)
+pub fn members_of<'t, 'a>(value: Element<'t, 'a>) -> Result<Members<'t, 'a>, NotationFault>
+    ensures { IfOk result (λ members. nodes_of_members members ≤ nodes_of value.entry) }
+{
+    value.members().ok_or(NotationFault::Tree)
 }
 
 /// The elements of `value`, which has to be an array.
-pub fn elements_of(value: &Value) -> Result<&[Value], NotationFault> {
-    match value {
-        Value::Array(elements) => Ok(elements.as_slice()),
-        _ => Err(NotationFault::Tree),
-    }
+pub fn elements_of<'t, 'a>(value: Element<'t, 'a>) -> Result<Elements<'t, 'a>, NotationFault>
+    ensures { IfOk result (λ elements. left_of elements < nodes_of value.entry) }
+{
+    value.elements().ok_or(NotationFault::Tree)
 }
 
 /// The member `name`, which has to be there.
-pub fn required<'a>(
-    members: &'a Map<String, Value>,
+pub fn required<'t, 'a>(
+    members: Members<'t, 'a>,
     name: &str,
-) -> Result<&'a Value, NotationFault> {
+) -> Result<Element<'t, 'a>, NotationFault> {
     members.get(name).ok_or(NotationFault::Tree)
 }
 
 /// The member `name`, where it is there and isn't null.
-pub fn optional<'a>(members: &'a Map<String, Value>, name: &str) -> Option<&'a Value> {
+pub fn optional<'t, 'a>(members: Members<'t, 'a>, name: &str) -> Option<Element<'t, 'a>> {
     members.get(name).filter(|value| !value.is_null())
 }
 
 /// The text of the member `name`.
-pub fn text<'a>(members: &'a Map<String, Value>, name: &str) -> Result<&'a str, NotationFault> {
+pub fn text<'a>(members: Members<'_, 'a>, name: &str) -> Result<&'a str, NotationFault> {
     required(members, name)?.as_str().ok_or(NotationFault::Tree)
 }
 
 /// The member `name` as a truth value: false where it is missing.
-pub fn flag(members: &Map<String, Value>, name: &str) -> Result<bool, NotationFault> {
+pub fn flag(members: Members<'_, '_>, name: &str) -> Result<bool, NotationFault> {
     match members.get(name) {
         None => Ok(false),
         Some(value) => value.as_bool().ok_or(NotationFault::Tree),
@@ -44,29 +48,29 @@ pub fn flag(members: &Map<String, Value>, name: &str) -> Result<bool, NotationFa
 }
 
 /// The elements of the member `name`: none where it is missing.
-pub fn array<'a>(
-    members: &'a Map<String, Value>,
+pub fn array<'t, 'a>(
+    members: Members<'t, 'a>,
     name: &str,
-) -> Result<&'a [Value], NotationFault> {
+) -> Result<Elements<'t, 'a>, NotationFault> {
     match members.get(name) {
-        None => Ok(&[]),
+        None => Ok(Elements::none()),
         Some(value) => elements_of(value),
     }
 }
 
 /// The member `range`: two offsets in bytes.
-pub fn range(members: &Map<String, Value>) -> Result<SourceRange, NotationFault> {
-    match elements_of(required(members, "range")?)? {
-        [start, end] => Ok(SourceRange {
-            start: offset(start)?,
-            end: offset(end)?,
+pub fn range(members: Members<'_, '_>) -> Result<SourceRange, NotationFault> {
+    match required(members, "range")?.as_pair() {
+        Some((start, end)) => Ok(SourceRange {
+            start: start as usize,
+            end: end as usize,
         }),
-        _ => Err(NotationFault::Tree),
+        None => Err(NotationFault::Tree),
     }
 }
 
 /// An offset in bytes.
-pub fn offset(value: &Value) -> Result<usize, NotationFault> {
+pub fn offset(value: Element<'_, '_>) -> Result<usize, NotationFault> {
     match value.as_u64() {
         Some(offset) => Ok(offset as usize),
         None => Err(NotationFault::Tree),

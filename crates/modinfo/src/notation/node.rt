@@ -2,14 +2,14 @@
 
 use crate::notation::fault::NotationFault;
 use crate::notation::kind::read_kind;
-use crate::notation::member::{flag, members_of, range, required};
+use crate::notation::member::{elements_of, flag, members_of, range, required};
 use deno_graph_source::tree::{Node, Program};
 use deno_graph_source::values::Items;
-use serde_json::Value;
+use modinfo_tape::Element;
 use std::alloc::Global;
 
 /// A program, `{"range":[START,END],"body":[NODE ..],"shebang":BOOL}`.
-pub fn read_program(alloc: Global, value: &Value) -> Result<Program, NotationFault> {
+pub fn read_program(alloc: Global, value: Element<'_, '_>) -> Result<Program, NotationFault> {
     let members = members_of(value)?;
     let range = range(members)?;
     let has_shebang = flag(members, "shebang")?;
@@ -22,12 +22,10 @@ pub fn read_program(alloc: Global, value: &Value) -> Result<Program, NotationFau
 }
 
 #[cycle(read)]
-fn read_nodes(alloc: Global, value: &Value) -> Result<Items<Node>, NotationFault> {
-    let Value::Array(values) = value else {
-        return Err(NotationFault::Tree);
-    };
-    let mut nodes = Vec::with_capacity(alloc, values.len())?;
-    for value in values {
+fn read_nodes(alloc: Global, value: Element<'_, '_>) -> Result<Items<Node>, NotationFault> {
+    let mut values = elements_of(value)?;
+    let mut nodes = Vec::with_capacity(alloc, values.count())?;
+    while let Some(value) = values.next() {
         nodes.push(read_node(alloc, value)?)?;
     }
     Ok(Items::from_vec(nodes))
@@ -35,10 +33,8 @@ fn read_nodes(alloc: Global, value: &Value) -> Result<Items<Node>, NotationFault
 
 /// A node, with all nodes below it.
 #[cycle(read)]
-pub fn read_node(alloc: Global, value: &Value) -> Result<Node, NotationFault> {
-    let Value::Object(members) = value else {
-        return Err(NotationFault::Tree);
-    };
+pub fn read_node(alloc: Global, value: Element<'_, '_>) -> Result<Node, NotationFault> {
+    let members = members_of(value)?;
     let range = range(members)?;
     let kind = read_kind(alloc, members)?;
     let children = match members.get("children") {

@@ -8,16 +8,15 @@ use deno_graph_info::analysis::{self, ModuleInfo};
 use deno_graph_source::text::{PositionRange, SourceRange, SourceTextInfo};
 use deno_graph_source::tree::{ParsedSource, source_fault};
 use deno_graph_source::values::TryClone;
-use modinfo::notation::read_document;
-use serde_json::Value;
+use modinfo::parse_document;
 use std::alloc::Global;
 
 /// What `source_fault` finds in a document.
-pub fn fault(alloc: Global, value: &Value) -> Result<String, RowFault> {
-    let document = read_document(alloc, value)?;
+pub fn fault(alloc: Global, text: &str) -> Result<String, RowFault> {
+    let document = parse_document(alloc, text)?;
     match source_fault(
         alloc,
-        document.source,
+        document.source.as_str(),
         &document.program,
         &document.comments,
     )? {

@@ -3,14 +3,18 @@
 use crate::answer::{named, valued};
 use crate::row_fault::RowFault;
 use deno_graph_source::text::{JsString, Position, PositionRange, SourceRange, SourceTextInfo};
+use json::Scratch;
 use modinfo::notation::literal::read_string;
+use modinfo_tape::Tape;
 use serde_json::{Value, json};
 use std::alloc::Global;
 use std::rc::RcStr;
 
 /// What `js_string` answers on a text or an array of units: the string as it is, and its lossy text.
-pub fn js_string(alloc: Global, value: &Value) -> Result<String, RowFault> {
-    let string: JsString = read_string(alloc, value)?;
+pub fn js_string(alloc: Global, text: &str) -> Result<String, RowFault> {
+    let mut scratch = Scratch::new(alloc);
+    let tape = Tape::read(alloc, text, &mut scratch)?;
+    let string: JsString = read_string(alloc, tape.root())?;
     let text = match string.as_str() {
         Some(text) => Value::String(String::from_str(alloc, text)?),
         None => Value::Null,
