@@ -46,9 +46,13 @@ impl Command {
 }
 
 fn analyze<R: Read>(alloc: Global, input: &mut R) -> Result<Value, Fault> {
+    Ok(read_and_analyze(alloc, input)?.to_value(alloc)?)
+}
+
+// The tree is gone before what was found is written.
+fn read_and_analyze<R: Read>(alloc: Global, input: &mut R) -> Result<ModuleInfo, Fault> {
     let source = read_source(alloc, input)?;
-    let info = module_info(alloc, &source)?;
-    Ok(info.to_value(alloc)?)
+    Ok(module_info(alloc, &source)?)
 }
 
 fn convert<R: Read>(alloc: Global, input: &mut R) -> Result<Value, Fault> {

@@ -24,8 +24,8 @@ fn parse_input<R: Read>(alloc: Global, input: &mut R) -> Result<Document, Fault>
     parse_document(alloc, text_of(bytes.as_slice())?)
 }
 
-/// Reads a document in the notation. `Json` where the text is no JSON, nests deeper than 127 or has a
-/// number too large for a float, and `Tree` where it isn't in the notation.
+/// Reads a document in the notation. `Json` where the text is no JSON, nests deeper than 127 or has
+/// a number too large for a float, and `Tree` where it isn't in the notation.
 pub fn parse_document(alloc: Global, text: &str) -> Result<Document, Fault> {
     let mut scratch = Scratch::new(alloc);
     let tape = Tape::read(alloc, text, &mut scratch)?;

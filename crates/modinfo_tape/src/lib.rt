@@ -43,8 +43,8 @@ pub struct Tape<'a> {
 }
 
 impl<'a> Tape<'a> {
-    /// Reads a text to its end. `Json` where it isn't one JSON value, nests deeper than 127 or has a
-    /// number too large for a float, and `OutOfMemory` where memory was refused.
+    /// Reads a text to its end. `Json` where it isn't one JSON value, nests deeper than 127 or has
+    /// a number too large for a float, and `OutOfMemory` where memory was refused.
     pub fn read(
         alloc: Global,
         text: &'a str,

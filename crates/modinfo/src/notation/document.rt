@@ -9,8 +9,8 @@ use modinfo_tape::Element;
 use std::alloc::Global;
 use std::rc::RcStr;
 
-/// A module as a parser hands it over. Whether the specifier is a URL, and whether the tree fits the
-/// source, hasn't been looked at.
+/// A module as a parser hands it over. Whether the specifier is a URL, and whether the tree fits
+/// the source, hasn't been looked at.
 #[derive(Debug, Drop)]
 pub struct Document {
     pub specifier: Text,
