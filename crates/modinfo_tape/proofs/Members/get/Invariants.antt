@@ -1,4 +1,4 @@
-use Rattle.std.proofs.Common.{◌<◌, ◌≤◌, ◌-◌, length}
+use Rattle.std.proofs.Common.{◌<◌, ◌-◌, length}
 use Rattle.std.specs.Prelude.{IfSome}
 use Rattle.modinfo_tape.specs.Tape.{nodes_of}
 use Rattle.modinfo_tape.proofs.Members.get.Given as goal
