@@ -2,6 +2,7 @@ use deno_graph_info::analysis::InfoFault;
 use deno_graph_source::tree::SourceFault;
 use modinfo::Fault;
 use modinfo::notation::NotationFault;
+use modinfo_tape::TapeFault;
 use std::alloc::{AllocError, AllocFailed};
 use std::io::{self, ErrorKind};
 use thiserror::Error;
@@ -48,6 +49,15 @@ impl From<serde_json::Error> for RowFault {
             RowFault::OutOfMemory
         } else {
             RowFault::Row("its input is no JSON")
+        }
+    }
+}
+
+impl From<TapeFault> for RowFault {
+    fn from(fault: TapeFault) -> RowFault {
+        match fault {
+            TapeFault::Json => RowFault::Row("its input is no JSON"),
+            TapeFault::OutOfMemory => RowFault::OutOfMemory,
         }
     }
 }
