@@ -67,13 +67,13 @@ impl Runs {
     }
 
     fn push(&mut self, text: String) -> Result<(), AllocError> {
-        if let Some((last, count)) = self.runs.last_mut() {
-            if *last == text {
-                *count = count.saturating_add(1);
-                return Ok(());
-            }
+        if !self.runs.last().is_some_and(|(last, _)| *last == text) {
+            self.runs.push((text, 0))?;
         }
-        Ok(self.runs.push((text, 1))?)
+        if let Some((_, count)) = self.runs.last_mut() {
+            *count = count.saturating_add(1);
+        }
+        Ok(())
     }
 
     fn line(&self, alloc: Global) -> Result<String, AllocError> {
