@@ -2,8 +2,7 @@
 
 use deno_graph_analysis::ast::{analyze_ts_or_deno_types, module_info, module_info_from_program};
 use deno_graph_analysis::dep::{
-    DynamicArgument, Walk, analyze_program_dependencies, argument_of,
-    parse_dynamic_import_attributes, parse_import_attributes,
+    Walk, analyze_program_dependencies, parse_dynamic_import_attributes, parse_import_attributes,
     parse_import_attributes_from_object_lit,
 };
 use deno_graph_analysis::jsdoc::{
@@ -26,6 +25,9 @@ use std::collections::BTreeMap;
 use std::rc::RcStr;
 use std::test::Fail;
 use url::Url;
+
+/// It asks for a node of a valid source, and is called by rows.
+pub use deno_graph_analysis::dep::argument_of;
 
 /// The module `import("./b.ts")`, a type.
 fn source(alloc: Global) -> Result<ParsedSource, Fail> {
@@ -84,11 +86,9 @@ fn an_analysis(rt: HostRuntime) -> Result<(), Fail> {
 }
 
 #[test]
-fn arguments_and_attributes(rt: HostRuntime) -> Result<(), Fail> {
+fn attributes(rt: HostRuntime) -> Result<(), Fail> {
     let alloc = rt.alloc();
     let range = SourceRange::new(0, 2);
-    let text = Node::new(alloc, range, Kind::Str(JsString::from_str(alloc, "")?));
-    assert!(rt; argument_of(alloc, &text)? == DynamicArgument::String(""));
     let object = Node::new(alloc, range, Kind::Object);
     let none = parse_import_attributes_from_object_lit(alloc, &object)?;
     assert!(rt; none == ImportAttributes::Known(TextMap::new(alloc)));
