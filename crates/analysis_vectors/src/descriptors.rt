@@ -3,7 +3,7 @@
 use deno_graph_analysis::ast::module_info;
 use deno_graph_analysis::dep::{self, analyze_program_dependencies};
 use deno_graph_info::analysis::{
-    DependencyDescriptor, DynamicArgument, DynamicDependencyKind, ImportAttributes,
+    DependencyDescriptor, DynamicArgument, DynamicDependencyKind, ImportAttributes, ModuleInfo,
     StaticDependencyKind,
 };
 use deno_graph_source::tree::{DependencyComment, ParsedSource};
@@ -30,6 +30,9 @@ fn dependencies_by_their_parts(rt: HostRuntime) -> Result<(), Fail> {
     for dependency in info.dependencies.iter() {
         assert!(rt; is_made_again(rt.alloc(), dependency)?);
     }
+    let copy = info.try_clone(rt.alloc())?;
+    assert!(rt; copy == info);
+    assert!(rt; copy != ModuleInfo::new(rt.alloc()));
     Ok(())
 }
 

@@ -1,6 +1,8 @@
-//! Tests of the analysis for what has no text: dependencies by their parts. What has a text is a row
-//! of `crates/replay`.
+//! Tests of the analysis for what has no text: dependencies by their parts, and a walk step by step.
+//! What has a text is a row of `crates/replay`.
 #![tactic(auto)]
 
 #[cfg(test)]
 mod descriptors;
+#[cfg(test)]
+mod steps;

@@ -1,97 +1,79 @@
-//! Each type, and what it can do.
+//! What each type can do.
 
-use deno_graph_analysis::{ast, dep, jsdoc};
-use deno_graph_info::analysis;
-use deno_graph_source::{text, tree, values};
+use crate::{analysis, info, source};
+use deno_graph_source::values::TryClone;
 use std::fmt::Debug;
 
-/// A type of data that is copied.
-fn is_copied<T: Copy + Debug + Eq>() -> bool {
-    true
+/// A value of a type of data that is copied.
+pub struct Copied<T: Copy + Debug + Eq>(pub T);
+
+/// A value of a type of data that holds memory.
+pub struct Cloned<T: TryClone + Debug + Eq>(pub T);
+
+/// A value of a type of data that borrows or is handed on, or is an error.
+pub struct Compared<T: Debug + Eq>(pub T);
+
+/// A value of each type of `deno_graph_source`.
+pub struct Sources {
+    pub source_range: Copied<source::SourceRange>,
+    pub position: Copied<source::Position>,
+    pub position_range: Copied<source::PositionRange>,
+    pub arg: Copied<source::Arg>,
+    pub binary_op: Copied<source::BinaryOp>,
+    pub callee: Copied<source::Callee>,
+    pub comment_kind: Copied<source::CommentKind>,
+    pub import_phase: Copied<source::ImportPhase>,
+    pub media_type: Copied<source::MediaType>,
+    pub resolution_mode: Copied<source::ResolutionMode>,
+    pub items: Cloned<source::Items<source::Arg>>,
+    pub text: Cloned<source::Text>,
+    pub text_map: Cloned<source::TextMap<source::Text>>,
+    pub js_string: Cloned<source::JsString>,
+    pub source_text_info: Cloned<source::SourceTextInfo>,
+    pub comments: Cloned<source::Comments>,
+    pub dependency_comment: Cloned<source::DependencyComment>,
+    pub kind: Cloned<source::Kind>,
+    pub node: Cloned<source::Node>,
+    pub parsed_source: Cloned<source::ParsedSource>,
+    pub program: Cloned<source::Program>,
+    pub prop_key: Cloned<source::PropKey>,
+    pub str_lit: Cloned<source::StrLit>,
+    pub source_fault: Compared<source::SourceFault>,
 }
 
-/// A type of data that holds memory.
-fn is_cloned<T: values::TryClone + Debug + Eq>() -> bool {
-    true
+/// A value of each type of `deno_graph_info`.
+pub struct Infos<'a> {
+    pub dynamic_dependency_kind: Copied<info::DynamicDependencyKind>,
+    pub found: Copied<info::Match<'a>>,
+    pub static_dependency_kind: Copied<info::StaticDependencyKind>,
+    pub types_resolution_mode: Copied<info::TypeScriptTypesResolutionMode>,
+    pub dependency: Cloned<info::DependencyDescriptor>,
+    pub dynamic_argument: Cloned<info::DynamicArgument>,
+    pub dynamic_dependency: Cloned<info::DynamicDependencyDescriptor>,
+    pub dynamic_template_part: Cloned<info::DynamicTemplatePart>,
+    pub import_attribute: Cloned<info::ImportAttribute>,
+    pub import_attributes: Cloned<info::ImportAttributes>,
+    pub jsdoc_import: Cloned<info::JsDocImportInfo>,
+    pub module_info: Cloned<info::ModuleInfo>,
+    pub specifier: Cloned<info::SpecifierWithRange>,
+    pub static_dependency: Cloned<info::StaticDependencyDescriptor>,
+    pub reference: Cloned<info::TypeScriptReference>,
+    pub convert_fault: Compared<info::ConvertFault>,
+    pub deno_types: Compared<info::DenoTypesPragmaMatch<'a>>,
+    pub info_fault: Compared<info::InfoFault>,
 }
 
-/// A type of data that borrows or is handed on, or is an error.
-fn is_compared<T: Debug + Eq>() -> bool {
-    true
-}
-
-/// A type whose values work.
-fn is_dropped<T: Drop>() -> bool {
-    true
-}
-
-#[test]
-fn data_of_sources(rt: HostRuntime) {
-    assert!(rt; is_copied::<text::SourceRange>());
-    assert!(rt; is_copied::<text::Position>());
-    assert!(rt; is_copied::<text::PositionRange>());
-    assert!(rt; is_copied::<tree::Arg>());
-    assert!(rt; is_copied::<tree::BinaryOp>());
-    assert!(rt; is_copied::<tree::Callee>());
-    assert!(rt; is_copied::<tree::CommentKind>());
-    assert!(rt; is_copied::<tree::ImportPhase>());
-    assert!(rt; is_copied::<tree::MediaType>());
-    assert!(rt; is_copied::<tree::ResolutionMode>());
-    assert!(rt; is_cloned::<values::Items<tree::Arg>>());
-    assert!(rt; is_cloned::<values::Text>());
-    assert!(rt; is_cloned::<values::TextMap<values::Text>>());
-    assert!(rt; is_cloned::<text::JsString>());
-    assert!(rt; is_cloned::<text::SourceTextInfo>());
-    assert!(rt; is_cloned::<tree::Comments>());
-    assert!(rt; is_cloned::<tree::DependencyComment>());
-    assert!(rt; is_cloned::<tree::Kind>());
-    assert!(rt; is_cloned::<tree::Node>());
-    assert!(rt; is_cloned::<tree::ParsedSource>());
-    assert!(rt; is_cloned::<tree::Program>());
-    assert!(rt; is_cloned::<tree::PropKey>());
-    assert!(rt; is_cloned::<tree::StrLit>());
-    assert!(rt; is_compared::<tree::SourceFault>());
-    assert!(rt; is_dropped::<values::text_map::Iter<'static, values::Text>>());
-}
-
-#[test]
-fn data_of_infos(rt: HostRuntime) {
-    assert!(rt; is_copied::<analysis::DynamicDependencyKind>());
-    assert!(rt; is_copied::<analysis::Match<'static>>());
-    assert!(rt; is_copied::<analysis::StaticDependencyKind>());
-    assert!(rt; is_copied::<analysis::TypeScriptTypesResolutionMode>());
-    assert!(rt; is_cloned::<analysis::DependencyDescriptor>());
-    assert!(rt; is_cloned::<analysis::DynamicArgument>());
-    assert!(rt; is_cloned::<analysis::DynamicDependencyDescriptor>());
-    assert!(rt; is_cloned::<analysis::DynamicTemplatePart>());
-    assert!(rt; is_cloned::<analysis::ImportAttribute>());
-    assert!(rt; is_cloned::<analysis::ImportAttributes>());
-    assert!(rt; is_cloned::<analysis::JsDocImportInfo>());
-    assert!(rt; is_cloned::<analysis::ModuleInfo>());
-    assert!(rt; is_cloned::<analysis::SpecifierWithRange>());
-    assert!(rt; is_cloned::<analysis::StaticDependencyDescriptor>());
-    assert!(rt; is_cloned::<analysis::TypeScriptReference>());
-    assert!(rt; is_compared::<analysis::ConvertFault>());
-    assert!(rt; is_compared::<analysis::DenoTypesPragmaMatch<'static>>());
-    assert!(rt; is_compared::<analysis::InfoFault>());
-}
-
-#[test]
-fn data_of_analyses(rt: HostRuntime) {
-    assert!(rt; is_copied::<jsdoc::NoParse>());
-    assert!(rt; is_cloned::<ast::ParseDiagnostic>());
-    assert!(rt; is_compared::<ast::AnalyzeError>());
-    assert!(rt; is_compared::<ast::Answer>());
-    assert!(rt; is_compared::<ast::ParseError>());
-    assert!(rt; is_compared::<dep::DependencyDescriptor<'static>>());
-    assert!(rt; is_compared::<dep::DynamicArgument<'static>>());
-    assert!(rt; is_compared::<dep::DynamicDependencyDescriptor<'static>>());
-    assert!(rt; is_compared::<dep::DynamicTemplatePart<'static>>());
-    assert!(rt; is_compared::<dep::StaticDependencyDescriptor<'static>>());
-    assert!(rt; is_compared::<jsdoc::JsDocImport<'static>>());
-    assert!(rt; is_dropped::<ast::Command>());
-    assert!(rt; is_dropped::<ast::DefaultParsedSourceStore>());
-    assert!(rt; is_dropped::<ast::ParseOptions<'static>>());
-    assert!(rt; is_dropped::<dep::Walk<'static>>());
-    assert!(rt; is_dropped::<jsdoc::Scan<'static>>());
+/// A value of each type of `deno_graph_analysis` that is data.
+pub struct Analyses<'a> {
+    pub no_parse: Copied<analysis::NoParse>,
+    pub diagnostic: Cloned<analysis::ParseDiagnostic>,
+    pub analyze_error: Compared<analysis::AnalyzeError>,
+    pub answer: Compared<analysis::Answer>,
+    pub parse_error: Compared<analysis::ParseError>,
+    pub dependency: Compared<analysis::DependencyDescriptor<'a>>,
+    pub dynamic_argument: Compared<analysis::DynamicArgument<'a>>,
+    pub dynamic_dependency: Compared<analysis::DynamicDependencyDescriptor<'a>>,
+    pub dynamic_template_part: Compared<analysis::DynamicTemplatePart<'a>>,
+    pub static_dependency: Compared<analysis::StaticDependencyDescriptor<'a>>,
+    pub jsdoc_import: Compared<analysis::JsDocImport<'a>>,
 }

@@ -1,5 +1,5 @@
-//! Tests of parsers, stores and capturing analyzers: rows of commands, what a store has after a
-//! refusal, and each call with ample memory.
+//! Tests of parsers, stores and capturing analyzers: rows of commands, and each call with ample
+//! memory. What is there after a refusal is looked at by `crates/after_refusal`.
 #![tactic(auto)]
 
 #[cfg(test)]
@@ -8,9 +8,5 @@ mod boxed;
 mod capturing;
 #[cfg(test)]
 mod commands;
-#[cfg(test)]
-mod failing;
-#[cfg(test)]
-mod refusals;
 #[cfg(test)]
 mod sources;

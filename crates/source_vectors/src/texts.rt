@@ -43,7 +43,9 @@ fn positions_are_right_all_along_long_texts(rt: HostRuntime) -> Result<(), Fail>
         let text = part.repeat(rt.alloc(), count)?;
         let info = SourceTextInfo::new(rt.alloc(), RcStr::from_str(rt.alloc(), text.as_str())?)?;
         assert_positions_along(&rt, &info);
-        assert!(rt; info.try_clone(rt.alloc())? == info);
+        let copy = info.try_clone(rt.alloc())?;
+        assert!(rt; copy == info);
+        assert!(rt; RcStr::ptr_eq(copy.rc_text(), info.rc_text()));
     }
     Ok(())
 }

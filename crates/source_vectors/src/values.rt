@@ -22,6 +22,8 @@ fn lists_of_items(rt: HostRuntime) -> Result<(), Fail> {
     let again = Items::from_vec(copy.into_vec());
     assert_eq!(rt; again.as_slice().len(), 3);
     assert!(rt; again != Items::with_capacity(alloc, 3)?);
+    let one = Items::from_item(alloc, Text::from_str(alloc, "a")?)?;
+    assert_eq!(rt; one.first(), items.first());
     Ok(())
 }
 
@@ -48,6 +50,8 @@ fn maps_from_texts(rt: HostRuntime) -> Result<(), Fail> {
     for (key, value) in [("b", "1"), ("a", "2"), ("b", "3")] {
         drop(map.insert(Text::from_str(alloc, key)?, Text::from_str(alloc, value)?)?);
     }
+    let replaced = map.insert(Text::from_str(alloc, "a")?, Text::from_str(alloc, "4")?)?;
+    assert_eq!(rt; replaced.as_ref().map(Text::as_str), Some("2"));
     assert_eq!(rt; map.len(), 2);
     assert_eq!(rt; map.get("b").map(Text::as_str), Some("3"));
     assert_eq!(rt; map.get("c").map(Text::as_str), None);

@@ -1,0 +1,11 @@
+//! The items of `deno_graph_source`.
+
+pub use deno_graph_source::text::laws::{
+    boundaries_are_fronts, positions_are_unique, positions_keep_order,
+};
+pub use deno_graph_source::text::{JsString, Position, PositionRange, SourceRange, SourceTextInfo};
+pub use deno_graph_source::tree::{
+    Arg, BinaryOp, Callee, CommentKind, Comments, DependencyComment, ImportPhase, Kind, MediaType,
+    Node, ParsedSource, Program, PropKey, ResolutionMode, SourceFault, StrLit, source_fault,
+};
+pub use deno_graph_source::values::{Items, Text, TextMap, TryClone};
