@@ -1,10 +1,12 @@
-ghost use Rattle.std.specs.Prelude.{IfOk, OnErr};
-ghost use Rattle.deno_graph_analyzers.specs.Runs.{Ran, WasRefused};
+ghost use Rattle.std.specs.Prelude.{◌≡◌, Err, IfOk, OnErr};
+ghost use Rattle.deno_graph_analyzers.specs.Runs.{as_analyzed, as_parsed, Ran, WasRefused};
 
 use crate::analyze_error::AnalyzeError;
 use crate::capturing_analyze::{captured, captured_info};
 use crate::command::{Answer, Command};
-use deno_graph_parser::{EsParser, ParseError, ParseOptions, ParsedSourceStore};
+use deno_graph_info::analysis::ModuleInfo;
+use deno_graph_parser::{EsParser, ParseDiagnostic, ParseError, ParseOptions, ParsedSourceStore};
+use deno_graph_source::tree::ParsedSource;
 use std::alloc::{AllocError, Global};
 
 /// Carries out one command. The error is that memory was refused.
@@ -28,11 +30,8 @@ pub(crate) fn reply<P: EsParser, S: ParsedSourceStore>(
             media_type,
         } => {
             let source = source.clone()?;
-            match captured_info(alloc, parser, store, specifier, source, *media_type) {
-                Ok(info) => Ok(Answer::Analyzed(Ok(info))),
-                Err(AnalyzeError::Parse(diagnostic)) => Ok(Answer::Analyzed(Err(diagnostic))),
-                Err(AnalyzeError::OutOfMemory) => Err(AllocError),
-            }
+            let outcome = captured_info(alloc, parser, store, specifier, source, *media_type);
+            Ok(Answer::Analyzed(analyzed(outcome)?))
         }
         Command::Parse {
             specifier,
@@ -46,14 +45,39 @@ pub(crate) fn reply<P: EsParser, S: ParsedSourceStore>(
                 media_type: *media_type,
                 scope_analysis: *scope_analysis,
             };
-            match captured(alloc, parser, store, options) {
-                Ok(parsed) => Ok(Answer::Parsed(Ok(parsed))),
-                Err(ParseError::Diagnostic(diagnostic)) => Ok(Answer::Parsed(Err(diagnostic))),
-                Err(ParseError::OutOfMemory) => Err(AllocError),
-            }
+            let outcome = captured(alloc, parser, store, options);
+            Ok(Answer::Parsed(parsed(outcome)?))
         }
         Command::Remove { specifier } => Ok(Answer::Removed(store.remove_parsed_source(
             alloc, specifier,
         )?)),
+    }
+}
+
+/// The info or the diagnostic. The error is that memory was refused.
+fn analyzed(
+    outcome: Result<ModuleInfo, AnalyzeError>,
+) -> Result<Result<ModuleInfo, ParseDiagnostic>, AllocError>
+    ensures answered { IfOk result (λ answer. outcome ≡ as_analyzed answer) }
+    ensures refused { OnErr result (outcome ≡ Err AnalyzeError.OutOfMemory) }
+{
+    match outcome {
+        Ok(info) => Ok(Ok(info)),
+        Err(AnalyzeError::Parse(diagnostic)) => Ok(Err(diagnostic)),
+        Err(AnalyzeError::OutOfMemory) => Err(AllocError),
+    }
+}
+
+/// The source or the diagnostic. The error is that memory was refused.
+fn parsed(
+    outcome: Result<ParsedSource, ParseError>,
+) -> Result<Result<ParsedSource, ParseDiagnostic>, AllocError>
+    ensures answered { IfOk result (λ answer. outcome ≡ as_parsed answer) }
+    ensures refused { OnErr result (outcome ≡ Err ParseError.OutOfMemory) }
+{
+    match outcome {
+        Ok(source) => Ok(Ok(source)),
+        Err(ParseError::Diagnostic(diagnostic)) => Ok(Err(diagnostic)),
+        Err(ParseError::OutOfMemory) => Err(AllocError),
     }
 }

@@ -5,8 +5,6 @@ pub mod comment;
 pub mod convert;
 pub mod fault;
 pub mod laws;
-#[cfg(test)]
-mod tests;
 mod types;
 
 pub use convert::module_graph_1_to_2;

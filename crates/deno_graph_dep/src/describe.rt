@@ -1,8 +1,8 @@
 #![tactic(auto, unfolding(deno_graph_source::specs::Node::kind_of, deno_graph_source::specs::Node::children_of, deno_graph_source::specs::Node::range_of))]
 
-ghost use Rattle.std.specs.Prelude.{◌≡◌, ◌<◌, false, IfOk, All};
+ghost use Rattle.std.specs.Prelude.{◌≡◌, ◌<◌, false, IfOk, IsTrue, All};
 ghost use Rattle.std.specs.Option.{option_copied, option_map};
-ghost use Rattle.deno_graph_source.specs.Node.{children_of, kind_of, nodes_in, range_of, IsShaped};
+ghost use Rattle.deno_graph_source.specs.Node.{children_of, is_export, is_import, kind_of, nodes_in, range_of, IsShaped};
 ghost use Rattle.deno_graph_source.specs.declared.tree.node.Kind.TheVariants.{Call};
 ghost use Rattle.deno_graph_dep.specs.DependencyKind.{call_kind, export_kind, import_equals_kind, import_kind, phase_kind};
 ghost use Rattle.deno_graph_walk.specs.Dependency.{is_require};
@@ -38,6 +38,33 @@ pub(crate) fn describe<'a>(
         StatesIfListed comments.now node.now (kind_of node.now) (option_map item_of found)) }
 {
     match &node.kind {
+        Kind::ImportDecl { .. } | Kind::ImportEquals { .. } | Kind::ImportType { .. } => {
+            import(alloc, comments, node)
+        }
+        Kind::NamedExport { .. } | Kind::ExportAll { .. } => export(alloc, comments, node),
+        Kind::ModuleDecl { name: Some(name) } if may_name_module(name.value.to_str_lossy()) => {
+            let kind = StaticDependencyKind::MaybeTsModuleAugmentation;
+            let mut found = specified(comments, node, kind, name, ImportAttributes::None);
+            found.range = name.range;
+            Ok(Some(found.into()))
+        }
+        Kind::Call { callee, args } => call(alloc, comments, node, *callee, args.as_slice()),
+        _ => Ok(None),
+    }
+}
+
+/// The dependency of an import declaration, an `import name = require(..)` or an import type, or
+/// `None` of another `import name = ..`.
+fn import<'a>(
+    alloc: Global,
+    comments: &'a Comments,
+    node: &'a Node,
+) -> Result<Option<DependencyDescriptor<'a>>, AllocError>
+    requires { IsTrue (is_import (kind_of node.now)) }
+    ensures { IfOk result (λ found.
+        StatesIfListed comments.now node.now (kind_of node.now) (option_map item_of found)) }
+{
+    match &node.kind {
         Kind::ImportDecl {
             type_only,
             phase,
@@ -50,20 +77,6 @@ pub(crate) fn describe<'a>(
             let mut found = specified(comments, node, kind, src, attributes);
             found.is_side_effect = !*has_specifiers;
             Ok(Some(found.into()))
-        }
-        Kind::NamedExport {
-            type_only,
-            src: Some(src),
-            has_with,
-        }
-        | Kind::ExportAll {
-            type_only,
-            src,
-            has_with,
-        } => {
-            let attributes = parse_import_attributes(alloc, clause_of(*has_with, node))?;
-            let kind = export_kind(*type_only);
-            Ok(Some(specified(comments, node, kind, src, attributes).into()))
         }
         Kind::ImportEquals {
             type_only,
@@ -79,13 +92,35 @@ pub(crate) fn describe<'a>(
             let kind = StaticDependencyKind::ImportType;
             Ok(Some(specified(comments, node, kind, arg, attributes).into()))
         }
-        Kind::ModuleDecl { name: Some(name) } if may_name_module(name.value.to_str_lossy()) => {
-            let kind = StaticDependencyKind::MaybeTsModuleAugmentation;
-            let mut found = specified(comments, node, kind, name, ImportAttributes::None);
-            found.range = name.range;
-            Ok(Some(found.into()))
+        _ => Ok(None),
+    }
+}
+
+/// The dependency of an export with a specifier, or `None` of another export.
+fn export<'a>(
+    alloc: Global,
+    comments: &'a Comments,
+    node: &'a Node,
+) -> Result<Option<DependencyDescriptor<'a>>, AllocError>
+    requires { IsTrue (is_export (kind_of node.now)) }
+    ensures { IfOk result (λ found.
+        StatesIfListed comments.now node.now (kind_of node.now) (option_map item_of found)) }
+{
+    match &node.kind {
+        Kind::NamedExport {
+            type_only,
+            src: Some(src),
+            has_with,
         }
-        Kind::Call { callee, args } => call(alloc, comments, node, *callee, args.as_slice()),
+        | Kind::ExportAll {
+            type_only,
+            src,
+            has_with,
+        } => {
+            let attributes = parse_import_attributes(alloc, clause_of(*has_with, node))?;
+            let kind = export_kind(*type_only);
+            Ok(Some(specified(comments, node, kind, src, attributes).into()))
+        }
         _ => Ok(None),
     }
 }

@@ -28,6 +28,7 @@ pub fn what_a_node_states_is_unique()
 pub fn a_spread_argument_is_unknown()
     ensures { (comments : FiledComments) (node : Node) (callee : Callee)
         (args : List Arg) (arg : Arg) (item : DynamicItem)
-        → kind_of node ≡ Call callee args → slice_get args 0 ≡ Some arg → arg.spread ≡ true
+        → kind_of node ≡ Call callee args → slice_get args 0 ≡ Some arg
+        → arg.spread ≡ true
         → States comments node (dynamic_item item) → item.argument ≡ expression }
 {}

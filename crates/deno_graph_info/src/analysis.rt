@@ -4,8 +4,6 @@ pub mod fault;
 pub mod js_doc_import_info;
 pub mod module_info;
 mod read;
-#[cfg(test)]
-mod tests;
 pub mod type_script_reference;
 mod write;
 

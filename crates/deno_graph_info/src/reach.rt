@@ -104,6 +104,3 @@ fn keys_reached(alloc: Global, reached: &TextMap<()>) -> Result<Vec<String>, All
     }
     Ok(keys)
 }
-
-#[cfg(test)]
-mod tests;

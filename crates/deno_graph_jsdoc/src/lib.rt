@@ -11,6 +11,3 @@ pub use grammar::declaration::parse_jsdoc_import_decl;
 pub use grammar::dynamic::parse_jsdoc_dynamic_import;
 pub use import::{JsDocImport, NoParse, Scan};
 pub use pass::{insert, scan};
-
-#[cfg(test)]
-mod tests;

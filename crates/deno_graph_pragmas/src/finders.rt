@@ -8,8 +8,6 @@ pub mod matches;
 pub mod references;
 mod scan;
 pub mod source_map;
-#[cfg(test)]
-mod tests;
 pub mod types;
 
 pub use jsx::{find_jsx_import_source, find_jsx_import_source_types};

@@ -15,6 +15,3 @@ pub use fault::SourceFault;
 pub use media_type::MediaType;
 pub use node::{Arg, BinaryOp, Callee, ImportPhase, Kind, Node, Program, PropKey, StrLit};
 pub use parsed_source::ParsedSource;
-
-#[cfg(test)]
-mod tests;

@@ -126,6 +126,3 @@ impl PartialEq for JsString {
 impl Eq for JsString {
     ghost laws = { nat_list_eq_equiv };
 }
-
-#[cfg(test)]
-mod tests;

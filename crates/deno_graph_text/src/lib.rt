@@ -12,6 +12,3 @@ pub mod source_text_info;
 pub use js_string::JsString;
 pub use position::{Position, PositionRange, SourceRange};
 pub use source_text_info::SourceTextInfo;
-
-#[cfg(test)]
-mod tests;

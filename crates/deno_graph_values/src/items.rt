@@ -171,6 +171,3 @@ impl<T: PartialEq> PartialEq for Items<T> {
 impl<T: Eq> Eq for Items<T> {
     ghost laws = { lists_equiv T.Eq.laws };
 }
-
-#[cfg(test)]
-mod tests;

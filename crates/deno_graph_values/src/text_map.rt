@@ -180,6 +180,3 @@ impl<V: Eq> Eq for TextMap<V> {
         (on_equiv (λ p. p.0) nat_list_eq_equiv)
         (on_equiv (λ p. p.1) V.Eq.laws)) };
 }
-
-#[cfg(test)]
-mod tests;

@@ -45,7 +45,8 @@ impl<'a> Stack<'a> {
         ensures frames { OnOk result (self.new.frames.items
             ≡ self.old.frames.items ++ frame_of node.entry siblings.entry ∷ []) }
         ensures nodes { OnOk result (self.new.nodes.now ≡ children_to_visit node.now) }
-        ensures entered { OnOk result (self.new.entered ≡ min (self.old.entered + 1) (2 ^ 64 - 1)) }
+        ensures entered { OnOk result
+            (self.new.entered ≡ min (self.old.entered + 1) (2 ^ 64 - 1)) }
         ensures refused_frames { OnErr result (self.new.frames.items ≡ self.old.frames.items) }
         ensures refused_nodes { OnErr result (self.new.nodes.now ≡ self.old.nodes.now) }
         ensures refused_entered { OnErr result (self.new.entered ≡ self.old.entered) }

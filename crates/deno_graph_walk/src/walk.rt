@@ -84,6 +84,3 @@ impl<'a> Walk<'a> {
         let _ = &self.program;
     }
 }
-
-#[cfg(test)]
-mod tests;

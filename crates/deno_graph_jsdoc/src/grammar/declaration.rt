@@ -20,8 +20,10 @@ use deno_graph_values::TypeScriptTypesResolutionMode;
 pub fn parse_jsdoc_import_decl(input: &str) -> Result<(&str, JsDocImport<'_>), NoParse>
     ensures found { IfOk result
         (λ parsed. IsDeclaration (chars input.now) (import_of parsed.1) (chars parsed.0.now)) }
-    ensures only { (import : Import) (rest : List ℕ) → IsDeclaration (chars input.now) import rest
-        → IsOkAnd result (λ parsed. (import ≡ import_of parsed.1) × (rest ≡ chars parsed.0.now)) }
+    ensures only { (import : Import) (rest : List ℕ)
+        → IsDeclaration (chars input.now) import rest
+        → IsOkAnd result (λ parsed.
+        (import ≡ import_of parsed.1) × (rest ≡ chars parsed.0.now)) }
 {
     let behind = word(input, "@import").ok_or(NoParse)?;
     let (rest, import) = behind_import(behind).ok_or(NoParse)?;
@@ -117,7 +119,8 @@ fn names_end(input: &str, unclosed: usize) -> Option<NamesEnd<'_>>
 
 /// What is behind white space, a clause and white space.
 fn clause_behind(input: &str) -> Option<&str>
-    ensures { Reads NoSpace (λ _. IsGap · IsClause · IsSpace) (chars input.now) (rest_of result) }
+    ensures { Reads NoSpace (λ _. IsGap · IsClause · IsSpace)
+        (chars input.now) (rest_of result) }
 {
     clause(gap(input)?)
 }

@@ -20,8 +20,10 @@ use deno_graph_values::TypeScriptTypesResolutionMode;
 pub fn parse_jsdoc_dynamic_import(input: &str) -> Result<(&str, JsDocImport<'_>), NoParse>
     ensures found { IfOk result
         (λ parsed. IsDynamicImport (chars input.now) (import_of parsed.1) (chars parsed.0.now)) }
-    ensures only { (import : Import) (rest : List ℕ) → IsDynamicImport (chars input.now) import rest
-        → IsOkAnd result (λ parsed. (import ≡ import_of parsed.1) × (rest ≡ chars parsed.0.now)) }
+    ensures only { (import : Import) (rest : List ℕ)
+        → IsDynamicImport (chars input.now) import rest
+        → IsOkAnd result (λ parsed.
+        (import ≡ import_of parsed.1) × (rest ≡ chars parsed.0.now)) }
 {
     let behind = first_import(input).ok_or(NoParse)?;
     let (rest, import) = behind_import(behind).ok_or(NoParse)?;

@@ -63,7 +63,8 @@ fn between(input: &str, mark: char) -> Option<(&str, &str)>
 
 /// What is behind the next `}`.
 pub(crate) fn through_brace(input: &str) -> Option<&str>
-    ensures { Reads Anything (λ _. Lacks 125 · Is (codes "}")) (chars input.now) (rest_of result) }
+    ensures { Reads Anything (λ _. Lacks 125 · Is (codes "}"))
+        (chars input.now) (rest_of result) }
 {
     let (_, rest) = input.split_once('}')?;
     Some(rest)

@@ -25,7 +25,8 @@ pub fn is_comment_triple_slash_reference(text: &str) -> bool
 
 /// A slash, `<reference` in any case, and one character of white space.
 fn strip_reference(text: &str) -> Option<&str>
-    ensures left { chars_left result ≡ after_pieces triple_slash_reference.front (chars text.now) }
+    ensures left { chars_left result
+        ≡ after_pieces triple_slash_reference.front (chars text.now) }
     ensures utf8 { IfSome result (λ rest. IsUtf8 rest.now) }
 {
     let behind_slash = strip_sign(text, '/')?;

@@ -54,7 +54,8 @@ impl Model for ParsedSource {
       scope_analysis = source.scope_analysis;
     } };
 
-    ghost invariant = { λ source. IsValid source.module.value.text_info source.module.value.program source.module.value.comments };
+    ghost invariant = { λ source. IsValid source.module.value.text_info
+        source.module.value.program source.module.value.comments };
 }
 
 impl ParsedSource {
@@ -173,9 +174,11 @@ impl PartialEq for ParsedSource {
     ghost use Rattle.deno_graph_source.specs.SharedModule.{shared_of};
     ghost use Rattle.deno_graph_source.specs.contracts.tree.parsed_source.SharedModulePartialEq.TheImpl.Laws.{laws-law};
 
-    ghost eq = { λ a b. ⟦<SharedModule as PartialEq>⟧.eq (shared_of a) (shared_of b) && ⟦<bool as PartialEq>⟧.eq a.scope_analysis b.scope_analysis };
+    ghost eq = { λ a b. ⟦<SharedModule as PartialEq>⟧.eq (shared_of a) (shared_of b)
+        && ⟦<bool as PartialEq>⟧.eq a.scope_analysis b.scope_analysis };
 
-    ghost laws = { and_per (on_per shared_of laws-law) (on_per (λ a. a.scope_analysis) (partial_equiv_from_equiv bool_eq_equiv)) };
+    ghost laws = { and_per (on_per shared_of laws-law)
+        (on_per (λ a. a.scope_analysis) (partial_equiv_from_equiv bool_eq_equiv)) };
 
     fn eq(&self, other: &ParsedSource) -> bool {
         self.module == other.module && self.scope_analysis == other.scope_analysis
@@ -187,5 +190,6 @@ impl Eq for ParsedSource {
     ghost use Rattle.deno_graph_source.specs.SharedModule.{shared_of};
     ghost use Rattle.deno_graph_source.specs.contracts.tree.parsed_source.SharedModuleEq.TheImpl.Laws.{laws-law};
 
-    ghost laws = { and_equiv (on_equiv shared_of laws-law) (on_equiv (λ a. a.scope_analysis) bool_eq_equiv) };
+    ghost laws = { and_equiv (on_equiv shared_of laws-law)
+        (on_equiv (λ a. a.scope_analysis) bool_eq_equiv) };
 }
