@@ -1,7 +1,7 @@
-//! Calls that take no memory, made where each request would be refused.
+//! Calls that take no memory, made where each request would be refused: those on values that hold
+//! memory. What takes texts alone, as the finders do, has nothing that it could ask for memory.
 
 mod made;
-mod texts;
 mod values;
 
 use crate::fault::Fault;
@@ -13,9 +13,6 @@ use std::alloc::Global;
 pub fn call_all(alloc: Global) -> Result<Outcome, Fault> {
     let made = Made::new(alloc)?;
     let was_refused = is_refused(alloc);
-    texts::find_pragmas()?;
-    texts::find_references()?;
-    texts::parse_jsdoc()?;
     values::look_up(alloc, &made)?;
     values::take_apart(alloc, made)?;
     if was_refused && is_refused(alloc) {

@@ -9,102 +9,76 @@ use deno_graph_analysis::ast::{
 use deno_graph_analysis::dep::Walk;
 use deno_graph_info::analysis::{
     DependencyDescriptor, DynamicArgument, DynamicDependencyDescriptor, DynamicDependencyKind,
-    ImportAttributes, ModuleInfo, TypeScriptTypesResolutionMode,
+    ImportAttributes, ModuleInfo,
 };
 use deno_graph_source::text::{JsString, Position, PositionRange, SourceRange, SourceTextInfo};
 use deno_graph_source::tree::{Comments, MediaType, ParsedSource};
-use deno_graph_source::values::ResolutionMode;
 use std::alloc::Global;
 
 pub fn look_up(alloc: Global, made: &Made) -> Result<(), Fault> {
-    positions(made.source.text_info_lazy())?;
-    strings(&made.surrogate)?;
-    parts(alloc, &made.source)?;
-    dependencies(&made.info)?;
-    let walk = Walk::new(alloc, made.source.program());
-    check(walk.entered() == 0, "Walk::new")?;
     check(
-        MediaType::Dmts.is_typed() && !MediaType::Jsx.is_typed(),
-        "is_typed",
+        positions_are_found(made.source.text_info_lazy()),
+        "positions",
     )?;
-    let mode = TypeScriptTypesResolutionMode::Import.as_deno_graph();
-    check(mode == ResolutionMode::Import, "as_deno_graph")
+    check(is_surrogate(&made.surrogate), "strings")?;
+    check(parts_are_found(&made.source), "parts of a source")?;
+    check(is_import(made.info.dependencies.first()), "dependencies")?;
+    check(
+        Walk::new(alloc, made.source.program()).entered() == 0,
+        "Walk::new",
+    )?;
+    check(
+        Comments::new(alloc) != *made.source.comments(),
+        "Comments::new",
+    )
 }
 
-fn positions(info: &SourceTextInfo) -> Result<(), Fault> {
+fn positions_are_found(info: &SourceTextInfo) -> bool {
     let range = SourceRange { start: 13, end: 16 };
-    let start = Position::new(1, 7);
-    check(info.text() == TEXT, "text")?;
-    check(info.range_text(&range) == Some("\"a\""), "range_text")?;
-    check(
-        info.range_text(&SourceRange { start: 4, end: 5 }).is_none(),
-        "range_text",
-    )?;
-    check(start.as_source_pos(info) == Some(13), "as_source_pos")?;
-    check(
-        Position::new(0, 5).as_source_pos(info).is_none(),
-        "as_source_pos",
-    )?;
-    check(
-        Position::new(0, 4) < start && Position::zeroed() < start,
-        "Ord of Position",
-    )?;
-    let positions = PositionRange {
-        start,
-        end: Position::new(1, 10),
-    };
-    check(
-        positions.as_source_range(info) == Some(range),
-        "as_source_range",
-    )?;
+    let (start, end) = (Position::new(1, 7), Position::new(1, 10));
+    let positions = PositionRange { start, end };
     let text = info.text();
-    if text.is_char_boundary(13) && text.is_char_boundary(16) {
-        check(
-            Position::from_source_pos(13, info) == start,
-            "from_source_pos",
-        )?;
-        let from_range = PositionRange::from_source_range(range, info);
-        check(from_range == positions, "from_source_range")?;
-    }
-    Ok(())
+    text == TEXT
+        && info.range_text(&range) == Some("\"a\"")
+        && info.range_text(&SourceRange { start: 4, end: 5 }).is_none()
+        && start.as_source_pos(info) == Some(13)
+        && Position::new(0, 5).as_source_pos(info).is_none()
+        && positions.as_source_range(info) == Some(range)
+        && text.is_char_boundary(13)
+        && text.is_char_boundary(16)
+        && Position::from_source_pos(13, info) == start
+        && PositionRange::from_source_range(range, info) == positions
 }
 
-fn strings(surrogate: &JsString) -> Result<(), Fault> {
-    check(surrogate.as_str().is_none(), "as_str")?;
-    check(surrogate.to_str_lossy() == "\u{fffd}", "to_str_lossy")?;
-    check(!surrogate.is_empty() && surrogate == surrogate, "is_empty")
+fn is_surrogate(string: &JsString) -> bool {
+    string.as_str().is_none()
+        && string.to_str_lossy() == "\u{fffd}"
+        && !string.is_empty()
+        && string == string
 }
 
-fn parts(alloc: Global, source: &ParsedSource) -> Result<(), Fault> {
+fn parts_are_found(source: &ParsedSource) -> bool {
     let leading = source.comments().get_leading(6);
-    let is_there = leading.is_some_and(|comments| comments.len() == 1);
-    check(is_there, "get_leading")?;
-    check(source.comments().get_trailing(6).is_none(), "get_trailing")?;
-    check(
-        source.specifier().as_str() == crate::sources::U,
-        "specifier",
-    )?;
-    check(source.text().as_str() == TEXT, "text of a source")?;
-    check(source.media_type() == MediaType::TypeScript, "media_type")?;
-    check(!source.has_scope_analysis(), "has_scope_analysis")?;
-    check(Comments::new(alloc) != *source.comments(), "Comments::new")
+    leading.is_some_and(|comments| comments.len() == 1)
+        && source.comments().get_trailing(6).is_none()
+        && source.specifier().as_str() == crate::sources::U
+        && source.text().as_str() == TEXT
+        && source.media_type() == MediaType::TypeScript
+        && !source.has_scope_analysis()
 }
 
-fn dependencies(info: &ModuleInfo) -> Result<(), Fault> {
-    let Some(found) = info.dependencies.first() else {
-        return Err(Fault::State("the import is missing"));
+fn is_import(found: Option<&DependencyDescriptor>) -> bool {
+    let Some(found) = found else {
+        return false;
     };
-    let is_import = found.as_static().is_some_and(|import| import.specifier.as_str() == "a"
-        && import.is_side_effect);
-    check(is_import, "as_static")?;
-    check(found.as_dynamic().is_none(), "as_dynamic")?;
     let attributes = found.import_attributes();
-    check(
-        attributes.is_none() && !attributes.has_asset(),
-        "import_attributes",
-    )?;
-    check(attributes.get("type").is_none(), "get")?;
-    check(DynamicArgument::default().is_expr(), "is_expr")
+    found.as_static().is_some_and(|import| import.specifier.as_str() == "a"
+        && import.is_side_effect)
+        && found.as_dynamic().is_none()
+        && attributes.is_none()
+        && !attributes.has_asset()
+        && attributes.get("type").is_none()
+        && DynamicArgument::default().is_expr()
 }
 
 /// The calls that take their value over, and those that make one of nothing.
