@@ -39,7 +39,7 @@ impl Model for SourceTextInfo {
 }
 
 impl SourceTextInfo {
-    /// Reads `text` once, and keeps about a fifth of its size besides. An error where memory was
+    /// Reads `text` once, and keeps about a quarter of its size besides. An error where memory was
     /// refused.
     pub fn new(alloc: Global, text: RcStr) -> Result<SourceTextInfo, AllocError>
         ensures { IfOk result (λ info. info ≡ rc_str_bytes text) }
@@ -65,7 +65,7 @@ impl SourceTextInfo {
         &self.text
     }
 
-    /// A place at or before `pos`. Where `pos` lies in the text they are less than 128 bytes apart.
+    /// A place at or before `pos`. Where `pos` lies in the text they are less than 96 bytes apart.
     pub(crate) fn place_up_to(&self, pos: usize) -> Place
         ensures place { IsPlace self.now result }
         ensures before { result.pos ≤ pos }
@@ -78,7 +78,7 @@ impl SourceTextInfo {
         }
     }
 
-    /// A place whose position is at or before `position`. It is less than 128 bytes before the
+    /// A place whose position is at or before `position`. It is less than 96 bytes before the
     /// boundary that has this position, if there is one.
     pub(crate) fn place_up_to_position(&self, position: Position) -> Place
         ensures place { IsPlace self.now result }
