@@ -20,7 +20,7 @@ refuses wanted fault answer is h = let p = err_from_is_err_and answer is in rw (
 
 -- a value that is there or not
 pub seen_or_shape : {A B : Type 0} (seen : B → A) (o : Option B) (wanted : Option A) (answer : Result B ReadFault) → option_map seen o ≡ wanted → answer ≡ ok_or o Shape → AnswersSeen seen wanted answer
-seen_or_shape seen None wanted answer is made = rw made (sym is)
+seen_or_shape seen None wanted answer is made = rw made (refl, sym is)
 seen_or_shape seen (Some x) wanted answer is made = rw made (sym is)
 
 module _ {A B : Type 0} (wanted : Option A) (f : A → Option B) where
@@ -32,6 +32,10 @@ module _ {A B : Type 0} (wanted : Option A) (f : A → Option B) where
   -- the exit of a `?`
   pub exits : (fault : ReadFault) (answer : Result B ReadFault) → IsErrAnd answer (λ other. other ≡ fault) → IsRefusal wanted fault → Answers (wanted >>= f) answer
   exits fault answer is h = let p = err_from_is_err_and answer is in rw (p.1, p.2) (refused fault h)
+
+  -- the exit of a `?` behind a reader that takes no memory
+  pub exits_shape : (fault : ReadFault) (answer : Result B ReadFault) → IsErrAnd answer (λ other. other ≡ fault) → (fault ≡ Shape) × (wanted ≡ None) → Answers (wanted >>= f) answer
+  exits_shape fault answer is h = exits fault answer is (rw h.0 h.1)
 
   -- a step that has a value goes on with it
   pub answers_on : (x : A) (answer : Result B ReadFault) → wanted ≡ Some x → Answers (f x) answer → Answers (wanted >>= f) answer

@@ -122,21 +122,21 @@ fn read_map<T: FromJson + Drop>(
     Ok(map)
 }
 
-/// The text that the value is.
+/// The text that the value is, or Shape where it is none. Takes no memory.
 pub fn read_str(value: &Value) -> Result<&str, ReadFault>
     ensures { AnswersSeen (λ s. s.now) (as_str (view value.now)) result }
 {
     value.as_str().ok_or(ReadFault::Shape)
 }
 
-/// The items of the array that the value is.
+/// The items of the array that the value is, or Shape where it is none. Takes no memory.
 pub fn read_array(value: &Value) -> Result<&Vec<Value>, ReadFault>
     ensures { AnswersSeen (λ v. items_view v.now.items) (as_array (view value.now)) result }
 {
     value.as_array().ok_or(ReadFault::Shape)
 }
 
-/// The members of the object that the value is.
+/// The members of the object that the value is, or Shape where it is none. Takes no memory.
 pub fn read_object(value: &Value) -> Result<&Map<String, Value>, ReadFault>
     ensures { AnswersSeen (λ m. members_view m.now.entries) (as_object (view value.now)) result }
 {
@@ -181,7 +181,7 @@ pub fn read_member<T: FromJson>(
     }
 }
 
-/// The text of a member that has to be there.
+/// The text of a member that has to be there, or Shape where there is none. Takes no memory.
 #[tactic(auto, unfolding(crate::specs::Read::Partial::member_at))]
 pub fn read_str_member<'v>(object: &'v Map<String, Value>, key: &str) -> Result<&'v str, ReadFault>
     ensures { AnswersSeen (λ s. s.now)

@@ -12,6 +12,8 @@ IsRefusal wanted OutOfMemory = Unit {0}
 abbrev pub Answers : {A : Type 0} → Option A → Result A ReadFault → Type 0
 Answers wanted answer = MatchResult answer (λ x. wanted ≡ Some x) (IsRefusal wanted)
 
--- the same of an answer that is seen as a value, such as a reference as what it points to
+-- The same of a reader that takes no memory: it is refused by Shape alone. Its answer is seen as a
+-- value, such as a reference as what it points to.
 abbrev pub AnswersSeen : {A B : Type 0} → (B → A) → Option A → Result B ReadFault → Type 0
-AnswersSeen seen wanted answer = MatchResult answer (λ x. wanted ≡ Some (seen x)) (IsRefusal wanted)
+AnswersSeen seen wanted answer =
+    MatchResult answer (λ x. wanted ≡ Some (seen x)) (λ fault. (fault ≡ Shape) × (wanted ≡ None))

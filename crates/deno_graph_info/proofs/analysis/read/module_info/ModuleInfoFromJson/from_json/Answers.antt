@@ -1,11 +1,11 @@
 use Rattle.std.proofs.Common.{refl}
-use Rattle.deno_graph_json.proofs.Reading.{goes_on, answers_on, exits}
+use Rattle.deno_graph_json.proofs.Reading.{goes_on, answers_on, exits, exits_shape}
 use Rattle.deno_graph_info.specs.Json.Read.Info.{reads_info}
 use Rattle.deno_graph_info.proofs.analysis.read.module_info.ModuleInfoFromJson.from_json.Goals as goal
 
 pub returns-in_err-object : goal.returns-in_err-object
 unfolding reads_info
-returns-in_err-object c = exits _ _ _ _ c.from_residual.ensures.1 c.in_err-object.ensures
+returns-in_err-object c = exits_shape _ _ _ _ c.from_residual.ensures.1 c.in_err-object.ensures
 
 pub returns-in_err-is_script : goal.returns-in_err-is_script
 unfolding reads_info
