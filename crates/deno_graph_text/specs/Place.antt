@@ -17,7 +17,7 @@ pub record ArePlaces (text : List ℕ) (places : List Place) : Type 0 where
 
 -- a search counts on from a checkpoint through fewer bytes than this
 abbrev pub reach : ℕ
-reach = 96
+reach = 97
 
 -- `pos` is within reach of the start of the text or of one of `places`, which stands at or before it
 abbrev pub IsNear : List Place → ℕ → Type 0

@@ -8,12 +8,12 @@ use std::alloc::{AllocError, Global};
 
 /// The most bytes from one checkpoint to the next, which has at most three fewer, so as not to cut
 /// a character. At this distance they take a quarter of the text's size.
-const STRIDE: usize = 95;
+const STRIDE: usize = 96;
 
 /// The checkpoints of `text`, or an error where memory was refused.
 pub(crate) fn checkpoints(alloc: Global, text: &str) -> Result<Vec<Place>, AllocError>
     ensures checkpoints { IfOk result (λ places. AreCheckpoints text.now places.items) }
-    ensures few { IfOk result (λ places. 92 * vec_len places ≤ length text.now) }
+    ensures few { IfOk result (λ places. 93 * vec_len places ≤ length text.now) }
 {
     let mut places = Vec::with_capacity(alloc, text.len() / (STRIDE - 3))?;
     let mut place = Place::start();

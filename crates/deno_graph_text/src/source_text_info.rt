@@ -65,7 +65,7 @@ impl SourceTextInfo {
         &self.text
     }
 
-    /// A place at or before `pos`. Where `pos` lies in the text they are less than 96 bytes apart.
+    /// A place at or before `pos`. Where `pos` lies in the text they are at most 96 bytes apart.
     pub(crate) fn place_up_to(&self, pos: usize) -> Place
         ensures place { IsPlace self.now result }
         ensures before { result.pos ≤ pos }
@@ -78,7 +78,7 @@ impl SourceTextInfo {
         }
     }
 
-    /// A place whose position is at or before `position`. It is less than 96 bytes before the
+    /// A place whose position is at or before `position`. It is at most 96 bytes before the
     /// boundary that has this position, if there is one.
     pub(crate) fn place_up_to_position(&self, position: Position) -> Place
         ensures place { IsPlace self.now result }

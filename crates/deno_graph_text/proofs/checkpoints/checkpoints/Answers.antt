@@ -7,7 +7,7 @@ use Rattle.deno_graph_text.proofs.checkpoints.checkpoints.Goals as goal
 pub ahead-place-requires-clause-order : goal.ahead-place-requires-clause-order
 ahead-place-requires-clause-order c =
     let inv = c.loop-place.invariant in
-    let near = near_floor c.args.text.now c.loop-place.place.pos (c.loop-place.place.pos + 95) c.floor_char_boundary.result c.utf8.text inv.place.boundary (omega arith) (omega arith) c.floor_char_boundary.ensures.nearest in
+    let near = near_floor c.args.text.now c.loop-place.place.pos (c.loop-place.place.pos + 96) c.floor_char_boundary.result c.utf8.text inv.place.boundary (omega arith) (omega arith) c.floor_char_boundary.ensures.nearest in
     omega arith
 
 pub ahead-place-requires-clause-short : goal.ahead-place-requires-clause-short
@@ -16,14 +16,14 @@ ahead-place-requires-clause-short c = omega (arith, c.floor_char_boundary.ensure
 pub loop-place-smaller : goal.loop-place-smaller
 loop-place-smaller c =
     let inv = c.loop-place.invariant in
-    let near = near_floor c.args.text.now c.loop-place.place.pos (c.loop-place.place.pos + 95) c.floor_char_boundary.result c.utf8.text inv.place.boundary (omega arith) (omega arith) c.floor_char_boundary.ensures.nearest in
+    let near = near_floor c.args.text.now c.loop-place.place.pos (c.loop-place.place.pos + 96) c.floor_char_boundary.result c.utf8.text inv.place.boundary (omega arith) (omega arith) c.floor_char_boundary.ensures.nearest in
     omega (arith, c.ahead-place.ensures.pos)
 
 pub loop-place-preserved : goal.loop-place-preserved
 loop-place-preserved c =
     let text = c.args.text.now in
     let inv = c.loop-place.invariant in
-    let near = near_floor text c.loop-place.place.pos (c.loop-place.place.pos + 95) c.floor_char_boundary.result c.utf8.text inv.place.boundary (omega arith) (omega arith) c.floor_char_boundary.ensures.nearest in
+    let near = near_floor text c.loop-place.place.pos (c.loop-place.place.pos + 96) c.floor_char_boundary.result c.utf8.text inv.place.boundary (omega arith) (omega arith) c.floor_char_boundary.ensures.nearest in
     let next = c.ahead-place.result in
     let order : c.loop-place.place.pos ≤ next.pos = omega (arith, c.ahead-place.ensures.pos) in
     let pushed : c.loop-place.places.items ++ next ∷ [] ≡ c.push.new.self.items = sym c.in_ok-push.ensures.items in

@@ -1,4 +1,4 @@
--- The place is the last checkpoint or the start, and what is less than 96 bytes behind it is in reach.
+-- The place is the last checkpoint or the start, and what is less than 97 bytes behind it is in reach.
 use Rattle.std.proofs.Common.{ℕ, ◌+◌, ◌-◌, ◌*◌, ◌<◌, ◌≤◌, All, vec_len, length}
 use Rattle.deno_graph_text.specs.Place.{IsPlace, ArePlaces, IsNear, reach}
 use Rattle.deno_graph_text.proofs.checkpoints.checkpoints.Given as goal
@@ -8,7 +8,7 @@ invariant-loop-place l = record {
   place : IsPlace l.text l.place;
   places : ArePlaces l.text l.places.items;
   near : (pos : ℕ) → pos < l.place.pos + reach → IsNear l.places.items pos;
-  few : 92 * vec_len l.places ≤ l.place.pos;
+  few : 93 * vec_len l.places ≤ l.place.pos;
   before : All (λ place. place.pos ≤ l.place.pos) l.places.items;
 }
 
