@@ -7,7 +7,8 @@ use crate::place::Place;
 use std::alloc::{AllocError, Global};
 
 /// The most bytes from one checkpoint to the next, which has at most three fewer, so as not to cut
-/// a character. At this distance they take a quarter of the text's size.
+/// a character. At this distance they take a quarter of the text's size, and the loops that count
+/// many bytes at once leave none over.
 const STRIDE: usize = 96;
 
 /// The checkpoints of `text`, or an error where memory was refused.
