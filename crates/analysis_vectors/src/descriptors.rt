@@ -81,6 +81,9 @@ fn borrowed_dependencies_by_their_parts(rt: HostRuntime) -> Result<(), Fail> {
             .is_some_and(|first| is_the_borrowed_import(first, leading))
     );
     assert!(rt; found.last().is_some_and(is_the_borrowed_call));
+    for dependency in found.iter() {
+        assert!(rt; dependency.try_clone(rt.alloc())? == *dependency);
+    }
     Ok(())
 }
 
