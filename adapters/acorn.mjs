@@ -15,17 +15,29 @@ const SOURCE_TYPES = {
   Cjs: ["script"],
 };
 
+const LONGEST_WORD = "import".length;
+const MODULE_WORD = /^(?:import|export|await)(?![\p{ID_Continue}$])/u;
+/** In a script `await` is a name, behind which no operand stands. */
+const AWAIT_BEFORE = new RegExp(
+  String.raw`(?<![\p{ID_Continue}$.#])await(?:\s|/\*(?:(?!\*/)[^])*\*/|//.*[\n\r\u2028\u2029])+$`,
+  "u",
+);
+/** How much of the text before an offset is looked at. */
+const BEFORE = 100;
+
 /** The media types that acorn reads; of Jsx only what has no JSX in it. */
 export const ACORN_MEDIA_TYPES = Object.keys(SOURCE_TYPES);
+
+let extended;
 
 /**
  * @param {Source} source
  * @param {string} mediaType
  * @returns {Parsed}
+ * @throws {import("./source.mjs").SourceFault} a syntax error
  */
 export function parseWithAcorn(source, mediaType) {
-  const acorn = loadParser("acorn");
-  const parser = acorn.Parser.extend((Parser) => withAttributes(Parser, acorn));
+  const parser = loadAcorn();
   const errors = [];
   for (const sourceType of SOURCE_TYPES[mediaType]) {
     try {
@@ -37,8 +49,38 @@ export function parseWithAcorn(source, mediaType) {
       errors.push(error);
     }
   }
-  const furthest = errors.reduce((one, other) => (other.pos > one.pos ? other : one));
-  throw source.fault(furthest.pos, furthest.message.replace(/ \(\d+:\d+\)$/, ""));
+  const { pos, message } = errorToShow(source.text, errors);
+  throw source.fault(pos, message.replace(/ \(\d+:\d+\)$/, ""));
+}
+
+/** @returns {any} acorn's parser, with import attributes */
+function loadAcorn() {
+  const acorn = loadParser("acorn");
+  extended ??= acorn.Parser.extend((Parser) => withAttributes(Parser, acorn));
+  return extended;
+}
+
+/**
+ * Of the errors in the order of the ways: the module's where the script's is that it has the syntax
+ * of a module, else the one that stands furthest behind.
+ * @param {string} text
+ * @param {{ pos: number, message: string }[]} errors
+ */
+function errorToShow(text, [first, ...others]) {
+  if (others.some(({ pos }) => isModuleSyntax(text, pos))) {
+    return first;
+  }
+  return others.reduce((one, other) => (other.pos > one.pos ? other : one), first);
+}
+
+/**
+ * Whether a script ends at an offset since a module goes on there.
+ * @param {string} text
+ * @param {number} offset
+ */
+function isModuleSyntax(text, offset) {
+  return MODULE_WORD.test(text.slice(offset, offset + LONGEST_WORD + 2)) ||
+    AWAIT_BEFORE.test(text.slice(Math.max(0, offset - BEFORE), offset));
 }
 
 /**

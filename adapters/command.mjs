@@ -1,135 +1,131 @@
 /** The command line of an adapter: from a file, or the standard input, to the standard output. */
 
-import { existsSync, readFileSync, realpathSync } from "node:fs";
-import { fileURLToPath, pathToFileURL } from "node:url";
-import { parseArgs } from "node:util";
+import { readFileSync } from "node:fs";
+import { pathToFileURL } from "node:url";
 
-import { SourceFault } from "./source.mjs";
-
-/** `modinfo` reads JSON that nests no deeper. */
-const DEEPEST = 127;
-
-/** By the ends of names, the longer ones first. */
-const MEDIA_TYPES = [
-  [".d.ts", "Dts"], [".d.mts", "Dmts"], [".d.cts", "Dcts"],
-  [".ts", "TypeScript"], [".mts", "Mts"], [".cts", "Cts"], [".tsx", "Tsx"],
-  [".js", "JavaScript"], [".jsx", "Jsx"], [".mjs", "Mjs"], [".cjs", "Cjs"],
-];
+import { describeFault, faultOf } from "./faults.mjs";
+import { LINE_OPTIONS, runLines } from "./lines.mjs";
+import { isAbsoluteUrl, mediaTypeOf } from "./media_types.mjs";
+import { writeOutput } from "./output.mjs";
+import { UsageFault, runProgram, usageOf } from "./program.mjs";
+import { decode, documentOf } from "./reading.mjs";
 
 /**
  * @typedef {object} Adapter
  * @property {string} name
+ * @property {string} url that of its module
+ * @property {string} parser the module that it parses with
  * @property {string[]} mediaTypes those that its parser reads
  * @property {string} standard that of the standard input
- * @property {(text: string, options: Options) => object} toDocument
+ * @property {import("./reading.mjs").ToDocument} toDocument
  *
- * @typedef {{ specifier: string, mediaType: string }} Options
+ * @typedef {import("./program.mjs").Words} Words
  */
 
-class UsageFault extends Error {}
+const OPTIONS = { specifier: { type: "string" }, "media-type": { type: "string" } };
 
 /**
- * Whether a module is the program that node was started with.
- * @param {string} url
- */
-export function isMain(url) {
-  const [, program = ""] = process.argv;
-  return existsSync(program) && realpathSync(program) === fileURLToPath(url);
-}
-
-/**
- * Writes the document of the file that the words name. Status 1 is for a file that can't be read
- * or has no document, 2 for other words than the usage.
+ * Writes the document of the file that the words name, or with `--lines` those of all files.
  * @param {Adapter} adapter
  */
 export function run(adapter) {
-  process.stdout.on("error", () => process.exit(1));
+  return runProgram({
+    name: adapter.name,
+    parser: adapter.parser,
+    help: helpOf(adapter),
+    options: { ...OPTIONS, lines: { type: "boolean" }, ...LINE_OPTIONS },
+    main: (words) => (words.values.lines ? writeLines(adapter, words) : writeOne(adapter, words)),
+  });
+}
+
+/** @param {Adapter} adapter */
+function helpOf({ name, mediaTypes, standard }) {
+  return `usage: node ${name} [--specifier URL] [--media-type NAME] FILE
+       node ${name} --lines [--jobs N] [--all] [-0] PATH ..
+
+Writes the document of a file, which \`modinfo analyze\` reads; with --lines those of all files, one
+a line, which \`modinfo analyze --lines\` reads.
+
+  FILE               a file, or - for the standard input
+  --specifier URL    the module's; else the file's URL
+  --media-type NAME  ${mediaTypes.join(", ")};
+                     else by the file's name, for the standard input ${standard}
+  PATH               a file, a folder, or - for paths from the standard input, one a line
+  --jobs N           threads that parse; else one for each processor
+  --all              also what is in node_modules and in folders that begin with a dot
+  -0, --null         paths from the standard input end with zero bytes
+  --help, --version  writes this, or the versions
+
+Status 0; 1 where a file has no document, with a line on the error output for each; 2 for words that
+aren't the usage.
+`;
+}
+
+/**
+ * @param {Adapter} adapter
+ * @param {Words} words
+ */
+function writeLines(adapter, { values, positionals }) {
+  const { name, url, mediaTypes } = adapter;
+  const single = Object.keys(OPTIONS).find((option) => values[option] !== undefined);
+  if (single) {
+    throw new UsageFault(`--${single} is for one file, and not for --lines`);
+  }
+  if (positionals.length === 0) {
+    throw new UsageFault(usageOf(helpOf(adapter)));
+  }
+  return runLines({ name, values, paths: positionals, work: { adapter: url, mediaTypes } });
+}
+
+/**
+ * @param {Adapter} adapter
+ * @param {Words} words
+ */
+async function writeOne(adapter, words) {
+  const { file, ...options } = readOptions(adapter, words);
   try {
-    process.stdout.write(adapt(adapter, process.argv.slice(2)));
+    const text = decode(readFileSync(file === "-" ? 0 : file));
+    const { json, warnings } = documentOf(adapter.toDocument, text, options);
+    for (const { message, ...place } of warnings) {
+      say(adapter, file, { message: `warning: ${message}`, ...place });
+    }
+    await writeOutput(`${json}\n`);
+    return 0;
   } catch (error) {
-    process.stderr.write(`${adapter.name}: ${error.message}\n`);
-    process.exitCode = error instanceof UsageFault ? 2 : 1;
+    if (error.name === "OutputFault") {
+      throw error;
+    }
+    say(adapter, file, faultOf(error));
+    return 1;
   }
 }
 
 /**
  * @param {Adapter} adapter
- * @param {string[]} words
+ * @param {string} file
+ * @param {import("./faults.mjs").Fault} fault
  */
-function adapt(adapter, words) {
-  const { file, specifier, mediaType } = readWords(adapter, words);
-  const text = readText(file);
-  try {
-    const document = adapter.toDocument(text, { specifier, mediaType });
-    if (nesting(document) > DEEPEST) {
-      throw new Error(`${file}: the document nests deeper than ${DEEPEST}`);
-    }
-    return `${JSON.stringify(document)}\n`;
-  } catch (error) {
-    if (error instanceof SourceFault) {
-      throw new Error(`${file}:${error.line}:${error.column}: ${error.message}`);
-    }
-    throw error;
-  }
+function say({ name }, file, fault) {
+  process.stderr.write(`${name}: ${describeFault(file, fault)}\n`);
 }
 
 /**
  * @param {Adapter} adapter
- * @param {string[]} words
+ * @param {Words} words
  */
-function readWords(adapter, words) {
-  const usage = `usage: node ${adapter.name} [--specifier URL] [--media-type NAME] FILE or -`;
-  let parsed;
-  try {
-    const options = { specifier: { type: "string" }, "media-type": { type: "string" } };
-    parsed = parseArgs({ args: words, options, allowPositionals: true });
-  } catch {
-    throw new UsageFault(usage);
+function readOptions(adapter, { values, positionals: [file, ...others] }) {
+  const lines = Object.keys(LINE_OPTIONS).find((option) => values[option] !== undefined);
+  if (file === undefined || others.length > 0 || lines) {
+    throw new UsageFault(usageOf(helpOf(adapter)));
   }
-  const { values, positionals: [file, ...others] } = parsed;
-  if (file === undefined || others.length > 0) {
-    throw new UsageFault(usage);
+  const { specifier = pathToFileURL(file === "-" ? "stdin" : file).href } = values;
+  if (!isAbsoluteUrl(specifier)) {
+    throw new UsageFault(`--specifier is to be an absolute URL, and is ${specifier}`);
   }
-  const specifier = values.specifier ?? pathToFileURL(file === "-" ? "stdin" : file).href;
-  const mediaType = values["media-type"] ?? mediaTypeOf(file === "-" ? values.specifier : file) ??
-    (file === "-" ? adapter.standard : undefined);
+  const named = mediaTypeOf(file === "-" ? values.specifier : file);
+  const mediaType = values["media-type"] ?? named ?? (file === "-" ? adapter.standard : undefined);
   if (!adapter.mediaTypes.includes(mediaType)) {
     throw new UsageFault(`${file}: --media-type is to be one of ${adapter.mediaTypes.join(", ")}`);
   }
   return { file, specifier, mediaType };
-}
-
-/**
- * The media type by a file's name, or a URL's.
- * @param {string | undefined} name
- */
-export function mediaTypeOf(name) {
-  const path = name?.replace(/^([a-z][a-z0-9+.-]*:[^?#]*).*$/is, "$1").toLowerCase();
-  return MEDIA_TYPES.find(([ending]) => path?.endsWith(ending))?.[1];
-}
-
-/** @param {string} file */
-function readText(file) {
-  const bytes = readFileSync(file === "-" ? 0 : file);
-  try {
-    return new TextDecoder("utf-8", { fatal: true, ignoreBOM: true }).decode(bytes);
-  } catch {
-    throw new Error(`${file}: the file is not UTF-8`);
-  }
-}
-
-/**
- * How deep a JSON value nests.
- * @param {unknown} value
- * @returns {number}
- */
-export function nesting(value) {
-  if (typeof value !== "object" || value === null) {
-    return 0;
-  }
-  let deepest = 0;
-  for (const member of Object.values(value)) {
-    deepest = Math.max(deepest, nesting(member));
-  }
-  return deepest + 1;
 }

@@ -8,9 +8,9 @@
  */
 
 // What ECMAScript counts as white space, and what TypeScript adds to it.
-const NO_SPACE = /[^\s\u0085\u180E\u200B]/u;
-const NEXT_NO_SPACE = /[^\s\u0085\u180E\u200B]/gu;
-const LINE_BREAK = /[\n\r\u2028\u2029]/u;
+const SPACE = /[\s\u0085\u180E\u200B]/u;
+const LINE_BREAKS = [0x0a, 0x0d, 0x2028, 0x2029];
+const IDENTIFIER_PART = /[\p{ID_Continue}$\u200C\u200D]/u;
 
 const KEYWORDS = new Set(
   ("await break case catch class const continue debugger default delete do else export extends " +
@@ -20,8 +20,10 @@ const KEYWORDS = new Set(
 
 /** The text between tokens: white space and comments. */
 export class Trivia {
-  #startOf = new Map();
-  #endOf = new Map();
+  /** By the ends of comments their starts. @type {Map<number, number> | undefined} */
+  #starts;
+  /** By the starts of comments their ends. @type {Map<number, number> | undefined} */
+  #ends;
 
   /**
    * @param {string} text
@@ -30,20 +32,18 @@ export class Trivia {
   constructor(text, comments) {
     this.text = text;
     this.comments = comments;
-    for (const { start, end } of comments) {
-      this.#startOf.set(end, start);
-      this.#endOf.set(start, end);
-    }
   }
 
   /**
    * The end of the last token that ends at or before an offset; 0 where there is none.
    * @param {number} offset
+   * @returns {number}
    */
   tokenEnd(offset) {
+    this.#starts ??= new Map(this.comments.map(({ start, end }) => [end, start]));
     let at = spaceStart(this.text, offset);
-    while (this.#startOf.has(at)) {
-      at = spaceStart(this.text, this.#startOf.get(at));
+    while (this.#starts.has(at)) {
+      at = spaceStart(this.text, this.#starts.get(at));
     }
     return at;
   }
@@ -52,11 +52,13 @@ export class Trivia {
    * The start of the first token that starts at or after an offset; the text's length where there
    * is none.
    * @param {number} offset
+   * @returns {number}
    */
   tokenStart(offset) {
+    this.#ends ??= new Map(this.comments.map(({ start, end }) => [start, end]));
     let at = spaceEnd(this.text, offset);
-    while (this.#endOf.has(at)) {
-      at = spaceEnd(this.text, this.#endOf.get(at));
+    while (this.#ends.has(at)) {
+      at = spaceEnd(this.text, this.#ends.get(at));
     }
     return at;
   }
@@ -115,8 +117,8 @@ export function fileComments(trivia, shebangEnd, endsOperand) {
   const leading = new Map();
   const trailing = new Map();
   for (const group of groups(trivia)) {
-    const last = Math.max(trivia.tokenEnd(group[0].start), shebangEnd);
-    const next = trivia.tokenStart(group[group.length - 1].end);
+    const last = Math.max(spaceStart(text, group[0].start), shebangEnd);
+    const next = spaceEnd(text, group[group.length - 1].end);
     if (next === text.length) {
       const [filed, position] = last === 0 ? [leading, 0] : [trailing, text.length];
       group.forEach((comment) => file(filed, position, comment));
@@ -164,17 +166,34 @@ function trailsToken(text, tokenEnd, endsOperand) {
   if (tokenEnd === 0) {
     return () => false;
   }
-  const token = classify(text, tokenEnd, endsOperand);
+  let token;
   let seen = tokenEnd;
   let lineBreak = false;
   return ({ kind, start, end }) => {
-    lineBreak ||= LINE_BREAK.test(text.slice(seen, start));
+    lineBreak ||= hasLineBreak(text, seen, start);
     seen = start;
+    if (!lineBreak) {
+      token ??= classify(text, tokenEnd, endsOperand);
+    }
     if (kind === "line") {
       return !lineBreak && token !== "operator";
     }
     return (!lineBreak && token === "trailed") || text[spaceEnd(text, end)] === ";";
   };
+}
+
+/**
+ * @param {string} text
+ * @param {number} from
+ * @param {number} to
+ */
+function hasLineBreak(text, from, to) {
+  for (let at = from; at < to; at++) {
+    if (LINE_BREAKS.includes(text.charCodeAt(at))) {
+      return true;
+    }
+  }
+  return false;
 }
 
 /**
@@ -186,8 +205,8 @@ function trailsToken(text, tokenEnd, endsOperand) {
  */
 export function classify(text, end, endsOperand) {
   const last = text[end - 1];
-  if (/[\p{ID_Continue}$\u200C\u200D]/u.test(lastCharacter(text, end))) {
-    return KEYWORDS.has(wordBefore(text, end)) ? "other" : "trailed";
+  if (/[\w$]/.test(last) || (last > "\x7f" && IDENTIFIER_PART.test(lastCharacter(text, end)))) {
+    return /[a-z]/.test(last) && KEYWORDS.has(wordBefore(text, end)) ? "other" : "trailed";
   }
   if (/[{};"']/.test(last)) {
     return "trailed";
@@ -259,7 +278,7 @@ function wordBefore(text, end) {
  */
 function spaceStart(text, offset) {
   let at = offset;
-  while (at > 0 && !NO_SPACE.test(text[at - 1])) {
+  while (at > 0 && isSpace(text, at - 1)) {
     at--;
   }
   return at;
@@ -271,8 +290,20 @@ function spaceStart(text, offset) {
  * @param {number} offset
  */
 function spaceEnd(text, offset) {
-  NEXT_NO_SPACE.lastIndex = offset;
-  return NEXT_NO_SPACE.exec(text)?.index ?? text.length;
+  let at = offset;
+  while (at < text.length && isSpace(text, at)) {
+    at++;
+  }
+  return at;
+}
+
+/**
+ * @param {string} text
+ * @param {number} offset
+ */
+function isSpace(text, offset) {
+  const unit = text.charCodeAt(offset);
+  return unit < 0x80 ? unit === 0x20 || (unit >= 0x09 && unit <= 0x0d) : SPACE.test(text[offset]);
 }
 
 /**

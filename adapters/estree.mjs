@@ -9,13 +9,18 @@
  */
 
 import { ACORN_MEDIA_TYPES, parseWithAcorn } from "./acorn.mjs";
-import { isMain, run } from "./command.mjs";
+import { run } from "./command.mjs";
 import { Trivia, fileComments, readComments } from "./comments.mjs";
-import { isAttributesKey, writeDocument } from "./document.mjs";
+import { writeDocument } from "./document.mjs";
+import { isKept } from "./kept.mjs";
+import { MEDIA_TYPES, checkOptions } from "./media_types.mjs";
+import { isAttributesKey } from "./nodes.mjs";
+import { isMain } from "./program.mjs";
 import { Source } from "./source.mjs";
 
 /**
  * @typedef {import("./document.mjs").Description} Description
+ * @typedef {import("./kept.mjs").Kept} Kept
  * @typedef {{ type: string, start?: number, end?: number, range?: [number, number] }} Node
  */
 
@@ -34,8 +39,15 @@ const OTHER = Object.freeze({ kind: "Other" });
  * @param {string} options.mediaType a name of `MediaType`
  * @param {Node} [options.tree] the parser's `Program` or `File`; without it acorn parses the text
  * @param {Node[]} [options.comments] the comments; else those that the tree holds
+ * @param {(warning: import("./document.mjs").Warning) => void} [options.warn] is called for each
+ *   argument of which the document says less than the text
+ * @returns {object} the document
+ * @throws {import("./source.mjs").SourceFault} a syntax error, or a lone surrogate
+ * @throws {TypeError} a text or an option that isn't what it has to be
  */
-export function toDocument(text, { specifier, mediaType, tree, comments }) {
+export function toDocument(text, options) {
+  const { specifier, mediaType, tree, comments, warn } = options;
+  checkOptions(text, options, tree ? MEDIA_TYPES : ACORN_MEDIA_TYPES);
   const source = new Source(text);
   const given = tree && { tree, comments: comments ?? tree.comments };
   const parsed = given ?? parseWithAcorn(source, mediaType);
@@ -47,21 +59,31 @@ export function toDocument(text, { specifier, mediaType, tree, comments }) {
   const trivia = new Trivia(text, readComments(text, ranges, source.shebangEnd));
   let ends;
   const endsOperand = (offset) => (ends ??= operandEnds(program)).has(offset);
+  const body = [...(program.directives ?? []), ...program.body];
   return writeDocument({
     specifier,
     mediaType,
     source,
-    view: new EstreeView(trivia),
-    body: [...(program.directives ?? []), ...program.body],
+    view: new EstreeView(trivia, body),
+    body,
     comments: fileComments(trivia, source.shebangEnd, endsOperand),
+    warn,
   });
 }
 
 /** @implements {import("./document.mjs").View} */
 class EstreeView {
-  /** @param {Trivia} trivia */
-  constructor(trivia) {
+  /**
+   * @param {Trivia} trivia
+   * @param {Node[]} body
+   */
+  constructor(trivia, body) {
     this.trivia = trivia;
+    this.body = body;
+  }
+
+  from(node) {
+    return start(node);
   }
 
   start(node) {
@@ -72,8 +94,29 @@ class EstreeView {
     return end(node);
   }
 
-  children(node) {
-    return children(node);
+  /**
+   * It keeps its own stack, since a long sum or a long comma expression is a tree of thousands of
+   * levels.
+   * @returns {Kept[]}
+   */
+  kept() {
+    const kept = [];
+    const todo = [];
+    pushAll(todo, this.body, false);
+    while (todo.length > 0) {
+      const { node, inFunction } = todo.pop();
+      const described = this.describe(node);
+      if (described.kind === "Function") {
+        pushAll(todo, described.inside, true);
+        pushAll(todo, described.outside, inFunction);
+        continue;
+      }
+      if (isKept(described) && !(described.kind === "Await" && inFunction)) {
+        kept.push({ node, described });
+      }
+      pushAll(todo, children(node), inFunction);
+    }
+    return kept;
   }
 
   /**
@@ -293,6 +336,18 @@ class EstreeView {
   }
 }
 
+/**
+ * Puts nodes on a stack, from which the first of them is taken first.
+ * @param {{ node: Node, inFunction: boolean }[]} todo
+ * @param {Node[]} nodes
+ * @param {boolean} inFunction
+ */
+function pushAll(todo, nodes, inFunction) {
+  for (let at = nodes.length - 1; at >= 0; at--) {
+    todo.push({ node: nodes[at], inFunction });
+  }
+}
+
 /** @param {any} node */
 function start(node) {
   const own = node.range?.[0] ?? node.start;
@@ -420,6 +475,12 @@ function operandEnds(tree) {
 }
 
 if (isMain(import.meta.url)) {
-  const name = "adapters/estree.mjs";
-  run({ name, mediaTypes: ACORN_MEDIA_TYPES, standard: "JavaScript", toDocument });
+  run({
+    name: "adapters/estree.mjs",
+    url: import.meta.url,
+    parser: "acorn",
+    mediaTypes: ACORN_MEDIA_TYPES,
+    standard: "JavaScript",
+    toDocument,
+  });
 }

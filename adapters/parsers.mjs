@@ -7,14 +7,37 @@ const DEBIAN_MODULES = "/usr/share/nodejs";
 
 const require = createRequire(import.meta.url);
 
+/** A look-up takes as long as many a file's parse. @type {Map<string, any>} */
+const loaded = new Map();
+
 /**
  * A module as node finds it from this folder, else Debian's.
  * @param {"acorn" | "typescript"} name
+ * @returns {any}
  */
 export function loadParser(name) {
+  const parser = loaded.get(name) ?? load(name, "");
+  loaded.set(name, parser);
+  return parser;
+}
+
+/**
+ * The version of a parser, without loading it.
+ * @param {"acorn" | "typescript"} name
+ * @returns {string}
+ */
+export function parserVersion(name) {
+  return load(name, "/package.json").version;
+}
+
+/**
+ * @param {string} name
+ * @param {string} file
+ */
+function load(name, file) {
   for (const path of [name, `${DEBIAN_MODULES}/${name}`]) {
     try {
-      return require(path);
+      return require(path + file);
     } catch (error) {
       if (error.code !== "MODULE_NOT_FOUND") {
         throw error;
@@ -29,6 +52,7 @@ export function loadParser(name) {
  * @param {{ version: string }} parser
  * @param {number} major
  * @param {number} minor
+ * @returns {boolean}
  */
 export function isAtLeast({ version }, major, minor) {
   const [itsMajor, itsMinor] = version.split(".").map(Number);

@@ -29,16 +29,18 @@ export class SourceFault extends Error {
 export class Source {
   #bytes;
 
-  /** @param {string} text */
+  /**
+   * @param {string} text
+   * @throws {SourceFault} a lone surrogate
+   */
   constructor(text) {
-    const lone = text.search(LONE_SURROGATE);
-    if (lone >= 0) {
-      throw new SourceFault("a lone surrogate is no UTF-8", text, lone);
+    if (!isWellFormed(text)) {
+      throw new SourceFault("a lone surrogate is no UTF-8", text, text.search(LONE_SURROGATE));
     }
     this.text = text;
     /** Behind the `#!` line, or 0 where there is none. */
     this.shebangEnd = SHEBANG.exec(text)?.[0].length ?? 0;
-    this.#bytes = byteOffsets(text);
+    this.#bytes = Buffer.byteLength(text) === text.length ? undefined : new ByteOffsets(text);
   }
 
   /** The text with spaces in place of the `#!` line, which not every parser takes. */
@@ -55,47 +57,94 @@ export class Source {
     return [this.byte(start), this.byte(end)];
   }
 
-  /** @param {number} offset */
+  /**
+   * @param {number} offset in UTF-16 units
+   * @returns {number} in bytes
+   */
   byte(offset) {
-    return this.#bytes ? this.#bytes[offset] : offset;
+    return this.#bytes ? this.#bytes.at(offset) : offset;
   }
 
   /**
-   * @param {number} offset
+   * @param {number} offset in UTF-16 units
    * @param {string} message
+   * @returns {SourceFault}
    */
   fault(offset, message) {
     return new SourceFault(message, this.text, offset);
   }
 }
 
-/**
- * The byte at which each UTF-16 unit begins, and the length; nothing where all of it is ASCII.
- * @param {string} text
- */
-function byteOffsets(text) {
-  if (Buffer.byteLength(text) === text.length) {
-    return undefined;
-  }
-  const bytes = new Uint32Array(text.length + 1);
-  let byte = 0;
-  for (let offset = 0; offset < text.length; offset++) {
-    bytes[offset] = byte;
-    byte += unitBytes(text.charCodeAt(offset));
-  }
-  bytes[text.length] = byte;
-  return bytes;
+/** @param {string} text */
+function isWellFormed(text) {
+  return text.isWellFormed ? text.isWellFormed() : !LONE_SURROGATE.test(text);
 }
 
-/**
- * The two units of a surrogate pair have two bytes each.
- * @param {number} unit
- */
-function unitBytes(unit) {
-  if (unit < 0x80) {
-    return 1;
+/** Units that aren't ASCII; few, since an offset inside of them is counted from their start. */
+const RUN = /[^\0-\x7f]{1,64}/g;
+
+/** The bytes of UTF-8 before each UTF-16 unit of a text, by the runs of units that aren't ASCII. */
+class ByteOffsets {
+  #text;
+  #starts = [];
+  #ends = [];
+  /** How many bytes more than units there are up to the end of each run. */
+  #extras = [];
+
+  /** @param {string} text */
+  constructor(text) {
+    this.#text = text;
+    let extra = 0;
+    RUN.lastIndex = 0;
+    for (let run = RUN.exec(text); run; run = RUN.exec(text)) {
+      extra += this.#extraBytes(run.index, RUN.lastIndex);
+      this.#starts.push(run.index);
+      this.#ends.push(RUN.lastIndex);
+      this.#extras.push(extra);
+    }
   }
-  return unit < 0x800 || (unit >= 0xd800 && unit <= 0xdfff) ? 2 : 3;
+
+  /**
+   * @param {number} offset in units
+   * @returns {number} in bytes
+   */
+  at(offset) {
+    const run = this.#runsUpTo(offset);
+    const extra = run > 0 ? this.#extras[run - 1] : 0;
+    const isInside = run < this.#starts.length && this.#starts[run] < offset;
+    return offset + extra + (isInside ? this.#extraBytes(this.#starts[run], offset) : 0);
+  }
+
+  /**
+   * How many runs end at or before an offset.
+   * @param {number} offset
+   */
+  #runsUpTo(offset) {
+    let [low, high] = [0, this.#ends.length];
+    while (low < high) {
+      const middle = (low + high) >>> 1;
+      if (this.#ends[middle] <= offset) {
+        low = middle + 1;
+      } else {
+        high = middle;
+      }
+    }
+    return low;
+  }
+
+  /**
+   * How many bytes more than units some units are; each of a surrogate pair has two bytes.
+   * @param {number} start
+   * @param {number} end
+   */
+  #extraBytes(start, end) {
+    let extra = 0;
+    for (let at = start; at < end; at++) {
+      const unit = this.#text.charCodeAt(at);
+      extra += unit < 0x800 || (unit >= 0xd800 && unit <= 0xdfff) ? 1 : 2;
+    }
+    return extra;
+  }
 }
 
 /**

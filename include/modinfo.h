@@ -5,9 +5,9 @@
  *
  * What each answers:
  *
- *   MODINFO_ANSWERED   the answer, one line of JSON with its line feed, stands at the front of
+ *   MODINFO_ANSWERED   the answer, one line of JSON with its line feed, is at the front of
  *                      `answer`.
- *   MODINFO_FAULT      the document was refused: the fault's name stands at the front of `answer`
+ *   MODINFO_FAULT      the document was refused: the fault's name is at the front of `answer`
  *                      (Json, Tree, Specifier, Shape ..; README.md lists them). OutOfMemory is among
  *                      them, and no other fault of the machine is.
  *   MODINFO_TOO_SMALL  `room` is too small for what would be written. Nothing is written to
@@ -17,10 +17,10 @@
  * of `answer` behind them are left as they were. There is no zero byte at the end.
  *
  * What you owe: `document` and `answer` point to `document_length` and `room` bytes, also where these
- * are zero (then to any byte); the three don't overlap; no other thread writes to them during the
- * call. Calls may run side by side in many threads. `malloc`, `realloc` and `free` are the
- * program's. Trees use the stack: 8 MiB are enough for every document, whose JSON nests at most 127
- * deep.
+ * are zero (then to any byte): a null pointer isn't tested for. The three don't overlap, and no other
+ * thread writes to them during the call. Calls may run side by side in many threads. `malloc`,
+ * `realloc` and `free` are the program's. Trees use the stack: 192 KiB were enough for the deepest
+ * documents, whose JSON nests 127 deep.
  */
 #ifndef MODINFO_H
 #define MODINFO_H
@@ -42,7 +42,7 @@ enum {
 uint8_t modinfo_analyze(const uint8_t *document, size_t document_length,
                         uint8_t *answer, size_t room, size_t *length);
 
-/* A stored module graph of version 1 to version 2. */
+/* The information of one module, as version 1 stored it, to that of version 2. */
 uint8_t modinfo_convert(const uint8_t *document, size_t document_length,
                         uint8_t *answer, size_t room, size_t *length);
 

@@ -4,13 +4,12 @@ import assert from "node:assert/strict";
 import { spawnSync } from "node:child_process";
 import { existsSync, readdirSync, readFileSync } from "node:fs";
 import { test } from "node:test";
-import { fileURLToPath } from "node:url";
 
 import { ADAPTERS, answerTo, documentOf } from "./adapters.mjs";
+import { MODINFO } from "./running.mjs";
 import { fault, readSchema } from "./schema.mjs";
 
 const FOLDER = new URL("../../examples/", import.meta.url);
-const MODINFO = fileURLToPath(new URL("../../crates/modinfo_cli/out/modinfo_cli", import.meta.url));
 const JAVASCRIPT = ["JavaScript", "Jsx", "Mjs", "Cjs"];
 
 const names = readdirSync(FOLDER)
@@ -46,7 +45,7 @@ for (const name of names) {
       const { jsdocImports, ...others } = expected;
       assert.deepEqual(answerTo(documentOf(toDocument, source, mediaType, { specifier })), others);
     });
-    test(`${name} by ${adapter}, through modinfo`, { skip: !existsSync(MODINFO) && "modinfo is not built" }, () => {
+    test(`${name} by ${adapter}, through modinfo`, { skip: !existsSync(MODINFO) && "build/modinfo isn't made" }, () => {
       assert.deepEqual(modinfo(toDocument(source, { specifier, mediaType })), expected);
     });
   }

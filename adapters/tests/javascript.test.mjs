@@ -3,7 +3,7 @@
 import assert from "node:assert/strict";
 import { test } from "node:test";
 
-import { ADAPTERS, answerOf, documentOf } from "./adapters.mjs";
+import { ADAPTERS, answerOf, answerTo, documentOf } from "./adapters.mjs";
 
 const EXPR = { type: "expr" };
 const string = (value) => ({ type: "string", value });
@@ -173,6 +173,106 @@ test("a shebang is no comment", () => {
 test("scripts that are no modules", () => {
   assert.deepEqual(dependencies(`return require("a"); `, "Cjs"), [{ kind: "require", argument: "a" }]);
   assert.deepEqual(dependencies(`return require("a"); `), [{ kind: "require", argument: "a" }]);
+});
+
+/** The arguments, from the inside to the outside, of calls that nest deeper than documents do. */
+function nestedCalls(open, close, times) {
+  return answerOf(`${open.repeat(times)}require("a")${close.repeat(times)}`).dependencies
+    .map((each) => each.argument);
+}
+
+test("calls nest as deep as they like", () => {
+  for (const times of [10, 70, 150]) {
+    const unknown = Array(times).fill(undefined);
+    assert.deepEqual(nestedCalls("require(", ")", times), ["a", ...unknown]);
+    assert.deepEqual(nestedCalls("import(b, ", ")", times), ["a", ...unknown]);
+    assert.deepEqual(nestedCalls("import(", ", { with: {} })", times), ["a", ...unknown]);
+    const known = Array(times).fill([string("b"), EXPR]);
+    assert.deepEqual(nestedCalls('require("b" + ', ")", times), ["a", ...known]);
+    assert.deepEqual(nestedCalls("require(`b${", "}`)", times), ["a", ...known]);
+    const attributes = answerOf(
+      `${'import("b", { with: { [c]: d, e: '.repeat(times)}require("a")${"} })".repeat(times)}`,
+    ).dependencies.slice(1);
+    assert.deepEqual(attributes.map((each) => each.importAttributes), Array(times).fill("unknown"));
+  }
+});
+
+test("calls beside one another in calls that nest stay in order", () => {
+  const nested = (times) => `require(require("${times}a"), ${times > 0 ? nested(times - 1) : "b"}, require("${times}c"))`;
+  const order = (times) => [
+    `${times}a`, ...(times > 0 ? order(times - 1) : []), `${times}c`, undefined,
+  ];
+  const found = answerOf(nested(80)).dependencies.map(({ argument: known }) => known);
+  assert.deepEqual(found, order(80));
+});
+
+test("what awaits nests as deep as it likes", () => {
+  assert.equal(answerOf(`${"await (".repeat(100)}require("a")${")".repeat(100)}`).script, undefined);
+  const inFunction = `async () => ${"await (".repeat(100)}require("a")${")".repeat(100)}`;
+  assert.equal(answerOf(inFunction).script, true);
+});
+
+test("of a sum of many operands nothing is known, which is said", () => {
+  const sum = (operands) => `require("a"${' + b + require("c")'.repeat(operands / 2)})`;
+  for (const [, adapter] of ADAPTERS) {
+    const warnings = [];
+    const options = { warn: (warning) => warnings.push(warning) };
+    const text = `\n  ${sum(58)}; ${sum(60)}`;
+    const { dependencies: found } = answerTo(documentOf(adapter, text, "JavaScript", options));
+    const [most, more] = found.filter((each) => each.argument !== "c");
+    assert.deepEqual(most.argument, [string("a"), ...Array(58).fill(EXPR)]);
+    assert.equal(more.argument, undefined);
+    assert.deepEqual(more.argumentRange[0], [1, text.length - sum(60).length - 1 + "require(".length]);
+    assert.equal(found.length, 29 + 30 + 2);
+    const message = "a sum of more than 59 operands is left as unknown";
+    assert.deepEqual(warnings, [{ message, line: 2, column: more.argumentRange[0][1] + 1 }]);
+  }
+});
+
+test("the options are checked", () => {
+  const options = { specifier: "file:///a.js", mediaType: "JavaScript" };
+  for (const [, adapter] of ADAPTERS) {
+    const refuse = (text, more, message) => {
+      assert.throws(() => adapter(text, { ...options, ...more }), { name: "TypeError", message });
+    };
+    refuse(Buffer.from("a"), {}, "the text is to be a string, and is a");
+    refuse("", { specifier: "./a.js" }, 'specifier is to be an absolute URL, and is "./a.js"');
+    refuse("", { specifier: undefined }, "specifier is to be an absolute URL, and is undefined");
+    refuse("", { mediaType: "javascript" }, /^mediaType is to be one of JavaScript, .*, and is "javascript"$/);
+    refuse("", { mediaType: undefined }, /^mediaType is to be one of .*, and is undefined$/);
+    refuse("", { mediaType: "Json" }, /^mediaType is to be one of .*, and is "Json"$/);
+    refuse("", { mediaType: "toString" }, /^mediaType is to be one of .*, and is "toString"$/);
+  }
+});
+
+test("the error of a module is shown once its syntax was seen", () => {
+  const [, estree] = ADAPTERS[0];
+  const placeOf = (text, mediaType = "JavaScript") => {
+    try {
+      estree(text, { specifier: "file:///a.js", mediaType });
+    } catch ({ message, line, column }) {
+      return [line, column, message];
+    }
+    return undefined;
+  };
+  for (const [early, column, message] of [
+    ["function f(a, a) {}", 15, /name clash/], ["return;", 1, /'return' outside of function/],
+    ["08;", 1, /Invalid number/], ["with (a) {}", 1, /'with' in strict mode/],
+    ["await = 1;", 7, /Unexpected token/],
+  ]) {
+    for (const module of [
+      `import "b";`, "export {};", "export default 1;", "a = import.meta;", "await b;", "await  b;",
+      "for await (const b of c);", "await /* b */ /**/ c;", "(await (b), await c);",
+    ]) {
+      const [line, place, said] = placeOf(`${early}\n${module}`);
+      assert.deepEqual([line, place], [1, column], `${early} ${module}`);
+      assert.match(said, message);
+    }
+    assert.equal(placeOf(`${early}\nb;`), undefined, early);
+  }
+  assert.deepEqual(placeOf("with (a) {}\nlet b = ;").slice(0, 2), [2, 9]);
+  assert.deepEqual(placeOf(`import "a";\nlet b = ;`).slice(0, 2), [2, 9]);
+  assert.deepEqual(placeOf(`import "a";\nwith (b) {}`).slice(0, 2), [2, 1]);
 });
 
 test("long sums and comma expressions are no deep documents", () => {

@@ -184,3 +184,31 @@ test("each media type is parsed as its own", () => {
     assert.deepEqual(dependencies(`export declare const a: import("a");`, mediaType).length, 1);
   }
 });
+
+test("a comment that only looks like a reference is no error", () => {
+  const text = `
+    /// <reference types=./b />
+    /// <reference />
+    /// <reference none="c" />
+    /// <reference types="d" resolution-mode="none" />
+    /// <amd-module name="e" />
+    /// <amd-module name="f" />
+    // @ts-check
+    import "g";
+  `;
+  for (const mediaType of ["TypeScript", "JavaScript", "Dts", "Mts"]) {
+    assert.deepEqual(dependencies(text, mediaType), [{ kind: "import", specifier: "g", sideEffect: true }]);
+    const script = `${text.replace('import "g"', "var await")} //`;
+    assert.equal(mediaType === "Mts" || typescriptAnswer(script, mediaType).script, true);
+  }
+  assert.deepEqual(typescriptAnswer(text).tsReferences.map((each) => each.text), ["d"]);
+  const wrong = { name: "SourceFault", line: 9 };
+  const refused = (more) => toDocument(text + more, { specifier: "file:///a.ts", mediaType: "TypeScript" });
+  assert.throws(() => refused("let a = ;"), { ...wrong, line: 10 });
+});
+
+test("an identifier may be spelled with escapes", () => {
+  const found = [{ kind: "require", argument: "a" }];
+  assert.deepEqual(dependencies(String.raw`r\u0065quire("a")`, "JavaScript"), found);
+  assert.deepEqual(dependencies(String.raw`\u{72}equire("a")`, "TypeScript"), found);
+});

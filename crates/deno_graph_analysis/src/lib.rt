@@ -1,5 +1,5 @@
 //! The analysis of modules, by the names of the original's files: `ast`, `dep` and `jsdoc`. What
-//! stands here is at home in the crates below.
+//! they name is in the crates below.
 #![tactic(auto)]
 
 pub mod ast;

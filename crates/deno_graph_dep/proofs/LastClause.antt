@@ -7,11 +7,13 @@ use Rattle.deno_graph_source.specs.declared.tree.node.Node.{Node}
 use Rattle.deno_graph_source.specs.Node.{kind_of, is_object}
 use Rattle.deno_graph_dependency.specs.declared.import_attributes.ImportAttributes.{ImportAttributes}
 use Rattle.deno_graph_dependency.specs.declared.import_attributes.ImportAttributes.TheVariants as attributes
-use Rattle.deno_graph_dep.specs.Attributes.{static_key, value_node, has_static_keys, known_object, ObjectGives, ValueGives, IndexGives, key_at, IsLookedAt, LookedAtGive}
+use Rattle.deno_graph_dep.specs.Attributes.{static_key, value_node, has_static_keys, ObjectGives, ValueGives, IndexGives, key_at, IsLookedAt, LookedAtGive}
+use Rattle.deno_graph_dep.specs.AttributeSteps.{known_object}
 
 -- the value that is a known object
 known_value : (v : Option Node) (object : Node)
-    → option_and_then (λ (value : Node). cond (is_object (kind_of value) && has_static_keys value) (Some value) None) v ≡ Some object
+    → option_and_then (λ (value : Node). cond (is_object (kind_of value) && has_static_keys value)
+    (Some value) None) v ≡ Some object
     → (v ≡ Some object) × (is_object (kind_of object) ≡ true) × (has_static_keys object ≡ true)
 known_value None object e = absurd (none-some object e)
 known_value (Some value) object e =
@@ -24,13 +26,15 @@ known_value (Some value) object e =
 
 -- a value that is no known object is unknown
 unknown_value : (v : Option Node)
-    → option_and_then (λ (value : Node). cond (is_object (kind_of value) && has_static_keys value) (Some value) None) v ≡ None
+    → option_and_then (λ (value : Node). cond (is_object (kind_of value) && has_static_keys value)
+    (Some value) None) v ≡ None
     → ValueGives v attributes.Unknown
 unknown_value None e = refl
 unknown_value (Some value) e = either (is_object (kind_of value)) (has_static_keys value) e
   where
     either : (a b : Bool) → cond (a && b) (Some value) None ≡ None
-        → MatchBool a (MatchBool b ⊥ (attributes.Unknown ≡ attributes.Unknown)) (attributes.Unknown ≡ attributes.Unknown)
+        → MatchBool a (MatchBool b ⊥ (attributes.Unknown ≡ attributes.Unknown))
+        (attributes.Unknown ≡ attributes.Unknown)
     either true true e = absurd (none-some value (sym e))
     either true false e = refl
     either false b e = refl
@@ -39,7 +43,8 @@ known_is_not_unknown : (object : Node) → is_object (kind_of object) ≡ true �
     → ValueGives (Some object) attributes.Unknown → ⊥
 known_is_not_unknown object is keys h = rw (is, keys) at h
 
-known_gives : (object : Node) (result : ImportAttributes) → is_object (kind_of object) ≡ true → ObjectGives object result
+known_gives : (object : Node) (result : ImportAttributes) → is_object (kind_of object) ≡ true
+    → ObjectGives object result
     → ValueGives (Some object) result
 known_gives object result is h = rw is h
 
@@ -58,7 +63,8 @@ module _ (xs : List Node) (i : ℕ) (y : Node) (within : i < length xs) (at : y 
 past_the_end : (xs : List Node) (index : ℕ) → length xs ≤ index → IsLookedAt xs index → ⊥
 past_the_end xs index past looked =
     let none : key_at xs index ≡ None = ap (option_and_then static_key) (slice_get_past xs index past) in
-    ⊎_elim (λ k. none-some (codes "with") (sym none ∙ k)) (λ k. none-some (codes "assert") (sym none ∙ k.0)) looked
+    ⊎_elim (λ k. none-some (codes "with") (sym none ∙ k))
+    (λ k. none-some (codes "assert") (sym none ∙ k.0)) looked
 
 -- the last index below a bound that is looked at, and the object that is its value
 pub record LastBelow (xs : List Node) (bound : ℕ) (object : Node) : Type 0 where
@@ -74,7 +80,8 @@ abbrev pub IsLastBelow : List Node → ℕ → Option Node → Type 0
 IsLastBelow xs bound None = (index : ℕ) → index < bound → IsLookedAt xs index → ⊥
 IsLastBelow xs bound (Some object) = LastBelow xs bound object
 
--- what is known of the indices below a bound: whether one has `with`, that no looked-at value is unknown, and the last of these
+-- what is known of the indices below a bound: whether one has `with`, that no looked-at value is
+-- unknown, and the last of these
 pub record LookedAtBelow (xs : List Node) (bound : ℕ) (after_with : Bool) (last : Option Node) : Type 0 where
   pub with_below : after_with ≡ true → (index : ℕ) × (index < bound) × (key_at xs index ≡ Some (codes "with"))
   pub no_with : after_with ≡ false → (index : ℕ) → index < bound → key_at xs index ≢ Some (codes "with")
@@ -83,12 +90,15 @@ pub record LookedAtBelow (xs : List Node) (bound : ℕ) (after_with : Bool) (las
 
 -- whether a property is looked at, after whether a `with` came before it
 abbrev pub IsClause : Node → Bool → Type 0
-IsClause y after_with = (static_key y ≡ Some (codes "with")) ⊎ ((static_key y ≡ Some (codes "assert")) × (after_with ≡ false))
+IsClause y after_with = (static_key y ≡ Some (codes "with"))
+    ⊎ ((static_key y ≡ Some (codes "assert")) × (after_with ≡ false))
 
 -- what holds of each index below a bound, and of the bound, holds of each below the next
-below_next : (P : ℕ → Type 0) (i : ℕ) → ((index : ℕ) → index < i → P index) → P i → (index : ℕ) → index < i + 1 → P index
+below_next : (P : ℕ → Type 0) (i : ℕ) → ((index : ℕ) → index < i → P index) → P i → (index : ℕ)
+    → index < i + 1 → P index
 below_next P i before here index below =
-    ⊎_elim (λ lt. before index lt) (λ ge. let same : i ≡ index = omega arith in subst P same here) (cases_lt index i)
+    ⊎_elim (λ lt. before index lt) (λ ge. let same : i ≡ index = omega arith in subst P same here)
+    (cases_lt index i)
 
 -- one more property
 module _ (xs : List Node) (i : ℕ) (y : Node) (within : i < length xs) (at : y ≡ get_or xs i y)
@@ -103,39 +113,47 @@ module _ (xs : List Node) (i : ℕ) (y : Node) (within : i < length xs) (at : y 
       ⊎_elim (λ k. inl (sym (key_here xs i y within at) ∙ k))
       (λ k. inr (
         sym (key_here xs i y within at) ∙ k.0,
-        false_from_ne_true after_with (λ e. let before = so_far.with_below e in k.1 before.0 before.1 before.2),
+        false_from_ne_true after_with
+            (λ e. let before = so_far.with_below e in k.1 before.0 before.1 before.2),
       )) looked
 
   module _ (has_with : Bool) (tested : (has_with ≡ true) ↔ (static_key y ≡ Some (codes "with"))) where
-    with_next : (after_with || has_with) ≡ true → (index : ℕ) × (index < i + 1) × (key_at xs index ≡ Some (codes "with"))
+    with_next : (after_with || has_with) ≡ true
+        → (index : ℕ) × (index < i + 1) × (key_at xs index ≡ Some (codes "with"))
     with_next e =
-        ⊎_elim (λ before. let found = so_far.with_below before in (found.0, (let below = found.1 in omega arith), found.2))
+        ⊎_elim (λ before. let found = so_far.with_below before in
+        (found.0, (let below = found.1 in omega arith), found.2))
         (λ now. (i, omega arith, key_here xs i y within at ∙ tested.0 now)) (or_cases after_with has_with e)
 
-    no_with_next : (after_with || has_with) ≡ false → (index : ℕ) → index < i + 1 → key_at xs index ≢ Some (codes "with")
+    no_with_next : (after_with || has_with) ≡ false → (index : ℕ) → index < i + 1
+        → key_at xs index ≢ Some (codes "with")
     no_with_next e =
         let both = or_parts after_with has_with e in
         below_next (λ index. key_at xs index ≢ Some (codes "with")) i (so_far.no_with both.0)
         (λ k. both_ways has_with both.1 (tested.1 (sym (key_here xs i y within at) ∙ k)))
 
     -- a property that is no clause is passed over
-    pub LookedAtBelow-skip : (IsClause y after_with → ⊥) → LookedAtBelow xs (i + 1) (after_with || has_with) last
+    pub LookedAtBelow-skip : (IsClause y after_with → ⊥)
+        → LookedAtBelow xs (i + 1) (after_with || has_with) last
     LookedAtBelow-skip no_clause = record {
       with_below = with_next;
       no_with = no_with_next;
-      known = below_next (λ index. IsLookedAt xs index → IndexGives xs index attributes.Unknown → ⊥) i so_far.known
+      known = below_next (λ index. IsLookedAt xs index → IndexGives xs index attributes.Unknown
+          → ⊥) i so_far.known
           (λ looked. absurd (no_clause (is_clause looked)));
       last_is = same_last last so_far.last_is;
     }
       where
         same_last : (o : Option Node) → IsLastBelow xs i o → IsLastBelow xs (i + 1) o
-        same_last None none = below_next (λ index. IsLookedAt xs index → ⊥) i none (λ looked. no_clause (is_clause looked))
+        same_last None none = below_next (λ index. IsLookedAt xs index → ⊥) i none
+            (λ looked. no_clause (is_clause looked))
         same_last (Some object) found = record {
           index = found.index;
           below = let below = found.below in omega arith;
           looked_at = found.looked_at;
           none_between = λ greater after below.
-              below_next (λ index. found.index < index → IsLookedAt xs index → ⊥) i (λ index below after. found.none_between index after below)
+              below_next (λ index. found.index < index → IsLookedAt xs index → ⊥) i
+              (λ index below after. found.none_between index after below)
               (λ after looked. no_clause (is_clause looked)) greater below after;
           value = found.value;
           is = found.is;
@@ -147,12 +165,15 @@ module _ (xs : List Node) (i : ℕ) (y : Node) (within : i < length xs) (at : y 
         → LookedAtBelow xs (i + 1) (after_with || has_with) (Some object)
     LookedAtBelow-clause object clause is =
         let found = known_value (value_node y) object is in
-        let value : option_and_then value_node (slice_get xs i) ≡ Some object = value_here xs i y within at ∙ found.0 in
+        let value : option_and_then value_node (slice_get xs i) ≡ Some object = value_here xs i y within at
+        ∙ found.0 in
         record {
           with_below = with_next;
           no_with = no_with_next;
-          known = below_next (λ index. IsLookedAt xs index → IndexGives xs index attributes.Unknown → ⊥) i so_far.known
-              (λ looked unknown. known_is_not_unknown object found.1 found.2 (subst (λ v. ValueGives v attributes.Unknown) value unknown));
+          known = below_next (λ index. IsLookedAt xs index → IndexGives xs index attributes.Unknown
+              → ⊥) i so_far.known
+              (λ looked unknown. known_is_not_unknown object found.1 found.2
+              (subst (λ v. ValueGives v attributes.Unknown) value unknown));
           last_is = record {
             index = i;
             below = omega arith;
@@ -165,23 +186,29 @@ module _ (xs : List Node) (i : ℕ) (y : Node) (within : i < length xs) (at : y 
         }
 
   -- a clause whose value is no known object makes the whole unknown
-  pub LookedAtGive-unknown : IsClause y after_with → known_object y ≡ None → LookedAtGive xs attributes.Unknown
+  pub LookedAtGive-unknown : IsClause y after_with → known_object y ≡ None
+      → LookedAtGive xs attributes.Unknown
   LookedAtGive-unknown clause is = (
     i,
     looked_at clause,
-    subst (λ v. ValueGives v attributes.Unknown) (sym (value_here xs i y within at)) (unknown_value (value_node y) is),
+    subst (λ v. ValueGives v attributes.Unknown) (sym (value_here xs i y within at))
+        (unknown_value (value_node y) is),
   )
 
 -- nothing is looked at
-pub LookedAtGive-none : (xs : List Node) (bound : ℕ) (after_with : Bool) (last : Option Node) → length xs ≤ bound → last ≡ None
+pub LookedAtGive-none : (xs : List Node) (bound : ℕ) (after_with : Bool) (last : Option Node)
+    → length xs ≤ bound → last ≡ None
     → LookedAtBelow xs bound after_with last → LookedAtGive xs attributes.None
 LookedAtGive-none xs bound after_with last end none all index looked =
-    ⊎_elim (λ below. let last_is = subst (IsLastBelow xs bound) none all.last_is in last_is index below looked)
+    ⊎_elim (λ below. let last_is = subst (IsLastBelow xs bound) none all.last_is in
+    last_is index below looked)
     (λ past. past_the_end xs index (omega arith) looked) (cases_lt index bound)
 
 -- the last object that is looked at decides
-pub LookedAtGive-last : (xs : List Node) (bound : ℕ) (after_with : Bool) (last : Option Node) (object : Node) (result : ImportAttributes)
-    → length xs ≤ bound → last ≡ Some object → LookedAtBelow xs bound after_with last → ObjectGives object result → LookedAtGive xs result
+pub LookedAtGive-last : (xs : List Node) (bound : ℕ) (after_with : Bool) (last : Option Node) (object : Node)
+    (result : ImportAttributes)
+    → length xs ≤ bound → last ≡ Some object → LookedAtBelow xs bound after_with last
+    → ObjectGives object result → LookedAtGive xs result
 LookedAtGive-last xs bound after_with last object result end is all gives =
     by_result result (subst (IsLastBelow xs bound) is all.last_is) gives
   where
@@ -190,10 +217,13 @@ LookedAtGive-last xs bound after_with last object result end is all gives =
     by_result attributes.Unknown found g = let keys = found.keys in absurd (rw keys at g)
     by_result (attributes.Known entries) found g = record {
       known = λ index looked.
-          ⊎_elim (λ below. all.known index below looked) (λ past. absurd (past_the_end xs index (omega arith) looked)) (cases_lt index bound);
+          ⊎_elim (λ below. all.known index below looked)
+          (λ past. absurd (past_the_end xs index (omega arith) looked)) (cases_lt index bound);
       greatest = found.index;
       looked_at = found.looked_at;
       none_greater = λ greater after looked.
-          ⊎_elim (λ below. found.none_between greater after below looked) (λ past. past_the_end xs greater (omega arith) looked) (cases_lt greater bound);
-      given = subst (λ v. ValueGives v (attributes.Known entries)) (sym found.value) (known_gives object (attributes.Known entries) found.is g);
+          ⊎_elim (λ below. found.none_between greater after below looked)
+          (λ past. past_the_end xs greater (omega arith) looked) (cases_lt greater bound);
+      given = subst (λ v. ValueGives v (attributes.Known entries)) (sym found.value)
+          (known_gives object (attributes.Known entries) found.is g);
     }

@@ -8,12 +8,14 @@ use Rattle.std.proofs.lemmas.List.{length_push, take_more}
 use Rattle.std.proofs.lemmas.Option.{none-some, same_Some, slice_get_within, some_pair_parts}
 use Rattle.std.proofs.lemmas.Slice.Eq.{bytes_eq-Decides}
 use Rattle.deno_graph_source.specs.declared.tree.node.Node.{Node}
-use Rattle.deno_graph_values.specs.TextMap.{value_at}
+use Rattle.deno_graph_text.specs.TextMap.{value_at}
 use Rattle.deno_graph_dependency.specs.declared.import_attributes.ImportAttribute.{ImportAttribute}
-use Rattle.deno_graph_dep.specs.Attributes.{static_key, static_value, Entries, Giving, attribute_of, stated, GivesLast, HoldsLast, Puts}
+use Rattle.deno_graph_dep.specs.Attributes.{static_key, static_value, Entries, Giving, attribute_of, stated, GivesLast, HoldsLast}
+use Rattle.deno_graph_dep.specs.AttributeSteps.{Puts}
 
 -- an item of a list with one more is an item of the list, or the one at its end
-push_before : {A : Type 0} (xs : List A) (y x : A) (n : ℕ) → slice_get xs n ≡ Some x → slice_get (xs ++ y ∷ []) n ≡ Some x
+push_before : {A : Type 0} (xs : List A) (y x : A) (n : ℕ) → slice_get xs n ≡ Some x
+    → slice_get (xs ++ y ∷ []) n ≡ Some x
 push_before [] y x n e = absurd (none-some x e)
 push_before (z ∷ xs) y x zero e = e
 push_before (z ∷ xs) y x (suc n) e = push_before xs y x n e
@@ -27,11 +29,13 @@ push_cases : {A : Type 0} (xs : List A) (y x : A) (n : ℕ) → slice_get (xs ++
 push_cases [] y x zero e = inr (refl, same_Some y x e)
 push_cases [] y x (suc n) e = absurd (none-some x e)
 push_cases (z ∷ xs) y x zero e = inl e
-push_cases (z ∷ xs) y x (suc n) e = ⊎_elim (λ h. inl h) (λ h. inr (ap (λ k. suc k) h.0, h.1)) (push_cases xs y x n e)
+push_cases (z ∷ xs) y x (suc n) e =
+    ⊎_elim (λ h. inl h) (λ h. inr (ap (λ k. suc k) h.0, h.1)) (push_cases xs y x n e)
 
 -- a property that gives nothing for a key leaves what is given last for it
 GivesLast-push : (gives : Giving) (xs : List Node) (y : Node) (name : List ℕ) (value : ImportAttribute)
-    → ((other : ImportAttribute) → gives y ≢ Some (name, other)) → GivesLast gives xs name value → GivesLast gives (xs ++ y ∷ []) name value
+    → ((other : ImportAttribute) → gives y ≢ Some (name, other)) → GivesLast gives xs name value
+    → GivesLast gives (xs ++ y ∷ []) name value
 GivesLast-push gives xs y name value none given = record {
   index = given.index;
   property = given.property;
@@ -43,16 +47,19 @@ GivesLast-push gives xs y name value none given = record {
 }
 
 GivesLast-pop : (gives : Giving) (xs : List Node) (y : Node) (name : List ℕ) (value : ImportAttribute)
-    → ((other : ImportAttribute) → gives y ≢ Some (name, other)) → GivesLast gives (xs ++ y ∷ []) name value → GivesLast gives xs name value
+    → ((other : ImportAttribute) → gives y ≢ Some (name, other)) → GivesLast gives (xs ++ y ∷ []) name value
+    → GivesLast gives xs name value
 GivesLast-pop gives xs y name value none given =
     ⊎_elim (λ before. record {
       index = given.index;
       property = given.property;
       there = before;
       given = given.given;
-      last = λ greater other v after at g. given.last greater other v after (push_before xs y other greater at) g;
+      last = λ greater other v after at g. given.last greater other v after
+          (push_before xs y other greater at) g;
     })
-    (λ end. absurd (none value (ap gives end.1 ∙ given.given))) (push_cases xs y given.property given.index given.there)
+    (λ end. absurd (none value (ap gives end.1 ∙ given.given)))
+    (push_cases xs y given.property given.index given.there)
 
 -- a property that gives a value for a key gives it last
 GivesLast-end : (gives : Giving) (xs : List Node) (y : Node) (name : List ℕ) (value : ImportAttribute)
@@ -81,7 +88,10 @@ pub HoldsLast-nil : (gives : Giving) → HoldsLast gives [] []
 unfolding IsStrictlySortedBy
 HoldsLast-nil gives = record {
   ascending = tt;
-  values = λ name value. (λ e. absurd (none-some value e), λ given. absurd (none-some given.property given.there));
+  values = λ name value. (
+    λ e. absurd (none-some value e),
+    λ given. absurd (none-some given.property given.there),
+  );
 }
 
 -- a property that gives nothing is skipped
@@ -90,55 +100,68 @@ HoldsLast-skip : (gives : Giving) (xs : List Node) (y : Node) (entries : Entries
 HoldsLast-skip gives xs y entries is held = record {
   ascending = held.ascending;
   values = λ name value.
-      let none : (other : ImportAttribute) → gives y ≢ Some (name, other) = λ other g. none-some (name, other) (sym is ∙ g) in (
+      let none : (other : ImportAttribute) → gives y ≢ Some (name, other) =
+      λ other g. none-some (name, other) (sym is ∙ g) in (
         λ e. GivesLast-push gives xs y name value none ((held.values name value).0 e),
         λ given. (held.values name value).1 (GivesLast-pop gives xs y name value none given),
       );
 }
 
 -- a property that gives a value puts it at its key
-HoldsLast-put : (gives : Giving) (xs : List Node) (y : Node) (old new : Entries) (name : List ℕ) (value : ImportAttribute)
-    → gives y ≡ Some (name, value) → Puts old new name value → HoldsLast gives xs old → HoldsLast gives (xs ++ y ∷ []) new
+HoldsLast-put : (gives : Giving) (xs : List Node) (y : Node) (old new : Entries) (name : List ℕ)
+    (value : ImportAttribute)
+    → gives y ≡ Some (name, value) → Puts old new name value → HoldsLast gives xs old
+    → HoldsLast gives (xs ++ y ∷ []) new
 HoldsLast-put gives xs y old new name value is puts held = record {
   ascending = puts.ascending;
   values = λ other v. ⊎_elim (here other v) (elsewhere other v) (cases_Bool (bytes_eq name other));
 }
   where
     here : (other : List ℕ) (v : ImportAttribute) → bytes_eq name other ≡ true
-        → (value_at new other ≡ Some v → GivesLast gives (xs ++ y ∷ []) other v) × (GivesLast gives (xs ++ y ∷ []) other v → value_at new other ≡ Some v)
+        → (value_at new other ≡ Some v → GivesLast gives (xs ++ y ∷ []) other v)
+        × (GivesLast gives (xs ++ y ∷ []) other v → value_at new other ≡ Some v)
     here other v e =
         let same : name ≡ other = (bytes_eq-Decides name other).0 e in
         let gives_other : gives y ≡ Some (other, value) = is ∙ ap (λ k. Some (k, value)) same in
-        let found : value_at new other ≡ Some value = puts.values other ∙ ap (λ b. cond b (Some value) (value_at old other)) e in (
-          λ at. GivesLast-end gives xs y other v (gives_other ∙ ap (λ w. Some (other, w)) (same_Some value v (sym found ∙ at))),
+        let found : value_at new other ≡ Some value = puts.values other
+        ∙ ap (λ b. cond b (Some value) (value_at old other)) e in (
+          λ at. GivesLast-end gives xs y other v
+              (gives_other ∙ ap (λ w. Some (other, w)) (same_Some value v (sym found ∙ at))),
           λ given. found ∙ ap Some (GivesLast-same gives xs y other v value gives_other given),
         )
 
     elsewhere : (other : List ℕ) (v : ImportAttribute) → bytes_eq name other ≡ false
-        → (value_at new other ≡ Some v → GivesLast gives (xs ++ y ∷ []) other v) × (GivesLast gives (xs ++ y ∷ []) other v → value_at new other ≡ Some v)
+        → (value_at new other ≡ Some v → GivesLast gives (xs ++ y ∷ []) other v)
+        × (GivesLast gives (xs ++ y ∷ []) other v → value_at new other ≡ Some v)
     elsewhere other v e =
         let none : (w : ImportAttribute) → gives y ≢ Some (other, w) = λ w g.
         let same : name ≡ other = (some_pair_parts name other value w (sym is ∙ g)).0 in
         let yes : bytes_eq name other ≡ true = (bytes_eq-Decides name other).1 same in
         cc in
-        let found : value_at new other ≡ value_at old other = puts.values other ∙ ap (λ b. cond b (Some value) (value_at old other)) e in (
+        let found : value_at new other ≡ value_at old other = puts.values other
+        ∙ ap (λ b. cond b (Some value) (value_at old other)) e in (
           λ at. GivesLast-push gives xs y other v none ((held.values other v).0 (sym found ∙ at)),
           λ given. found ∙ (held.values other v).1 (GivesLast-pop gives xs y other v none given),
         )
 
 -- the same at a step of a loop over the properties
-pub HoldsLast-skip_more : (gives : Giving) (xs : List Node) (i : ℕ) (y : Node) (entries : Entries) → i < length xs → y ≡ get_or xs i y
+pub HoldsLast-skip_more : (gives : Giving) (xs : List Node) (i : ℕ) (y : Node) (entries : Entries)
+    → i < length xs → y ≡ get_or xs i y
     → gives y ≡ None → HoldsLast gives (take i xs) entries → HoldsLast gives (take (i + 1) xs) entries
 HoldsLast-skip_more gives xs i y entries within at is held =
-    let more : take (i + 1) xs ≡ take i xs ++ y ∷ [] = take_more xs i y within ∙ ap (λ z. take i xs ++ z ∷ []) (sym at) in
+    let more : take (i + 1) xs ≡ take i xs ++ y ∷ [] = take_more xs i y within
+    ∙ ap (λ z. take i xs ++ z ∷ []) (sym at) in
     subst (λ l. HoldsLast gives l entries) (sym more) (HoldsLast-skip gives (take i xs) y entries is held)
 
-pub HoldsLast-put_more : (gives : Giving) (xs : List Node) (i : ℕ) (y : Node) (old new : Entries) (name : List ℕ) (value : ImportAttribute)
+pub HoldsLast-put_more : (gives : Giving) (xs : List Node) (i : ℕ) (y : Node) (old new : Entries)
+    (name : List ℕ) (value : ImportAttribute)
     → i < length xs → y ≡ get_or xs i y → gives y ≡ Some (name, value) → Puts old new name value
     → HoldsLast gives (take i xs) old → HoldsLast gives (take (i + 1) xs) new
 HoldsLast-put_more gives xs i y old new name value within at is puts held =
-    let more : take (i + 1) xs ≡ take i xs ++ y ∷ [] = take_more xs i y within ∙ ap (λ z. take i xs ++ z ∷ []) (sym at) in
-    subst (λ l. HoldsLast gives l new) (sym more) (HoldsLast-put gives (take i xs) y old new name value is puts held)
+    let more : take (i + 1) xs ≡ take i xs ++ y ∷ [] = take_more xs i y within
+    ∙ ap (λ z. take i xs ++ z ∷ []) (sym at) in
+    subst (λ l. HoldsLast gives l new) (sym more)
+    (HoldsLast-put gives (take i xs) y old new name value is puts held)
 
 -- what a property gives, by its static key and value
 pub stated-key : (property : Node) (name : List ℕ) → static_key property ≡ Some name

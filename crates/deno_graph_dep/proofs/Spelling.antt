@@ -10,17 +10,20 @@ use Rattle.deno_graph_source.specs.declared.tree.node.BinaryOp.TheVariants.{Add}
 use Rattle.deno_graph_source.specs.declared.tree.node.Node.{Node}
 use Rattle.deno_graph_text.specs.JsString.{lossy_text, IsReadable}
 use Rattle.deno_graph_source.specs.Node.{kind_of, children_of, HasCountOfKind}
-use Rattle.deno_graph_walk.specs.NodePath.{NodePath}
-use Rattle.deno_graph_dep.specs.Argument.{Form, parts, expression, Part, known, unknown, quasi_part, template_parts, template_form, is_string, is_add, Step, LeftSpine, operands_of, part_of, HasFormAt, HasForm}
+use Rattle.deno_graph_dep.specs.NodePath.{NodePath}
+use Rattle.deno_graph_dep.specs.Argument.{Form, parts, expression, ArgumentPart, known, unknown, quasi_part, template_parts, template_form, is_string, is_add, Step, LeftSpine, operands_of, part_of, HasFormAt, HasForm}
 use Rattle.deno_graph_dep.specs.Value.{Assignment, template_text, ContributesAt, HasText, of_string, of_template, of_sum, joined, child_paths, unknown_path, unknown_operands, AreUnknownsAt, IsReadableAt, HasReadableLiteralsAt, Spells, SpellsItsText}
 
-joined-quasi : (quasi : List ℕ) (ps : List Part) (texts : List (List ℕ)) → joined (quasi_part quasi ++ ps) texts ≡ lossy_text quasi ++ joined ps texts
+joined-quasi : (quasi : List ℕ) (ps : List ArgumentPart) (texts : List (List ℕ))
+    → joined (quasi_part quasi ++ ps) texts ≡ lossy_text quasi ++ joined ps texts
 joined-quasi [] ps texts = refl
 joined-quasi (c ∷ points) ps texts = refl
 
 -- a template's parts spell its text
-joined-template : (given : Assignment) (n : ℕ) (first : List ℕ) (rest : List (List ℕ)) (children : List Node) → length rest ≡ length children
-    → joined (template_parts (first ∷ rest)) (map given (child_paths n children)) ≡ template_text given [] n (first ∷ rest)
+joined-template : (given : Assignment) (n : ℕ) (first : List ℕ) (rest : List (List ℕ)) (children : List Node)
+    → length rest ≡ length children
+    → joined (template_parts (first ∷ rest)) (map given (child_paths n children))
+    ≡ template_text given [] n (first ∷ rest)
 joined-template given n first [] [] same = joined-quasi first [] [] ∙ append-nil (lossy_text first)
 joined-template given n first [] (child ∷ children) same = absurd (omega (arith, same))
 joined-template given n first (next ∷ rest) [] same = absurd (omega (arith, same))
@@ -30,23 +33,26 @@ joined-template given n first (next ∷ rest) (child ∷ children) same =
     ∙ ap (λ t. lossy_text first ++ (given (n ∷ []) ++ t)) below
 
 -- how many of the parts are unknown
-unknown_count : List Part → ℕ
+unknown_count : List ArgumentPart → ℕ
 unknown_count [] = 0
 unknown_count (known t ∷ ps) = unknown_count ps
 unknown_count (unknown ∷ ps) = unknown_count ps + 1
 
-joined-append : (ps qs : List Part) (texts more : List (List ℕ)) → unknown_count ps ≡ length texts
+joined-append : (ps qs : List ArgumentPart) (texts more : List (List ℕ)) → unknown_count ps ≡ length texts
     → joined (ps ++ qs) (texts ++ more) ≡ joined ps texts ++ joined qs more
 unfolding unknown_count
 joined-append [] qs [] more same = refl
 joined-append [] qs (t ∷ texts) more same = absurd (omega (arith, same))
 joined-append (known t ∷ ps) qs texts more same =
-    ap (λ u. t ++ u) (joined-append ps qs texts more same) ∙ sym (append_assoc t (joined ps texts) (joined qs more))
+    ap (λ u. t ++ u) (joined-append ps qs texts more same)
+    ∙ sym (append_assoc t (joined ps texts) (joined qs more))
 joined-append (unknown ∷ ps) qs [] more same = absurd (omega (arith, same))
 joined-append (unknown ∷ ps) qs (t ∷ texts) more same =
-    ap (λ u. t ++ u) (joined-append ps qs texts more (omega (arith, same))) ∙ sym (append_assoc t (joined ps texts) (joined qs more))
+    ap (λ u. t ++ u) (joined-append ps qs texts more (omega (arith, same)))
+    ∙ sym (append_assoc t (joined ps texts) (joined qs more))
 
-unknown_count-append : (ps qs : List Part) → unknown_count (ps ++ qs) ≡ unknown_count ps + unknown_count qs
+unknown_count-append : (ps qs : List ArgumentPart)
+    → unknown_count (ps ++ qs) ≡ unknown_count ps + unknown_count qs
 unfolding unknown_count
 unknown_count-append [] qs = omega arith
 unknown_count-append (known t ∷ ps) qs = unknown_count-append ps qs
@@ -74,7 +80,8 @@ count_paths path (step ∷ below) first =
     )
 
 -- what a right operand contributes
-contributes : (given : Assignment) (path : NodePath) (node : Node) (kind : Kind) → kind_of node ≡ kind → IsReadableAt kind
+contributes : (given : Assignment) (path : NodePath) (node : Node) (kind : Kind) → kind_of node ≡ kind
+    → IsReadableAt kind
     → ContributesAt given path kind (joined (part_of node ∷ []) (map given (unknown_path path node)))
 contributes given path node (Str points) is readable = (readable, rw is (append-nil (lossy_text points)))
 contributes given path node _ is readable = rw is (append-nil (given path))
@@ -87,10 +94,12 @@ string_points : (kind : Kind) → is_string kind ≡ true → (points : List ℕ
 string_points (Str points) is = (points, refl)
 string_points _ is = cc
 
-first_text : (given : Assignment) (path : NodePath) (node : Node) (points : List ℕ) → kind_of node ≡ Str points → IsReadable points
+first_text : (given : Assignment) (path : NodePath) (node : Node) (points : List ℕ)
+    → kind_of node ≡ Str points → IsReadable points
     → HasText given path node (joined (part_of node ∷ []) (map given (unknown_path path node)))
 first_text given path node points is readable =
-    let same : joined (part_of node ∷ []) (map given (unknown_path path node)) ≡ lossy_text points = rw is (append-nil (lossy_text points)) in
+    let same : joined (part_of node ∷ []) (map given (unknown_path path node)) ≡ lossy_text points =
+    rw is (append-nil (lossy_text points)) in
     subst (HasText given path node) (sym same) (of_string path node points is readable)
 
 both_true : (a b : Bool) → (a && b) ≡ true → (a ≡ true) × (b ≡ true)
@@ -98,35 +107,45 @@ both_true true b is = (refl, is)
 both_true false b is = cc
 
 -- a sum's parts spell its text
-sum_text : (given : Assignment) (path : NodePath) (node : Node) (steps : List Step) (first : Node) → LeftSpine node steps first
+sum_text : (given : Assignment) (path : NodePath) (node : Node) (steps : List Step) (first : Node)
+    → LeftSpine node steps first
     → is_string (kind_of first) ≡ true → list_all (λ (step : Step). is_add step.0) steps ≡ true
     → All (λ operand. IsReadableAt (kind_of operand)) (operands_of steps first)
-    → HasText given path node (joined (map part_of (operands_of steps first)) (map given (unknown_operands path steps first)))
+    → HasText given path node
+    (joined (map part_of (operands_of steps first)) (map given (unknown_operands path steps first)))
 sum_text given path node [] first spine string sums readable =
     let points = string_points (kind_of first) string in
-    let here = subst IsReadableAt points.1 (All-head (λ operand. IsReadableAt (kind_of operand)) first [] readable) in
-    subst (λ n. HasText given path n (joined (part_of first ∷ []) (map given (unknown_path path first)))) (sym spine.0)
+    let here = subst IsReadableAt points.1
+    (All-head (λ operand. IsReadableAt (kind_of operand)) first [] readable) in
+    subst (λ n. HasText given path n (joined (part_of first ∷ []) (map given (unknown_path path first))))
+    (sym spine.0)
     (first_text given path first points.0 points.1 here)
 sum_text given path node (step ∷ below) first spine string sums readable =
     let adds = both_true (is_add step.0) (list_all (λ (s : Step). is_add s.0) below) sums in
-    let split = All-pop (λ operand. IsReadableAt (kind_of operand)) (operands_of (step ∷ below) first) (operands_of below first) (Some step.1) refl readable in
+    let split = All-pop (λ operand. IsReadableAt (kind_of operand)) (operands_of (step ∷ below) first)
+    (operands_of below first) (Some step.1) refl readable in
     let left = spine.1.0 in
     let right = step.1 in
     let front = sum_text given (path ++ 0 ∷ []) left below first spine.1.2 string adds.1 split.0 in
     let back = contributes given (path ++ 1 ∷ []) right (kind_of right) refl split.1 in
     let ps = map part_of (operands_of below first) in
     let paths = unknown_operands (path ++ 0 ∷ []) below first in
-    let same : joined (map part_of (operands_of below first ++ right ∷ [])) (map given (paths ++ unknown_path (path ++ 1 ∷ []) right))
-    ≡ joined ps (map given paths) ++ joined (part_of right ∷ []) (map given (unknown_path (path ++ 1 ∷ []) right)) =
-    ap (λ qs. joined qs (map given (paths ++ unknown_path (path ++ 1 ∷ []) right))) (map-append part_of (operands_of below first) (right ∷ []))
+    let same : joined (map part_of (operands_of below first ++ right ∷ []))
+    (map given (paths ++ unknown_path (path ++ 1 ∷ []) right))
+    ≡ joined ps (map given paths)
+    ++ joined (part_of right ∷ []) (map given (unknown_path (path ++ 1 ∷ []) right)) =
+    ap (λ qs. joined qs (map given (paths ++ unknown_path (path ++ 1 ∷ []) right)))
+    (map-append part_of (operands_of below first) (right ∷ []))
     ∙ ap (joined (ps ++ part_of right ∷ [])) (map-append given paths (unknown_path (path ++ 1 ∷ []) right))
-    ∙ joined-append ps (part_of right ∷ []) (map given paths) (map given (unknown_path (path ++ 1 ∷ []) right))
+    ∙ joined-append ps (part_of right ∷ []) (map given paths)
+    (map given (unknown_path (path ++ 1 ∷ []) right))
     (count_paths (path ++ 0 ∷ []) below first ∙ sym (length-map paths given)) in
     subst (HasText given path node) (sym same)
     (of_sum path node left right _ _ (spine.0 ∙ ap Binary (add_of step.0 adds.0)) spine.1.1 front back)
 
 -- a sum of any form spells its text
-spells_sum : (given : Assignment) (node : Node) (op : BinaryOp) (steps : List Step) (first : Node) (string sums : Bool)
+spells_sum : (given : Assignment) (node : Node) (op : BinaryOp) (steps : List Step) (first : Node)
+    (string sums : Bool)
     → kind_of node ≡ Binary op → LeftSpine node steps first
     → is_string (kind_of first) ≡ string → list_all (λ (step : Step). is_add step.0) steps ≡ sums
     → HasReadableLiteralsAt (Binary op) node
@@ -140,7 +159,8 @@ spells_sum given node op steps first true true is spine string all_sums readable
 )
 
 spells_template : (given : Assignment) (node : Node) (quasis : List (List ℕ)) → kind_of node ≡ Template quasis
-    → length quasis ≡ length (children_of node) + 1 → All IsReadable quasis → Spells given node (template_form quasis)
+    → length quasis ≡ length (children_of node) + 1 → All IsReadable quasis
+    → Spells given node (template_form quasis)
 spells_template given node [] is shape readable = absurd (omega (arith, shape))
 spells_template given node (quasi ∷ []) is shape readable = of_template [] node (quasi ∷ []) is readable
 spells_template given node (first ∷ next ∷ rest) is shape readable =
@@ -151,15 +171,20 @@ spells_template given node (first ∷ next ∷ rest) is shape readable =
     )
 
 spells_at : (given : Assignment) (node : Node) (form : Form) (kind : Kind) → kind_of node ≡ kind
-    → HasCountOfKind kind (length (children_of node)) → HasFormAt kind node form → HasReadableLiteralsAt kind node → Spells given node form
+    → HasCountOfKind kind (length (children_of node)) → HasFormAt kind node form
+    → HasReadableLiteralsAt kind node → Spells given node form
 unfolding HasCountOfKind
-spells_at given node form (Str points) is shape has readable = subst (Spells given node) (sym has) (of_string [] node points is readable)
+spells_at given node form (Str points) is shape has readable =
+    subst (Spells given node) (sym has) (of_string [] node points is readable)
 spells_at given node form (Template quasis) is shape has readable =
     subst (Spells given node) (sym has) (spells_template given node quasis is shape readable)
 spells_at given node form (Binary op) is shape has readable =
-    subst (Spells given node) (sym has.3) (spells_sum given node op has.0 has.1 (is_string (kind_of has.1)) (list_all (λ (step : Step). is_add step.0) has.0) is has.2 refl refl readable)
+    subst (Spells given node) (sym has.3)
+    (spells_sum given node op has.0 has.1 (is_string (kind_of has.1))
+    (list_all (λ (step : Step). is_add step.0) has.0) is has.2 refl refl readable)
 spells_at given node form _ is shape has readable = subst (Spells given node) (sym has) tt
 
 -- the form of a node spells its text, whatever the unknown parts are
-pub spells : (node : Node) (form : Form) → HasCountOfKind (kind_of node) (length (children_of node)) → HasForm node form → SpellsItsText node form
+pub spells : (node : Node) (form : Form) → HasCountOfKind (kind_of node) (length (children_of node))
+    → HasForm node form → SpellsItsText node form
 spells node form shape has given readable = spells_at given node form (kind_of node) refl shape has readable

@@ -9,8 +9,8 @@ use Rattle.deno_graph_source.specs.declared.tree.node.Node.{Node, size-Node}
 use Rattle.deno_graph_source.specs.Node.{kind_of, children_of, nodes_in, HasCountOfKind, IsShaped}
 use Rattle.std.proofs.lemmas.Option.{slice_get_within, get_or_from_slice_get}
 use Rattle.deno_graph_source.proofs.ValidSource.{All-child_nodes, node-holds}
-use Rattle.deno_graph_dep.specs.Argument.{is_binary, is_sum, is_string, is_add, Step, LeftSpine, operands_of, part_of, sum_form, Part, Form, parts, expression, HasFormAt}
-use Rattle.deno_graph_walk.proofs.Depth.{child_smaller}
+use Rattle.deno_graph_dep.specs.Argument.{is_binary, is_sum, is_string, is_add, Step, LeftSpine, operands_of, part_of, sum_form, ArgumentPart, Form, parts, expression, HasFormAt}
+use Rattle.deno_graph_dep.proofs.Depth.{child_smaller}
 
 -- a node of which all nodes, it and those below it, have the children that they need
 abbrev pub AllShaped : Node → Type 0
@@ -19,10 +19,14 @@ AllShaped node = All IsShaped (nodes_in node)
 pub keeps_here : (node : Node) → AllShaped node → HasCountOfKind (kind_of node) (length (children_of node))
 keeps_here node shaped = (node-holds IsShaped node shaped).count
 
-pub child_shaped : (node child : Node) (k : ℕ) → slice_get (children_of node) k ≡ Some child → AllShaped node → AllShaped child
+pub child_shaped : (node child : Node) (k : ℕ) → slice_get (children_of node) k ≡ Some child → AllShaped node
+    → AllShaped child
 child_shaped node child k is shaped =
-    All-child_nodes IsShaped node child
-    (k, slice_get_within (children_of node) k child is, get_or_from_slice_get (children_of node) k child child is) shaped
+    All-child_nodes IsShaped node child (
+      k,
+      slice_get_within (children_of node) k child is,
+      get_or_from_slice_get (children_of node) k child child is,
+    ) shaped
 
 pub two_operands : (kind : Kind) (count : ℕ) → is_binary kind ≡ true → HasCountOfKind kind count → count ≡ 2
 unfolding HasCountOfKind
@@ -53,9 +57,12 @@ two_of (x ∷ y ∷ z ∷ xs) two = absurd (omega arith)
 -- what a binary node that keeps the shape rules has below it
 pub children_of-binary : (node : Node) → is_binary (kind_of node) ≡ true → AllShaped node
     → (left : Node) × (right : Node) × (children_of node ≡ left ∷ right ∷ [])
-children_of-binary node binary shaped = two_of (children_of node) (two_operands (kind_of node) (length (children_of node)) binary (keeps_here node shaped))
+children_of-binary node binary shaped =
+    two_of (children_of node)
+    (two_operands (kind_of node) (length (children_of node)) binary (keeps_here node shaped))
 
-pub left_at : (node left right : Node) → children_of node ≡ left ∷ right ∷ [] → slice_get (children_of node) 0 ≡ Some left
+pub left_at : (node left right : Node) → children_of node ≡ left ∷ right ∷ []
+    → slice_get (children_of node) 0 ≡ Some left
 left_at node left right is = ap (λ xs. slice_get xs 0) is
 
 -- from node down along left children, through nodes that are sums, to operand
@@ -69,8 +76,11 @@ Descends node (step ∷ below) operand =
 pub Descends-step : (node operand left : Node) (above : List Step) (step : Step) → Descends node above operand
     → kind_of operand ≡ Binary step.0 → is_add step.0 ≡ true → children_of operand ≡ left ∷ step.1 ∷ []
     → Descends node (above ++ step ∷ []) left
-Descends-step node operand left [] step d is plus at =
-    (subst (λ n. kind_of n ≡ Binary step.0) (sym d) is, plus, (left, subst (λ n. children_of n ≡ left ∷ step.1 ∷ []) (sym d) at, refl))
+Descends-step node operand left [] step d is plus at = (
+  subst (λ n. kind_of n ≡ Binary step.0) (sym d) is,
+  plus,
+  (left, subst (λ n. children_of n ≡ left ∷ step.1 ∷ []) (sym d) at, refl),
+)
 Descends-step node operand left (top ∷ above) step d is plus at =
     (d.0, d.1, (d.2.0, d.2.1, Descends-step d.2.0 operand left above step d.2.2 is plus at))
 
@@ -85,7 +95,8 @@ LeftSpine-join node operand first (top ∷ above) rest d spine =
 pub LeftSpine-end : (node operand : Node) (above : List Step) → Descends node above operand
     → is_binary (kind_of operand) ≡ false → LeftSpine node above operand
 LeftSpine-end node operand [] d is = (d, subst (λ n. is_binary (kind_of n) ≡ false) (sym d) is)
-LeftSpine-end node operand (top ∷ above) d is = (d.0, (d.2.0, d.2.1, LeftSpine-end d.2.0 operand above d.2.2 is))
+LeftSpine-end node operand (top ∷ above) d is =
+    (d.0, (d.2.0, d.2.1, LeftSpine-end d.2.0 operand above d.2.2 is))
 
 pub Descends-all_sums : (node operand : Node) (above : List Step) → Descends node above operand
     → list_all (λ (step : Step). is_add step.0) above ≡ true
@@ -111,7 +122,8 @@ has_spine_within zero node small shaped =
     (λ left at. let h = child_smaller node left 0 at in absurd (omega arith))
 has_spine_within (suc n) node small shaped =
     spine_by_kind node (is_binary (kind_of node)) refl shaped
-    (λ left at. let h = child_smaller node left 0 at in has_spine_within n left (omega arith) (child_shaped node left 0 at shaped))
+    (λ left at. let h = child_smaller node left 0 at in
+    has_spine_within n left (omega arith) (child_shaped node left 0 at shaped))
 
 pub has_spine : (node : Node) → AllShaped node → Spine node
 has_spine node shaped = has_spine_within (size-Node node) node (omega arith) shaped
@@ -120,7 +132,8 @@ has_spine node shaped = has_spine_within (size-Node node) node (omega arith) sha
 abbrev pub rights_of : List Step → List Node
 rights_of steps = map (λ step. step.1) steps
 
-operands_of-reverse : (above : List Step) (first : Node) → operands_of above first ≡ first ∷ reverse (rights_of above)
+operands_of-reverse : (above : List Step) (first : Node)
+    → operands_of above first ≡ first ∷ reverse (rights_of above)
 operands_of-reverse [] first = refl
 operands_of-reverse (top ∷ above) first =
     ap (λ nodes. nodes ++ top.1 ∷ []) (operands_of-reverse above first)
@@ -132,20 +145,23 @@ reverse-map f (x ∷ xs) =
     ap (map f) (reverse-append (x ∷ []) xs) ∙ map-append f (reverse xs) (x ∷ [])
     ∙ ap (λ ys. ys ++ f x ∷ []) (reverse-map f xs) ∙ sym (reverse-append (f x ∷ []) (map f xs))
 
-pub seen_push : {X : Type 0} (seen : X → Part) (ps : List X) (p : X) (above : List Step) (step : Step)
+pub seen_push : {X : Type 0} (seen : X → ArgumentPart) (ps : List X) (p : X) (above : List Step) (step : Step)
     → map seen ps ≡ map part_of (rights_of above) → seen p ≡ part_of step.1
     → map seen (ps ++ p ∷ []) ≡ map part_of (rights_of (above ++ step ∷ []))
 seen_push seen ps p above step so_far here =
-    map-append seen ps (p ∷ []) ∙ ap (λ qs. qs ++ seen p ∷ []) so_far ∙ ap (λ q. map part_of (rights_of above) ++ q ∷ []) here
+    map-append seen ps (p ∷ []) ∙ ap (λ qs. qs ++ seen p ∷ []) so_far
+    ∙ ap (λ q. map part_of (rights_of above) ++ q ∷ []) here
     ∙ sym (map-append part_of (rights_of above) (step.1 ∷ []))
     ∙ ap (map part_of) (sym (map-append (λ (s : Step). s.1) above (step ∷ [])))
 
-pub seen_reverse : {X : Type 0} (seen : X → Part) (ps : List X) (p : X) (above : List Step) (operand : Node)
+pub seen_reverse : {X : Type 0} (seen : X → ArgumentPart) (ps : List X) (p : X) (above : List Step)
+    (operand : Node)
     → map seen ps ≡ map part_of (rights_of above) → seen p ≡ part_of operand
     → map seen (reverse (ps ++ p ∷ [])) ≡ map part_of (operands_of above operand)
 seen_reverse seen ps p above operand so_far here =
     reverse-map seen (ps ++ p ∷ [])
-    ∙ ap reverse (map-append seen ps (p ∷ []) ∙ ap (λ qs. qs ++ seen p ∷ []) so_far ∙ ap (λ q. map part_of (rights_of above) ++ q ∷ []) here)
+    ∙ ap reverse (map-append seen ps (p ∷ []) ∙ ap (λ qs. qs ++ seen p ∷ []) so_far
+    ∙ ap (λ q. map part_of (rights_of above) ++ q ∷ []) here)
     ∙ reverse-append (map part_of (rights_of above)) (part_of operand ∷ [])
     ∙ ap (λ ps. part_of operand ∷ ps) (sym (reverse-map part_of (rights_of above)))
     ∙ ap (map part_of) (sym (operands_of-reverse above operand))
@@ -154,36 +170,43 @@ seen_reverse seen ps p above operand so_far here =
 list_all-fails : (above rest : List Step) (step : Step) → is_add step.0 ≡ false
     → list_all (λ (s : Step). is_add s.0) (above ++ step ∷ rest) ≡ false
 list_all-fails [] rest step not_plus = rw not_plus
-list_all-fails (top ∷ above) rest step not_plus = rw (list_all-fails above rest step not_plus) (and_false (is_add top.0))
+list_all-fails (top ∷ above) rest step not_plus =
+    rw (list_all-fails above rest step not_plus) (and_false (is_add top.0))
   where
     and_false : (b : Bool) → (b && false) ≡ false
     and_false true = refl
     and_false false = refl
 
 pub sum_form-unknown : (operand first : Node) (above rest : List Step) → LeftSpine operand rest first
-    → is_sum (kind_of operand) ≡ false → is_string (kind_of operand) ≡ false → sum_form (above ++ rest) first ≡ expression
+    → is_sum (kind_of operand) ≡ false → is_string (kind_of operand) ≡ false
+    → sum_form (above ++ rest) first ≡ expression
 sum_form-unknown operand first above [] spine no_sum no_string =
-    let e : is_string (kind_of first) ≡ false = subst (λ n. is_string (kind_of n) ≡ false) spine.0 no_string in rw e
+    let e : is_string (kind_of first) ≡ false =
+    subst (λ n. is_string (kind_of n) ≡ false) spine.0 no_string in rw e
 sum_form-unknown operand first above (step ∷ rest) spine no_sum no_string =
     let not_plus : is_add step.0 ≡ false = subst (λ k. is_sum k ≡ false) spine.0 no_sum in
-    rw (list_all-fails above rest step not_plus) (neither (is_string (kind_of first)) (parts (map part_of (operands_of (above ++ step ∷ rest) first))))
+    rw (list_all-fails above rest step not_plus)
+    (neither (is_string (kind_of first)) (parts (map part_of (operands_of (above ++ step ∷ rest) first))))
   where
     neither : (b : Bool) (f : Form) → (if b && false then f else expression) ≡ expression
     neither true f = refl
     neither false f = refl
 
 pub sum_form-known : (above : List Step) (operand : Node) → is_string (kind_of operand) ≡ true
-    → list_all (λ (step : Step). is_add step.0) above ≡ true → sum_form above operand ≡ parts (map part_of (operands_of above operand))
+    → list_all (λ (step : Step). is_add step.0) above ≡ true
+    → sum_form above operand ≡ parts (map part_of (operands_of above operand))
 sum_form-known above operand string sums = rw (string, sums)
 
 -- the form of a binary node is that of its spine
 pub HasFormAt-binary : (kind : Kind) (node : Node) (form : Form) → is_binary kind ≡ true
-    → (steps : List Step) × (first : Node) × (LeftSpine node steps first) × (form ≡ sum_form steps first) → HasFormAt kind node form
+    → (steps : List Step) × (first : Node) × (LeftSpine node steps first) × (form ≡ sum_form steps first)
+    → HasFormAt kind node form
 HasFormAt-binary (Binary op) node form is spine = spine
 HasFormAt-binary _ node form is spine = cc
 
 -- a template has a quasi
-pub has_quasi : (kind : Kind) (quasis : List (List ℕ)) (count : ℕ) → kind ≡ Template quasis → HasCountOfKind kind count → 0 < length quasis
+pub has_quasi : (kind : Kind) (quasis : List (List ℕ)) (count : ℕ) → kind ≡ Template quasis
+    → HasCountOfKind kind count → 0 < length quasis
 unfolding HasCountOfKind
 has_quasi kind quasis count is keeps =
     let h : length quasis ≡ count + 1 = subst (λ k. HasCountOfKind k count) is keeps in omega (arith, h)

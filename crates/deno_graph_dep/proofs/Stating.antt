@@ -12,7 +12,7 @@ use Rattle.deno_graph_source.specs.declared.tree.node.Kind.TheVariants.{ImportDe
 use Rattle.deno_graph_source.specs.declared.tree.node.Node.{Node}
 use Rattle.deno_graph_dependency.specs.declared.dynamic_dependency.DynamicDependencyKind.{DynamicDependencyKind}
 use Rattle.deno_graph_dependency.specs.declared.dynamic_dependency.DynamicDependencyKind.TheVariants as dynamic_kind
-use Rattle.deno_graph_walk.specs.Dependency.{is_dependency, is_listed, is_module_call, is_require}
+use Rattle.deno_graph_dep.specs.DependencyRules.{is_dependency, is_listed, is_module_call, is_require}
 use Rattle.deno_graph_dep.specs.DependencyKind.{call_kind}
 use Rattle.deno_graph_dep.specs.Argument.{HasForm, expression}
 use Rattle.deno_graph_dep.specs.Item.{DynamicItem, Item, dynamic_item}
@@ -22,7 +22,8 @@ both : (a b : Bool) → a ≡ true → b ≡ true → (a && b) ≡ true
 both a b e f = rw (e, f)
 
 -- a call that is of some kind is one of `import` or `require`
-module_call : (callee : Callee) (children : List Node) (kind : DynamicDependencyKind) → call_kind callee children ≡ Some kind → is_module_call callee children ≡ true
+module_call : (callee : Callee) (children : List Node) (kind : DynamicDependencyKind)
+    → call_kind callee children ≡ Some kind → is_module_call callee children ≡ true
 module_call (callee.Import phase) children kind is = refl
 module_call callee.Expr children kind is = by_name (is_require (option_map kind_of (slice_get children 0))) is
   where
@@ -31,7 +32,8 @@ module_call callee.Expr children kind is = by_name (is_require (option_map kind_
     by_name false e = cc
 module_call callee.Super children kind is = cc
 
-kind_from_states : (comments : FiledComments) (node : Node) (kind : Kind) (item : Item) → StatesAt comments node kind item
+kind_from_states : (comments : FiledComments) (node : Node) (kind : Kind) (item : Item)
+    → StatesAt comments node kind item
     → is_dependency kind (children_of node) ≡ true
 kind_from_states comments node (ImportDecl type_only phase src has_specifiers has_with) item states = refl
 kind_from_states comments node (NamedExport type_only None has_with) item states = absurd states
@@ -47,7 +49,8 @@ kind_from_states comments node (Call callee args) item states =
     (module_call callee (children_of node) states.kind states.is_kind) (ap is_some states.is_arg)
 kind_from_states comments node _ item states = absurd states
 
-pub listed_from_states : (comments : FiledComments) (node : Node) (item : Item) → States comments node item → is_listed node ≡ true
+pub listed_from_states : (comments : FiledComments) (node : Node) (item : Item) → States comments node item
+    → is_listed node ≡ true
 unfolding States is_listed
 listed_from_states comments node item states = kind_from_states comments node (kind_of node) item states
 
@@ -59,8 +62,10 @@ by_spread true A B e h = h
 by_spread false A B e h = absurd (false≢true e)
 
 -- nothing is known of a first argument that is spread
-pub unknown_where_spread : (comments : FiledComments) (node : Node) (callee : Callee) (args : List Arg) (arg : Arg) (item : DynamicItem)
-    → kind_of node ≡ Call callee args → slice_get args 0 ≡ Some arg → arg.spread ≡ true → States comments node (dynamic_item item)
+pub unknown_where_spread : (comments : FiledComments) (node : Node) (callee : Callee) (args : List Arg)
+    (arg : Arg) (item : DynamicItem)
+    → kind_of node ≡ Call callee args → slice_get args 0 ≡ Some arg → arg.spread ≡ true
+    → States comments node (dynamic_item item)
     → item.argument ≡ expression
 unfolding States
 unknown_where_spread comments node callee args arg item is at spread states =
@@ -68,7 +73,9 @@ unknown_where_spread comments node callee args arg item is at spread states =
     let call : StatesCall comments node callee args (dynamic_item item) = subst P is states in
     let same : call.arg ≡ arg = some_same (sym call.is_arg ∙ at) in
     let spread_too : call.arg.spread ≡ true = ap (λ (a : Arg). a.spread) same ∙ spread in
-    same_argument item _ call.says ∙ by_spread call.arg.spread (call.form ≡ expression) (HasForm call.argument call.form) spread_too call.has_form
+    same_argument item _ call.says
+    ∙ by_spread call.arg.spread (call.form ≡ expression)
+    (HasForm call.argument call.form) spread_too call.has_form
   where
     some_same : {x y : Arg} → Some x ≡ Some y → x ≡ y
     some_same e = cc

@@ -14,18 +14,18 @@ use Rattle.deno_graph_dep.specs.declared.argument.DynamicTemplatePart.{DynamicTe
 use Rattle.deno_graph_dep.specs.declared.argument.DynamicTemplatePart.TheVariants as part
 
 -- a part: a text that is known, or an expression that is not
-pub data Part : Type 0 where
-  known : List ℕ → Part
-  unknown : Part
+pub data ArgumentPart : Type 0 where
+  known : List ℕ → ArgumentPart
+  unknown : ArgumentPart
 
 -- a form: one text, parts in turn, or nothing known
 pub data Form : Type 0 where
   text : List ℕ → Form
-  parts : List Part → Form
+  parts : List ArgumentPart → Form
   expression : Form
 
 -- the part that a borrowed part says
-abbrev pub part_seen : DynamicTemplatePart → Part
+abbrev pub part_seen : DynamicTemplatePart → ArgumentPart
 part_seen (part.String s) = known s.now
 part_seen part.Expr = unknown
 
@@ -36,13 +36,13 @@ form_seen (argument.Template ps) = parts (map part_seen ps.items)
 form_seen argument.Expr = expression
 
 -- a quasi of a template, which is left out where it is empty
-abbrev pub quasi_part : List ℕ → List Part
+abbrev pub quasi_part : List ℕ → List ArgumentPart
 quasi_part [] = []
 quasi_part (c ∷ points) = known (lossy_text (c ∷ points)) ∷ []
 
 -- the parts of a template: its first quasi, and then each child as an unknown with the quasi after
 -- it
-abbrev pub template_parts : List (List ℕ) → List Part
+abbrev pub template_parts : List (List ℕ) → List ArgumentPart
 template_parts [] = []
 template_parts (first ∷ rest) =
     quasi_part first ++ flat_map (λ quasi. unknown ∷ quasi_part quasi) rest
@@ -89,11 +89,11 @@ operands_of [] first = first ∷ []
 operands_of (step ∷ below) first = operands_of below first ++ step.1 ∷ []
 
 -- a string literal is known, and any other operand is not
-abbrev pub part_of_kind : Kind → Part
+abbrev pub part_of_kind : Kind → ArgumentPart
 part_of_kind (Str points) = known (lossy_text points)
 part_of_kind _ = unknown
 
-abbrev pub part_of : Node → Part
+abbrev pub part_of : Node → ArgumentPart
 part_of node = part_of_kind (kind_of node)
 
 -- a sum is known in part exactly when it begins with a string literal and every operator is a plus:

@@ -1,7 +1,6 @@
 -- What an object literal says of the attributes of an import, by the indices of its properties.
-use Rattle.std.specs.Prelude.{◌≡◌, ◌≢◌, ℕ, ◌<◌, ◌-◌, ◌↔◌, ◌⊎◌, Bool, not, ◌&&◌, if◌then◌else◌, List, length, codes, Option, Some, None, is_some, option_map, option_and_then, slice_get, MatchBool}
+use Rattle.std.specs.Prelude.{◌≡◌, ◌≢◌, ℕ, ◌<◌, ◌-◌, ◌↔◌, ◌⊎◌, Bool, not, ◌&&◌, List, length, codes, Option, Some, None, is_some, option_map, option_and_then, slice_get, MatchBool}
 use Rattle.std.specs.List.{list_all}
-use Rattle.std.specs.Str.{bytes_eq}
 use Rattle.deno_graph_source.specs.declared.tree.node.Arg.{Arg}
 use Rattle.deno_graph_source.specs.declared.tree.node.Kind.{Kind}
 use Rattle.deno_graph_source.specs.declared.tree.node.Kind.TheVariants.{Str, KeyValue}
@@ -10,7 +9,7 @@ use Rattle.deno_graph_source.specs.declared.tree.node.PropKey.{PropKey}
 use Rattle.deno_graph_source.specs.declared.tree.node.PropKey.TheVariants as key
 use Rattle.deno_graph_text.specs.JsString.{readable_text}
 use Rattle.deno_graph_source.specs.Node.{kind_of, children_of, is_object}
-use Rattle.deno_graph_values.specs.TextMap.{value_at, IsAscending}
+use Rattle.deno_graph_text.specs.TextMap.{value_at, IsAscending}
 use Rattle.deno_graph_dependency.specs.declared.import_attributes.ImportAttribute.{ImportAttribute}
 use Rattle.deno_graph_dependency.specs.declared.import_attributes.ImportAttribute.TheVariants as attribute
 use Rattle.deno_graph_dependency.specs.declared.import_attributes.ImportAttributes.{ImportAttributes}
@@ -161,16 +160,3 @@ CallGives (Some second) result =
     MatchBool (not second.0.spread && is_object (kind_of second.1) && has_static_keys second.1)
     (LookedAtGive (children_of second.1) result)
     (result ≡ attributes.Unknown)
-
--- the object literal that is the value of a property, where each of its properties has a static key
-abbrev pub known_object : Node → Option Node
-known_object property =
-    option_and_then (λ value.
-    if is_object (kind_of value) && has_static_keys value then Some value else None)
-    (value_node property)
-
--- the entries with this value at a key, and every other key as it was
-pub record Puts (old new : Entries) (name : List ℕ) (value : ImportAttribute) : Type 0 where
-  pub ascending : IsAscending new
-  pub values : (other : List ℕ)
-      → value_at new other ≡ (if bytes_eq name other then Some value else value_at old other)

@@ -4,7 +4,7 @@ use Rattle.deno_graph_source.specs.Comments.{FiledComments}
 use Rattle.deno_graph_source.specs.declared.tree.node.Node.{Node}
 use Rattle.deno_graph_dep.specs.Item.{Item}
 use Rattle.deno_graph_dep.specs.Stated.{AllStated}
-use Rattle.deno_graph_walk.specs.ListedNodes.{AreListed}
+use Rattle.deno_graph_dep.specs.ListedNodes.{AreListed}
 
 -- each item is what the node in its place in the listing states
 pub record AreDependencies (comments : FiledComments)

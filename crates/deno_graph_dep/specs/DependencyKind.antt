@@ -10,7 +10,7 @@ use Rattle.deno_graph_dependency.specs.declared.dynamic_dependency.DynamicDepend
 use Rattle.deno_graph_dependency.specs.declared.dynamic_dependency.DynamicDependencyKind.TheVariants as dynamic_kind
 use Rattle.deno_graph_dependency.specs.declared.static_dependency.StaticDependencyKind.{StaticDependencyKind}
 use Rattle.deno_graph_dependency.specs.declared.static_dependency.StaticDependencyKind.TheVariants as static_kind
-use Rattle.deno_graph_walk.specs.Dependency.{is_require}
+use Rattle.deno_graph_dep.specs.DependencyRules.{is_require}
 
 -- what an import by this phase is, as a call
 abbrev pub phase_kind : ImportPhase → DynamicDependencyKind

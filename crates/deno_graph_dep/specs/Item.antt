@@ -1,7 +1,7 @@
 -- What a dependency says, by values alone.
 use Rattle.std.specs.Prelude.{ℕ, List, Bool}
 use Rattle.deno_graph_text.specs.SourceRange.{IsTextRange}
-use Rattle.deno_graph_text.specs.declared.position.SourceRange.{SourceRange}
+use Rattle.deno_graph_text.specs.declared.text.position.SourceRange.{SourceRange}
 use Rattle.deno_graph_source.specs.declared.tree.comments.DependencyComment.{DependencyComment}
 use Rattle.deno_graph_dependency.specs.declared.dynamic_dependency.DynamicDependencyKind.{DynamicDependencyKind}
 use Rattle.deno_graph_dependency.specs.declared.import_attributes.ImportAttributes.{ImportAttributes}

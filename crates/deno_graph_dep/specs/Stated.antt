@@ -4,7 +4,7 @@ use Rattle.deno_graph_source.specs.ByPosition.{value_at}
 use Rattle.deno_graph_source.specs.Comments.{FiledComments}
 use Rattle.deno_graph_text.specs.JsString.{lossy_text}
 use Rattle.deno_graph_source.specs.Node.{kind_of, range_of, children_of, callee_count}
-use Rattle.deno_graph_text.specs.declared.position.SourceRange.{SourceRange}
+use Rattle.deno_graph_text.specs.declared.text.position.SourceRange.{SourceRange}
 use Rattle.deno_graph_source.specs.declared.tree.comments.DependencyComment.{DependencyComment}
 use Rattle.deno_graph_source.specs.declared.tree.node.Arg.{Arg}
 use Rattle.deno_graph_source.specs.declared.tree.node.Callee.{Callee}
@@ -22,7 +22,7 @@ use Rattle.deno_graph_dep.specs.Attributes.{DeclarationGives, ObjectGives, CallG
 use Rattle.deno_graph_dep.specs.DependencyKind.{import_kind, export_kind, import_equals_kind, call_kind}
 use Rattle.deno_graph_dep.specs.Item.{Item, StaticItem, static_item, dynamic_item}
 use Rattle.deno_graph_dep.specs.Value.{SpellsItsText}
-use Rattle.deno_graph_walk.specs.Dependency.{is_dependency, may_name_module}
+use Rattle.deno_graph_dep.specs.DependencyRules.{may_name_module}
 
 -- the comments that are filed as leading at a position
 abbrev pub leading_at : FiledComments → ℕ → List DependencyComment
@@ -131,11 +131,6 @@ StatesAt comments node _ item = ⊥
 -- the item is what the node states
 unfoldable pub States : FiledComments → Node → Item → Type 0
 States comments node item = StatesAt comments node (kind_of node) item
-
--- the item is what a node of this kind states, and there is none where such a node is not listed
-abbrev pub StatesIfListed : FiledComments → Node → Kind → Option Item → Type 0
-StatesIfListed comments node kind (Some item) = StatesAt comments node kind item
-StatesIfListed comments node kind None = is_dependency kind (children_of node) ≡ false
 
 -- each item is what the node in its place states, and there are no more of either
 abbrev pub AllStated : FiledComments → List Node → List Item → Type 0

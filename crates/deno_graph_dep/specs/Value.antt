@@ -7,8 +7,8 @@ use Rattle.deno_graph_source.specs.declared.tree.node.BinaryOp.TheVariants.{Add}
 use Rattle.deno_graph_source.specs.declared.tree.node.Node.{Node}
 use Rattle.deno_graph_text.specs.JsString.{lossy_text, IsReadable}
 use Rattle.deno_graph_source.specs.Node.{kind_of, children_of}
-use Rattle.deno_graph_walk.specs.NodePath.{NodePath}
-use Rattle.deno_graph_dep.specs.Argument.{Form, text, parts, expression, Part, known, unknown, is_string, Step, LeftSpine, operands_of}
+use Rattle.deno_graph_dep.specs.NodePath.{NodePath}
+use Rattle.deno_graph_dep.specs.Argument.{Form, text, parts, expression, ArgumentPart, known, unknown, is_string, Step, LeftSpine, operands_of}
 
 -- an assignment: the text that the expression at each path below an argument contributes
 abbrev pub Assignment : Type 0
@@ -46,7 +46,7 @@ pub data HasText (given : Assignment) : NodePath → Node → List ℕ → Type 
       → HasText given path node (front ++ back)
 
 -- the parts joined, with the k-th unknown replaced by the k-th of the texts
-abbrev pub joined : List Part → List (List ℕ) → List ℕ
+abbrev pub joined : List ArgumentPart → List (List ℕ) → List ℕ
 joined [] texts = []
 joined (known known_text ∷ ps) texts = known_text ++ joined ps texts
 joined (unknown ∷ ps) [] = joined ps []

@@ -5,8 +5,8 @@ ghost use Rattle.deno_graph_source.specs.Node.{kind_of, children_of, nodes_in, I
 ghost use Rattle.deno_graph_dep.specs.Argument.{HasForm, form_seen, part_seen, part_of, quasi_part, template_form, template_parts, is_sum, is_binary, is_string};
 ghost use Rattle.deno_graph_dep.specs.Value.{SpellsItsText};
 
-use deno_graph_source::text::JsString;
 use deno_graph_source::tree::{BinaryOp, Kind, Node};
+use deno_graph_text::text::JsString;
 use std::alloc::{AllocError, Global};
 
 /// A part of a template or of a sum of strings.
@@ -66,13 +66,6 @@ pub fn argument_of<'a>(alloc: Global, node: &'a Node) -> Result<DynamicArgument<
 
     // Whatever texts the unknown expressions have, the parts spell the text of the whole.
     ensures spells { IfOk result (λ argument. SpellsItsText node.now (form_seen argument)) }
-{
-    form_argument(alloc, node)
-}
-
-fn form_argument<'a>(alloc: Global, node: &'a Node) -> Result<DynamicArgument<'a>, AllocError>
-    requires { All IsShaped (nodes_in node.now) }
-    ensures { IfOk result (λ argument. HasForm node.now (form_seen argument)) }
 {
     match &node.kind {
         Kind::Str(value) => Ok(DynamicArgument::String(value.to_str_lossy())),

@@ -3,11 +3,12 @@
 ghost use Rattle.std.specs.Prelude.{◌≡◌, ◌↔◌, ◌⊎◌, IfOk, OnOk, IsTrue, Some, false, codes, is_some, option_map};
 ghost use Rattle.std.specs.Option.{option_copied};
 ghost use Rattle.deno_graph_source.specs.Node.{kind_of, children_of, is_object};
-ghost use Rattle.deno_graph_dep.specs.Attributes.{static_key, static_value, text_of_kind, has_static_keys, known_object, declared, attribute_of, Puts, DeclarationGives, ObjectGives, LookedAtGive, CallGives};
+ghost use Rattle.deno_graph_dep.specs.Attributes.{static_key, static_value, text_of_kind, has_static_keys, declared, attribute_of, DeclarationGives, ObjectGives, LookedAtGive, CallGives};
+ghost use Rattle.deno_graph_dep.specs.AttributeSteps.{known_object, Puts};
 
-use deno_graph_info::analysis::{ImportAttribute, ImportAttributes};
+use deno_graph_dependency::{ImportAttribute, ImportAttributes};
 use deno_graph_source::tree::{Arg, Kind, Node, PropKey};
-use deno_graph_source::values::{Text, TextMap};
+use deno_graph_text::values::{Text, TextMap};
 use std::alloc::{AllocError, Global};
 
 /// The attributes of an import or export declaration, whose clause is the object literal after
@@ -52,7 +53,7 @@ pub fn parse_dynamic_import_attributes(
     let Some((argument, node)) = argument else {
         return Ok(ImportAttributes::None);
     };
-    if argument.spread || !is_object(node) || !has_static_keys(node) {
+    if argument.spread || !node.kind.is_object() || !has_static_keys(node) {
         return Ok(ImportAttributes::Unknown);
     }
     last_clause_attributes(alloc, node.children.as_slice())
@@ -118,7 +119,7 @@ fn known_object(property: &Node) -> Option<&Node>
     ensures { option_copied result ≡ known_object property.now }
 {
     let value = property.children.last()?;
-    if is_object(value) && has_static_keys(value) {
+    if value.kind.is_object() && has_static_keys(value) {
         Some(value)
     } else {
         None
@@ -141,12 +142,6 @@ fn put_attribute(
     };
     drop(attributes.insert(Text::from_str(alloc, key)?, attribute)?);
     Ok(())
-}
-
-fn is_object(node: &Node) -> bool
-    ensures { result ≡ is_object (kind_of node.now) }
-{
-    matches!(node.kind, Kind::Object)
 }
 
 fn has_static_keys(object: &Node) -> bool

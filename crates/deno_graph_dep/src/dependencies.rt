@@ -1,14 +1,14 @@
 ghost use Rattle.std.specs.Prelude.{map, IfOk, All};
 ghost use Rattle.deno_graph_source.specs.Node.{nodes_of, IsShaped};
 ghost use Rattle.deno_graph_dep.specs.Dependencies.{AreDependencies};
-ghost use Rattle.deno_graph_walk.specs.ListedNodes.{listed_below};
+ghost use Rattle.deno_graph_dep.specs.ListedNodes.{listed_below};
 ghost use Rattle.deno_graph_dep.specs.Item.{item_of};
 ghost use Rattle.deno_graph_dep.specs.Stated.{AllStated};
 
+use crate::Walk;
 use crate::describe::describe;
 use crate::descriptor::DependencyDescriptor;
 use deno_graph_source::tree::{Comments, Program};
-use deno_graph_walk::Walk;
 use std::alloc::{AllocError, Global};
 
 /// The dependencies of a module in tree order, each exactly once: a call after those inside it,
@@ -32,9 +32,7 @@ pub fn analyze_program_dependencies<'a>(
     let mut walk = Walk::new(alloc, program);
     let mut found = Vec::new(alloc);
     'nodes: while let Some(node) = walk.step()? {
-        if let Some(descriptor) = describe(alloc, comments, node)? {
-            found.push(descriptor)?;
-        }
+        found.push(describe(alloc, comments, node)?)?;
     }
     Ok(found)
 }

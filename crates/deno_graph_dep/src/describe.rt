@@ -1,15 +1,17 @@
-#![tactic(auto, unfolding(deno_graph_source::specs::Node::kind_of, deno_graph_source::specs::Node::children_of, deno_graph_source::specs::Node::range_of))]
+#![tactic(auto, unfolding(deno_graph_source::specs::Node::kind_of, deno_graph_source::specs::Node::children_of, deno_graph_source::specs::Node::range_of, crate::specs::DependencyRules::is_listed, crate::specs::Stated::States))]
 
-ghost use Rattle.std.specs.Prelude.{◌≡◌, ◌<◌, false, IfOk, IsTrue, All};
+ghost use Rattle.std.specs.Prelude.{◌≡◌, ◌≤◌, false, IfOk, IsTrue, List, Some, All};
 ghost use Rattle.std.specs.Option.{option_copied, option_map};
-ghost use Rattle.deno_graph_source.specs.Node.{children_of, is_export, is_import, kind_of, nodes_in, range_of, IsShaped};
+ghost use Rattle.deno_graph_source.specs.KindGroups.{is_export, is_import};
+ghost use Rattle.deno_graph_source.specs.Node.{callee_count, kind_of, nodes_in, range_of, IsShaped};
+ghost use Rattle.deno_graph_source.specs.declared.tree.node.Node.{Node};
 ghost use Rattle.deno_graph_source.specs.declared.tree.node.Kind.TheVariants.{Call};
 ghost use Rattle.deno_graph_dep.specs.DependencyKind.{call_kind, export_kind, import_equals_kind, import_kind, phase_kind};
-ghost use Rattle.deno_graph_walk.specs.Dependency.{is_require};
+ghost use Rattle.deno_graph_dep.specs.DependencyRules.{is_listed, is_module_call};
 ghost use Rattle.deno_graph_dep.specs.Argument.{form_seen};
-ghost use Rattle.deno_graph_dep.specs.Item.{item_of, static_item_of};
+ghost use Rattle.deno_graph_dep.specs.Item.{dynamic_item, dynamic_item_of, item_of, static_item, static_item_of};
 ghost use Rattle.deno_graph_dep.specs.Value.{SpellsItsText};
-ghost use Rattle.deno_graph_dep.specs.Stated.{ArgumentHasForm, argument_node, clause_of, leading_at, second_argument, StatesIfListed, TypeGives, specified_item};
+ghost use Rattle.deno_graph_dep.specs.Stated.{clause_of, leading_at, second_argument, specified_item, ArgumentHasForm, States, StatesCall, TypeGives};
 
 use crate::argument::{DynamicArgument, argument_of};
 use crate::attributes::{
@@ -19,50 +21,52 @@ use crate::attributes::{
 use crate::descriptor::{
     DependencyDescriptor, DynamicDependencyDescriptor, StaticDependencyDescriptor,
 };
-use deno_graph_info::analysis::{DynamicDependencyKind, ImportAttributes, StaticDependencyKind};
+use deno_graph_dependency::{DynamicDependencyKind, ImportAttributes, StaticDependencyKind};
 use deno_graph_source::tree::{
     Arg, Callee, Comments, DependencyComment, ImportPhase, Kind, Node, StrLit,
 };
-use deno_graph_walk::listed::{is_require, may_name_module};
 use std::alloc::{AllocError, Global};
 
-/// The dependency that a node states, or `None` where the node is not listed. The only error is
-/// that memory was refused.
+/// The dependency that a listed node states. The only error is that memory was refused.
 pub(crate) fn describe<'a>(
     alloc: Global,
     comments: &'a Comments,
     node: &'a Node,
-) -> Result<Option<DependencyDescriptor<'a>>, AllocError>
-    requires { All IsShaped (nodes_in node.now) }
-    ensures { IfOk result (λ found.
-        StatesIfListed comments.now node.now (kind_of node.now) (option_map item_of found)) }
+) -> Result<DependencyDescriptor<'a>, AllocError>
+    requires listed { IsTrue (is_listed node.now) }
+    requires shaped { All IsShaped (nodes_in node.now) }
+    ensures { IfOk result (λ found. States comments.now node.now (item_of found)) }
 {
     match &node.kind {
         Kind::ImportDecl { .. } | Kind::ImportEquals { .. } | Kind::ImportType { .. } => {
-            import(alloc, comments, node)
+            Ok(import(alloc, comments, node)?.into())
         }
-        Kind::NamedExport { .. } | Kind::ExportAll { .. } => export(alloc, comments, node),
-        Kind::ModuleDecl { name: Some(name) } if may_name_module(name.value.to_str_lossy()) => {
+        Kind::NamedExport { .. } | Kind::ExportAll { .. } => {
+            Ok(export(alloc, comments, node)?.into())
+        }
+        Kind::ModuleDecl { name: Some(name) } => {
             let kind = StaticDependencyKind::MaybeTsModuleAugmentation;
             let mut found = specified(comments, node, kind, name, ImportAttributes::None);
             found.range = name.range;
-            Ok(Some(found.into()))
+            Ok(found.into())
         }
-        Kind::Call { callee, args } => call(alloc, comments, node, *callee, args.as_slice()),
-        _ => Ok(None),
+        Kind::Call { callee, args } => {
+            Ok(call(alloc, comments, node, *callee, args.as_slice())?.into())
+        }
+        _ => unreachable!(),
     }
 }
 
-/// The dependency of an import declaration, an `import name = require(..)` or an import type, or
-/// `None` of another `import name = ..`.
+/// The dependency of an import declaration, an `import name = require(..)` or an import type.
 fn import<'a>(
     alloc: Global,
     comments: &'a Comments,
     node: &'a Node,
-) -> Result<Option<DependencyDescriptor<'a>>, AllocError>
-    requires { IsTrue (is_import (kind_of node.now)) }
+) -> Result<StaticDependencyDescriptor<'a>, AllocError>
+    requires import { IsTrue (is_import (kind_of node.now)) }
+    requires listed { IsTrue (is_listed node.now) }
     ensures { IfOk result (λ found.
-        StatesIfListed comments.now node.now (kind_of node.now) (option_map item_of found)) }
+        States comments.now node.now (static_item (static_item_of found))) }
 {
     match &node.kind {
         Kind::ImportDecl {
@@ -76,7 +80,7 @@ fn import<'a>(
             let attributes = parse_import_attributes(alloc, clause_of(*has_with, node))?;
             let mut found = specified(comments, node, kind, src, attributes);
             found.is_side_effect = !*has_specifiers;
-            Ok(Some(found.into()))
+            Ok(found)
         }
         Kind::ImportEquals {
             type_only,
@@ -84,27 +88,27 @@ fn import<'a>(
             external: Some(external),
         } => {
             let kind = import_equals_kind(*type_only, *is_export);
-            let attributes = ImportAttributes::None;
-            Ok(Some(specified(comments, node, kind, external, attributes).into()))
+            Ok(specified(comments, node, kind, external, ImportAttributes::None))
         }
         Kind::ImportType { arg, has_with } => {
             let attributes = type_attributes(alloc, clause_of(*has_with, node))?;
             let kind = StaticDependencyKind::ImportType;
-            Ok(Some(specified(comments, node, kind, arg, attributes).into()))
+            Ok(specified(comments, node, kind, arg, attributes))
         }
-        _ => Ok(None),
+        _ => unreachable!(),
     }
 }
 
-/// The dependency of an export with a specifier, or `None` of another export.
+/// The dependency of an export with a specifier.
 fn export<'a>(
     alloc: Global,
     comments: &'a Comments,
     node: &'a Node,
-) -> Result<Option<DependencyDescriptor<'a>>, AllocError>
-    requires { IsTrue (is_export (kind_of node.now)) }
+) -> Result<StaticDependencyDescriptor<'a>, AllocError>
+    requires export { IsTrue (is_export (kind_of node.now)) }
+    requires listed { IsTrue (is_listed node.now) }
     ensures { IfOk result (λ found.
-        StatesIfListed comments.now node.now (kind_of node.now) (option_map item_of found)) }
+        States comments.now node.now (static_item (static_item_of found))) }
 {
     match &node.kind {
         Kind::NamedExport {
@@ -118,10 +122,9 @@ fn export<'a>(
             has_with,
         } => {
             let attributes = parse_import_attributes(alloc, clause_of(*has_with, node))?;
-            let kind = export_kind(*type_only);
-            Ok(Some(specified(comments, node, kind, src, attributes).into()))
+            Ok(specified(comments, node, export_kind(*type_only), src, attributes))
         }
-        _ => Ok(None),
+        _ => unreachable!(),
     }
 }
 
@@ -148,39 +151,32 @@ fn specified<'a>(
     }
 }
 
-/// The dependency of a call of `import` or `require` with an argument, or `None` of another call.
+/// The dependency of a call of `import` or `require` with an argument.
 fn call<'a>(
     alloc: Global,
     comments: &'a Comments,
     node: &'a Node,
     callee: Callee,
     args: &'a [Arg],
-) -> Result<Option<DependencyDescriptor<'a>>, AllocError>
+) -> Result<DynamicDependencyDescriptor<'a>, AllocError>
     requires is_call { kind_of node.now ≡ Call callee args.now }
+    requires listed { IsTrue (is_listed node.now) }
     requires shaped { All IsShaped (nodes_in node.now) }
-    ensures { IfOk result (λ found.
-        StatesIfListed comments.now node.now (Call callee args.now) (option_map item_of found)) }
+    ensures { IfOk result (λ found. StatesCall comments.now node.now callee args.now
+        (dynamic_item (dynamic_item_of found))) }
 {
     let children = node.children.as_slice();
-    let Some(kind) = call_kind(callee, children) else {
-        return Ok(None);
-    };
-    let Some(arg) = args.first() else {
-        return Ok(None);
-    };
-    let Some(argument) = argument_node(callee, children, 0) else {
-        return Ok(None);
-    };
+    let arg = &args[0];
+    let argument = &children[callee_count(callee)];
     let second = second_argument(callee, args, children);
-    let descriptor = DynamicDependencyDescriptor {
-        kind,
+    Ok(DynamicDependencyDescriptor {
+        kind: call_kind(callee),
         leading_comments: leading_comments(comments, node.range.start),
         range: node.range,
         argument: first_argument(alloc, arg, argument)?,
         argument_range: arg.range,
         import_attributes: parse_dynamic_import_attributes(alloc, second)?,
-    };
-    Ok(Some(descriptor.into()))
+    })
 }
 
 /// What is known of a first argument: nothing, where it is spread.
@@ -200,17 +196,16 @@ fn first_argument<'a>(
     }
 }
 
-/// What a call with this callee is, or `None` where it is no call of `import` or `require`.
-fn call_kind(callee: Callee, children: &[Node]) -> Option<DynamicDependencyKind>
-    ensures { result ≡ call_kind callee children.now }
+/// What a call of `import` or `require` is, by its callee.
+fn call_kind(callee: Callee) -> DynamicDependencyKind
+    requires { (children : List Node) × IsTrue (is_module_call callee children) }
+    ensures { (children : List Node) → IsTrue (is_module_call callee children)
+        → call_kind callee children ≡ Some result }
 {
     match callee {
-        Callee::Import(phase) => Some(phase_kind(phase)),
-        Callee::Expr => match children.first() {
-            Some(function) if is_require(function) => Some(DynamicDependencyKind::Require),
-            _ => None,
-        },
-        Callee::Super => None,
+        Callee::Import(phase) => phase_kind(phase),
+        Callee::Expr => DynamicDependencyKind::Require,
+        Callee::Super => unreachable!(),
     }
 }
 
@@ -224,14 +219,14 @@ fn phase_kind(phase: ImportPhase) -> DynamicDependencyKind
     }
 }
 
-/// The node of an argument of a call, by its index.
-fn argument_node(callee: Callee, children: &[Node], index: usize) -> Option<&Node>
-    requires { index < 2 }
-    ensures { option_copied result ≡ argument_node callee children.now index }
+/// How many of a call's children are its callee.
+fn callee_count(callee: Callee) -> usize
+    ensures count { result ≡ callee_count callee }
+    ensures small { result ≤ 1 }
 {
     match callee {
-        Callee::Expr => children.get(1 + index),
-        _ => children.get(index),
+        Callee::Expr => 1,
+        _ => 0,
     }
 }
 
@@ -245,7 +240,7 @@ fn second_argument<'a>(
         ≡ second_argument callee args.now children.now }
 {
     let arg = args.get(1)?;
-    let node = argument_node(callee, children, 1)?;
+    let node = children.get(callee_count(callee) + 1)?;
     Some((arg, node))
 }
 

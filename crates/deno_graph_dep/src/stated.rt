@@ -10,7 +10,7 @@ ghost use Rattle.deno_graph_source.specs.declared.tree.node.Kind.TheVariants.{Ca
 ghost use Rattle.deno_graph_dep.specs.Argument.{expression};
 ghost use Rattle.deno_graph_dep.specs.Item.{DynamicItem, Item, dynamic_item};
 ghost use Rattle.deno_graph_dep.specs.Stated.{States};
-ghost use Rattle.deno_graph_walk.specs.Dependency.{is_listed};
+ghost use Rattle.deno_graph_dep.specs.DependencyRules.{is_listed};
 
 /// Only listed nodes state a dependency.
 pub fn only_listed_nodes_state()

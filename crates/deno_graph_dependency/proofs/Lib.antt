@@ -1,2 +1,7 @@
+pub mod Floats
+pub mod Written
 pub mod NoFloats
+pub mod Objects
 pub mod ReadBack
+pub mod ReadMaps
+pub mod Reading

@@ -1,75 +1,96 @@
--- What is written of dependencies has no float.
-use Rattle.std.proofs.Common.{◌≡◌, [], ◌∷◌, Bool, false, codes, Option, Some, option_map, refl}
-use Rattle.serde_json.specs.Data.{string}
-use Rattle.serde_json.specs.Written.{has_float}
-use Rattle.deno_graph_json.proofs.NoFloats.{option_has_float, neither, no_float-object_of, no_float-if_true, no_float-array_of, no_float-option, no_float-map_object_of}
-use Rattle.deno_graph_json.specs.Object.{unless, map_object_of}
-use Rattle.deno_graph_dependency.specs.DynamicDependency.{is_import, is_expr}
-use Rattle.deno_graph_dependency.specs.ImportAttributes.{is_none}
-use Rattle.deno_graph_dependency.specs.Json.Dependency.{json_of_dependency}
-use Rattle.deno_graph_dependency.specs.Json.DynamicArgument.{json_of_argument, json_of_part}
-use Rattle.deno_graph_dependency.specs.Json.DynamicDependency.{dynamic_kind_name, dynamic_entries, json_of_dynamic}
-use Rattle.deno_graph_dependency.specs.Json.ImportAttributes.{json_of_attribute, json_of_attributes}
-use Rattle.deno_graph_dependency.specs.Json.SpecifierWithRange.{specifier_entries, json_of_specifier}
-use Rattle.deno_graph_dependency.specs.Json.StaticDependency.{static_entries, json_of_static}
-use Rattle.deno_graph_dependency.specs.declared.dependency.DependencyDescriptor.{DependencyDescriptor}
-use Rattle.deno_graph_dependency.specs.declared.dependency.DependencyDescriptor.TheVariants.{Static, Dynamic}
-use Rattle.deno_graph_dependency.specs.declared.dynamic_argument.DynamicArgument.{DynamicArgument}
-use Rattle.deno_graph_dependency.specs.declared.dynamic_argument.DynamicArgument.TheVariants.{String, Template, Expr}
-use Rattle.deno_graph_dependency.specs.declared.dynamic_argument.DynamicTemplatePart.{DynamicTemplatePart}
-use Rattle.deno_graph_dependency.specs.declared.dynamic_argument.DynamicTemplatePart.TheVariants.{String as StringPart, Expr as ExprPart}
-use Rattle.deno_graph_dependency.specs.declared.dynamic_dependency.DynamicDependencyDescriptor.{DynamicDependencyDescriptor}
-use Rattle.deno_graph_dependency.specs.declared.dynamic_dependency.DynamicDependencyKind.{DynamicDependencyKind}
-use Rattle.deno_graph_dependency.specs.declared.dynamic_dependency.DynamicDependencyKind.TheVariants.{Import, ImportDefer, ImportSource, Require}
-use Rattle.deno_graph_dependency.specs.declared.import_attributes.ImportAttribute.{ImportAttribute}
-use Rattle.deno_graph_dependency.specs.declared.import_attributes.ImportAttribute.TheVariants.{Unknown as UnknownValue, Known as KnownValue}
-use Rattle.deno_graph_dependency.specs.declared.import_attributes.ImportAttributes.{ImportAttributes}
-use Rattle.deno_graph_dependency.specs.declared.import_attributes.ImportAttributes.TheVariants.{None as NoAttributes, Unknown, Known}
-use Rattle.deno_graph_dependency.specs.declared.specifier_with_range.SpecifierWithRange.{SpecifierWithRange}
-use Rattle.deno_graph_dependency.specs.declared.static_dependency.StaticDependencyDescriptor.{StaticDependencyDescriptor}
+-- The JSON forms have no float.
+use Rattle.std.proofs.Common.{◌≡◌, ℕ, List, [], ◌∷◌, map, Bool, true, false, ◌||◌, Option, Some, None, option_map, refl}
+use Rattle.std.specs.Ordering.{nat_cmp, match_ordering}
+use Rattle.std.specs.Cmp.Lexicographic.{slice_cmp}
+use Rattle.std.specs.declared.cmp.Ordering.{Ordering}
+use Rattle.std.specs.declared.cmp.Ordering.TheVariants.{Less, Equal, Greater}
+use Rattle.serde_json.specs.Data.{Data, Members, no_members, member, put}
+use Rattle.serde_json.specs.View.{items_of}
+use Rattle.serde_json.specs.Written.{has_float, items_have_float, members_have_float}
+use Rattle.deno_graph_dependency.specs.Object.{Entry, put_present, put_entries, object_of, map_entries, map_object_of, array_of, if_any, if_true}
 
-pub specifier_no_float : (s : SpecifierWithRange) → has_float (json_of_specifier s) ≡ false
-specifier_no_float s = no_float-object_of (specifier_entries s) refl
+-- a value that is there has a float
+abbrev pub option_has_float : Option Data → Bool
+option_has_float None = false
+option_has_float (Some d) = has_float d
 
-pub types_no_float : (o : Option SpecifierWithRange) → option_has_float (option_map json_of_specifier o) ≡ false
-types_no_float o = no_float-option json_of_specifier specifier_no_float o
+-- the value of some entry has one
+abbrev pub entries_have_float : List Entry → Bool
+entries_have_float [] = false
+entries_have_float (e ∷ es) = option_has_float e.1 || entries_have_float es
 
-attribute_no_float : (a : ImportAttribute) → has_float (json_of_attribute a) ≡ false
-attribute_no_float UnknownValue = refl
-attribute_no_float (KnownValue text) = refl
+pub neither : (a b : Bool) → a ≡ false → b ≡ false → a || b ≡ false
+neither a b none others = rw none others
 
-attributes_no_float : (a : ImportAttributes) → option_has_float (unless (is_none a) (json_of_attributes a)) ≡ false
-attributes_no_float NoAttributes = refl
-attributes_no_float Unknown = refl
-attributes_no_float (Known entries) =
-    no_float-object_of ((codes "known", Some (map_object_of json_of_attribute entries)) ∷ [])
-    (neither _ _ (no_float-map_object_of json_of_attribute attribute_no_float entries) refl)
+pub first_none : (a b : Bool) → a || b ≡ false → a ≡ false
+first_none true b h = h
+first_none false b h = refl
 
-static_no_float : (d : StaticDependencyDescriptor) → has_float (json_of_static d) ≡ false
-static_no_float d =
-    no_float-object_of (static_entries d)
-    (neither _ _ (types_no_float d.types_specifier) (neither _ _ (no_float-if_true d.is_side_effect) (neither _ _ (attributes_no_float d.import_attributes) refl)))
+pub others_none : (a b : Bool) → a || b ≡ false → b ≡ false
+others_none true b h = absurd (cc)
+others_none false b h = h
 
-kind_no_float : (k : DynamicDependencyKind) → option_has_float (unless (is_import k) (string (dynamic_kind_name k))) ≡ false
-kind_no_float Import = refl
-kind_no_float ImportDefer = refl
-kind_no_float ImportSource = refl
-kind_no_float Require = refl
+no_float-at : (k l : List ℕ) (d e : Data) (ms rest : Members) (o : Ordering) → has_float d ≡ false
+    → has_float e ≡ false → members_have_float ms ≡ false → members_have_float rest ≡ false
+    → members_have_float (match_ordering o (member k d (member l e ms)) (member l d ms)
+    (member l e rest)) ≡ false
+no_float-at k l d e ms rest Less none here later put_later = neither _ _ none (neither _ _ here later)
+no_float-at k l d e ms rest Equal none here later put_later = neither _ _ none later
+no_float-at k l d e ms rest Greater none here later put_later = neither _ _ here put_later
 
-part_no_float : (p : DynamicTemplatePart) → has_float (json_of_part p) ≡ false
-part_no_float (StringPart text) = refl
-part_no_float ExprPart = refl
+no_float-put : (k : List ℕ) (d : Data) (ms : Members) → has_float d ≡ false → members_have_float ms ≡ false
+    → members_have_float (put k d ms) ≡ false
+no_float-put k d no_members none h = neither _ _ none refl
+no_float-put k d (member l e ms) none h =
+    let later = others_none (has_float e) (members_have_float ms) h in
+    no_float-at k l d e ms (put k d ms) (slice_cmp nat_cmp k l) none
+    (first_none (has_float e) (members_have_float ms) h) later (no_float-put k d ms none later)
 
-argument_no_float : (a : DynamicArgument) → option_has_float (unless (is_expr a) (json_of_argument a)) ≡ false
-argument_no_float (String text) = refl
-argument_no_float (Template parts) = no_float-array_of json_of_part part_no_float parts
-argument_no_float Expr = refl
+no_float-put_present : (k : List ℕ) (o : Option Data) (ms : Members) → option_has_float o ≡ false
+    → members_have_float ms ≡ false → members_have_float (put_present k o ms) ≡ false
+no_float-put_present k None ms none h = h
+no_float-put_present k (Some d) ms none h = no_float-put k d ms none h
 
-dynamic_no_float : (d : DynamicDependencyDescriptor) → has_float (json_of_dynamic d) ≡ false
-dynamic_no_float d =
-    no_float-object_of (dynamic_entries d)
-    (neither _ _ (kind_no_float d.kind) (neither _ _ (types_no_float d.types_specifier) (neither _ _ (argument_no_float d.argument) (neither _ _ (attributes_no_float d.import_attributes) refl))))
+no_float-put_entries : (es : List Entry) (ms : Members) → entries_have_float es ≡ false
+    → members_have_float ms ≡ false → members_have_float (put_entries es ms) ≡ false
+no_float-put_entries [] ms none h = h
+no_float-put_entries (e ∷ es) ms none h =
+    no_float-put_entries es (put_present e.0 e.1 ms)
+    (others_none (option_has_float e.1) (entries_have_float es) none)
+    (no_float-put_present e.0 e.1 ms (first_none (option_has_float e.1) (entries_have_float es) none) h)
 
-pub dependency_no_float : (d : DependencyDescriptor) → has_float (json_of_dependency d) ≡ false
-dependency_no_float (Static d) = static_no_float d
-dependency_no_float (Dynamic d) = dynamic_no_float d
+-- the object of a table
+pub no_float-object_of : (es : List Entry) → entries_have_float es ≡ false → has_float (object_of es) ≡ false
+no_float-object_of es none = no_float-put_entries es no_members none refl
+
+-- a flag
+pub no_float-if_true : (b : Bool) → option_has_float (if_true b) ≡ false
+no_float-if_true true = refl
+no_float-if_true false = refl
+
+module _ {A : Type 0} (f : A → Data) (none : (x : A) → has_float (f x) ≡ false) where
+  no_float-items : (xs : List A) → items_have_float (items_of (map f xs)) ≡ false
+  no_float-items [] = refl
+  no_float-items (x ∷ xs) = neither _ _ (none x) (no_float-items xs)
+
+  -- an array
+  pub no_float-array_of : (xs : List A) → has_float (array_of f xs) ≡ false
+  no_float-array_of xs = no_float-items xs
+
+  -- an array that is left out where it is empty
+  pub no_float-if_any : (xs : List A) → option_has_float (option_map (array_of f) (if_any xs)) ≡ false
+  no_float-if_any [] = refl
+  no_float-if_any (x ∷ xs) = no_float-items (x ∷ xs)
+
+  -- a value that is left out where there is none
+  pub no_float-option : (o : Option A) → option_has_float (option_map f o) ≡ false
+  no_float-option None = refl
+  no_float-option (Some x) = none x
+
+  no_float-map_entries : (es : List (List ℕ × A)) → entries_have_float (map_entries f es) ≡ false
+  no_float-map_entries [] = refl
+  no_float-map_entries (e ∷ es) = neither _ _ (none e.1) (no_float-map_entries es)
+
+  -- the object of a map
+  pub no_float-map_object_of : (es : List (List ℕ × A)) → has_float (map_object_of f es) ≡ false
+  no_float-map_object_of es = no_float-object_of (map_entries f es) (no_float-map_entries es)

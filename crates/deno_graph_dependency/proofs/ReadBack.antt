@@ -1,143 +1,151 @@
--- What is written of dependencies is read back.
-use Rattle.std.proofs.Common.{◌≡◌, List, [], ◌∷◌, Bool, true, false, codes, Option, Some, None, option_map, All, IfSome, refl, ap, ◌∙◌}
-use Rattle.serde_json.specs.Data.{Data, string, no_members}
-use Rattle.serde_json.specs.Find.{as_bool, as_str}
-use Rattle.deno_graph_json.proofs.ReadBack.{member_at-table, member_or-table, reads_items-map, reads_map-map_object_of, range_back, flag_back}
-use Rattle.deno_graph_json.proofs.Reading.{goes_on}
-use Rattle.deno_graph_json.specs.Object.{Entry, put_entries, has_distinct_keys, entry_at, unless, if_true}
-use Rattle.deno_graph_json.specs.Position.{json_of_range}
-use Rattle.deno_graph_json.specs.Read.Partial.{◌>>=◌, reads_optional, read_or, member_at, member_or}
-use Rattle.deno_graph_json.specs.Read.Position.{reads_range}
-use Rattle.deno_graph_dependency.specs.DynamicDependency.{is_import, is_expr}
-use Rattle.deno_graph_dependency.specs.ImportAttributes.{is_none}
-use Rattle.deno_graph_dependency.specs.Json.Dependency.{json_of_dependency}
-use Rattle.deno_graph_dependency.specs.Json.DynamicArgument.{json_of_argument, json_of_part}
-use Rattle.deno_graph_dependency.specs.Json.DynamicDependency.{dynamic_kind_name, dynamic_entries}
-use Rattle.deno_graph_dependency.specs.Json.Held.{IsHeldSpecifier, AreHeldAttributes, IsHeldStatic, IsHeldDynamic, IsHeldDependency}
-use Rattle.deno_graph_dependency.specs.Json.ImportAttributes.{json_of_attribute, json_of_attributes}
-use Rattle.deno_graph_dependency.specs.Json.SpecifierWithRange.{specifier_entries, json_of_specifier}
-use Rattle.deno_graph_dependency.specs.Json.StaticDependency.{static_kind_name, static_entries}
-use Rattle.deno_graph_dependency.specs.Json.Read.Dependency.{reads_dependency, dependency_of_type}
-use Rattle.deno_graph_dependency.specs.Json.Read.DynamicArgument.{reads_argument, reads_part, part_of_type}
-use Rattle.deno_graph_dependency.specs.Json.Read.DynamicDependency.{reads_dynamic, reads_dynamic_kind, dynamic_kind_named}
-use Rattle.deno_graph_dependency.specs.Json.Read.ImportAttributes.{reads_attribute, reads_attributes, attributes_named, known_attributes}
-use Rattle.deno_graph_dependency.specs.Json.Read.SpecifierWithRange.{reads_specifier, specifier_of}
-use Rattle.deno_graph_dependency.specs.Json.Read.StaticDependency.{reads_static, reads_static_kind, static_kind_named}
-use Rattle.deno_graph_dependency.specs.declared.dependency.DependencyDescriptor.{DependencyDescriptor}
-use Rattle.deno_graph_dependency.specs.declared.dependency.DependencyDescriptor.TheVariants.{Static, Dynamic}
-use Rattle.deno_graph_dependency.specs.declared.dynamic_argument.DynamicArgument.{DynamicArgument}
-use Rattle.deno_graph_dependency.specs.declared.dynamic_argument.DynamicArgument.TheVariants.{String, Template, Expr}
-use Rattle.deno_graph_dependency.specs.declared.dynamic_argument.DynamicTemplatePart.{DynamicTemplatePart}
-use Rattle.deno_graph_dependency.specs.declared.dynamic_argument.DynamicTemplatePart.TheVariants.{String as StringPart, Expr as ExprPart}
-use Rattle.deno_graph_dependency.specs.declared.dynamic_dependency.DynamicDependencyDescriptor.{DynamicDependencyDescriptor}
-use Rattle.deno_graph_dependency.specs.declared.dynamic_dependency.DynamicDependencyKind.{DynamicDependencyKind}
-use Rattle.deno_graph_dependency.specs.declared.dynamic_dependency.DynamicDependencyKind.TheVariants.{Import, ImportDefer, ImportSource, Require}
-use Rattle.deno_graph_dependency.specs.declared.import_attributes.ImportAttribute.{ImportAttribute}
-use Rattle.deno_graph_dependency.specs.declared.import_attributes.ImportAttribute.TheVariants.{Unknown as UnknownValue, Known as KnownValue}
-use Rattle.deno_graph_dependency.specs.declared.import_attributes.ImportAttributes.{ImportAttributes}
-use Rattle.deno_graph_dependency.specs.declared.import_attributes.ImportAttributes.TheVariants.{None as NoAttributes, Unknown, Known}
-use Rattle.deno_graph_dependency.specs.declared.static_dependency.StaticDependencyDescriptor.{StaticDependencyDescriptor}
-use Rattle.deno_graph_dependency.specs.declared.static_dependency.StaticDependencyKind.{StaticDependencyKind}
-use Rattle.deno_graph_dependency.specs.declared.static_dependency.StaticDependencyKind.TheVariants.{Import as ImportKind, ImportDefer as ImportDeferKind, ImportSource as ImportSourceKind, ImportType, ImportEquals, Export, ExportType, ExportEquals, MaybeTsModuleAugmentation}
-use Rattle.deno_graph_dependency.specs.declared.specifier_with_range.SpecifierWithRange.{SpecifierWithRange}
+-- What is written is read back: members of tables, lists, maps, flags, positions and modes.
+use Rattle.std.proofs.Common.{◌≡◌, ℕ, ◌<◌, ◌^◌, List, [], ◌∷◌, ◌++◌, map, Bool, true, false, Option, Some, None, option_map, nat_lt, All, refl, sym, ap, ◌∙◌, subst, lt-ltb, append_assoc, append-nil}
+use Rattle.std.proofs.lemmas.Cmp.{nat_list_cmp_total}
+use Rattle.std.proofs.lemmas.List.Elements.{All-head, All-tail}
+use Rattle.std.specs.Cmp.Lexicographic.{slice_cmp}
+use Rattle.std.specs.List.{AllByRecursion}
+use Rattle.std.specs.List.Sorted.{IsStrictlySortedBy}
+use Rattle.std.specs.Map.{keys_of}
+use Rattle.std.specs.Ordering.{nat_cmp, ordering_reverse}
+use Rattle.std.specs.declared.cmp.Ordering.TheVariants.{Less, Greater}
+use Rattle.serde_json.specs.Data.{Data, number, unsigned, Members, no_members, member, put}
+use Rattle.serde_json.specs.Find.{as_bool}
+use Rattle.serde_json.specs.View.{items_of}
+use Rattle.deno_graph_text.specs.TextMap.{IsAscending}
+use Rattle.deno_graph_text.specs.declared.values.resolution_mode.TypeScriptTypesResolutionMode.{TypeScriptTypesResolutionMode}
+use Rattle.deno_graph_text.specs.declared.values.resolution_mode.TypeScriptTypesResolutionMode.TheVariants.{Require, Import}
+use Rattle.deno_graph_text.specs.declared.text.position.Position.{Position}
+use Rattle.deno_graph_text.specs.declared.text.position.PositionRange.{PositionRange}
+use Rattle.deno_graph_dependency.proofs.Objects.{get_member-put_entries, has_distinct_keys, entry_at}
+use Rattle.deno_graph_dependency.proofs.Reading.{goes_on}
+use Rattle.deno_graph_dependency.specs.Json.Position.{IsHeldPosition, IsHeldRange, json_of_position, json_of_range, reads_position, reads_range}
+use Rattle.deno_graph_dependency.specs.Object.{Entry, put_entries, map_entries, map_object_of, array_of, if_true, if_any}
+use Rattle.deno_graph_dependency.specs.Read.Partial.{◌>>=◌, as_usize, reads_optional, reads_items, reads_array, reads_members, reads_map, reads_pair, read_or, member_at, member_or}
+use Rattle.deno_graph_dependency.specs.Json.ResolutionMode.{reads_mode, json_of_mode}
 
--- ---- specifiers
+-- ---- what any reader does
 
-pub specifier_members_back : (s : SpecifierWithRange) (es : List Entry) → has_distinct_keys es ≡ true → entry_at (codes "text") es ≡ Some (string s.text) → entry_at (codes "range") es ≡ Some (json_of_range s.range) → IsHeldSpecifier s
-    → specifier_of (put_entries es no_members) ≡ Some s
-unfolding specifier_of
-specifier_members_back s es distinct text range h =
-    goes_on _ _ s.text _ (member_at-table as_str (codes "text") es _ distinct (ap (λ o. o >>= as_str) text))
-    (goes_on _ _ s.range _ (member_at-table reads_range (codes "range") es _ distinct (ap (λ o. o >>= reads_range) range ∙ range_back s.range h))
-    refl)
+module _ {A : Type 0} (reads : Data → Option A) where
+  -- a member of the object of a table is read of the table
+  pub member_at-table : (key : List ℕ) (es : List Entry) (r : Option A) → has_distinct_keys es ≡ true
+      → (entry_at key es >>= reads) ≡ r → member_at reads key (put_entries es no_members) ≡ r
+  unfolding member_at
+  member_at-table key es r distinct is =
+      ap (λ o. o >>= reads) (get_member-put_entries key es no_members refl distinct) ∙ is
 
-specifier_back : (s : SpecifierWithRange) → IsHeldSpecifier s → reads_specifier (json_of_specifier s) ≡ Some s
-unfolding reads_specifier
-specifier_back s h = specifier_members_back s (specifier_entries s) refl refl refl h
+  pub member_or-table : (key : List ℕ) (default : A) (es : List Entry) (r : Option A)
+      → has_distinct_keys es ≡ true → read_or reads default (entry_at key es) ≡ r
+      → member_or reads key default (put_entries es no_members) ≡ r
+  unfolding member_or
+  member_or-table key default es r distinct is =
+      ap (read_or reads default) (get_member-put_entries key es no_members refl distinct) ∙ is
 
--- a specifier that is left out where there is none
-pub specifier_option_back : (o : Option SpecifierWithRange) → IfSome o IsHeldSpecifier → read_or (reads_optional reads_specifier) None (option_map json_of_specifier o) ≡ Some o
-unfolding reads_optional
-specifier_option_back None h = refl
-specifier_option_back (Some s) h = goes_on _ _ s _ (specifier_back s h) refl
+  -- a step that reads such a member goes on with what it reads
+  pub reads_at : {B : Type 0} (key : List ℕ) (f : A → Option B) (r : Option B) (es : List Entry) (x : A)
+      → has_distinct_keys es ≡ true → (entry_at key es >>= reads) ≡ Some x → f x ≡ r
+      → (member_at reads key (put_entries es no_members) >>= f) ≡ r
+  reads_at key f r es x distinct is later =
+      goes_on _ f x r (member_at-table key es (Some x) distinct is) later
 
--- ---- attributes
+  pub reads_or : {B : Type 0} (key : List ℕ) (default : A) (f : A → Option B) (r : Option B) (es : List Entry)
+      (x : A) → has_distinct_keys es ≡ true → read_or reads default (entry_at key es) ≡ Some x → f x ≡ r
+      → (member_or reads key default (put_entries es no_members) >>= f) ≡ r
+  reads_or key default f r es x distinct is later =
+      goes_on _ f x r (member_or-table key default es (Some x) distinct is) later
 
-attribute_back : (a : ImportAttribute) → reads_attribute (json_of_attribute a) ≡ Some a
-unfolding reads_attribute
-attribute_back UnknownValue = refl
-attribute_back (KnownValue text) = refl
+  -- items that are each read back are all read back
+  pub reads_items-map : (f : A → Data) (P : A → Type 0) → ((x : A) → P x → reads (f x) ≡ Some x)
+      → (xs : List A) → All P xs → reads_items reads (items_of (map f xs)) ≡ Some xs
+  unfolding reads_items
+  reads_items-map f P back [] all = refl
+  reads_items-map f P back (x ∷ xs) all =
+      goes_on _ _ x _ (back x (All-head P x xs all))
+      (goes_on _ _ xs _ (reads_items-map f P back xs (All-tail P x xs all)) refl)
 
--- `importAttributes`, which is left out where there are none
-attributes_back : (a : ImportAttributes) → AreHeldAttributes a → read_or reads_attributes NoAttributes (unless (is_none a) (json_of_attributes a)) ≡ Some a
-unfolding reads_attributes attributes_named known_attributes member_at
-attributes_back NoAttributes h = refl
-attributes_back Unknown h = refl
-attributes_back (Known entries) h = goes_on _ _ entries _ (reads_map-map_object_of reads_attribute json_of_attribute (λ a. Unit {0}) (λ a _. attribute_back a) entries h (λ k e _. tt)) refl
+-- ---- maps
 
--- ---- dependencies
+-- the members that these entries are
+as_members : {A : Type 0} → (A → Data) → List (List ℕ × A) → Members
+as_members f [] = no_members
+as_members f (e ∷ es) = member e.0 (f e.1) (as_members f es)
 
-static_kind_back : (k : StaticDependencyKind) → reads_static_kind (string (static_kind_name k)) ≡ Some k
-unfolding reads_static_kind static_kind_named
-static_kind_back ImportKind = refl
-static_kind_back ImportDeferKind = refl
-static_kind_back ImportSourceKind = refl
-static_kind_back ImportType = refl
-static_kind_back ImportEquals = refl
-static_kind_back Export = refl
-static_kind_back ExportType = refl
-static_kind_back ExportEquals = refl
-static_kind_back MaybeTsModuleAugmentation = refl
+below_later : {A : Type 0} (P : List ℕ → Type 0) (front : List (List ℕ × A)) (e : List ℕ × A)
+    (rest : List (List ℕ × A)) → AllByRecursion P (keys_of (front ++ e ∷ rest)) → P e.0
+below_later P [] e rest h = h.0
+below_later P (first ∷ front) e rest h = below_later P front e rest h.1
 
-static_back : (d : StaticDependencyDescriptor) → IsHeldStatic d → reads_static (put_entries (static_entries d) no_members) ≡ Some d
-unfolding reads_static
-static_back d h =
-    let es = static_entries d in
-    goes_on _ _ d.kind _ (member_at-table reads_static_kind (codes "kind") es _ refl (static_kind_back d.kind))
-    (goes_on _ _ d.types_specifier _ (member_or-table (reads_optional reads_specifier) (codes "typesSpecifier") None es _ refl (specifier_option_back d.types_specifier h.types_specifier))
-    (goes_on _ _ d.specifier _ (member_at-table as_str (codes "specifier") es _ refl refl)
-    (goes_on _ _ d.specifier_range _ (member_at-table reads_range (codes "specifierRange") es _ refl (range_back d.specifier_range h.specifier_range))
-    (goes_on _ _ d.is_side_effect _ (member_or-table as_bool (codes "sideEffect") false es _ refl (flag_back d.is_side_effect))
-    (goes_on _ _ d.import_attributes _ (member_or-table reads_attributes (codes "importAttributes") NoAttributes es _ refl (attributes_back d.import_attributes h.import_attributes))
-    refl)))))
+-- a key above all others goes to the end
+put-above : {A : Type 0} (f : A → Data) (front : List (List ℕ × A)) (e : List ℕ × A)
+    (rest : List (List ℕ × A)) → IsAscending (front ++ e ∷ rest)
+    → put e.0 (f e.1) (as_members f front) ≡ as_members f (front ++ e ∷ [])
+unfolding as_members IsStrictlySortedBy
+put-above f [] e rest h = refl
+put-above f (first ∷ front) e rest h =
+    let below = below_later (λ k. slice_cmp nat_cmp first.0 k ≡ Less) front e rest h.0 in
+    let above : slice_cmp nat_cmp e.0 first.0 ≡ Greater =
+    nat_list_cmp_total.antisymm e.0 first.0 ∙ ap ordering_reverse below in
+    rw above (ap (member first.0 (f first.1)) (put-above f front e rest h.1))
 
--- `kind` of a dynamic dependency, which is left out where it is `import`
-dynamic_kind_back : (k : DynamicDependencyKind) → read_or reads_dynamic_kind Import (unless (is_import k) (string (dynamic_kind_name k))) ≡ Some k
-unfolding reads_dynamic_kind dynamic_kind_named
-dynamic_kind_back Import = refl
-dynamic_kind_back ImportDefer = refl
-dynamic_kind_back ImportSource = refl
-dynamic_kind_back Require = refl
+-- the entries of a map are its members, in their order
+put_entries-map : {A : Type 0} (f : A → Data) (front rest : List (List ℕ × A)) → IsAscending (front ++ rest)
+    → put_entries (map_entries f rest) (as_members f front) ≡ as_members f (front ++ rest)
+unfolding as_members
+put_entries-map f front [] h = ap (as_members f) (sym (append-nil front))
+put_entries-map f front (e ∷ rest) h =
+    let whole = append_assoc front (e ∷ []) rest in
+    ap (put_entries (map_entries f rest)) (put-above f front e rest h)
+    ∙ put_entries-map f (front ++ e ∷ []) rest (subst IsAscending (sym whole) h)
+    ∙ ap (as_members f) whole
 
-part_back : (p : DynamicTemplatePart) → reads_part (json_of_part p) ≡ Some p
-unfolding reads_part part_of_type member_at
-part_back (StringPart text) = refl
-part_back ExprPart = refl
+module _ {A : Type 0} (reads : Data → Option A) (f : A → Data) (P : A → Type 0)
+    (back : (x : A) → P x → reads (f x) ≡ Some x) where
+  reads_members-as_members : (es : List (List ℕ × A)) → All (λ e. P e.1) es
+      → reads_members reads (as_members f es) ≡ Some es
+  unfolding as_members reads_members
+  reads_members-as_members [] all = refl
+  reads_members-as_members (e ∷ es) all =
+      goes_on _ _ e.1 _ (back e.1 (All-head (λ e. P e.1) e es all))
+      (goes_on _ _ es _ (reads_members-as_members es (All-tail (λ e. P e.1) e es all)) refl)
 
-all_parts : (parts : List DynamicTemplatePart) → All (λ p. Unit {0}) parts
-all_parts parts = λ k p h. tt
+  -- a map is read back
+  pub reads_map-map_object_of : (es : List (List ℕ × A)) → IsAscending es → All (λ e. P e.1) es
+      → reads_map reads (map_object_of f es) ≡ Some es
+  unfolding reads_map as_members
+  reads_map-map_object_of es h all =
+      ap (reads_members reads) (put_entries-map f [] es h) ∙ reads_members-as_members es all
 
--- `argument`, which is left out where nothing is known of it
-argument_back : (a : DynamicArgument) → read_or reads_argument Expr (unless (is_expr a) (json_of_argument a)) ≡ Some a
-unfolding reads_argument
-argument_back (String text) = refl
-argument_back (Template parts) = goes_on _ _ parts _ (reads_items-map reads_part json_of_part (λ p. Unit {0}) (λ p h. part_back p) parts (all_parts parts)) refl
-argument_back Expr = refl
+  -- a list that is left out where it is empty
+  pub list_back : (xs : List A) → All P xs
+      → read_or (reads_array reads) [] (option_map (array_of f) (if_any xs)) ≡ Some xs
+  unfolding reads_array
+  list_back [] all = refl
+  list_back (x ∷ xs) all = reads_items-map reads f P back (x ∷ xs) all
 
-dynamic_back : (d : DynamicDependencyDescriptor) → IsHeldDynamic d → reads_dynamic (put_entries (dynamic_entries d) no_members) ≡ Some d
-unfolding reads_dynamic
-dynamic_back d h =
-    let es = dynamic_entries d in
-    goes_on _ _ d.kind _ (member_or-table reads_dynamic_kind (codes "kind") Import es _ refl (dynamic_kind_back d.kind))
-    (goes_on _ _ d.types_specifier _ (member_or-table (reads_optional reads_specifier) (codes "typesSpecifier") None es _ refl (specifier_option_back d.types_specifier h.types_specifier))
-    (goes_on _ _ d.argument _ (member_or-table reads_argument (codes "argument") Expr es _ refl (argument_back d.argument))
-    (goes_on _ _ d.argument_range _ (member_at-table reads_range (codes "argumentRange") es _ refl (range_back d.argument_range h.argument_range))
-    (goes_on _ _ d.import_attributes _ (member_or-table reads_attributes (codes "importAttributes") NoAttributes es _ refl (attributes_back d.import_attributes h.import_attributes))
-    refl))))
+-- ---- positions
 
-pub dependency_back : (d : DependencyDescriptor) → IsHeldDependency d → reads_dependency (json_of_dependency d) ≡ Some d
-unfolding reads_dependency dependency_of_type
-dependency_back (Static d) h =
-    goes_on _ _ (codes "static") _ (member_at-table as_str (codes "type") (static_entries d) _ refl refl) (goes_on _ _ d _ (static_back d h) refl)
-dependency_back (Dynamic d) h =
-    goes_on _ _ (codes "dynamic") _ (member_at-table as_str (codes "type") (dynamic_entries d) _ refl refl) (goes_on _ _ d _ (dynamic_back d h) refl)
+as_usize-unsigned : (n : ℕ) → n < 2 ^ 64 → as_usize (number (unsigned n)) ≡ Some n
+unfolding as_usize
+as_usize-unsigned n h = let fits : nat_lt n (2 ^ 64) ≡ true = lt-ltb n (2 ^ 64) h in rw fits
+
+position_back : (p : Position) → IsHeldPosition p → reads_position (json_of_position p) ≡ Some p
+unfolding reads_position reads_pair
+position_back p h = rw (as_usize-unsigned p.line h.0, as_usize-unsigned p.character h.1)
+
+pub range_back : (r : PositionRange) → IsHeldRange r → reads_range (json_of_range r) ≡ Some r
+unfolding reads_range reads_pair
+range_back r h = rw (position_back r.start h.0, position_back r.end h.1)
+
+-- ---- flags and modes
+
+-- a flag that is left out where it is false
+pub flag_back : (b : Bool) → read_or as_bool false (if_true b) ≡ Some b
+flag_back true = refl
+flag_back false = refl
+
+-- a mode that is left out where there is none
+pub mode_back : (o : Option TypeScriptTypesResolutionMode)
+    → read_or (reads_optional reads_mode) None (option_map json_of_mode o) ≡ Some o
+unfolding reads_optional reads_mode
+mode_back None = refl
+mode_back (Some Require) = refl
+mode_back (Some Import) = refl

@@ -6,11 +6,11 @@ use Rattle.deno_graph_dependency.specs.declared.dynamic_argument.DynamicArgument
 use Rattle.deno_graph_dependency.specs.declared.dynamic_argument.DynamicArgument.TheVariants.{String, Template, Expr}
 
 -- it is a plain `import(..)`
-abbrev pub is_import : DynamicDependencyKind → Bool
-is_import Import = true
-is_import ImportDefer = false
-is_import ImportSource = false
-is_import Require = false
+abbrev pub is_plain_import : DynamicDependencyKind → Bool
+is_plain_import Import = true
+is_plain_import ImportDefer = false
+is_plain_import ImportSource = false
+is_plain_import Require = false
 
 -- nothing is known of the argument
 abbrev pub is_expr : DynamicArgument → Bool

@@ -1,6 +1,6 @@
 -- What is known of import attributes.
 use Rattle.std.specs.Prelude.{◌≡◌, ◌⊎◌, ℕ, List, Bool, true, false, codes, Option, Some, None, option_and_then}
-use Rattle.deno_graph_values.specs.TextMap.{value_at}
+use Rattle.deno_graph_text.specs.TextMap.{value_at}
 use Rattle.deno_graph_dependency.specs.declared.import_attributes.ImportAttribute.{ImportAttribute}
 use Rattle.deno_graph_dependency.specs.declared.import_attributes.ImportAttribute.TheVariants.{Unknown as UnknownValue, Known as KnownValue}
 use Rattle.deno_graph_dependency.specs.declared.import_attributes.ImportAttributes.{ImportAttributes}

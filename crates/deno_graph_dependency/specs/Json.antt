@@ -1,9 +1,9 @@
--- The JSON form, a file for each kind of value.
+-- The JSON form, a file for each type.
 pub mod Dependency
 pub mod DynamicArgument
 pub mod DynamicDependency
-pub mod Held
 pub mod ImportAttributes
-pub mod Read
+pub mod Position
+pub mod ResolutionMode
 pub mod SpecifierWithRange
 pub mod StaticDependency

@@ -1,10 +1,15 @@
 ghost use Rattle.std.specs.Prelude.{◌≡◌, option_map};
 ghost use Rattle.deno_graph_dependency.specs.Dependency.{static_of, dynamic_of, attributes_of};
+ghost use Rattle.deno_graph_dependency.specs.Json.Dependency.{json_of_dependency, reads_dependency, dependency_of_type, IsHeldDependency};
+ghost use Rattle.deno_graph_dependency.specs.ObjectReader.{readable};
+ghost use Rattle.deno_graph_dependency.specs.Read.Answer.{Answers};
 
-use crate::dynamic_dependency::DynamicDependencyDescriptor;
+use crate::dynamic_dependency::{DynamicDependencyDescriptor, read_dynamic};
 use crate::import_attributes::ImportAttributes;
-use crate::static_dependency::StaticDependencyDescriptor;
-use deno_graph_values::TryClone;
+use crate::json::{FromJson, ObjectReader, ReadFault, ToJson};
+use crate::static_dependency::{StaticDependencyDescriptor, read_static};
+use deno_graph_text::values::TryClone;
+use serde_json::Value;
 use std::alloc::{AllocError, Global};
 
 /// One dependency of a module.
@@ -80,5 +85,50 @@ impl TryClone for DependencyDescriptor {
                 Ok(DependencyDescriptor::Dynamic(descriptor.try_clone(alloc)?))
             }
         }
+    }
+}
+
+impl ToJson for DependencyDescriptor {
+    ghost json = { json_of_dependency };
+
+    ghost is_held = { IsHeldDependency };
+
+    fn to_json(&self, alloc: Global) -> Result<Value, AllocError> {
+        match self {
+            DependencyDescriptor::Static(descriptor) => descriptor.to_json(alloc),
+            DependencyDescriptor::Dynamic(descriptor) => descriptor.to_json(alloc),
+        }
+    }
+}
+
+impl FromJson for DependencyDescriptor {
+    ghost reads = { reads_dependency };
+
+    #[tactic(auto, using(crate::proofs::Reading::reading), unfolding(crate::specs::Json::Dependency::reads_dependency))]
+    fn from_json(alloc: Global, value: &Value) -> Result<DependencyDescriptor, ReadFault> {
+        let object = ObjectReader::new(alloc, value)?;
+        let dependency_type = object.read_str("type")?;
+        read_dependency(dependency_type, &object)
+    }
+}
+
+/// The dependency that has this `type`.
+#[tactic(auto, unfolding(crate::specs::Json::Dependency::dependency_of_type))]
+fn read_dependency(
+    dependency_type: &str,
+    object: &ObjectReader,
+) -> Result<DependencyDescriptor, ReadFault>
+    ensures { Answers (dependency_of_type dependency_type.now (readable object.now)) result }
+{
+    match dependency_type {
+        "static" => {
+            let descriptor = read_static(object)?;
+            Ok(DependencyDescriptor::Static(descriptor))
+        }
+        "dynamic" => {
+            let descriptor = read_dynamic(object)?;
+            Ok(DependencyDescriptor::Dynamic(descriptor))
+        }
+        _ => Err(ReadFault::Shape),
     }
 }

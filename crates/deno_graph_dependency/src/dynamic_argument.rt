@@ -1,7 +1,13 @@
 ghost use Rattle.std.specs.Prelude.{◌≡◌};
 ghost use Rattle.deno_graph_dependency.specs.DynamicDependency.{is_expr};
+ghost use Rattle.deno_graph_dependency.specs.Json.DynamicArgument.{json_of_argument, json_of_part, reads_argument, reads_part, part_of_type};
+ghost use Rattle.deno_graph_dependency.specs.ObjectReader.{readable};
+ghost use Rattle.deno_graph_dependency.specs.Read.Answer.{Answers};
 
-use deno_graph_values::{Items, Text, TryClone};
+use crate::json::read::read_items;
+use crate::json::{FromJson, ObjectReader, ObjectWriter, ReadFault, ToJson};
+use deno_graph_text::values::{Items, Text, TryClone};
+use serde_json::Value;
 use std::alloc::{AllocError, Global};
 
 /// What is known of the first argument of a dynamic dependency.
@@ -47,6 +53,35 @@ impl TryClone for DynamicArgument {
     }
 }
 
+impl ToJson for DynamicArgument {
+    ghost json = { json_of_argument };
+
+    fn to_json(&self, alloc: Global) -> Result<Value, AllocError> {
+        match self {
+            DynamicArgument::String(text) => text.to_json(alloc),
+            DynamicArgument::Template(parts) => parts.to_json(alloc),
+            DynamicArgument::Expr => Ok(Value::Null),
+        }
+    }
+}
+
+impl FromJson for DynamicArgument {
+    ghost reads = { reads_argument };
+
+    #[tactic(auto, unfolding(crate::specs::Json::DynamicArgument::reads_argument))]
+    fn from_json(alloc: Global, value: &Value) -> Result<DynamicArgument, ReadFault> {
+        match value {
+            Value::Null => Ok(DynamicArgument::Expr),
+            Value::String(text) => Ok(DynamicArgument::String(Text::from_str(alloc, text)?)),
+            Value::Array(values) => {
+                let parts = read_items(alloc, values)?;
+                Ok(DynamicArgument::Template(parts))
+            }
+            _ => Err(ReadFault::Shape),
+        }
+    }
+}
+
 /// One part of a template.
 #[derive(Debug, PartialEq, Eq, Drop)]
 pub enum DynamicTemplatePart {
@@ -64,5 +99,46 @@ impl TryClone for DynamicTemplatePart {
             }),
             DynamicTemplatePart::Expr => Ok(DynamicTemplatePart::Expr),
         }
+    }
+}
+
+impl ToJson for DynamicTemplatePart {
+    ghost json = { json_of_part };
+
+    fn to_json(&self, alloc: Global) -> Result<Value, AllocError> {
+        match self {
+            DynamicTemplatePart::String { value } => {
+                let mut object = ObjectWriter::tagged(alloc, "string")?;
+                object.put("value", value)?;
+                Ok(object.into_value())
+            }
+            DynamicTemplatePart::Expr => Ok(ObjectWriter::tagged(alloc, "expr")?.into_value()),
+        }
+    }
+}
+
+impl FromJson for DynamicTemplatePart {
+    ghost reads = { reads_part };
+
+    #[tactic(auto, using(crate::proofs::Reading::reading), unfolding(crate::specs::Json::DynamicArgument::reads_part))]
+    fn from_json(alloc: Global, value: &Value) -> Result<DynamicTemplatePart, ReadFault> {
+        let object = ObjectReader::new(alloc, value)?;
+        let part_type = object.read_str("type")?;
+        read_part(part_type, &object)
+    }
+}
+
+/// The part that has this `type`.
+#[tactic(auto, unfolding(crate::specs::Json::DynamicArgument::part_of_type))]
+fn read_part(part_type: &str, object: &ObjectReader) -> Result<DynamicTemplatePart, ReadFault>
+    ensures { Answers (part_of_type part_type.now (readable object.now)) result }
+{
+    match part_type {
+        "string" => {
+            let value = object.read("value")?;
+            Ok(DynamicTemplatePart::String { value })
+        }
+        "expr" => Ok(DynamicTemplatePart::Expr),
+        _ => Err(ReadFault::Shape),
     }
 }

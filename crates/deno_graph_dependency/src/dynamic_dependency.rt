@@ -1,12 +1,18 @@
 ghost use Rattle.std.specs.Prelude.{◌≡◌};
-ghost use Rattle.deno_graph_dependency.specs.DynamicDependency.{is_import};
-ghost use Rattle.deno_graph_dependency.specs.Json.DynamicDependency.{dynamic_kind_name};
+ghost use Rattle.serde_json.specs.Data.{string};
+ghost use Rattle.deno_graph_dependency.specs.DynamicDependency.{is_plain_import};
+ghost use Rattle.deno_graph_dependency.specs.Json.DynamicDependency.{dynamic_kind_name, dynamic_kind_named, json_of_dynamic, reads_dynamic, reads_dynamic_kind, IsHeldDynamic};
+ghost use Rattle.deno_graph_dependency.specs.ObjectReader.{readable};
+ghost use Rattle.deno_graph_dependency.specs.Read.Answer.{Answers};
 
 use crate::dynamic_argument::DynamicArgument;
 use crate::import_attributes::ImportAttributes;
-use crate::specifier_with_range::{SpecifierWithRange, copy_of};
-use deno_graph_text::PositionRange;
-use deno_graph_values::TryClone;
+use crate::json::read::read_str;
+use crate::json::{FromJson, ObjectReader, ObjectWriter, ReadFault, ToJson};
+use crate::specifier_with_range::SpecifierWithRange;
+use deno_graph_text::text::PositionRange;
+use deno_graph_text::values::TryClone;
+use serde_json::Value;
 use std::alloc::{AllocError, Global};
 
 /// Which call states a dynamic dependency.
@@ -23,14 +29,14 @@ pub enum DynamicDependencyKind {
 }
 
 impl DynamicDependencyKind {
-    pub(crate) fn is_import(self) -> bool
-        ensures { result ≡ is_import self }
+    fn is_plain_import(self) -> bool
+        ensures { result ≡ is_plain_import self }
     {
         matches!(self, DynamicDependencyKind::Import)
     }
 
     /// The name that JSON has for it.
-    pub(crate) fn name(self) -> &'static str
+    fn name(self) -> &'static str
         ensures { result.now ≡ dynamic_kind_name self }
     {
         match self {
@@ -53,6 +59,38 @@ impl Default for DynamicDependencyKind {
     }
 }
 
+impl ToJson for DynamicDependencyKind {
+    ghost json = { λ kind. string (dynamic_kind_name kind) };
+
+    fn to_json(&self, alloc: Global) -> Result<Value, AllocError> {
+        Value::try_from_str(alloc, self.name())
+    }
+}
+
+impl FromJson for DynamicDependencyKind {
+    ghost reads = { reads_dynamic_kind };
+
+    #[tactic(auto, using(crate::proofs::Reading::reading), unfolding(crate::specs::Json::DynamicDependency::reads_dynamic_kind))]
+    fn from_json(_alloc: Global, value: &Value) -> Result<DynamicDependencyKind, ReadFault> {
+        let name = read_str(value)?;
+        kind_named(name)
+    }
+}
+
+/// The kind that has this name.
+#[tactic(auto, unfolding(crate::specs::Json::DynamicDependency::dynamic_kind_named))]
+fn kind_named(name: &str) -> Result<DynamicDependencyKind, ReadFault>
+    ensures { Answers (dynamic_kind_named name.now) result }
+{
+    match name {
+        "import" => Ok(DynamicDependencyKind::Import),
+        "importDefer" => Ok(DynamicDependencyKind::ImportDefer),
+        "importSource" => Ok(DynamicDependencyKind::ImportSource),
+        "require" => Ok(DynamicDependencyKind::Require),
+        _ => Err(ReadFault::Shape),
+    }
+}
+
 /// A dependency that a call states, whose specifier is its first argument.
 #[derive(Debug, PartialEq, Eq, Drop)]
 pub struct DynamicDependencyDescriptor {
@@ -71,10 +109,49 @@ impl TryClone for DynamicDependencyDescriptor {
     fn try_clone(&self, alloc: Global) -> Result<DynamicDependencyDescriptor, AllocError> {
         Ok(DynamicDependencyDescriptor {
             kind: self.kind,
-            types_specifier: copy_of(&self.types_specifier, alloc)?,
+            types_specifier: self.types_specifier.try_clone(alloc)?,
             argument: self.argument.try_clone(alloc)?,
             argument_range: self.argument_range,
             import_attributes: self.import_attributes.try_clone(alloc)?,
         })
     }
+}
+
+impl ToJson for DynamicDependencyDescriptor {
+    ghost json = { json_of_dynamic };
+
+    ghost is_held = { IsHeldDynamic };
+
+    fn to_json(&self, alloc: Global) -> Result<Value, AllocError> {
+        let mut object = ObjectWriter::tagged(alloc, "dynamic")?;
+        object.put_unless(self.kind.is_plain_import(), "kind", &self.kind)?;
+        object.put_some("typesSpecifier", &self.types_specifier)?;
+        object.put_unless(self.argument.is_expr(), "argument", &self.argument)?;
+        object.put("argumentRange", &self.argument_range)?;
+        object.put_unless(
+            self.import_attributes.is_none(),
+            "importAttributes",
+            &self.import_attributes,
+        )?;
+        Ok(object.into_value())
+    }
+}
+
+/// The dynamic dependency that has these members.
+#[tactic(auto, using(crate::proofs::Reading::reading), unfolding(crate::specs::Json::DynamicDependency::reads_dynamic))]
+pub(crate) fn read_dynamic(object: &ObjectReader) -> Result<DynamicDependencyDescriptor, ReadFault>
+    ensures { Answers (reads_dynamic (readable object.now)) result }
+{
+    let kind = object.read_or("kind", DynamicDependencyKind::Import)?;
+    let types_specifier = object.read_or("typesSpecifier", None)?;
+    let argument = object.read_or("argument", DynamicArgument::Expr)?;
+    let argument_range = object.read("argumentRange")?;
+    let import_attributes = object.read_or("importAttributes", ImportAttributes::None)?;
+    Ok(DynamicDependencyDescriptor {
+        kind,
+        types_specifier,
+        argument,
+        argument_range,
+        import_attributes,
+    })
 }

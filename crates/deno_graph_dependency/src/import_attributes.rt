@@ -1,7 +1,12 @@
 ghost use Rattle.std.specs.Prelude.{◌≡◌, ◌↔◌, IsTrue, codes, option_map};
 ghost use Rattle.deno_graph_dependency.specs.ImportAttributes.{is_none, attribute_at, IsAssetType};
+ghost use Rattle.deno_graph_dependency.specs.Json.ImportAttributes.{json_of_attribute, json_of_attributes, reads_attribute, reads_attributes, attributes_named, known_attributes, AreHeldAttributes};
+ghost use Rattle.deno_graph_dependency.specs.ObjectReader.{readable};
+ghost use Rattle.deno_graph_dependency.specs.Read.Answer.{Answers};
 
-use deno_graph_values::{Text, TextMap, TryClone};
+use crate::json::{FromJson, ObjectReader, ObjectWriter, ReadFault, ToJson};
+use deno_graph_text::values::{Text, TextMap, TryClone};
+use serde_json::{Map, Value};
 use std::alloc::{AllocError, Global};
 
 /// The value of one import attribute.
@@ -18,6 +23,30 @@ impl TryClone for ImportAttribute {
         match self {
             ImportAttribute::Unknown => Ok(ImportAttribute::Unknown),
             ImportAttribute::Known(value) => Ok(ImportAttribute::Known(value.try_clone(alloc)?)),
+        }
+    }
+}
+
+impl ToJson for ImportAttribute {
+    ghost json = { json_of_attribute };
+
+    fn to_json(&self, alloc: Global) -> Result<Value, AllocError> {
+        match self {
+            ImportAttribute::Unknown => Ok(Value::Null),
+            ImportAttribute::Known(value) => value.to_json(alloc),
+        }
+    }
+}
+
+impl FromJson for ImportAttribute {
+    ghost reads = { reads_attribute };
+
+    #[tactic(auto, unfolding(crate::specs::Json::ImportAttributes::reads_attribute))]
+    fn from_json(alloc: Global, value: &Value) -> Result<ImportAttribute, ReadFault> {
+        match value {
+            Value::Null => Ok(ImportAttribute::Unknown),
+            Value::String(text) => Ok(ImportAttribute::Known(Text::from_str(alloc, text)?)),
+            _ => Err(ReadFault::Shape),
         }
     }
 }
@@ -84,5 +113,61 @@ impl TryClone for ImportAttributes {
             ImportAttributes::Unknown => Ok(ImportAttributes::Unknown),
             ImportAttributes::Known(map) => Ok(ImportAttributes::Known(map.try_clone(alloc)?)),
         }
+    }
+}
+
+impl ToJson for ImportAttributes {
+    ghost json = { json_of_attributes };
+
+    ghost is_held = { AreHeldAttributes };
+
+    fn to_json(&self, alloc: Global) -> Result<Value, AllocError> {
+        match self {
+            ImportAttributes::None => Value::try_from_str(alloc, "none"),
+            ImportAttributes::Unknown => Value::try_from_str(alloc, "unknown"),
+            ImportAttributes::Known(map) => {
+                let mut object = ObjectWriter::new(alloc);
+                object.put("known", map)?;
+                Ok(object.into_value())
+            }
+        }
+    }
+}
+
+impl FromJson for ImportAttributes {
+    ghost reads = { reads_attributes };
+
+    #[tactic(auto, unfolding(crate::specs::Json::ImportAttributes::reads_attributes))]
+    fn from_json(alloc: Global, value: &Value) -> Result<ImportAttributes, ReadFault> {
+        match value {
+            Value::String(text) => read_name(text),
+            Value::Object(members) => read_known(&ObjectReader::of_members(alloc, members)),
+            _ => Err(ReadFault::Shape),
+        }
+    }
+}
+
+/// The attributes that have a name alone.
+#[tactic(auto, unfolding(crate::specs::Json::ImportAttributes::attributes_named))]
+fn read_name(name: &str) -> Result<ImportAttributes, ReadFault>
+    ensures { Answers (attributes_named name.now) result }
+{
+    match name {
+        "none" => Ok(ImportAttributes::None),
+        "unknown" => Ok(ImportAttributes::Unknown),
+        _ => Err(ReadFault::Shape),
+    }
+}
+
+/// The attributes of an object that has the one member `known`.
+#[tactic(auto, unfolding(crate::specs::Json::ImportAttributes::known_attributes))]
+fn read_known(object: &ObjectReader) -> Result<ImportAttributes, ReadFault>
+    ensures { Answers (known_attributes (readable object.now)) result }
+{
+    if object.member_count() == 1 {
+        let known = object.read("known")?;
+        Ok(ImportAttributes::Known(known))
+    } else {
+        Err(ReadFault::Shape)
     }
 }

@@ -1,7 +1,11 @@
-ghost use Rattle.std.specs.Prelude.{◌≡◌, IfOk};
+ghost use Rattle.deno_graph_dependency.specs.Json.SpecifierWithRange.{json_of_specifier, reads_specifier, specifier_of, IsHeldSpecifier};
+ghost use Rattle.deno_graph_dependency.specs.ObjectReader.{readable};
+ghost use Rattle.deno_graph_dependency.specs.Read.Answer.{Answers};
 
-use deno_graph_text::PositionRange;
-use deno_graph_values::{Text, TryClone};
+use crate::json::{FromJson, ObjectReader, ObjectWriter, ReadFault, ToJson};
+use deno_graph_text::text::PositionRange;
+use deno_graph_text::values::{Text, TryClone};
+use serde_json::Value;
 use std::alloc::{AllocError, Global};
 
 /// A specifier, and where it stands in the source.
@@ -21,15 +25,35 @@ impl TryClone for SpecifierWithRange {
     }
 }
 
-/// A copy of the specifier, if there is one.
-pub fn copy_of(
-    specifier: &Option<SpecifierWithRange>,
-    alloc: Global,
-) -> Result<Option<SpecifierWithRange>, AllocError>
-    ensures { IfOk result (λ copy. copy ≡ specifier.now) }
-{
-    match specifier {
-        Some(specifier) => Ok(Some(specifier.try_clone(alloc)?)),
-        None => Ok(None),
+impl ToJson for SpecifierWithRange {
+    ghost json = { json_of_specifier };
+
+    ghost is_held = { IsHeldSpecifier };
+
+    fn to_json(&self, alloc: Global) -> Result<Value, AllocError> {
+        let mut object = ObjectWriter::new(alloc);
+        object.put("text", &self.text)?;
+        object.put("range", &self.range)?;
+        Ok(object.into_value())
     }
+}
+
+impl FromJson for SpecifierWithRange {
+    ghost reads = { reads_specifier };
+
+    #[tactic(auto, using(crate::proofs::Reading::reading), unfolding(crate::specs::Json::SpecifierWithRange::reads_specifier))]
+    fn from_json(alloc: Global, value: &Value) -> Result<SpecifierWithRange, ReadFault> {
+        let object = ObjectReader::new(alloc, value)?;
+        read_specifier(&object)
+    }
+}
+
+/// The specifier that has these members.
+#[tactic(auto, using(crate::proofs::Reading::reading), unfolding(crate::specs::Json::SpecifierWithRange::specifier_of))]
+pub fn read_specifier(object: &ObjectReader) -> Result<SpecifierWithRange, ReadFault>
+    ensures { Answers (specifier_of (readable object.now)) result }
+{
+    let text = object.read("text")?;
+    let range = object.read("range")?;
+    Ok(SpecifierWithRange { text, range })
 }

@@ -1,10 +1,16 @@
 ghost use Rattle.std.specs.Prelude.{◌≡◌};
-ghost use Rattle.deno_graph_dependency.specs.Json.StaticDependency.{static_kind_name};
+ghost use Rattle.serde_json.specs.Data.{string};
+ghost use Rattle.deno_graph_dependency.specs.Json.StaticDependency.{static_kind_name, static_kind_named, json_of_static, reads_static, reads_static_kind, IsHeldStatic};
+ghost use Rattle.deno_graph_dependency.specs.ObjectReader.{readable};
+ghost use Rattle.deno_graph_dependency.specs.Read.Answer.{Answers};
 
 use crate::import_attributes::ImportAttributes;
-use crate::specifier_with_range::{SpecifierWithRange, copy_of};
-use deno_graph_text::PositionRange;
-use deno_graph_values::{Text, TryClone};
+use crate::json::read::read_str;
+use crate::json::{FromJson, ObjectReader, ObjectWriter, ReadFault, ToJson};
+use crate::specifier_with_range::SpecifierWithRange;
+use deno_graph_text::text::PositionRange;
+use deno_graph_text::values::{Text, TryClone};
+use serde_json::Value;
 use std::alloc::{AllocError, Global};
 
 /// Which syntax states a static dependency.
@@ -32,7 +38,7 @@ pub enum StaticDependencyKind {
 
 impl StaticDependencyKind {
     /// The name that JSON has for it.
-    pub(crate) fn name(self) -> &'static str
+    fn name(self) -> &'static str
         ensures { result.now ≡ static_kind_name self }
     {
         match self {
@@ -46,6 +52,43 @@ impl StaticDependencyKind {
             StaticDependencyKind::ExportEquals => "exportEquals",
             StaticDependencyKind::MaybeTsModuleAugmentation => "maybeTsModuleAugmentation",
         }
+    }
+}
+
+impl ToJson for StaticDependencyKind {
+    ghost json = { λ kind. string (static_kind_name kind) };
+
+    fn to_json(&self, alloc: Global) -> Result<Value, AllocError> {
+        Value::try_from_str(alloc, self.name())
+    }
+}
+
+impl FromJson for StaticDependencyKind {
+    ghost reads = { reads_static_kind };
+
+    #[tactic(auto, using(crate::proofs::Reading::reading), unfolding(crate::specs::Json::StaticDependency::reads_static_kind))]
+    fn from_json(_alloc: Global, value: &Value) -> Result<StaticDependencyKind, ReadFault> {
+        let name = read_str(value)?;
+        kind_named(name)
+    }
+}
+
+/// The kind that has this name.
+#[tactic(auto, unfolding(crate::specs::Json::StaticDependency::static_kind_named))]
+fn kind_named(name: &str) -> Result<StaticDependencyKind, ReadFault>
+    ensures { Answers (static_kind_named name.now) result }
+{
+    match name {
+        "import" => Ok(StaticDependencyKind::Import),
+        "importDefer" => Ok(StaticDependencyKind::ImportDefer),
+        "importSource" => Ok(StaticDependencyKind::ImportSource),
+        "importType" => Ok(StaticDependencyKind::ImportType),
+        "importEquals" => Ok(StaticDependencyKind::ImportEquals),
+        "export" => Ok(StaticDependencyKind::Export),
+        "exportType" => Ok(StaticDependencyKind::ExportType),
+        "exportEquals" => Ok(StaticDependencyKind::ExportEquals),
+        "maybeTsModuleAugmentation" => Ok(StaticDependencyKind::MaybeTsModuleAugmentation),
+        _ => Err(ReadFault::Shape),
     }
 }
 
@@ -69,11 +112,53 @@ impl TryClone for StaticDependencyDescriptor {
     fn try_clone(&self, alloc: Global) -> Result<StaticDependencyDescriptor, AllocError> {
         Ok(StaticDependencyDescriptor {
             kind: self.kind,
-            types_specifier: copy_of(&self.types_specifier, alloc)?,
+            types_specifier: self.types_specifier.try_clone(alloc)?,
             specifier: self.specifier.try_clone(alloc)?,
             specifier_range: self.specifier_range,
             is_side_effect: self.is_side_effect,
             import_attributes: self.import_attributes.try_clone(alloc)?,
         })
     }
+}
+
+impl ToJson for StaticDependencyDescriptor {
+    ghost json = { json_of_static };
+
+    ghost is_held = { IsHeldStatic };
+
+    fn to_json(&self, alloc: Global) -> Result<Value, AllocError> {
+        let mut object = ObjectWriter::tagged(alloc, "static")?;
+        object.put("kind", &self.kind)?;
+        object.put_some("typesSpecifier", &self.types_specifier)?;
+        object.put("specifier", &self.specifier)?;
+        object.put("specifierRange", &self.specifier_range)?;
+        object.put_flag("sideEffect", self.is_side_effect)?;
+        object.put_unless(
+            self.import_attributes.is_none(),
+            "importAttributes",
+            &self.import_attributes,
+        )?;
+        Ok(object.into_value())
+    }
+}
+
+/// The static dependency that has these members.
+#[tactic(auto, using(crate::proofs::Reading::reading), unfolding(crate::specs::Json::StaticDependency::reads_static))]
+pub(crate) fn read_static(object: &ObjectReader) -> Result<StaticDependencyDescriptor, ReadFault>
+    ensures { Answers (reads_static (readable object.now)) result }
+{
+    let kind = object.read("kind")?;
+    let types_specifier = object.read_or("typesSpecifier", None)?;
+    let specifier = object.read("specifier")?;
+    let specifier_range = object.read("specifierRange")?;
+    let is_side_effect = object.read_or("sideEffect", false)?;
+    let import_attributes = object.read_or("importAttributes", ImportAttributes::None)?;
+    Ok(StaticDependencyDescriptor {
+        kind,
+        types_specifier,
+        specifier,
+        specifier_range,
+        is_side_effect,
+        import_attributes,
+    })
 }

@@ -1,2 +1,6 @@
-pub mod ReadBack
+pub mod Conversions
+pub mod Written
+pub mod MembersLemmas
+pub mod OneOutcome
+pub mod Outcomes
 pub mod Reaching

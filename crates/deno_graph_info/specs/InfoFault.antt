@@ -1,10 +1,21 @@
 -- Why no `ModuleInfo` was read.
-use Rattle.deno_graph_json.specs.declared.fault.ReadFault.{ReadFault}
-use Rattle.deno_graph_json.specs.declared.fault.ReadFault.TheVariants as read
+use Rattle.std.specs.Prelude.{◌≡◌, false, true, None}
+use Rattle.serde_json.specs.Data.{Data}
+use Rattle.serde_json.specs.Written.{has_float}
+use Rattle.deno_graph_dependency.specs.declared.json.fault.ReadFault.{ReadFault}
+use Rattle.deno_graph_dependency.specs.declared.json.fault.ReadFault.TheVariants as read
 use Rattle.deno_graph_info.specs.declared.analysis.fault.InfoFault.{InfoFault}
-use Rattle.deno_graph_info.specs.declared.analysis.fault.InfoFault.TheVariants.{Shape, OutOfMemory}
+use Rattle.deno_graph_info.specs.declared.analysis.fault.InfoFault.TheVariants.{Shape, Float, OutOfMemory}
+use Rattle.deno_graph_info.specs.Json.ModuleInfo.{reads_info}
 
 -- the fault of the same name
 abbrev pub fault_of : ReadFault → InfoFault
 fault_of read.Shape = Shape
 fault_of read.OutOfMemory = OutOfMemory
+
+-- why nothing is read of the data: they have a float; they have none, and not the form that is read; or
+-- they have none, and memory was refused
+abbrev pub IsInfoFault : Data → InfoFault → Type 0
+IsInfoFault d Shape = (has_float d ≡ false) × (reads_info d ≡ None)
+IsInfoFault d Float = has_float d ≡ true
+IsInfoFault d OutOfMemory = has_float d ≡ false

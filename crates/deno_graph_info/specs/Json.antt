@@ -1,6 +1,4 @@
--- The JSON form, a file for each kind of value.
-pub mod Held
-pub mod Info
+-- The JSON form, a file for each type.
 pub mod JsDocImportInfo
-pub mod Read
+pub mod ModuleInfo
 pub mod TypeScriptReference

@@ -1,4 +1,8 @@
+pub mod Comment
+pub mod Conversion
+pub mod ConvertFault
 pub mod InfoFault
 pub mod Json
 pub mod Reach
 pub mod ReachSteps
+pub mod Types

@@ -1,9 +1,10 @@
--- Which modules one reaches by its dependencies. Modules are the entries of a map, in the order of their keys.
+-- Which modules one reaches by its dependencies. Modules are the entries of a map, in the order of
+-- their keys.
 use Rattle.std.specs.Prelude.{◌≡◌, ℕ, List, Bool, All, Contains, Option, Some, None, IsSome, IsTrue}
 use Rattle.std.specs.Cmp.Lexicographic.{slice_cmp}
 use Rattle.std.specs.List.Sorted.{IsStrictlySortedBy}
 use Rattle.std.specs.Ordering.{nat_cmp}
-use Rattle.deno_graph_values.specs.TextMap.{value_at}
+use Rattle.deno_graph_text.specs.TextMap.{value_at}
 use Rattle.deno_graph_dependency.specs.declared.dependency.DependencyDescriptor.{DependencyDescriptor}
 use Rattle.deno_graph_dependency.specs.declared.dependency.DependencyDescriptor.TheVariants.{Static, Dynamic}
 use Rattle.deno_graph_dependency.specs.declared.dynamic_argument.DynamicArgument.{DynamicArgument}
@@ -17,24 +18,30 @@ string_of (Template parts) = None
 string_of Expr = None
 
 -- the specifier of a static dependency, or the string argument of a dynamic one
-abbrev pub specifier_in : DependencyDescriptor → Option (List ℕ)
-specifier_in (Static d) = Some d.specifier
-specifier_in (Dynamic d) = string_of d.argument
+abbrev pub named_specifier : DependencyDescriptor → Option (List ℕ)
+named_specifier (Static d) = Some d.specifier
+named_specifier (Dynamic d) = string_of d.argument
 
 -- a dependency of the module has this specifier
 abbrev pub Names : ModuleInfo → List ℕ → Type 0
-Names info specifier = (dependency : DependencyDescriptor) × Contains info.dependencies dependency × (specifier_in dependency ≡ Some specifier)
+Names info specifier =
+    (dependency : DependencyDescriptor) × Contains info.dependencies dependency
+    × (named_specifier dependency ≡ Some specifier)
 
 abbrev pub IsKey : List (List ℕ × ModuleInfo) → List ℕ → Type 0
 IsKey modules key = IsSome (value_at modules key)
 
 -- a set holds the root, if that is a key, and with each key every key that its module names
-pub record IsClosed (modules : List (List ℕ × ModuleInfo)) (root : List ℕ) (Holds : List ℕ → Type 0) : Type 0 where
+pub record IsClosedUnderDependencies (modules : List (List ℕ × ModuleInfo)) (root : List ℕ)
+    (Holds : List ℕ → Type 0) : Type 0 where
   pub holds_root : IsKey modules root → Holds root
-  pub holds_named : (key specifier : List ℕ) (info : ModuleInfo) → Holds key → value_at modules key ≡ Some info → Names info specifier → IsKey modules specifier → Holds specifier
+  pub holds_named : (key specifier : List ℕ) (info : ModuleInfo) → Holds key
+      → value_at modules key ≡ Some info → Names info specifier → IsKey modules specifier → Holds specifier
 
 -- in ascending order, the least such set: it is closed, and within each closed set, as that of all keys
-pub record IsReach (modules : List (List ℕ × ModuleInfo)) (root : List ℕ) (reached : List (List ℕ)) : Type 0 where
-  pub ascending : IsStrictlySortedBy (slice_cmp nat_cmp) reached
-  pub closed : IsClosed modules root (Contains reached)
-  pub least : (test : List ℕ → Bool) → IsClosed modules root (λ key. IsTrue (test key)) → All (λ key. IsTrue (test key)) reached
+pub record IsReach (modules : List (List ℕ × ModuleInfo)) (root : List ℕ) (reached : List (List ℕ)) : Type 0
+  where
+    pub ascending : IsStrictlySortedBy (slice_cmp nat_cmp) reached
+    pub closed : IsClosedUnderDependencies modules root (Contains reached)
+    pub least : (test : List ℕ → Bool) → IsClosedUnderDependencies modules root (λ key. IsTrue (test key))
+        → All (λ key. IsTrue (test key)) reached

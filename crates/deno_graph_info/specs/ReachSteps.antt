@@ -1,9 +1,9 @@
 -- How the search of `reach` goes on. No promise of a public call names it.
-use Rattle.std.specs.Prelude.{◌≡◌, ◌⊎◌, ◌+◌, ◌≤◌, ℕ, List, [], ◌∷◌, map, length, All, Contains, Option, Some, None, IsSome, MatchOption, suc}
+use Rattle.std.specs.Prelude.{◌≡◌, ◌⊎◌, ◌+◌, ◌≤◌, ℕ, List, [], ◌∷◌, map, length, Contains, Option, Some, None, IsSome}
 use Rattle.std.specs.Borrow.{Bor}
-use Rattle.deno_graph_values.specs.TextMap.{value_at}
+use Rattle.deno_graph_text.specs.TextMap.{value_at}
 use Rattle.deno_graph_dependency.specs.declared.dependency.DependencyDescriptor.{DependencyDescriptor}
-use Rattle.deno_graph_info.specs.Reach.{IsKey, specifier_in}
+use Rattle.deno_graph_info.specs.Reach.{IsKey, named_specifier}
 use Rattle.deno_graph_info.specs.declared.analysis.module_info.ModuleInfo.{ModuleInfo}
 
 -- the modules that are pending
@@ -12,7 +12,9 @@ infos_of pending = map (λ info. info.now) pending
 
 -- one of the dependencies has this specifier
 abbrev pub NamesIn : List DependencyDescriptor → List ℕ → Type 0
-NamesIn dependencies specifier = (dependency : DependencyDescriptor) × Contains dependencies dependency × (specifier_in dependency ≡ Some specifier)
+NamesIn dependencies specifier =
+    (dependency : DependencyDescriptor) × Contains dependencies dependency
+    × (named_specifier dependency ≡ Some specifier)
 
 module _ {V : Type 0} where
   abbrev pub IsReached : List (List ℕ × V) → List ℕ → Type 0
@@ -28,13 +30,16 @@ module _ {V : Type 0} where
   unreached [] reached = 0
   unreached (m ∷ ms) reached = one_unless (value_at reached m.0) + unreached ms reached
 
-  -- The keys with these names are visited: what was reached is reached, and so is each of them. What is reached newly
-  -- is one of them, and its module is pending.
-  pub record Grows (modules : List (List ℕ × ModuleInfo)) (IsNamed : List ℕ → Type 0) (old new : List (List ℕ × V)) (before after : List ModuleInfo) : Type 0 where
+  -- The keys with these names are visited: what was reached is reached, and so is each of them.
+  -- What is reached newly is one of them, and its module is pending.
+  pub record Grows (modules : List (List ℕ × ModuleInfo)) (IsNamed : List ℕ → Type 0)
+      (old new : List (List ℕ × V)) (before after : List ModuleInfo) : Type 0 where
     pub kept : (key : List ℕ) → IsReached old key → IsReached new key
     pub named : (key : List ℕ) → IsNamed key → IsKey modules key → IsReached new key
     pub added : (key : List ℕ) → IsReached new key → IsReached old key ⊎ (IsNamed key × IsKey modules key)
     pub pending_kept : (info : ModuleInfo) → Contains before info → Contains after info
-    pub pending_added : (key : List ℕ) (info : ModuleInfo) → IsReached new key → value_at modules key ≡ Some info → IsReached old key ⊎ Contains after info
-    pub pending_known : (info : ModuleInfo) → Contains after info → Contains before info ⊎ ((key : List ℕ) × IsReached new key × (value_at modules key ≡ Some info))
+    pub pending_added : (key : List ℕ) (info : ModuleInfo) → IsReached new key
+        → value_at modules key ≡ Some info → IsReached old key ⊎ Contains after info
+    pub pending_known : (info : ModuleInfo) → Contains after info → Contains before info
+        ⊎ ((key : List ℕ) × IsReached new key × (value_at modules key ≡ Some info))
     pub work : unreached modules new + length after ≤ unreached modules old + length before

@@ -3,11 +3,9 @@
 pub mod fault;
 pub mod js_doc_import_info;
 pub mod module_info;
-mod read;
 pub mod type_script_reference;
-mod write;
 
-pub use deno_graph_conversion::{ConvertFault, laws, module_graph_1_to_2};
+pub use crate::conversion::{ConvertFault, laws, module_graph_1_to_2};
 pub use deno_graph_dependency::{
     DependencyDescriptor, DynamicArgument, DynamicDependencyDescriptor, DynamicDependencyKind,
     DynamicTemplatePart, ImportAttribute, ImportAttributes, SpecifierWithRange,
@@ -19,7 +17,7 @@ pub use deno_graph_pragmas::finders::{
     find_source_mapping_url, find_ts_self_types, find_ts_types, find_types_reference,
     is_comment_triple_slash_reference,
 };
-pub use deno_graph_values::TypeScriptTypesResolutionMode;
+pub use deno_graph_text::values::TypeScriptTypesResolutionMode;
 pub use fault::InfoFault;
 pub use js_doc_import_info::JsDocImportInfo;
 pub use module_info::ModuleInfo;

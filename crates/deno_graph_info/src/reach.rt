@@ -3,12 +3,12 @@
 ghost use Rattle.std.specs.Prelude.{◌≡◌, map, IfOk, OnOk, option_map};
 ghost use Rattle.std.specs.Map.{keys_of};
 ghost use Rattle.std.specs.String.{string_bytes};
-ghost use Rattle.deno_graph_values.specs.TextMap.{entries_of, IsAscending};
-ghost use Rattle.deno_graph_info.specs.Reach.{IsReach, specifier_in};
+ghost use Rattle.deno_graph_text.specs.TextMap.{entries_of, IsAscending};
+ghost use Rattle.deno_graph_info.specs.Reach.{IsReach, named_specifier};
 ghost use Rattle.deno_graph_info.specs.ReachSteps.{Grows, NamesIn, infos_of};
 
 use crate::analysis::{DependencyDescriptor, DynamicArgument, ModuleInfo};
-use deno_graph_values::{Text, TextMap};
+use deno_graph_text::values::{Text, TextMap};
 use std::alloc::{AllocError, Global};
 use std::collections::BTreeMap;
 
@@ -81,7 +81,7 @@ fn visit<'a>(
 
 /// The specifier of a static dependency, or the string argument of a dynamic one.
 fn specifier_of(dependency: &DependencyDescriptor) -> Option<&str>
-    ensures { option_map (λ s. s.now) result ≡ specifier_in dependency.now }
+    ensures { option_map (λ s. s.now) result ≡ named_specifier dependency.now }
 {
     match dependency {
         DependencyDescriptor::Static(descriptor) => Some(descriptor.specifier.as_str()),

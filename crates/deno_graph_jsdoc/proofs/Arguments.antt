@@ -1,37 +1,54 @@
 -- Dynamic imports: the first `import`, and its argument list.
-use Rattle.std.proofs.Common.{◌≡◌, ◌≢◌, ℕ, ◌<◌, ◌≤◌, ◌⊎◌, inl, inr, ⊎_elim, Option, Some, None, List, [], ◌∷◌, ◌++◌, length, refl, sym, ap, ◌∙◌, subst, codes, option_map, append_assoc, length-append, arith}
+use Rattle.std.proofs.Common.{◌≡◌, ◌≢◌, ℕ, ◌<◌, ◌≤◌, ◌⊎◌, inl, inr, ⊎_elim, Option, Some, None, List, [], ◌∷◌}
+use Rattle.std.proofs.Common.{◌++◌, length, refl, sym, ap, ◌∙◌, subst, codes, option_map, append_assoc}
+use Rattle.std.proofs.Common.{length-append, arith}
 use Rattle.std.proofs.lemmas.Bool.{cases_lt}
 use Rattle.std.proofs.lemmas.List.{append_cancel_left, append_cancel_right, append-nil}
 use Rattle.std.specs.Option.{unwrap_or}
 use Rattle.std.specs.Str.{chars, skip_leading_whitespace}
 use denote.Ref.{Bor}
-use Rattle.deno_graph_jsdoc.specs.JsDocGrammar.{◌·◌, Is, IsSpace, IsModeBlock, IsOptions, IsSecond, IsUpTo, Lacks}
-use Rattle.deno_graph_jsdoc.specs.JsDocImport.{Mode, Import, Parses, HasArguments, IsDynamicEnd, IsDynamicImport, EndsArguments, EndsDynamicImport, size, moved}
-use Rattle.deno_graph_jsdoc.specs.JsDocReading.{Begins, Anything, NoSpace, Reads, rest_and_mode}
+use Rattle.deno_graph_jsdoc.specs.Characters.{opening_brace, closing_brace}
+use Rattle.deno_graph_jsdoc.specs.JsDocGrammar.{◌·◌, Is, IsSpace, IsModeBlock, IsOptions, IsSecond, IsUpTo}
+use Rattle.deno_graph_jsdoc.specs.JsDocGrammar.{Lacks, Begins, Anything, NoSpace}
+use Rattle.deno_graph_jsdoc.specs.JsDocReading.{ReadsImport, HasArguments, IsDynamicEnd, EndsArguments, Reads}
+use Rattle.deno_graph_jsdoc.specs.JsDocReading.{rest_and_mode}
+use Rattle.deno_graph_jsdoc.specs.JsDocImport.{Mode, Import, IsDynamicImport, EndsDynamicImport, byte_count}
+use Rattle.deno_graph_jsdoc.specs.JsDocImport.{moved}
 use Rattle.deno_graph_jsdoc.proofs.Blocks.{IsSolid-block, IsSolid-front, Closed-solid}
 use Rattle.deno_graph_jsdoc.proofs.Imports.{no_first, behind_first, no_tail_at_all, longer}
-use Rattle.deno_graph_jsdoc.proofs.Readings.{Begins-split, Begins-join, Begins-as, IsSolid, IsSolid-word, space_read, space_then, then_none, then_some, value_none, value_then, lexeme_none, lexeme_then, behind_space, before_space, one_space, same_first, regroup, ungroup, regroup_4, ungroup_4, textwise}
+use Rattle.deno_graph_jsdoc.proofs.Readings.{Begins-split, Begins-join, Begins-as, IsSolid, IsSolid-word}
+use Rattle.deno_graph_jsdoc.proofs.Readings.{space_read, space_then, then_none, then_some, value_none}
+use Rattle.deno_graph_jsdoc.proofs.Readings.{value_then, lexeme_none, lexeme_then, behind_space, before_space}
+use Rattle.deno_graph_jsdoc.proofs.Readings.{one_space, same_first, regroup, ungroup, regroup_4, ungroup_4}
+use Rattle.deno_graph_jsdoc.proofs.Readings.{textwise}
 use Rattle.deno_graph_jsdoc.proofs.Runs.{front_of_front, same_space, space_ends, Lacks-not_inside}
 
 -- the text up to the first of a word is one text
 module _ (word : List ℕ) where
-  same_front : (front rest other behind : List ℕ) → ((before after : List ℕ) → other ++ word ≡ before ++ (word ++ after) → after ≡ [])
+  same_front : (front rest other behind : List ℕ)
+      → ((before after : List ℕ) → other ++ word ≡ before ++ (word ++ after) → after ≡ [])
       → front ++ (word ++ rest) ≡ other ++ (word ++ behind) → length front ≤ length other → front ≡ other
   same_front front rest other behind first same fits =
       let longer = front_of_front (front ++ word) rest (other ++ word) behind
-      (append_assoc front word rest ∙ same ∙ sym (append_assoc other word behind)) (omega (arith, length-append front word, length-append other word)) in
+      (append_assoc front word rest ∙ same ∙ sym (append_assoc other word behind))
+      (omega (arith, length-append front word, length-append other word)) in
       let none = first front longer.0 (longer.1 ∙ append_assoc front word longer.0) in
-      append_cancel_right front other word (sym (longer.1 ∙ ap (λ t. (front ++ word) ++ t) none ∙ append-nil (front ++ word)))
+      append_cancel_right front other word
+      (sym (longer.1 ∙ ap (λ t. (front ++ word) ++ t) none ∙ append-nil (front ++ word)))
 
-  one_front : (front rest other behind : List ℕ) → ((before after : List ℕ) → front ++ word ≡ before ++ (word ++ after) → after ≡ [])
-      → ((before after : List ℕ) → other ++ word ≡ before ++ (word ++ after) → after ≡ []) → front ++ (word ++ rest) ≡ other ++ (word ++ behind) → front ≡ other
+  one_front : (front rest other behind : List ℕ)
+      → ((before after : List ℕ) → front ++ word ≡ before ++ (word ++ after) → after ≡ [])
+      → ((before after : List ℕ) → other ++ word ≡ before ++ (word ++ after) → after ≡ [])
+      → front ++ (word ++ rest) ≡ other ++ (word ++ behind) → front ≡ other
   one_front front rest other behind first second same =
       ⊎_elim (λ less. same_front front rest other behind second same (omega (arith, less)))
-      (λ more. sym (same_front other behind front rest first (sym same) more)) (cases_lt (length front) (length other))
+      (λ more. sym (same_front other behind front rest first (sym same) more))
+      (cases_lt (length front) (length other))
 
   -- the parts of such a text
   pub parts_of : {input rest : List ℕ} → Begins (IsUpTo word) input rest
-      → (front : List ℕ) × (input ≡ front ++ (word ++ rest)) × Lacks 125 front × ((before after : List ℕ) → front ++ word ≡ before ++ (word ++ after) → after ≡ [])
+      → (front : List ℕ) × (input ≡ front ++ (word ++ rest)) × Lacks closing_brace front
+      × ((before after : List ℕ) → front ++ word ≡ before ++ (word ++ after) → after ≡ [])
   parts_of {input} {rest} b =
       let is = b.is in (
         is.front,
@@ -40,22 +57,27 @@ module _ (word : List ℕ) where
         λ before after same. is.first before after (is.whole ∙ same),
       )
 
-  pub up_to_none : (input : List ℕ) → ((front rest : List ℕ) → input ≢ front ++ (word ++ rest)) → Reads Anything (λ (_ : Unit {0}). IsUpTo word) input None
+  pub up_to_none : (input : List ℕ) → ((front rest : List ℕ) → input ≢ front ++ (word ++ rest))
+      → Reads Anything (λ (_ : Unit {0}). IsUpTo word) input None
   up_to_none input none _ rest _ b =
       let parts = parts_of b in
       none parts.0 rest parts.1
 
-  module _ (input front rest : List ℕ) (whole : input ≡ front ++ (word ++ rest)) (first : (before after : List ℕ) → front ++ word ≡ before ++ (word ++ after) → after ≡ []) where
+  module _ (input front rest : List ℕ) (whole : input ≡ front ++ (word ++ rest))
+      (first : (before after : List ℕ) → front ++ word ≡ before ++ (word ++ after) → after ≡ []) where
     same_parts : {behind : List ℕ} (b : Begins (IsUpTo word) input behind) → front ≡ (parts_of b).0
     same_parts {behind} b =
         let parts = parts_of b in
         one_front front rest parts.0 behind first parts.3 (sym whole ∙ parts.1)
 
-    pub up_to_closed : (inside after : List ℕ) → front ≡ inside ++ 125 ∷ after → Reads Anything (λ (_ : Unit {0}). IsUpTo word) input None
+    pub up_to_closed : (inside after : List ℕ) → front ≡ inside ++ closing_brace ∷ after
+        → Reads Anything (λ (_ : Unit {0}). IsUpTo word) input None
     up_to_closed inside after closed _ behind _ b =
-        Lacks-not_inside 125 inside after (subst (Lacks 125) (sym (same_parts b) ∙ closed) (parts_of b).2)
+        Lacks-not_inside closing_brace inside after
+        (subst (Lacks closing_brace) (sym (same_parts b) ∙ closed) (parts_of b).2)
 
-    pub up_to_read : Lacks 125 front → Reads Anything (λ (_ : Unit {0}). IsUpTo word) input (Some (rest, tt))
+    pub up_to_read : Lacks closing_brace front
+        → Reads Anything (λ (_ : Unit {0}). IsUpTo word) input (Some (rest, tt))
     up_to_read lacks = (
       record {
         piece = front ++ word;
@@ -64,20 +86,29 @@ module _ (word : List ℕ) where
       },
       λ other behind _ b.
           let parts = parts_of b in
-          let same : front ++ (word ++ behind) ≡ front ++ (word ++ rest) = ap (λ t. t ++ (word ++ behind)) (same_parts b) ∙ sym parts.1 ∙ whole in
-          (refl, append_cancel_left word behind rest (append_cancel_left front (word ++ behind) (word ++ rest) same)),
+          let same : front ++ (word ++ behind) ≡ front ++ (word ++ rest) =
+          ap (λ t. t ++ (word ++ behind)) (same_parts b) ∙ sym parts.1 ∙ whole in (
+            refl,
+            append_cancel_left word behind rest
+                (append_cancel_left front (word ++ behind) (word ++ rest) same),
+          ),
     )
 
 -- a text up to a mark has all of a front that lacks the mark
-pub unclosed_front : (mark : ℕ) (front rest unclosed behind : List ℕ) → Lacks mark front → front ++ rest ≡ unclosed ++ mark ∷ behind → (middle : List ℕ) × (unclosed ≡ front ++ middle)
-unclosed_front mark front rest unclosed behind lacks same = by_length (cases_lt (length unclosed) (length front))
+pub unclosed_front : (mark : ℕ) (front rest unclosed behind : List ℕ) → Lacks mark front
+    → front ++ rest ≡ unclosed ++ mark ∷ behind → (middle : List ℕ) × (unclosed ≡ front ++ middle)
+unclosed_front mark front rest unclosed behind lacks same =
+    by_length (cases_lt (length unclosed) (length front))
   where
-    by_length : (length unclosed < length front) ⊎ (length front ≤ length unclosed) → (middle : List ℕ) × (unclosed ≡ front ++ middle)
+    by_length : (length unclosed < length front) ⊎ (length front ≤ length unclosed)
+        → (middle : List ℕ) × (unclosed ≡ front ++ middle)
     by_length (inr fits) = front_of_front front rest unclosed (mark ∷ behind) same fits
     by_length (inl longer) =
-        let middle = front_of_front (unclosed ++ mark ∷ []) behind front rest (append_assoc unclosed (mark ∷ []) behind ∙ sym same)
+        let middle = front_of_front (unclosed ++ mark ∷ []) behind front rest
+        (append_assoc unclosed (mark ∷ []) behind ∙ sym same)
         (omega (arith, length-append unclosed (mark ∷ []))) in
-        absurd (Lacks-not_inside mark unclosed middle.0 (subst (Lacks mark) (middle.1 ∙ append_assoc unclosed (mark ∷ []) middle.0) lacks))
+        absurd (Lacks-not_inside mark unclosed middle.0
+        (subst (Lacks mark) (middle.1 ∙ append_assoc unclosed (mark ∷ []) middle.0) lacks))
 
 pub Lacks-append : (mark : ℕ) (xs ys : List ℕ) → Lacks mark xs → Lacks mark ys → Lacks mark (xs ++ ys)
 Lacks-append mark [] ys left right = right
@@ -88,27 +119,34 @@ Lacks-front mark [] ys all = tt
 Lacks-front mark (x ∷ xs) ys all = (all.0, Lacks-front mark xs ys all.1)
 
 -- where the text up to the first mark has no such word, no text up to the first of the word begins it
-pub up_to_none_unclosed : (word input unclosed : List ℕ) → Lacks 125 word → (input ≡ unclosed) ⊎ ((behind : List ℕ) × (input ≡ unclosed ++ 125 ∷ behind))
-    → ((front rest : List ℕ) → unclosed ≢ front ++ (word ++ rest)) → Reads Anything (λ (_ : Unit {0}). IsUpTo word) input None
+pub up_to_none_unclosed : (word input unclosed : List ℕ) → Lacks closing_brace word
+    → (input ≡ unclosed) ⊎ ((behind : List ℕ) × (input ≡ unclosed ++ closing_brace ∷ behind))
+    → ((front rest : List ℕ) → unclosed ≢ front ++ (word ++ rest))
+    → Reads Anything (λ (_ : Unit {0}). IsUpTo word) input None
 up_to_none_unclosed word input unclosed lacks (inl same) none other rest follow b =
     up_to_none word input (λ front after whole. none front after (sym same ∙ whole)) other rest follow b
 up_to_none_unclosed word input unclosed lacks (inr (behind, closed)) none other rest follow b =
     let parts = parts_of word b in
-    let middle = unclosed_front 125 (parts.0 ++ word) rest unclosed behind (Lacks-append 125 parts.0 word parts.2 lacks)
+    let middle = unclosed_front closing_brace (parts.0 ++ word) rest unclosed behind
+    (Lacks-append closing_brace parts.0 word parts.2 lacks)
     (append_assoc parts.0 word rest ∙ sym parts.1 ∙ closed) in
     none parts.0 middle.0 (middle.1 ∙ append_assoc parts.0 word middle.0)
 
 -- and where it has one, the first in the whole text stands before the first mark
-pub up_to_read_unclosed : (word input unclosed front rest : List ℕ) → Lacks 125 unclosed → (input ≡ unclosed) ⊎ ((behind : List ℕ) × (input ≡ unclosed ++ 125 ∷ behind))
+pub up_to_read_unclosed : (word input unclosed front rest : List ℕ) → Lacks closing_brace unclosed
+    → (input ≡ unclosed) ⊎ ((behind : List ℕ) × (input ≡ unclosed ++ closing_brace ∷ behind))
     → (some after : List ℕ) → unclosed ≡ some ++ (word ++ after)
-    → input ≡ front ++ (word ++ rest) → ((before after : List ℕ) → front ++ word ≡ before ++ (word ++ after) → after ≡ [])
+    → input ≡ front ++ (word ++ rest)
+    → ((before after : List ℕ) → front ++ word ≡ before ++ (word ++ after) → after ≡ [])
     → Reads Anything (λ (_ : Unit {0}). IsUpTo word) input (Some (rest, tt))
 up_to_read_unclosed word input unclosed front rest lacks form some after has whole first =
-    up_to_read word input front rest whole first (Lacks-front 125 front middle.0 (subst (Lacks 125) middle.1 lacks))
+    up_to_read word input front rest whole first
+    (Lacks-front closing_brace front middle.0 (subst (Lacks closing_brace) middle.1 lacks))
   where
-    tail_of : (input ≡ unclosed) ⊎ ((behind : List ℕ) × (input ≡ unclosed ++ 125 ∷ behind)) → (tail : List ℕ) × (input ≡ unclosed ++ tail)
+    tail_of : (input ≡ unclosed) ⊎ ((behind : List ℕ) × (input ≡ unclosed ++ closing_brace ∷ behind))
+        → (tail : List ℕ) × (input ≡ unclosed ++ tail)
     tail_of (inl same) = ([], same ∙ sym (append-nil unclosed))
-    tail_of (inr (behind, closed)) = (125 ∷ behind, closed)
+    tail_of (inr (behind, closed)) = (closing_brace ∷ behind, closed)
 
     tail : (tail : List ℕ) × (input ≡ unclosed ++ tail)
     tail = tail_of form
@@ -120,11 +158,21 @@ up_to_read_unclosed word input unclosed front rest lacks form some after has who
         by_length (inr fits) = fits
         by_length (inl longer) =
             let all : some ++ (word ++ (after ++ tail.0)) ≡ front ++ (word ++ rest) =
-            ap (λ t. some ++ t) (sym (append_assoc word after tail.0)) ∙ sym (append_assoc some (word ++ after) tail.0) ∙ ap (λ t. t ++ tail.0) (sym has) ∙ sym tail.1 ∙ whole in
+            ap (λ t. some ++ t) (sym (append_assoc word after tail.0))
+            ∙ sym (append_assoc some (word ++ after) tail.0) ∙ ap (λ t. t ++ tail.0) (sym has)
+            ∙ sym tail.1 ∙ whole in
             let more = front_of_front (some ++ word) (after ++ tail.0) (front ++ word) rest
-            (append_assoc some word (after ++ tail.0) ∙ all ∙ sym (append_assoc front word rest)) (omega (arith, length-append some word, length-append front word)) in
+            (append_assoc some word (after ++ tail.0) ∙ all ∙ sym (append_assoc front word rest))
+            (omega (arith, length-append some word, length-append front word)) in
             let none = first some more.0 (more.1 ∙ append_assoc some word more.0) in
-            omega (arith, ap length more.1, length-append (some ++ word) more.0, ap length none, length-append some word, length-append front word)
+            omega (
+              arith,
+              ap length more.1,
+              length-append (some ++ word) more.0,
+              ap length none,
+              length-append some word,
+              length-append front word,
+            )
 
     middle : (middle : List ℕ) × (unclosed ≡ front ++ middle)
     middle =
@@ -154,49 +202,68 @@ With-solid : (mode : Mode) (text : List ℕ) → With mode text → IsSolid text
 With-solid mode text is = IsSolid-word 119 (codes "ith") refl text is
 
 Brace-solid : (mode : Mode) (text : List ℕ) → Brace mode text → IsSolid text
-Brace-solid mode text is = IsSolid-word 123 [] refl text is
+Brace-solid mode text is = IsSolid-word opening_brace [] refl text is
 
 Options-solid : (mode : Mode) (text : List ℕ) → IsOptions mode text → IsSolid text
 Options-solid mode text is = IsSolid-word 44 [] refl text is
 
 module _ (a : List ℕ) where
-  pub options_no_comma : Reads NoSpace (λ (_ : Unit {0}). Is (codes ",") · IsSpace) a None → Reads Anything IsOptions a None
+  pub options_no_comma : Reads NoSpace (λ (_ : Unit {0}). Is (codes ",") · IsSpace) a None
+      → Reads Anything IsOptions a None
   options_no_comma none = lexeme_none Anything Brace Brace-solid (Is (codes ",")) a none
 
-  module _ (b : List ℕ) (comma : Reads NoSpace (λ (_ : Unit {0}). Is (codes ",") · IsSpace) a (Some (b, tt))) where
+  module _ (b : List ℕ)
+      (comma : Reads NoSpace (λ (_ : Unit {0}). Is (codes ",") · IsSpace) a (Some (b, tt))) where
     from_comma : (o : Option (List ℕ × Mode)) → Reads Anything Brace b o → Reads Anything IsOptions a o
     from_comma o found = lexeme_then Anything Brace Brace-solid (Is (codes ",")) a b o comma found
 
-    pub options_no_brace : Reads NoSpace (λ (_ : Unit {0}). Is (codes "{") · IsSpace) b None → Reads Anything IsOptions a None
+    pub options_no_brace : Reads NoSpace (λ (_ : Unit {0}). Is (codes "{") · IsSpace) b None
+        → Reads Anything IsOptions a None
     options_no_brace none = from_comma None (lexeme_none Anything With With-solid (Is (codes "{")) b none)
 
-    module _ (c : List ℕ) (brace : Reads NoSpace (λ (_ : Unit {0}). Is (codes "{") · IsSpace) b (Some (c, tt))) where
+    module _ (c : List ℕ)
+        (brace : Reads NoSpace (λ (_ : Unit {0}). Is (codes "{") · IsSpace) b (Some (c, tt))) where
       from_brace : (o : Option (List ℕ × Mode)) → Reads Anything With c o → Reads Anything IsOptions a o
-      from_brace o found = from_comma o (lexeme_then Anything With With-solid (Is (codes "{")) b c o brace found)
+      from_brace o found =
+          from_comma o (lexeme_then Anything With With-solid (Is (codes "{")) b c o brace found)
 
-      pub options_no_with : Reads NoSpace (λ (_ : Unit {0}). Is (codes "with") · IsSpace) c None → Reads Anything IsOptions a None
-      options_no_with none = from_brace None (lexeme_none Anything Colon Colon-solid (Is (codes "with")) c none)
+      pub options_no_with : Reads NoSpace (λ (_ : Unit {0}). Is (codes "with") · IsSpace) c None
+          → Reads Anything IsOptions a None
+      options_no_with none =
+          from_brace None (lexeme_none Anything Colon Colon-solid (Is (codes "with")) c none)
 
-      module _ (d : List ℕ) (with_word : Reads NoSpace (λ (_ : Unit {0}). Is (codes "with") · IsSpace) c (Some (d, tt))) where
+      module _ (d : List ℕ)
+          (with_word : Reads NoSpace (λ (_ : Unit {0}). Is (codes "with") · IsSpace) c (Some (d, tt))) where
         from_with : (o : Option (List ℕ × Mode)) → Reads Anything Colon d o → Reads Anything IsOptions a o
-        from_with o found = from_brace o (lexeme_then Anything Colon Colon-solid (Is (codes "with")) c d o with_word found)
+        from_with o found =
+            from_brace o (lexeme_then Anything Colon Colon-solid (Is (codes "with")) c d o with_word found)
 
-        pub options_no_colon : Reads NoSpace (λ (_ : Unit {0}). Is (codes ":") · IsSpace) d None → Reads Anything IsOptions a None
-        options_no_colon none = from_with None (lexeme_none Anything BlockEnd BlockEnd-solid (Is (codes ":")) d none)
+        pub options_no_colon : Reads NoSpace (λ (_ : Unit {0}). Is (codes ":") · IsSpace) d None
+            → Reads Anything IsOptions a None
+        options_no_colon none =
+            from_with None (lexeme_none Anything BlockEnd BlockEnd-solid (Is (codes ":")) d none)
 
-        module _ (e : List ℕ) (colon : Reads NoSpace (λ (_ : Unit {0}). Is (codes ":") · IsSpace) d (Some (e, tt))) where
-          from_colon : (o : Option (List ℕ × Mode)) → Reads Anything BlockEnd e o → Reads Anything IsOptions a o
-          from_colon o found = from_with o (lexeme_then Anything BlockEnd BlockEnd-solid (Is (codes ":")) d e o colon found)
+        module _ (e : List ℕ)
+            (colon : Reads NoSpace (λ (_ : Unit {0}). Is (codes ":") · IsSpace) d (Some (e, tt))) where
+          from_colon : (o : Option (List ℕ × Mode)) → Reads Anything BlockEnd e o
+              → Reads Anything IsOptions a o
+          from_colon o found =
+              from_with o (lexeme_then Anything BlockEnd BlockEnd-solid (Is (codes ":")) d e o colon found)
 
           pub options_no_block : Reads Anything IsModeBlock e None → Reads Anything IsOptions a None
-          options_no_block none = from_colon None (value_none Anything Anything IsModeBlock (IsSpace · Is (codes "}")) (λ _ _ _ _. tt) e none)
+          options_no_block none = from_colon None
+              (value_none Anything Anything IsModeBlock (IsSpace · Is (codes "}")) (λ _ _ _ _. tt) e none)
 
-          pub options_read : (behind : List ℕ) (mode : Mode) (o : Option (List ℕ × Unit {0})) → Reads Anything IsModeBlock e (Some (behind, mode))
-              → Reads Anything (λ (_ : Unit {0}). Is (codes "}")) (skip_leading_whitespace behind) o → Reads Anything IsOptions a (option_map (λ x. (x.0, mode)) o)
+          pub options_read : (behind : List ℕ) (mode : Mode) (o : Option (List ℕ × Unit {0}))
+              → Reads Anything IsModeBlock e (Some (behind, mode))
+              → Reads Anything (λ (_ : Unit {0}). Is (codes "}")) (skip_leading_whitespace behind) o
+              → Reads Anything IsOptions a (option_map (λ x. (x.0, mode)) o)
           options_read behind mode o block closed =
               from_colon (option_map (λ x. (x.0, mode)) o)
-              (value_then Anything Anything IsModeBlock (IsSpace · Is (codes "}")) (λ _ _ _ _. tt) e behind mode o block
-              (space_then Anything (λ (_ : Unit {0}). Is (codes "}")) (λ _ text is. Closed-solid text is) behind o closed))
+              (value_then Anything Anything IsModeBlock (IsSpace · Is (codes "}"))
+              (λ _ _ _ _. tt) e behind mode o block
+              (space_then Anything (λ (_ : Unit {0}). Is (codes "}"))
+              (λ _ text is. Closed-solid text is) behind o closed))
 
 -- what is behind the specifier: maybe options, and the closing parenthesis
 abbrev pub Paren : List ℕ → Type 0
@@ -210,49 +277,65 @@ Close _ = IsSpace · Paren
 
 -- with options, or without
 pub tail_apart : {behind rest : List ℕ} {mode : Mode} → EndsArguments behind mode rest
-    → Begins (IsOptions mode · IsSpace · Paren) (skip_leading_whitespace behind) rest ⊎ ((mode ≡ None) × Begins Paren (skip_leading_whitespace behind) rest)
+    → Begins (IsOptions mode · IsSpace · Paren) (skip_leading_whitespace behind) rest
+    ⊎ ((mode ≡ None) × Begins Paren (skip_leading_whitespace behind) rest)
 tail_apart b =
     let parts = Begins-split b in
     let second = Begins-split parts.2 in
     by_form parts.1 second.1.is second.1.whole second.2
   where
-    by_form : {behind middle last rest piece : List ℕ} {mode : Mode} → Begins IsSpace behind middle → IsSecond mode piece → middle ≡ piece ++ last → Begins (IsSpace · Paren) last rest
-        → Begins (IsOptions mode · IsSpace · Paren) (skip_leading_whitespace behind) rest ⊎ ((mode ≡ None) × Begins Paren (skip_leading_whitespace behind) rest)
+    by_form : {behind middle last rest piece : List ℕ} {mode : Mode} → Begins IsSpace behind middle
+        → IsSecond mode piece → middle ≡ piece ++ last → Begins (IsSpace · Paren) last rest
+        → Begins (IsOptions mode · IsSpace · Paren) (skip_leading_whitespace behind) rest
+        ⊎ ((mode ≡ None) × Begins Paren (skip_leading_whitespace behind) rest)
     by_form {piece = piece} {mode = mode} space (inl is) whole close =
-        inl (behind_space (IsSolid-front (Options-solid mode)) (Begins-join space (Begins-join (record { piece = piece; whole = whole; is = is }) close)))
+        inl (behind_space (IsSolid-front (Options-solid mode))
+        (Begins-join space (Begins-join (record { piece = piece; whole = whole; is = is }) close)))
     by_form {behind} {middle} {last} {rest} {piece} space (inr none) whole close =
         let same : middle ≡ last = whole ∙ ap (λ t. t ++ last) none.0 in
-        inr (none.1, behind_space Paren-solid (one_space (Begins-join space (subst (λ m. Begins (IsSpace · Paren) m rest) (sym same) close))))
+        inr (
+          none.1,
+          behind_space Paren-solid
+              (one_space (Begins-join space (subst (λ m. Begins (IsSpace · Paren) m rest) (sym same) close))),
+        )
 
-tail_with : {behind rest : List ℕ} {mode : Mode} → Begins (IsOptions mode · IsSpace · Paren) (skip_leading_whitespace behind) rest → EndsArguments behind mode rest
+tail_with : {behind rest : List ℕ} {mode : Mode} → Begins (IsOptions mode · IsSpace · Paren)
+    (skip_leading_whitespace behind) rest → EndsArguments behind mode rest
 tail_with {behind} b =
     let parts = Begins-split b in
     Begins-join (space_read behind).0 (Begins-join (Begins-as (λ text is. inl is) parts.1) parts.2)
 
-tail_without : {behind rest : List ℕ} → Begins Paren (skip_leading_whitespace behind) rest → EndsArguments behind None rest
+tail_without : {behind rest : List ℕ} → Begins Paren (skip_leading_whitespace behind) rest
+    → EndsArguments behind None rest
 tail_without {behind} b =
     Begins-join (space_read behind).0
-    (Begins-join (record { piece = []; whole = refl; is = inr (refl, refl) }) (Begins-join (record { piece = []; whole = refl; is = tt }) b))
+    (Begins-join (record { piece = []; whole = refl; is = inr (refl, refl) })
+    (Begins-join (record { piece = []; whole = refl; is = tt }) b))
 
 -- the only end of the arguments, or that there is none
 abbrev pub OnlyEnd : List ℕ → Mode → Option (List ℕ × Unit {0}) → Type 0
 OnlyEnd behind chosen None = (mode : Mode) (rest : List ℕ) → EndsArguments behind mode rest → ⊥
 OnlyEnd behind chosen (Some x) =
-    EndsArguments behind chosen x.0 × ((mode : Mode) (rest : List ℕ) → EndsArguments behind mode rest → (mode ≡ chosen) × (rest ≡ x.0))
+    EndsArguments behind chosen x.0
+    × ((mode : Mode) (rest : List ℕ) → EndsArguments behind mode rest → (mode ≡ chosen) × (rest ≡ x.0))
 
-pub options_apart : {input rest behind : List ℕ} {mode : Mode} → Begins (IsOptions mode) input rest → Begins Paren input behind → ⊥
+pub options_apart : {input rest behind : List ℕ} {mode : Mode} → Begins (IsOptions mode) input rest
+    → Begins Paren input behind → ⊥
 options_apart options paren =
     let heads : ◌≡◌ {A = ℕ} 44 41 = same_first (Begins-split options).1 paren in
     omega (arith, heads)
 
 module _ (behind : List ℕ) where
-  pub with_options : (middle : List ℕ) (mode : Mode) → Reads Anything IsOptions (skip_leading_whitespace behind) (Some (middle, mode))
-      → (o : Option (List ℕ × Unit {0})) → Reads Anything (λ (_ : Unit {0}). Paren) (skip_leading_whitespace middle) o → OnlyEnd behind mode o
+  pub with_options : (middle : List ℕ) (mode : Mode)
+      → Reads Anything IsOptions (skip_leading_whitespace behind) (Some (middle, mode))
+      → (o : Option (List ℕ × Unit {0})) → Reads Anything (λ (_ : Unit {0}). Paren)
+      (skip_leading_whitespace middle) o → OnlyEnd behind mode o
   with_options middle mode found None none = λ other rest b. elim (tail_apart b) [
     | inl options ↦
         let parts = Begins-split options in
         let same = found.1 other parts.0 tt parts.1 in
-        none tt rest tt (behind_space Paren-solid (subst (λ m. Begins (IsSpace · Paren) m rest) same.1 parts.2))
+        none tt rest tt
+        (behind_space Paren-solid (subst (λ m. Begins (IsSpace · Paren) m rest) same.1 parts.2))
     | inr no_options ↦ options_apart found.0 no_options.1
   ]
   with_options middle mode found (Some x) paren = (
@@ -260,14 +343,18 @@ module _ (behind : List ℕ) where
     λ other rest b. elim (tail_apart b) [
       | inl options ↦
           let parts = Begins-split options in
-          let same = found.1 other parts.0 tt parts.1 in
-          (same.0, (paren.1 tt rest tt (behind_space Paren-solid (subst (λ m. Begins (IsSpace · Paren) m rest) same.1 parts.2))).1)
+          let same = found.1 other parts.0 tt parts.1 in (
+            same.0,
+            (paren.1 tt rest tt
+                (behind_space Paren-solid (subst (λ m. Begins (IsSpace · Paren) m rest) same.1 parts.2))).1,
+          )
       | inr no_options ↦ absurd (options_apart found.0 no_options.1)
     ],
   )
 
   pub without_options : Reads Anything IsOptions (skip_leading_whitespace behind) None
-      → (o : Option (List ℕ × Unit {0})) → Reads Anything (λ (_ : Unit {0}). Paren) (skip_leading_whitespace behind) o → OnlyEnd behind None o
+      → (o : Option (List ℕ × Unit {0})) → Reads Anything (λ (_ : Unit {0}). Paren)
+      (skip_leading_whitespace behind) o → OnlyEnd behind None o
   without_options no_options None none = λ other rest b. elim (tail_apart b) [
     | inl options ↦
         let parts = Begins-split options in
@@ -285,44 +372,59 @@ module _ (behind : List ℕ) where
   )
 
   -- the options that a parser gives, or none and all that is behind white space
-  pub arguments_end : (found : Option (Bor (List ℕ) × Mode)) (all : Bor (List ℕ)) (chosen : Bor (List ℕ) × Mode) → chars all.now ≡ skip_leading_whitespace behind
+  pub arguments_end : (found : Option (Bor (List ℕ) × Mode)) (all : Bor (List ℕ))
+      (chosen : Bor (List ℕ) × Mode) → chars all.now ≡ skip_leading_whitespace behind
       → Reads Anything IsOptions (chars all.now) (rest_and_mode found) → chosen ≡ unwrap_or found (all, None)
-      → (o : Option (List ℕ × Unit {0})) → Reads Anything (λ (_ : Unit {0}). Paren) (skip_leading_whitespace (chars chosen.0.now)) o → OnlyEnd behind chosen.1 o
+      → (o : Option (List ℕ × Unit {0})) → Reads Anything (λ (_ : Unit {0}). Paren)
+      (skip_leading_whitespace (chars chosen.0.now)) o → OnlyEnd behind chosen.1 o
   arguments_end None all chosen skipped reads is o paren =
-      let none : Reads Anything IsOptions (skip_leading_whitespace behind) None = subst (λ t. Reads Anything IsOptions t None) skipped reads in
+      let none : Reads Anything IsOptions (skip_leading_whitespace behind) None =
+      subst (λ t. Reads Anything IsOptions t None) skipped reads in
       let again : skip_leading_whitespace (chars chosen.0.now) ≡ skip_leading_whitespace behind =
-      ap (λ (c : Bor (List ℕ) × Mode). skip_leading_whitespace (chars c.0.now)) is ∙ ap skip_leading_whitespace skipped ∙ skip_twice in
+      ap (λ (c : Bor (List ℕ) × Mode). skip_leading_whitespace (chars c.0.now)) is
+      ∙ ap skip_leading_whitespace skipped ∙ skip_twice in
       subst (λ (m : Mode). OnlyEnd behind m o) (sym (ap (λ (c : Bor (List ℕ) × Mode). c.1) is))
       (without_options none o (subst (λ t. Reads Anything (λ (_ : Unit {0}). Paren) t o) again paren))
     where
       skip_twice : skip_leading_whitespace (skip_leading_whitespace behind) ≡ skip_leading_whitespace behind
-      skip_twice = sym (same_space (skip_leading_whitespace behind) [] (skip_leading_whitespace behind) tt (space_ends behind) refl)
+      skip_twice = sym (same_space (skip_leading_whitespace behind) [] (skip_leading_whitespace behind) tt
+          (space_ends behind) refl)
   arguments_end (Some x) all chosen skipped reads is o paren =
-      let found : Reads Anything IsOptions (skip_leading_whitespace behind) (Some (chars x.0.now, x.1)) = subst (λ t. Reads Anything IsOptions t (Some (chars x.0.now, x.1))) skipped reads in
+      let found : Reads Anything IsOptions (skip_leading_whitespace behind) (Some (chars x.0.now, x.1)) =
+      subst (λ t. Reads Anything IsOptions t (Some (chars x.0.now, x.1))) skipped reads in
       subst (λ (m : Mode). OnlyEnd behind m o) (sym (ap (λ (c : Bor (List ℕ) × Mode). c.1) is))
       (with_options (chars x.0.now) x.1 found o
-      (subst (λ (c : Bor (List ℕ) × Mode). Reads Anything (λ (_ : Unit {0}). Paren) (skip_leading_whitespace (chars c.0.now)) o) is paren))
+      (subst (λ (c : Bor (List ℕ) × Mode). Reads Anything (λ (_ : Unit {0}). Paren)
+      (skip_leading_whitespace (chars c.0.now)) o) is paren))
 
 -- what is before the specifier, from the parenthesis on
-pub open_none : (input : List ℕ) → Reads NoSpace (λ (_ : Unit {0}). Is (codes "(") · IsSpace) (skip_leading_whitespace input) None
+pub open_none : (input : List ℕ) → Reads NoSpace (λ (_ : Unit {0}). Is (codes "(") · IsSpace)
+    (skip_leading_whitespace input) None
     → Reads NoSpace (λ (_ : Unit {0}). IsSpace · Is (codes "(") · IsSpace) input None
-open_none input none = space_then NoSpace (λ (_ : Unit {0}). Is (codes "(") · IsSpace) (λ _ text is. IsSolid-word 40 [] refl text is) input None none
+open_none input none = space_then NoSpace (λ (_ : Unit {0}). Is (codes "(") · IsSpace)
+    (λ _ text is. IsSolid-word 40 [] refl text is) input None none
 
-pub open_read : (input rest : List ℕ) → Reads NoSpace (λ (_ : Unit {0}). Is (codes "(") · IsSpace) (skip_leading_whitespace input) (Some (rest, tt))
+pub open_read : (input rest : List ℕ) → Reads NoSpace (λ (_ : Unit {0}). Is (codes "(") · IsSpace)
+    (skip_leading_whitespace input) (Some (rest, tt))
     → Reads NoSpace (λ (_ : Unit {0}). IsSpace · Is (codes "(") · IsSpace) input (Some (rest, tt))
-open_read input rest found = space_then NoSpace (λ (_ : Unit {0}). Is (codes "(") · IsSpace) (λ _ text is. IsSolid-word 40 [] refl text is) input (Some (rest, tt)) found
+open_read input rest found = space_then NoSpace (λ (_ : Unit {0}). Is (codes "(") · IsSpace)
+    (λ _ text is. IsSolid-word 40 [] refl text is) input (Some (rest, tt)) found
 
 -- a brace and the text up to the first `import`
 abbrev pub First : Unit {0} → List ℕ → Type 0
 First _ = Is (codes "{") · IsUpTo (codes "import")
 
 module _ (input : List ℕ) where
-  pub first_unopened : Reads Anything (λ (_ : Unit {0}). Is (codes "{")) input None → Reads Anything First input None
-  first_unopened none = then_none Anything Anything (Is (codes "{")) (λ _. IsUpTo (codes "import")) (λ _ _ _ _ _. tt) input none
+  pub first_unopened : Reads Anything (λ (_ : Unit {0}). Is (codes "{")) input None
+      → Reads Anything First input None
+  first_unopened none = then_none Anything Anything (Is (codes "{")) (λ _. IsUpTo (codes "import"))
+      (λ _ _ _ _ _. tt) input none
 
-  pub first_read : (middle : List ℕ) (o : Option (List ℕ × Unit {0})) → Reads Anything (λ (_ : Unit {0}). Is (codes "{")) input (Some (middle, tt))
+  pub first_read : (middle : List ℕ) (o : Option (List ℕ × Unit {0}))
+      → Reads Anything (λ (_ : Unit {0}). Is (codes "{")) input (Some (middle, tt))
       → Reads Anything (λ (_ : Unit {0}). IsUpTo (codes "import")) middle o → Reads Anything First input o
-  first_read middle o opens found = then_some Anything Anything (Is (codes "{")) (λ _. IsUpTo (codes "import")) (λ _ _ _ _ _. tt) input middle o opens found
+  first_read middle o opens found = then_some Anything Anything (Is (codes "{"))
+      (λ _. IsUpTo (codes "import")) (λ _ _ _ _ _. tt) input middle o opens found
 
 -- a dynamic import: its first `import`, arguments and the text up to a closing brace
 abbrev Open : List ℕ → Type 0
@@ -332,7 +434,7 @@ abbrev Whole : List ℕ → Type 0
 Whole = Is (codes "{") · IsUpTo (codes "import") · IsSpace · Is (codes "(") · IsSpace
 
 abbrev pub Through : List ℕ → Type 0
-Through = Lacks 125 · Is (codes "}")
+Through = Lacks closing_brace · Is (codes "}")
 
 whole_apart : (text : List ℕ) → Whole text → (First tt · Open) text
 whole_apart = textwise (λ input rest b. regroup b)
@@ -340,31 +442,43 @@ whole_apart = textwise (λ input rest b. regroup b)
 whole_together : (text : List ℕ) → (First tt · Open) text → Whole text
 whole_together = textwise (λ input rest b. ungroup b)
 
-pub end_apart : (behind : List ℕ) (mode : Mode) (rest : List ℕ) → EndsDynamicImport behind mode rest → (middle : List ℕ) × EndsArguments behind mode middle × Begins Through middle rest
+pub end_apart : (behind : List ℕ) (mode : Mode) (rest : List ℕ) → EndsDynamicImport behind mode rest
+    → (middle : List ℕ) × EndsArguments behind mode middle × Begins Through middle rest
 end_apart behind mode rest b = Begins-split (regroup_4 b)
 
-end_together : (behind : List ℕ) (mode : Mode) (middle rest : List ℕ) → EndsArguments behind mode middle → Begins Through middle rest → EndsDynamicImport behind mode rest
+end_together : (behind : List ℕ) (mode : Mode) (middle rest : List ℕ) → EndsArguments behind mode middle
+    → Begins Through middle rest → EndsDynamicImport behind mode rest
 end_together behind mode middle rest arguments b = ungroup_4 (Begins-join arguments b)
 
-pub no_import : (input : List ℕ) → Reads Anything First input None → Parses IsDynamicImport input None
-no_import input none = no_first Anything (First tt) Open Whole EndsDynamicImport whole_apart whole_together (λ _ _ _ _. tt) input none
+pub no_import : (input : List ℕ) → Reads Anything First input None → ReadsImport IsDynamicImport input None
+no_import input none = no_first Anything (First tt) Open Whole EndsDynamicImport whole_apart whole_together
+    (λ _ _ _ _. tt) input none
 
-pub from_import : (input middle : List ℕ) (first : Reads Anything First input (Some (middle, tt))) (o : Option (List ℕ × Import)) → Parses IsDynamicEnd middle o
-    → Parses IsDynamicImport input (option_map (λ x. (x.0, moved (size first.0.piece) x.1)) o)
-from_import input middle first o found = behind_first Anything (First tt) Open Whole EndsDynamicImport whole_apart whole_together (λ _ _ _ _. tt) input middle first o found
+pub from_import : (input middle : List ℕ) (first : Reads Anything First input (Some (middle, tt)))
+    (o : Option (List ℕ × Import)) → ReadsImport IsDynamicEnd middle o
+    → ReadsImport IsDynamicImport input (option_map (λ x. (x.0, moved (byte_count first.0.piece) x.1)) o)
+from_import input middle first o found = behind_first Anything (First tt) Open Whole EndsDynamicImport
+    whole_apart whole_together (λ _ _ _ _. tt) input middle first o found
 
-pub no_arguments : (middle : List ℕ) → Parses HasArguments middle None → Parses IsDynamicEnd middle None
-no_arguments middle none = no_tail_at_all Open EndsArguments EndsDynamicImport Through end_apart end_together middle none
+pub no_arguments : (middle : List ℕ) → ReadsImport HasArguments middle None
+    → ReadsImport IsDynamicEnd middle None
+no_arguments middle none =
+    no_tail_at_all Open EndsArguments EndsDynamicImport Through end_apart end_together middle none
 
-pub behind_arguments : (middle behind : List ℕ) (import : Import) (o : Option (List ℕ × Unit {0})) → Parses HasArguments middle (Some (behind, import))
-    → Reads Anything (λ (_ : Unit {0}). Through) behind o → Parses IsDynamicEnd middle (option_map (λ (x : List ℕ × Unit {0}). (x.0, import)) o)
-behind_arguments middle behind import o found more = longer Open EndsArguments EndsDynamicImport Through end_apart end_together middle behind import o found more
+pub behind_arguments : (middle behind : List ℕ) (import : Import) (o : Option (List ℕ × Unit {0}))
+    → ReadsImport HasArguments middle (Some (behind, import))
+    → Reads Anything (λ (_ : Unit {0}). Through) behind o
+    → ReadsImport IsDynamicEnd middle (option_map (λ (x : List ℕ × Unit {0}). (x.0, import)) o)
+behind_arguments middle behind import o found more = longer Open EndsArguments EndsDynamicImport Through
+    end_apart end_together middle behind import o found more
 
 -- where the arguments of a dynamic import end, its text goes on to the end of the text
-pub HasArguments-back : (middle : List ℕ) (import : Import) (behind : List ℕ) → HasArguments middle import behind → (front : List ℕ) × (middle ≡ front ++ behind)
+pub HasArguments-back : (middle : List ℕ) (import : Import) (behind : List ℕ)
+    → HasArguments middle import behind → (front : List ℕ) × (middle ≡ front ++ behind)
 HasArguments-back middle import behind s =
     let tail = s.tail in (
       s.before ++ (s.quote ++ tail.piece),
-      s.whole ∙ ap (λ t. s.before ++ (s.quote ++ t)) tail.whole ∙ ap (λ t. s.before ++ t) (sym (append_assoc s.quote tail.piece behind))
+      s.whole ∙ ap (λ t. s.before ++ (s.quote ++ t)) tail.whole
+          ∙ ap (λ t. s.before ++ t) (sym (append_assoc s.quote tail.piece behind))
           ∙ sym (append_assoc s.before (s.quote ++ tail.piece) behind),
     )

@@ -1,28 +1,44 @@
 -- What the parsers of attributes answer.
-use Rattle.std.proofs.Common.{◌≡◌, ℕ, inl, inr, true, false, Option, Some, None, List, [], ◌∷◌, ◌++◌, refl, sym, ap, ◌∙◌, subst, codes, option_map, arith}
+use Rattle.std.proofs.Common.{◌≡◌, ℕ, inl, inr, true, false, Option, Some, None, List, [], ◌∷◌, ◌++◌, refl}
+use Rattle.std.proofs.Common.{sym, ap, ◌∙◌, subst, codes, option_map, arith}
 use Rattle.std.proofs.lemmas.Bool.{both_ways, or_left}
 use Rattle.std.specs.Char.{is_whitespace}
 use Rattle.std.specs.Char.Unicode.Alphabetic.{is_alphabetic}
 use Rattle.std.specs.Str.{skip_leading_whitespace}
+use Rattle.deno_graph_jsdoc.specs.Characters.{double_quote, apostrophe, closing_brace}
 use Rattle.deno_graph_jsdoc.specs.JsDocGrammar.{◌·◌, Is, IsSpace, IsQuote, IsIdent, IsKey, IsAttribute}
-use Rattle.deno_graph_jsdoc.specs.JsDocReading.{Begins, Anything, NoSpace, EndOfIdent, Reads}
-use Rattle.deno_graph_jsdoc.proofs.Alphabetic.{double_quote, single_quote, closing_brace}
-use Rattle.deno_graph_jsdoc.proofs.Readings.{Begins-split, IsSolid, IsSolid-word, both_none, both_then, space_then, lexeme_none, lexeme_then}
+use Rattle.deno_graph_jsdoc.specs.JsDocGrammar.{Begins, Anything, NoSpace}
+use Rattle.deno_graph_jsdoc.specs.JsDocReading.{EndOfIdent, Reads}
+use Rattle.deno_graph_jsdoc.proofs.Alphabetic.{double_quote_no_letter, apostrophe_no_letter}
+use Rattle.deno_graph_jsdoc.proofs.Alphabetic.{closing_brace_no_letter}
+use Rattle.deno_graph_jsdoc.proofs.Readings.{Begins-split, IsSolid, IsSolid-word, both_none, both_then}
+use Rattle.deno_graph_jsdoc.proofs.Readings.{space_then, lexeme_none, lexeme_then}
 
 -- what a quote and an identifier begin with
-begins_quoted : (inside text rest : List ℕ) → IsQuote inside text → (c : ℕ) × (cs : List ℕ) × (text ++ rest ≡ c ∷ cs) × (is_alphabetic c ≡ false) × (is_whitespace c ≡ false)
-begins_quoted inside text rest (inl (_, is)) = (34, (inside ++ 34 ∷ []) ++ rest, ap (λ t. t ++ rest) is, double_quote, refl)
-begins_quoted inside text rest (inr (_, is)) = (39, (inside ++ 39 ∷ []) ++ rest, ap (λ t. t ++ rest) is, single_quote, refl)
+begins_quoted : (inside text rest : List ℕ) → IsQuote inside text → (c : ℕ) × (cs : List ℕ)
+    × (text ++ rest ≡ c ∷ cs) × (is_alphabetic c ≡ false) × (is_whitespace c ≡ false)
+begins_quoted inside text rest (inl (_, is)) = (
+  double_quote,
+  (inside ++ double_quote ∷ []) ++ rest,
+  ap (λ t. t ++ rest) is,
+  double_quote_no_letter,
+  refl,
+)
+begins_quoted inside text rest (inr (_, is)) =
+    (apostrophe, (inside ++ apostrophe ∷ []) ++ rest, ap (λ t. t ++ rest) is, apostrophe_no_letter, refl)
 
-pub begins_alphabetic : (text rest : List ℕ) → IsIdent text → (c : ℕ) × (cs : List ℕ) × (text ++ rest ≡ c ∷ cs) × (is_alphabetic c ≡ true)
+pub begins_alphabetic : (text rest : List ℕ) → IsIdent text → (c : ℕ) × (cs : List ℕ)
+    × (text ++ rest ≡ c ∷ cs) × (is_alphabetic c ≡ true)
 begins_alphabetic [] rest is = absurd is
 begins_alphabetic (c ∷ cs) rest is = (c, cs ++ rest, refl, is.0)
 
-pub apart : (inside : List ℕ) {input rest behind : List ℕ} → Begins (IsQuote inside) input rest → Begins IsIdent input behind → ⊥
+pub apart : (inside : List ℕ) {input rest behind : List ℕ} → Begins (IsQuote inside) input rest
+    → Begins IsIdent input behind → ⊥
 apart inside {input} {rest} {behind} quoted named =
     let quote = begins_quoted inside quoted.piece rest quoted.is in
     let ident = begins_alphabetic named.piece behind named.is in
-    let same : quote.0 ∷ quote.1 ≡ ident.0 ∷ ident.1 = sym quote.2 ∙ sym quoted.whole ∙ named.whole ∙ ident.2 in
+    let same : quote.0 ∷ quote.1 ≡ ident.0 ∷ ident.1 =
+    sym quote.2 ∙ sym quoted.whole ∙ named.whole ∙ ident.2 in
     let first : quote.0 ≡ ident.0 = cc in
     both_ways (is_alphabetic quote.0) quote.3 (subst (λ c. is_alphabetic c ≡ true) (sym first) ident.3)
 
@@ -31,23 +47,27 @@ IsSolid-quote inside text (inl (_, is)) = subst IsSolid (sym is) refl
 IsSolid-quote inside text (inr (_, is)) = subst IsSolid (sym is) refl
 
 -- no key begins with a closing brace
-pub key_no_brace : (key text rest cs : List ℕ) → IsKey key text → text ++ rest ≡ 125 ∷ cs → ⊥
+pub key_no_brace : (key text rest cs : List ℕ) → IsKey key text → text ++ rest ≡ closing_brace ∷ cs → ⊥
 key_no_brace key text rest cs (inl (inl (_, is))) whole =
-    let same : 34 ∷ ((key ++ 34 ∷ []) ++ rest) ≡ 125 ∷ cs = sym (ap (λ t. t ++ rest) is) ∙ whole in
+    let same : double_quote ∷ ((key ++ double_quote ∷ []) ++ rest) ≡ closing_brace ∷ cs =
+    sym (ap (λ t. t ++ rest) is) ∙ whole in
     let heads : ◌≡◌ {A = ℕ} 34 125 = cc in
     omega (arith, heads)
 key_no_brace key text rest cs (inl (inr (_, is))) whole =
-    let same : 39 ∷ ((key ++ 39 ∷ []) ++ rest) ≡ 125 ∷ cs = sym (ap (λ t. t ++ rest) is) ∙ whole in
+    let same : apostrophe ∷ ((key ++ apostrophe ∷ []) ++ rest) ≡ closing_brace ∷ cs =
+    sym (ap (λ t. t ++ rest) is) ∙ whole in
     let heads : ◌≡◌ {A = ℕ} 39 125 = cc in
     omega (arith, heads)
 key_no_brace key text rest cs (inr (is, _)) whole =
     let ident = begins_alphabetic text rest is in
-    let same : ident.0 ∷ ident.1 ≡ 125 ∷ cs = sym ident.2 ∙ whole in
+    let same : ident.0 ∷ ident.1 ≡ closing_brace ∷ cs = sym ident.2 ∙ whole in
     let heads : ident.0 ≡ 125 = cc in
-    both_ways (is_alphabetic 125) closing_brace (subst (λ c. is_alphabetic c ≡ true) heads ident.3)
+    both_ways (is_alphabetic closing_brace) closing_brace_no_letter
+    (subst (λ c. is_alphabetic c ≡ true) heads ident.3)
 
 -- a key
-pub key_quoted : (input rest inside : List ℕ) → Reads Anything IsQuote input (Some (rest, inside)) → Reads EndOfIdent IsKey input (Some (rest, inside))
+pub key_quoted : (input rest inside : List ℕ) → Reads Anything IsQuote input (Some (rest, inside))
+    → Reads EndOfIdent IsKey input (Some (rest, inside))
 key_quoted input rest inside found = (
   record { piece = found.0.piece; whole = found.0.whole; is = inl found.0.is },
   λ other behind end b. elim b.is [
@@ -71,15 +91,18 @@ key_named input (Some x) no_quote found = (
 )
 
 -- white space and a colon end an identifier
-pub EndOfIdent-colon : {Q : List ℕ → Type 0} (input rest : List ℕ) → Begins (IsSpace · Is (codes ":") · Q) input rest → EndOfIdent input
+pub EndOfIdent-colon : {Q : List ℕ → Type 0} (input rest : List ℕ)
+    → Begins (IsSpace · Is (codes ":") · Q) input rest → EndOfIdent input
 EndOfIdent-colon {Q} input rest b =
     let parts = Begins-split b in
     by_space parts.1.piece parts.0 parts.1.is parts.1.whole (Begins-split parts.2).1
   where
-    by_space : (space middle : List ℕ) → IsSpace space → input ≡ space ++ middle → {behind : List ℕ} → Begins (Is (codes ":")) middle behind → EndOfIdent input
+    by_space : (space middle : List ℕ) → IsSpace space → input ≡ space ++ middle → {behind : List ℕ}
+        → Begins (Is (codes ":")) middle behind → EndOfIdent input
     by_space [] middle white whole {behind} colon =
         subst EndOfIdent (sym (whole ∙ colon.whole ∙ ap (λ t. t ++ behind) colon.is)) refl
-    by_space (c ∷ cs) middle white whole colon = subst EndOfIdent (sym whole) (or_left (is_whitespace c) _ white.0)
+    by_space (c ∷ cs) middle white whole colon =
+        subst EndOfIdent (sym whole) (or_left (is_whitespace c) _ white.0)
 
 -- an attribute: a key, a colon and a value
 abbrev pub ColonAndValue : List ℕ → List ℕ → Type 0
@@ -88,21 +111,30 @@ ColonAndValue value = Is (codes ":") · IsSpace · IsQuote value
 ColonAndValue-solid : (value text : List ℕ) → ColonAndValue value text → IsSolid text
 ColonAndValue-solid value text = IsSolid-word 58 [] refl text
 
-pub attribute_no_key : (input : List ℕ) → Reads EndOfIdent IsKey input None → Reads Anything IsAttribute input None
+pub attribute_no_key : (input : List ℕ) → Reads EndOfIdent IsKey input None
+    → Reads Anything IsAttribute input None
 attribute_no_key input none =
-    both_none EndOfIdent Anything IsKey (λ value. IsSpace · ColonAndValue value) (λ value middle rest _ b. EndOfIdent-colon middle rest b) input none
+    both_none EndOfIdent Anything IsKey (λ value. IsSpace · ColonAndValue value)
+    (λ value middle rest _ b. EndOfIdent-colon middle rest b) input none
 
 module _ (input middle key : List ℕ) (found : Reads EndOfIdent IsKey input (Some (middle, key))) where
-  with_value : (o : Option (List ℕ × List ℕ)) → Reads Anything ColonAndValue (skip_leading_whitespace middle) o
-      → Reads Anything IsAttribute input (option_map (λ x. (x.0, (key, x.1))) o)
+  with_value : (o : Option (List ℕ × List ℕ))
+      → Reads Anything ColonAndValue (skip_leading_whitespace middle) o
+      → Reads Anything IsAttribute input (option_map (λ x. (x.0, record { key = key; value = x.1 })) o)
   with_value o value =
-      both_then EndOfIdent Anything IsKey (λ value. IsSpace · ColonAndValue value) (λ value middle rest _ b. EndOfIdent-colon middle rest b)
+      both_then EndOfIdent Anything IsKey (λ value. IsSpace · ColonAndValue value)
+      (λ value middle rest _ b. EndOfIdent-colon middle rest b)
       input middle key o found (space_then Anything ColonAndValue ColonAndValue-solid middle o value)
 
-  pub attribute_no_colon : Reads NoSpace (λ (_ : Unit {0}). Is (codes ":") · IsSpace) (skip_leading_whitespace middle) None → Reads Anything IsAttribute input None
-  attribute_no_colon none = with_value None (lexeme_none Anything IsQuote IsSolid-quote (Is (codes ":")) (skip_leading_whitespace middle) none)
+  pub attribute_no_colon : Reads NoSpace (λ (_ : Unit {0}). Is (codes ":") · IsSpace)
+      (skip_leading_whitespace middle) None → Reads Anything IsAttribute input None
+  attribute_no_colon none = with_value None
+      (lexeme_none Anything IsQuote IsSolid-quote (Is (codes ":")) (skip_leading_whitespace middle) none)
 
-  pub attribute_read : (behind : List ℕ) → Reads NoSpace (λ (_ : Unit {0}). Is (codes ":") · IsSpace) (skip_leading_whitespace middle) (Some (behind, tt))
-      → (o : Option (List ℕ × List ℕ)) → Reads Anything IsQuote behind o → Reads Anything IsAttribute input (option_map (λ x. (x.0, (key, x.1))) o)
+  pub attribute_read : (behind : List ℕ) → Reads NoSpace (λ (_ : Unit {0}). Is (codes ":") · IsSpace)
+      (skip_leading_whitespace middle) (Some (behind, tt))
+      → (o : Option (List ℕ × List ℕ)) → Reads Anything IsQuote behind o
+      → Reads Anything IsAttribute input (option_map (λ x. (x.0, record { key = key; value = x.1 })) o)
   attribute_read behind colon o value =
-      with_value o (lexeme_then Anything IsQuote IsSolid-quote (Is (codes ":")) (skip_leading_whitespace middle) behind o colon value)
+      with_value o (lexeme_then Anything IsQuote IsSolid-quote (Is (codes ":"))
+      (skip_leading_whitespace middle) behind o colon value)

@@ -1,24 +1,33 @@
 -- What the parsers of a declaration's clause answer.
-use Rattle.std.proofs.Common.{◌≡◌, ℕ, ◌<◌, ◌⊎◌, inl, inr, true, false, Option, Some, None, List, [], ◌∷◌, ◌++◌, length, refl, sym, ap, ◌∙◌, subst, codes, option_map, append_assoc, length-append, arith}
+use Rattle.std.proofs.Common.{◌≡◌, ℕ, ◌<◌, ◌⊎◌, inl, inr, true, false, Option, Some, None, List, [], ◌∷◌}
+use Rattle.std.proofs.Common.{◌++◌, length, refl, sym, ap, ◌∙◌, subst, codes, option_map, append_assoc}
+use Rattle.std.proofs.Common.{length-append, arith}
 use Rattle.std.proofs.lemmas.Bool.{both_ways, or_left}
 use Rattle.std.specs.Char.{is_whitespace}
 use Rattle.std.specs.Char.Unicode.Alphabetic.{is_alphabetic}
 use Rattle.std.specs.Str.{skip_leading_whitespace}
-use Rattle.deno_graph_jsdoc.specs.JsDocGrammar.{◌·◌, Is, IsSpace, IsGap, IsIdent, Lacks, IsNames, IsNamespace, IsName, IsClause}
-use Rattle.deno_graph_jsdoc.specs.JsDocReading.{Begins, Anything, NoSpace, EndOfIdent, Reads}
-use Rattle.deno_graph_jsdoc.proofs.Alphabetic.{opening_brace, star}
+use Rattle.deno_graph_jsdoc.specs.Characters.{opening_brace, closing_brace}
+use Rattle.deno_graph_jsdoc.specs.JsDocGrammar.{◌·◌, Is, IsSpace, IsGap, IsIdent, Lacks, IsNames, IsNamespace}
+use Rattle.deno_graph_jsdoc.specs.JsDocGrammar.{IsName, IsClause, Begins, Anything, NoSpace}
+use Rattle.deno_graph_jsdoc.specs.JsDocReading.{EndOfIdent, Reads}
+use Rattle.deno_graph_jsdoc.proofs.Alphabetic.{opening_brace_no_letter, star_no_letter}
 use Rattle.deno_graph_jsdoc.proofs.Attributes.{begins_alphabetic}
 use Rattle.deno_graph_jsdoc.proofs.Blocks.{IsSolid-ident, IsSolid-front}
-use Rattle.deno_graph_jsdoc.proofs.Readings.{Begins-split, Begins-join, Begins-as, IsSolid, IsSolid-word, NoSpace-before, spaced, spaced_none, then_none, then_some, lexeme_none, lexeme_then, same_first}
+use Rattle.deno_graph_jsdoc.proofs.Readings.{Begins-split, Begins-join, Begins-as, IsSolid, IsSolid-word}
+use Rattle.deno_graph_jsdoc.proofs.Readings.{NoSpace-before, spaced, spaced_none, then_none, then_some}
+use Rattle.deno_graph_jsdoc.proofs.Readings.{lexeme_none, lexeme_then, same_first}
 use Rattle.deno_graph_jsdoc.proofs.Runs.{IsSpace-append}
 
 -- an identifier, without its name
-ident_alone : (input : List ℕ) (o : Option (List ℕ × List ℕ)) → Reads EndOfIdent (λ name text. IsIdent text × (name ≡ text)) input o
+ident_alone : (input : List ℕ) (o : Option (List ℕ × List ℕ))
+    → Reads EndOfIdent (λ name text. IsIdent text × (name ≡ text)) input o
     → Reads EndOfIdent (λ (_ : Unit {0}). IsIdent) input (option_map (λ x. (x.0, tt)) o)
-ident_alone input None none = λ _ rest end b. none b.piece rest end (record { piece = b.piece; whole = b.whole; is = (b.is, refl) })
+ident_alone input None none =
+    λ _ rest end b. none b.piece rest end (record { piece = b.piece; whole = b.whole; is = (b.is, refl) })
 ident_alone input (Some x) found = (
   Begins-as (λ text is. is.0) found.0,
-  λ _ behind end b. (refl, (found.1 b.piece behind end (record { piece = b.piece; whole = b.whole; is = (b.is, refl) })).1),
+  λ _ behind end b.
+      (refl, (found.1 b.piece behind end (record { piece = b.piece; whole = b.whole; is = (b.is, refl) })).1),
 )
 
 -- white space ends an identifier
@@ -33,13 +42,17 @@ pub IsSolid-name : (text : List ℕ) → IsName text → IsSolid text
 IsSolid-name text is = IsSolid-front IsSolid-ident text is
 
 -- a name: an identifier and white space
-pub name_none : (input : List ℕ) → Reads EndOfIdent (λ name text. IsIdent text × (name ≡ text)) input None → Reads NoSpace (λ (_ : Unit {0}). IsName) input None
-name_none input none = then_none EndOfIdent NoSpace IsIdent (λ _. IsGap) (λ _ middle rest _ b. EndOfIdent-gap middle rest b) input (ident_alone input None none)
+pub name_none : (input : List ℕ) → Reads EndOfIdent (λ name text. IsIdent text × (name ≡ text)) input None
+    → Reads NoSpace (λ (_ : Unit {0}). IsName) input None
+name_none input none = then_none EndOfIdent NoSpace IsIdent (λ _. IsGap)
+    (λ _ middle rest _ b. EndOfIdent-gap middle rest b) input (ident_alone input None none)
 
-pub name_read : (input middle name : List ℕ) (o : Option (List ℕ × Unit {0})) → Reads EndOfIdent (λ name text. IsIdent text × (name ≡ text)) input (Some (middle, name))
+pub name_read : (input middle name : List ℕ) (o : Option (List ℕ × Unit {0}))
+    → Reads EndOfIdent (λ name text. IsIdent text × (name ≡ text)) input (Some (middle, name))
     → Reads NoSpace (λ (_ : Unit {0}). IsGap) middle o → Reads NoSpace (λ (_ : Unit {0}). IsName) input o
 name_read input middle name o found gap =
-    then_some EndOfIdent NoSpace IsIdent (λ _. IsGap) (λ _ middle rest _ b. EndOfIdent-gap middle rest b) input middle o (ident_alone input (Some (middle, name)) found) gap
+    then_some EndOfIdent NoSpace IsIdent (λ _. IsGap) (λ _ middle rest _ b. EndOfIdent-gap middle rest b)
+    input middle o (ident_alone input (Some (middle, name)) found) gap
 
 -- all under one name
 abbrev AsName : Unit {0} → List ℕ → Type 0
@@ -48,53 +61,78 @@ AsName _ = Is (codes "as") · IsGap · IsName
 AsName-solid : (w : Unit {0}) (text : List ℕ) → AsName w text → IsSolid text
 AsName-solid _ text is = IsSolid-word 97 (codes "s") refl text is
 
-pub gap_before_name : (_ : Unit {0}) (middle rest : List ℕ) → NoSpace rest → Begins IsName middle rest → NoSpace middle
+pub gap_before_name : (_ : Unit {0}) (middle rest : List ℕ) → NoSpace rest
+    → Begins IsName middle rest → NoSpace middle
 gap_before_name _ middle rest _ b = NoSpace-before IsSolid-name b
 
 module _ (input : List ℕ) where
-  pub namespace_no_star : Reads NoSpace (λ (_ : Unit {0}). Is (codes "*") · IsSpace) input None → Reads NoSpace (λ (_ : Unit {0}). IsNamespace) input None
+  pub namespace_no_star : Reads NoSpace (λ (_ : Unit {0}). Is (codes "*") · IsSpace) input None
+      → Reads NoSpace (λ (_ : Unit {0}). IsNamespace) input None
   namespace_no_star none = lexeme_none NoSpace AsName AsName-solid (Is (codes "*")) input none
 
-  module _ (behind : List ℕ) (star : Reads NoSpace (λ (_ : Unit {0}). Is (codes "*") · IsSpace) input (Some (behind, tt))) where
-    from_star : (o : Option (List ℕ × Unit {0})) → Reads NoSpace AsName behind o → Reads NoSpace (λ (_ : Unit {0}). IsNamespace) input o
+  module _ (behind : List ℕ)
+      (star : Reads NoSpace (λ (_ : Unit {0}). Is (codes "*") · IsSpace) input (Some (behind, tt))) where
+    from_star : (o : Option (List ℕ × Unit {0})) → Reads NoSpace AsName behind o
+        → Reads NoSpace (λ (_ : Unit {0}). IsNamespace) input o
     from_star o found = lexeme_then NoSpace AsName AsName-solid (Is (codes "*")) input behind o star found
 
-    pub namespace_no_as : Reads Anything (λ (_ : Unit {0}). Is (codes "as")) behind None → Reads NoSpace (λ (_ : Unit {0}). IsNamespace) input None
-    namespace_no_as none = from_star None (then_none Anything NoSpace (Is (codes "as")) (λ _. IsGap · IsName) (λ _ _ _ _ _. tt) behind none)
+    pub namespace_no_as : Reads Anything (λ (_ : Unit {0}). Is (codes "as")) behind None
+        → Reads NoSpace (λ (_ : Unit {0}). IsNamespace) input None
+    namespace_no_as none = from_star None
+        (then_none Anything NoSpace (Is (codes "as")) (λ _. IsGap · IsName) (λ _ _ _ _ _. tt) behind none)
 
-    module _ (next : List ℕ) (as_word : Reads Anything (λ (_ : Unit {0}). Is (codes "as")) behind (Some (next, tt))) where
-      from_as : (o : Option (List ℕ × Unit {0})) → Reads NoSpace (λ (_ : Unit {0}). IsGap · IsName) next o → Reads NoSpace (λ (_ : Unit {0}). IsNamespace) input o
-      from_as o found = from_star o (then_some Anything NoSpace (Is (codes "as")) (λ _. IsGap · IsName) (λ _ _ _ _ _. tt) behind next o as_word found)
+    module _ (next : List ℕ)
+        (as_word : Reads Anything (λ (_ : Unit {0}). Is (codes "as")) behind (Some (next, tt))) where
+      from_as : (o : Option (List ℕ × Unit {0})) → Reads NoSpace (λ (_ : Unit {0}). IsGap · IsName) next o
+          → Reads NoSpace (λ (_ : Unit {0}). IsNamespace) input o
+      from_as o found = from_star o (then_some Anything NoSpace (Is (codes "as")) (λ _. IsGap · IsName)
+          (λ _ _ _ _ _. tt) behind next o as_word found)
 
-      pub namespace_no_gap : Reads NoSpace (λ (_ : Unit {0}). IsGap) next None → Reads NoSpace (λ (_ : Unit {0}). IsNamespace) input None
-      namespace_no_gap none = from_as None (then_none NoSpace NoSpace IsGap (λ _. IsName) gap_before_name next none)
+      pub namespace_no_gap : Reads NoSpace (λ (_ : Unit {0}). IsGap) next None
+          → Reads NoSpace (λ (_ : Unit {0}). IsNamespace) input None
+      namespace_no_gap none =
+          from_as None (then_none NoSpace NoSpace IsGap (λ _. IsName) gap_before_name next none)
 
-      pub namespace_read : (last : List ℕ) (o : Option (List ℕ × Unit {0})) → Reads NoSpace (λ (_ : Unit {0}). IsGap) next (Some (last, tt))
-          → Reads NoSpace (λ (_ : Unit {0}). IsName) last o → Reads NoSpace (λ (_ : Unit {0}). IsNamespace) input o
-      namespace_read last o gap found = from_as o (then_some NoSpace NoSpace IsGap (λ _. IsName) gap_before_name next last o gap found)
+      pub namespace_read : (last : List ℕ) (o : Option (List ℕ × Unit {0}))
+          → Reads NoSpace (λ (_ : Unit {0}). IsGap) next (Some (last, tt))
+          → Reads NoSpace (λ (_ : Unit {0}). IsName) last o
+          → Reads NoSpace (λ (_ : Unit {0}). IsNamespace) input o
+      namespace_read last o gap found =
+          from_as o (then_some NoSpace NoSpace IsGap (λ _. IsName) gap_before_name next last o gap found)
 
 -- names in braces
 module _ (input : List ℕ) where
-  pub names_unopened : Reads Anything (λ (_ : Unit {0}). Is (codes "{")) input None → Reads NoSpace (λ (_ : Unit {0}). IsNames · IsSpace) input None
-  names_unopened none = spaced_none (λ (_ : Unit {0}). IsNames) input (then_none Anything Anything (Is (codes "{")) (λ _. Lacks 125 · Is (codes "}")) (λ _ _ _ _ _. tt) input none)
+  pub names_unopened : Reads Anything (λ (_ : Unit {0}). Is (codes "{")) input None
+      → Reads NoSpace (λ (_ : Unit {0}). IsNames · IsSpace) input None
+  names_unopened none = spaced_none (λ (_ : Unit {0}). IsNames) input (then_none Anything Anything
+      (Is (codes "{")) (λ _. Lacks closing_brace · Is (codes "}")) (λ _ _ _ _ _. tt) input none)
 
-  module _ (middle : List ℕ) (opens : Reads Anything (λ (_ : Unit {0}). Is (codes "{")) input (Some (middle, tt))) where
-    from_brace : (o : Option (List ℕ × Unit {0})) → Reads Anything (λ (_ : Unit {0}). Lacks 125 · Is (codes "}")) middle o → Reads Anything (λ (_ : Unit {0}). IsNames) input o
-    from_brace o found = then_some Anything Anything (Is (codes "{")) (λ _. Lacks 125 · Is (codes "}")) (λ _ _ _ _ _. tt) input middle o opens found
+  module _ (middle : List ℕ)
+      (opens : Reads Anything (λ (_ : Unit {0}). Is (codes "{")) input (Some (middle, tt))) where
+    from_brace : (o : Option (List ℕ × Unit {0}))
+        → Reads Anything (λ (_ : Unit {0}). Lacks closing_brace · Is (codes "}")) middle o
+        → Reads Anything (λ (_ : Unit {0}). IsNames) input o
+    from_brace o found = then_some Anything Anything (Is (codes "{"))
+        (λ _. Lacks closing_brace · Is (codes "}")) (λ _ _ _ _ _. tt) input middle o opens found
 
-    pub names_unclosed : Reads Anything (λ (_ : Unit {0}). Lacks 125 · Is (codes "}")) middle None → Reads NoSpace (λ (_ : Unit {0}). IsNames · IsSpace) input None
+    pub names_unclosed : Reads Anything (λ (_ : Unit {0}). Lacks closing_brace · Is (codes "}")) middle None
+        → Reads NoSpace (λ (_ : Unit {0}). IsNames · IsSpace) input None
     names_unclosed none = spaced_none (λ (_ : Unit {0}). IsNames) input (from_brace None none)
 
-    pub names_read : (behind : List ℕ) → Reads Anything (λ (_ : Unit {0}). Lacks 125 · Is (codes "}")) middle (Some (behind, tt))
-        → Reads NoSpace (λ (_ : Unit {0}). IsNames · IsSpace) input (Some (skip_leading_whitespace behind, tt))
-    names_read behind found = spaced (λ (_ : Unit {0}). IsNames) input behind tt (from_brace (Some (behind, tt)) found)
+    pub names_read : (behind : List ℕ)
+        → Reads Anything (λ (_ : Unit {0}). Lacks closing_brace · Is (codes "}")) middle (Some (behind, tt))
+        → Reads NoSpace (λ (_ : Unit {0}). IsNames · IsSpace) input
+        (Some (skip_leading_whitespace behind, tt))
+    names_read behind found =
+        spaced (λ (_ : Unit {0}). IsNames) input behind tt (from_brace (Some (behind, tt)) found)
 
 -- white space behind what ends in white space
 abbrev TakesSpace : (List ℕ → Type 0) → Type 0
 TakesSpace P = (text space : List ℕ) → P text → IsSpace space → P (text ++ space)
 
 TakesSpace-gap : TakesSpace IsGap
-TakesSpace-gap text space is white = (IsSpace-append text space is.0 white, (let some = is.1 in omega (arith, length-append text space)))
+TakesSpace-gap text space is white =
+    (IsSpace-append text space is.0 white, (let some = is.1 in omega (arith, length-append text space)))
 
 TakesSpace-behind : {P Q : List ℕ → Type 0} → TakesSpace Q → TakesSpace (P · Q)
 TakesSpace-behind takes text space is white = record {
@@ -105,18 +143,22 @@ TakesSpace-behind takes text space is white = record {
   is_back = takes is.back space is.is_back white;
 }
 
-with_space : {P : List ℕ → Type 0} {input rest : List ℕ} → TakesSpace P → Begins (P · IsSpace) input rest → Begins P input rest
-with_space {P} takes b = Begins-as (λ text is. subst P (sym is.whole) (takes is.front is.back is.is_front is.is_back)) b
+with_space : {P : List ℕ → Type 0} {input rest : List ℕ} → TakesSpace P
+    → Begins (P · IsSpace) input rest → Begins P input rest
+with_space {P} takes b =
+    Begins-as (λ text is. subst P (sym is.whole) (takes is.front is.back is.is_front is.is_back)) b
 
 no_space : {P : List ℕ → Type 0} {input rest : List ℕ} → Begins P input rest → Begins (P · IsSpace) input rest
 no_space {P} {input} {rest} b = Begins-join b (record { piece = []; whole = refl; is = tt })
 
 -- what the three forms begin with
-first_of_name : {input rest behind : List ℕ} (c : ℕ) {cs : List ℕ} → is_alphabetic c ≡ false → Begins IsName input rest → Begins (Is (c ∷ cs)) input behind → ⊥
+first_of_name : {input rest behind : List ℕ} (c : ℕ) {cs : List ℕ} → is_alphabetic c ≡ false
+    → Begins IsName input rest → Begins (Is (c ∷ cs)) input behind → ⊥
 first_of_name {input} {rest} {behind} c {cs} not b word =
     let first = (Begins-split b).1 in
     let ident = begins_alphabetic first.piece (Begins-split b).0 first.is in
-    let same : ident.0 ∷ ident.1 ≡ c ∷ (cs ++ behind) = sym ident.2 ∙ sym first.whole ∙ word.whole ∙ ap (λ t. t ++ behind) word.is in
+    let same : ident.0 ∷ ident.1 ≡ c ∷ (cs ++ behind) =
+    sym ident.2 ∙ sym first.whole ∙ word.whole ∙ ap (λ t. t ++ behind) word.is in
     let heads : ident.0 ≡ c = cc in
     both_ways (is_alphabetic c) not (subst (λ d. is_alphabetic d ≡ true) heads ident.3)
 
@@ -130,28 +172,38 @@ clause_apart b =
     let parts = Begins-split b in
     by_form parts.1.is parts.1.whole parts.2
   where
-    by_form : {input middle rest piece : List ℕ} → IsClause piece → input ≡ piece ++ middle → Begins IsSpace middle rest
+    by_form : {input middle rest piece : List ℕ} → IsClause piece → input ≡ piece ++ middle
+        → Begins IsSpace middle rest
         → Begins (IsNames · IsSpace) input rest ⊎ (Begins IsNamespace input rest ⊎ Begins IsName input rest)
-    by_form {piece = piece} (inl is) whole space = inl (Begins-join (record { piece = piece; whole = whole; is = is }) space)
+    by_form {piece = piece} (inl is) whole space =
+        inl (Begins-join (record { piece = piece; whole = whole; is = is }) space)
     by_form {piece = piece} (inr (inl is)) whole space =
-        inr (inl (with_space (TakesSpace-behind (TakesSpace-behind (TakesSpace-behind (TakesSpace-behind (TakesSpace-behind TakesSpace-gap)))))
+        inr (inl (with_space (TakesSpace-behind
+        (TakesSpace-behind (TakesSpace-behind (TakesSpace-behind (TakesSpace-behind TakesSpace-gap)))))
         (Begins-join (record { piece = piece; whole = whole; is = is }) space)))
     by_form {piece = piece} (inr (inr is)) whole space =
-        inr (inr (with_space (TakesSpace-behind TakesSpace-gap) (Begins-join (record { piece = piece; whole = whole; is = is }) space)))
+        inr (inr (with_space (TakesSpace-behind TakesSpace-gap)
+        (Begins-join (record { piece = piece; whole = whole; is = is }) space)))
 
 -- a text doesn't begin with two of them
-pub names_or_namespace : {input rest behind : List ℕ} → Begins (IsNames · IsSpace) input rest → Begins IsNamespace input behind → ⊥
+pub names_or_namespace : {input rest behind : List ℕ} → Begins (IsNames · IsSpace) input rest
+    → Begins IsNamespace input behind → ⊥
 names_or_namespace names namespace =
-    let heads : ◌≡◌ {A = ℕ} 123 42 = same_first (Begins-split (Begins-split names).1).1 (Begins-split namespace).1 in
+    let heads : ◌≡◌ {A = ℕ} 123 42 =
+    same_first (Begins-split (Begins-split names).1).1 (Begins-split namespace).1 in
     omega (arith, heads)
 
-pub names_or_name : {input rest behind : List ℕ} → Begins (IsNames · IsSpace) input rest → Begins IsName input behind → ⊥
-names_or_name names name = first_of_name 123 opening_brace name (Begins-split (Begins-split names).1).1
+pub names_or_name : {input rest behind : List ℕ} → Begins (IsNames · IsSpace) input rest
+    → Begins IsName input behind → ⊥
+names_or_name names name =
+    first_of_name opening_brace opening_brace_no_letter name (Begins-split (Begins-split names).1).1
 
-pub namespace_or_name : {input rest behind : List ℕ} → Begins IsNamespace input rest → Begins IsName input behind → ⊥
-namespace_or_name namespace name = first_of_name 42 star name (Begins-split namespace).1
+pub namespace_or_name : {input rest behind : List ℕ} → Begins IsNamespace input rest
+    → Begins IsName input behind → ⊥
+namespace_or_name namespace name = first_of_name 42 star_no_letter name (Begins-split namespace).1
 
-pub clause_names : (input rest : List ℕ) → Reads NoSpace (λ (_ : Unit {0}). IsNames · IsSpace) input (Some (rest, tt)) → Reads NoSpace Clause input (Some (rest, tt))
+pub clause_names : (input rest : List ℕ) → Reads NoSpace (λ (_ : Unit {0}). IsNames · IsSpace) input
+    (Some (rest, tt)) → Reads NoSpace Clause input (Some (rest, tt))
 clause_names input rest found = (
   (let parts = Begins-split found.0 in Begins-join (Begins-as (λ text is. inl is) parts.1) parts.2),
   λ other behind stop b. elim (clause_apart b) [
@@ -164,19 +216,21 @@ clause_names input rest found = (
 )
 
 -- a brace begins only names
-pub clause_unclosed : (input inside : List ℕ) → Begins (Is (codes "{")) input inside → Reads NoSpace (λ (_ : Unit {0}). IsNames · IsSpace) input None → Reads NoSpace Clause input None
+pub clause_unclosed : (input inside : List ℕ) → Begins (Is (codes "{")) input inside
+    → Reads NoSpace (λ (_ : Unit {0}). IsNames · IsSpace) input None → Reads NoSpace Clause input None
 clause_unclosed input inside brace none = λ other behind stop b. elim (clause_apart b) [
   | inl names ↦ none other behind stop names
   | inr others ↦ elim others [
     | inl namespace ↦
         let heads : ◌≡◌ {A = ℕ} 123 42 = same_first brace (Begins-split namespace).1 in
         omega (arith, heads)
-    | inr name ↦ first_of_name 123 opening_brace name brace
+    | inr name ↦ first_of_name opening_brace opening_brace_no_letter name brace
   ]
 ]
 
 module _ (input : List ℕ) (no_names : Reads NoSpace (λ (_ : Unit {0}). IsNames · IsSpace) input None) where
-  pub clause_namespace : (rest : List ℕ) → Reads NoSpace (λ (_ : Unit {0}). IsNamespace) input (Some (rest, tt)) → Reads NoSpace Clause input (Some (rest, tt))
+  pub clause_namespace : (rest : List ℕ) → Reads NoSpace (λ (_ : Unit {0}). IsNamespace) input
+      (Some (rest, tt)) → Reads NoSpace Clause input (Some (rest, tt))
   clause_namespace rest found = (
     no_space (Begins-as (λ text is. inr (inl is)) found.0),
     λ other behind stop b. elim (clause_apart b) [
@@ -188,7 +242,8 @@ module _ (input : List ℕ) (no_names : Reads NoSpace (λ (_ : Unit {0}). IsName
     ],
   )
 
-  pub clause_name : (o : Option (List ℕ × Unit {0})) → Reads NoSpace (λ (_ : Unit {0}). IsNamespace) input None → Reads NoSpace (λ (_ : Unit {0}). IsName) input o
+  pub clause_name : (o : Option (List ℕ × Unit {0})) → Reads NoSpace
+      (λ (_ : Unit {0}). IsNamespace) input None → Reads NoSpace (λ (_ : Unit {0}). IsName) input o
       → Reads NoSpace Clause input o
   clause_name None no_namespace none = λ other behind stop b. elim (clause_apart b) [
     | inl names ↦ no_names other behind stop names
@@ -210,11 +265,12 @@ module _ (input : List ℕ) (no_names : Reads NoSpace (λ (_ : Unit {0}). IsName
 
 -- `@import`, white space and the clause
 pub IsSolid-clause : (text : List ℕ) → IsClause text → IsSolid text
-IsSolid-clause text (inl is) = IsSolid-word 123 [] refl text is
+IsSolid-clause text (inl is) = IsSolid-word opening_brace [] refl text is
 IsSolid-clause text (inr (inl is)) = IsSolid-word 42 [] refl text is
 IsSolid-clause text (inr (inr is)) = IsSolid-name text is
 
-pub gap_before_clause : (_ : Unit {0}) (middle rest : List ℕ) → NoSpace rest → Begins (IsClause · IsSpace) middle rest → NoSpace middle
+pub gap_before_clause : (_ : Unit {0}) (middle rest : List ℕ) → NoSpace rest
+    → Begins (IsClause · IsSpace) middle rest → NoSpace middle
 gap_before_clause _ middle rest _ b = NoSpace-before (IsSolid-front IsSolid-clause) b
 
 -- what is behind `@import`, up to the `from`
@@ -225,6 +281,8 @@ module _ (input : List ℕ) where
   pub head_no_gap : Reads NoSpace (λ (_ : Unit {0}). IsGap) input None → Reads NoSpace Head input None
   head_no_gap none = then_none NoSpace NoSpace IsGap Clause gap_before_clause input none
 
-  pub head_read : (behind : List ℕ) (o : Option (List ℕ × Unit {0})) → Reads NoSpace (λ (_ : Unit {0}). IsGap) input (Some (behind, tt)) → Reads NoSpace Clause behind o
+  pub head_read : (behind : List ℕ) (o : Option (List ℕ × Unit {0}))
+      → Reads NoSpace (λ (_ : Unit {0}). IsGap) input (Some (behind, tt)) → Reads NoSpace Clause behind o
       → Reads NoSpace Head input o
-  head_read behind o gap found = then_some NoSpace NoSpace IsGap Clause gap_before_clause input behind o gap found
+  head_read behind o gap found =
+      then_some NoSpace NoSpace IsGap Clause gap_before_clause input behind o gap found

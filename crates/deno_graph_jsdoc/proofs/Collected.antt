@@ -1,9 +1,12 @@
 -- A list of all imports of a text, from one place of it to the next.
-use Rattle.std.proofs.Common.{◌≡◌, ℕ, zero, suc, ◌+◌, ◌<◌, ◌≤◌, ◌⊎◌, inl, inr, Option, Some, None, List, [], ◌∷◌, ◌++◌, length, get_or, refl, sym, ap, ◌∙◌, subst, append_assoc, length-append, arith}
+use Rattle.std.proofs.Common.{◌≡◌, ℕ, zero, suc, ◌+◌, ◌<◌, ◌≤◌, ◌⊎◌, inl, inr, Option, Some, None, List, []}
+use Rattle.std.proofs.Common.{◌∷◌, ◌++◌, length, get_or, refl, sym, ap, ◌∙◌, subst, append_assoc}
+use Rattle.std.proofs.Common.{length-append, arith}
 use Rattle.std.proofs.lemmas.Bool.{cases_lt}
 use Rattle.std.specs.List.{Contains, insert}
+use Rattle.deno_graph_jsdoc.specs.JsDocReading.{ReadsImport}
+use Rattle.deno_graph_jsdoc.specs.JsDocImport.{Import, IsDeclaration, IsDynamicImport, moved, byte_count}
 use Rattle.deno_graph_jsdoc.specs.JsDocHits.{Ascend, AreHits, IsHit, GainsImport}
-use Rattle.deno_graph_jsdoc.specs.JsDocImport.{Import, Parses, IsDeclaration, IsDynamicImport, moved, size}
 use Rattle.deno_graph_jsdoc.proofs.Ascending.{GainsImport-insert, GainsImport-same, tail_pairs}
 use Rattle.deno_graph_jsdoc.proofs.Existence.{read_declaration, read_dynamic}
 use Rattle.deno_graph_jsdoc.proofs.Passes.{gained, gained_sound}
@@ -17,24 +20,29 @@ Place old start =
     × ((k : ℕ) (d : Import) → at ≤ k → k < length old → start < (get_or old k d).start))
 
 place : (old : List Import) (start : ℕ) → Ascend old → Place old start
-place [] start up = inr (0, omega arith, (λ k d less. absurd (omega arith)), λ k d more inside. absurd (omega arith))
+place [] start up =
+    inr (0, omega arith, (λ k d less. absurd (omega arith)), λ k d more inside. absurd (omega arith))
 place (x ∷ xs) start up = by_first (cases_lt x.start start) (place xs start (tail_pairs x xs up))
   where
     above : start < x.start → (k : ℕ) (d : Import) → k < length (x ∷ xs) → start < (get_or (x ∷ xs) k d).start
     above less zero d inside = less
-    above less (suc k) d inside = (let later = up 0 (suc k) d (omega arith) inside in omega (arith, less, later))
+    above less (suc k) d inside =
+        (let later = up 0 (suc k) d (omega arith) inside in omega (arith, less, later))
 
-    first : {at : ℕ} → x.start < start → ((k : ℕ) (d : Import) → k < at → (get_or xs k d).start < start) → (k : ℕ) (d : Import) → k < at + 1 → (get_or (x ∷ xs) k d).start < start
+    first : {at : ℕ} → x.start < start → ((k : ℕ) (d : Import) → k < at → (get_or xs k d).start < start)
+        → (k : ℕ) (d : Import) → k < at + 1 → (get_or (x ∷ xs) k d).start < start
     first less below zero d inside = less
     first less below (suc k) d inside = below k d (omega arith)
 
-    behind : {at : ℕ} → ((k : ℕ) (d : Import) → at ≤ k → k < length xs → start < (get_or xs k d).start) → (k : ℕ) (d : Import) → at + 1 ≤ k → k < length (x ∷ xs)
+    behind : {at : ℕ} → ((k : ℕ) (d : Import) → at ≤ k → k < length xs → start < (get_or xs k d).start)
+        → (k : ℕ) (d : Import) → at + 1 ≤ k → k < length (x ∷ xs)
         → start < (get_or (x ∷ xs) k d).start
     behind over zero d more inside = absurd (omega arith)
     behind over (suc k) d more inside = over k d (omega arith) (omega arith)
 
     by_same : (start < x.start) ⊎ (x.start ≤ start) → start ≤ x.start → Place (x ∷ xs) start
-    by_same (inl less) least = inr (0, omega arith, (λ k d below. absurd (omega arith)), λ k d more inside. above less k d inside)
+    by_same (inl less) least =
+        inr (0, omega arith, (λ k d below. absurd (omega arith)), λ k d more inside. above less k d inside)
     by_same (inr more) least = inl (0, omega arith, λ d. omega (arith, more, least))
 
     by_rest : x.start < start → Place xs start → Place (x ∷ xs) start
@@ -45,79 +53,118 @@ place (x ∷ xs) start up = by_first (cases_lt x.start start) (place xs start (t
     by_first (inl less) rest = by_rest less rest
     by_first (inr least) rest = by_same (cases_lt start x.start) least
 
-pub gain : (old : List Import) (import : Import) → Ascend old → (new : List Import) × GainsImport old import new
+pub gain : (old : List Import) (import : Import) → Ascend old → (new : List Import)
+    × GainsImport old import new
 gain old import up = by_place (place old import.start up)
   where
     by_place : Place old import.start → (new : List Import) × GainsImport old import new
     by_place (inl (k, inside, is)) = (old, GainsImport-same old import up k inside is)
-    by_place (inr (at, fits, below, over)) = (insert old at import, GainsImport-insert old import at fits up below over)
+    by_place (inr (at, fits, below, over)) =
+        (insert old at import, GainsImport-insert old import at fits up below over)
 
 -- all imports whose front is shorter
 pub record Collected (text : List ℕ) (limit : ℕ) (imports : List Import) : Type 0 where
   pub ascending : Ascend imports
   pub sound : (import : Import) → Contains imports import → IsHit text import
-  pub complete : (import : Import) (hit : IsHit text import) → length hit.front < limit → Contains imports import
+  pub complete : (import : Import) (hit : IsHit text import) → length hit.front < limit
+      → Contains imports import
 
 module _ (text front back : List ℕ) (whole : text ≡ front ++ back) where
   -- what stands at one place, as a parser gives it
   abbrev At : (List ℕ → Import → List ℕ → Type 0) → List Import → Type 0
-  At G imports = (here : Import) (rest : List ℕ) → G back here rest → Contains imports (moved (size front) here)
+  At G imports = (here : Import) (rest : List ℕ) → G back here rest
+      → Contains imports (moved (byte_count front) here)
 
-  take : (G : List ℕ → Import → List ℕ → Type 0) → ((here : Import) (rest : List ℕ) → G back here rest → IsHit text (moved (size front) here))
-      → (old : List Import) → Ascend old → ((import : Import) → Contains old import → IsHit text import) → (o : Option (List ℕ × Import)) → Parses G back o
-      → (new : List Import) × Ascend new × ((import : Import) → Contains new import → IsHit text import) × ((import : Import) → Contains old import → Contains new import) × At G new
-  take G hits old up sound None none = (old, up, sound, (λ import has. has), λ here rest is. absurd (none here rest is))
+  take : (G : List ℕ → Import → List ℕ → Type 0)
+      → ((here : Import) (rest : List ℕ) → G back here rest → IsHit text (moved (byte_count front) here))
+      → (old : List Import) → Ascend old → ((import : Import) → Contains old import → IsHit text import)
+      → (o : Option (List ℕ × Import)) → ReadsImport G back o
+      → (new : List Import) × Ascend new × ((import : Import) → Contains new import → IsHit text import)
+      × ((import : Import) → Contains old import → Contains new import) × At G new
+  take G hits old up sound None none =
+      (old, up, sound, (λ import has. has), λ here rest is. absurd (none here rest is))
   take G hits old up sound (Some x) found =
-      let import = moved (size front) x.1 in
+      let import = moved (byte_count front) x.1 in
       let hit = hits x.1 x.0 found.0 in
       let new = gain old import up in (
         new.0,
         new.1.ascending,
         gained_sound text old new.0 import sound hit new.1,
         new.1.kept,
-        λ here rest is. subst (λ i. Contains new.0 (moved (size front) i)) (sym (found.1 here rest is).0) (gained text old new.0 import sound hit new.1),
+        λ here rest is. subst (λ i. Contains new.0 (moved (byte_count front) i))
+            (sym (found.1 here rest is).0) (gained text old new.0 import sound hit new.1),
       )
 
-  pub step : (old : List Import) → Collected text (length front) old → (new : List Import) × Collected text (length front + 1) new
+  pub step : (old : List Import) → Collected text (length front) old
+      → (new : List Import) × Collected text (length front + 1) new
   step old so_far =
       let dynamic = read_dynamic back in
       let declaration = read_declaration back in
       let first = take IsDynamicImport
-      (λ here rest is. record { front = front; back = back; rest = rest; here = here; whole = whole; states = inl is; place = refl })
+      (λ here rest is. record {
+        front = front;
+        back = back;
+        rest = rest;
+        here = here;
+        whole = whole;
+        states = inl is;
+        place = refl;
+      })
       old so_far.ascending so_far.sound dynamic.0 dynamic.1 in
       let second = take IsDeclaration
-      (λ here rest is. record { front = front; back = back; rest = rest; here = here; whole = whole; states = inr is; place = refl })
+      (λ here rest is. record {
+        front = front;
+        back = back;
+        rest = rest;
+        here = here;
+        whole = whole;
+        states = inr is;
+        place = refl;
+      })
       first.0 first.1 first.2 declaration.0 declaration.1 in (
         second.0,
         record {
           ascending = second.1;
           sound = second.2;
           complete = λ import hit short.
-              by_length old first.0 second.0 import hit short (cases_lt (length hit.front) (length front)) (λ has. second.3 import (first.3 import has)) (second.3 import) first.4 second.4 (so_far.complete import hit);
+              by_length old first.0 second.0 import hit short (cases_lt (length hit.front) (length front))
+              (λ has. second.3 import (first.3 import has)) (second.3 import) first.4 second.4
+              (so_far.complete import hit);
         },
       )
     where
-      by_length : (old middle new : List Import) (import : Import) (hit : IsHit text import) → length hit.front < length front + 1
-          → (length hit.front < length front) ⊎ (length front ≤ length hit.front) → (Contains old import → Contains new import) → (Contains middle import → Contains new import)
-          → At IsDynamicImport middle → At IsDeclaration new → (length hit.front < length front → Contains old import) → Contains new import
-      by_length old middle new import hit short (inl sooner) kept keeps dynamics declarations all = kept (all sooner)
-      by_length old middle new import hit short (inr later) kept keeps dynamics declarations all = by_form hit.states
+      by_length : (old middle new : List Import) (import : Import) (hit : IsHit text import)
+          → length hit.front < length front + 1
+          → (length hit.front < length front) ⊎ (length front ≤ length hit.front)
+          → (Contains old import → Contains new import) → (Contains middle import → Contains new import)
+          → At IsDynamicImport middle → At IsDeclaration new
+          → (length hit.front < length front → Contains old import) → Contains new import
+      by_length old middle new import hit short (inl sooner) kept keeps dynamics declarations all =
+          kept (all sooner)
+      by_length old middle new import hit short (inr later) kept keeps dynamics declarations all =
+          by_form hit.states
         where
           fronts : hit.front ≡ front
-          fronts = same_front text hit.front front (hit.back, hit.whole) (back, whole) (omega (arith, short, later))
+          fronts = same_front text hit.front front (hit.back, hit.whole) (back, whole)
+              (omega (arith, short, later))
 
           backs : hit.back ≡ back
-          backs = same_behind text front hit.back back (subst (λ f. text ≡ f ++ hit.back) fronts hit.whole) whole
+          backs =
+              same_behind text front hit.back back (subst (λ f. text ≡ f ++ hit.back) fronts hit.whole) whole
 
-          is : moved (size front) hit.here ≡ import
-          is = ap (λ f. moved (size f) hit.here) (sym fronts) ∙ sym hit.place
+          is : moved (byte_count front) hit.here ≡ import
+          is = ap (λ f. moved (byte_count f) hit.here) (sym fronts) ∙ sym hit.place
 
-          by_form : IsDynamicImport hit.back hit.here hit.rest ⊎ IsDeclaration hit.back hit.here hit.rest → Contains new import
-          by_form (inl states) = keeps (subst (Contains middle) is (dynamics hit.here hit.rest (subst (λ b. IsDynamicImport b hit.here hit.rest) backs states)))
-          by_form (inr states) = subst (Contains new) is (declarations hit.here hit.rest (subst (λ b. IsDeclaration b hit.here hit.rest) backs states))
+          by_form : IsDynamicImport hit.back hit.here hit.rest ⊎ IsDeclaration hit.back hit.here hit.rest
+              → Contains new import
+          by_form (inl states) = keeps (subst (Contains middle) is
+              (dynamics hit.here hit.rest (subst (λ b. IsDynamicImport b hit.here hit.rest) backs states)))
+          by_form (inr states) = subst (Contains new) is
+              (declarations hit.here hit.rest (subst (λ b. IsDeclaration b hit.here hit.rest) backs states))
 
 -- from one place to the next, up to the end
-collect : (text front back : List ℕ) → text ≡ front ++ back → (old : List Import) → Collected text (length front) old → (imports : List Import) × Collected text (length text + 1) imports
+collect : (text front back : List ℕ) → text ≡ front ++ back → (old : List Import)
+    → Collected text (length front) old → (imports : List Import) × Collected text (length text + 1) imports
 collect text front [] whole old so_far =
     let all = step text front [] whole old so_far in
     let size : length front + 1 ≡ length text + 1 = omega (arith, ap length whole, length-append front []) in
@@ -125,7 +172,8 @@ collect text front [] whole old so_far =
 collect text front (c ∷ cs) whole old so_far =
     let next = step text front (c ∷ cs) whole old so_far in
     let size : length front + 1 ≡ length (front ++ c ∷ []) = omega (arith, length-append front (c ∷ [])) in
-    collect text (front ++ c ∷ []) cs (whole ∙ sym (append_assoc front (c ∷ []) cs)) next.0 (subst (λ n. Collected text n next.0) size next.1)
+    collect text (front ++ c ∷ []) cs (whole ∙ sym (append_assoc front (c ∷ []) cs)) next.0
+    (subst (λ n. Collected text n next.0) size next.1)
 
 pub hits_of : (text : List ℕ) → (imports : List Import) × AreHits text imports
 hits_of text =
@@ -141,7 +189,8 @@ hits_of text =
         ascending = found.ascending;
         exact = λ import. (
           found.sound import,
-          λ hit. found.complete import hit (omega (arith, ap length hit.whole, length-append hit.front hit.back)),
+          λ hit. found.complete import hit
+              (omega (arith, ap length hit.whole, length-append hit.front hit.back)),
         );
       },
     )

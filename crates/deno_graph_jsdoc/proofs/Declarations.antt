@@ -1,10 +1,13 @@
 -- Declarations: a clause, and then a source.
 use Rattle.std.proofs.Common.{ℕ, Option, Some, None, List, refl, codes, option_map}
 use Rattle.std.specs.Str.{skip_leading_whitespace}
-use Rattle.deno_graph_jsdoc.specs.JsDocGrammar.{◌·◌, Is, IsSpace, IsGap, IsClause, Lacks}
-use Rattle.deno_graph_jsdoc.specs.JsDocImport.{Import, Parses, IsDeclaration, IsDeclarationEnd, IsSource, EndsDeclaration, size, moved}
-use Rattle.deno_graph_jsdoc.specs.JsDocReading.{Begins, Anything, NoSpace, Reads}
-use Rattle.deno_graph_jsdoc.proofs.Clauses.{Head, clause_names, clause_unclosed, head_read, names_read, names_unclosed}
+use Rattle.deno_graph_jsdoc.specs.Characters.{closing_brace}
+use Rattle.deno_graph_jsdoc.specs.JsDocGrammar.{◌·◌, Is, IsSpace, IsGap, IsClause, Lacks, Begins, Anything}
+use Rattle.deno_graph_jsdoc.specs.JsDocGrammar.{NoSpace}
+use Rattle.deno_graph_jsdoc.specs.JsDocReading.{ReadsImport, IsDeclarationEnd, IsSource, Reads}
+use Rattle.deno_graph_jsdoc.specs.JsDocImport.{Import, IsDeclaration, EndsDeclaration, byte_count, moved}
+use Rattle.deno_graph_jsdoc.proofs.Clauses.{Head, clause_names, clause_unclosed, head_read, names_read}
+use Rattle.deno_graph_jsdoc.proofs.Clauses.{names_unclosed}
 use Rattle.deno_graph_jsdoc.proofs.Imports.{no_first, behind_first}
 use Rattle.deno_graph_jsdoc.proofs.Readings.{IsSolid-word, NoSpace-before, regroup_3, ungroup_3, textwise}
 
@@ -26,21 +29,27 @@ together = textwise (λ input rest b. ungroup_3 b)
 follows : (middle rest : List ℕ) → NoSpace rest → Begins From middle rest → NoSpace middle
 follows middle rest _ b = NoSpace-before (IsSolid-word 102 (codes "rom") refl) b
 
-pub no_clause : (input : List ℕ) → Reads NoSpace Head input None → Parses IsDeclarationEnd input None
+pub no_clause : (input : List ℕ) → Reads NoSpace Head input None → ReadsImport IsDeclarationEnd input None
 no_clause input none = no_first NoSpace First From Whole EndsDeclaration apart together follows input none
 
-pub behind_clause : (input middle : List ℕ) (head : Reads NoSpace Head input (Some (middle, tt))) (o : Option (List ℕ × Import)) → Parses IsSource middle o
-    → Parses IsDeclarationEnd input (option_map (λ x. (x.0, moved (size head.0.piece) x.1)) o)
-behind_clause input middle head o source = behind_first NoSpace First From Whole EndsDeclaration apart together follows input middle head o source
+pub behind_clause : (input middle : List ℕ) (head : Reads NoSpace Head input (Some (middle, tt)))
+    (o : Option (List ℕ × Import)) → ReadsImport IsSource middle o
+    → ReadsImport IsDeclarationEnd input (option_map (λ x. (x.0, moved (byte_count head.0.piece) x.1)) o)
+behind_clause input middle head o source =
+    behind_first NoSpace First From Whole EndsDeclaration apart together follows input middle head o source
 
 -- a declaration of names in braces, by what is behind the closing one
-module _ (input clause inside : List ℕ) (gap : Reads NoSpace (λ (_ : Unit {0}). IsGap) input (Some (clause, tt)))
+module _ (input clause inside : List ℕ)
+    (gap : Reads NoSpace (λ (_ : Unit {0}). IsGap) input (Some (clause, tt)))
     (opens : Reads Anything (λ (_ : Unit {0}). Is (codes "{")) clause (Some (inside, tt))) where
-  pub names_without_end : Reads Anything (λ (_ : Unit {0}). Lacks 125 · Is (codes "}")) inside None → Parses IsDeclarationEnd input None
+  pub names_without_end : Reads Anything (λ (_ : Unit {0}). Lacks closing_brace · Is (codes "}")) inside None
+      → ReadsImport IsDeclarationEnd input None
   names_without_end none =
-      no_clause input (head_read input clause None gap (clause_unclosed clause inside opens.0 (names_unclosed clause inside opens none)))
+      no_clause input (head_read input clause None gap
+      (clause_unclosed clause inside opens.0 (names_unclosed clause inside opens none)))
 
-  module _ (behind : List ℕ) (close : Reads Anything (λ (_ : Unit {0}). Lacks 125 · Is (codes "}")) inside (Some (behind, tt))) where
+  module _ (behind : List ℕ) (close : Reads Anything
+      (λ (_ : Unit {0}). Lacks closing_brace · Is (codes "}")) inside (Some (behind, tt))) where
     pub names_head : Reads NoSpace Head input (Some (skip_leading_whitespace behind, tt))
     names_head =
         head_read input clause (Some (skip_leading_whitespace behind, tt)) gap
@@ -50,11 +59,14 @@ module _ (input clause inside : List ℕ) (gap : Reads NoSpace (λ (_ : Unit {0}
 abbrev pub AtWord : Unit {0} → List ℕ → Type 0
 AtWord _ = Is (codes "@import")
 
-pub no_word : (input : List ℕ) → Reads Anything AtWord input None → Parses IsDeclaration input None
+pub no_word : (input : List ℕ) → Reads Anything AtWord input None → ReadsImport IsDeclaration input None
 no_word input none =
-    no_first Anything (AtWord tt) Whole (AtWord tt · Whole) EndsDeclaration (λ _ is. is) (λ _ is. is) (λ _ _ _ _. tt) input none
+    no_first Anything (AtWord tt) Whole (AtWord tt · Whole) EndsDeclaration (λ _ is. is) (λ _ is. is)
+    (λ _ _ _ _. tt) input none
 
-pub behind_word : (input middle : List ℕ) (word : Reads Anything AtWord input (Some (middle, tt))) (o : Option (List ℕ × Import)) → Parses IsDeclarationEnd middle o
-    → Parses IsDeclaration input (option_map (λ x. (x.0, moved (size word.0.piece) x.1)) o)
+pub behind_word : (input middle : List ℕ) (word : Reads Anything AtWord input (Some (middle, tt)))
+    (o : Option (List ℕ × Import)) → ReadsImport IsDeclarationEnd middle o
+    → ReadsImport IsDeclaration input (option_map (λ x. (x.0, moved (byte_count word.0.piece) x.1)) o)
 behind_word input middle word o found =
-    behind_first Anything (AtWord tt) Whole (AtWord tt · Whole) EndsDeclaration (λ _ is. is) (λ _ is. is) (λ _ _ _ _. tt) input middle word o found
+    behind_first Anything (AtWord tt) Whole (AtWord tt · Whole) EndsDeclaration (λ _ is. is) (λ _ is. is)
+    (λ _ _ _ _. tt) input middle word o found

@@ -1,14 +1,18 @@
 -- A hit stands behind an `import`, and its start determines it.
-use Rattle.std.proofs.Common.{◌≡◌, ℕ, ◌+◌, ◌<◌, ◌≤◌, ◌⊎◌, inl, inr, true, false, Some, None, List, [], ◌∷◌, ◌++◌, length, refl, sym, ap, ◌∙◌, subst, codes, append_assoc, arith}
+use Rattle.std.proofs.Common.{◌≡◌, ℕ, ◌+◌, ◌<◌, ◌≤◌, ◌⊎◌, inl, inr, true, false, Some, None, List, [], ◌∷◌}
+use Rattle.std.proofs.Common.{◌++◌, length, refl, sym, ap, ◌∙◌, subst, codes, append_assoc, arith}
 use Rattle.std.proofs.lemmas.Bool.{both_ways, cases_lt}
 use Rattle.std.proofs.lemmas.List.{append_cancel_left, append-nil}
 use Rattle.std.proofs.lemmas.Str.{length-le-encodes}
 use Rattle.std.specs.Char.{is_whitespace}
-use Rattle.deno_graph_jsdoc.specs.JsDocGrammar.{◌·◌, Is, IsSpace, IsGap, IsClause, IsUpTo, IsQuote}
-use Rattle.deno_graph_jsdoc.specs.JsDocImport.{Mode, Import, States, Parses, EndsDeclaration, EndsDynamicImport, IsDeclaration, IsDeclarationEnd, IsDynamicImport, IsDynamicEnd, moved, size}
+use Rattle.deno_graph_jsdoc.specs.Characters.{at_sign}
+use Rattle.deno_graph_jsdoc.specs.JsDocGrammar.{◌·◌, Is, IsSpace, IsGap, IsClause, IsUpTo, IsQuote, Begins}
+use Rattle.deno_graph_jsdoc.specs.JsDocGrammar.{Anything}
+use Rattle.deno_graph_jsdoc.specs.JsDocReading.{ReadsImport, IsDeclarationEnd, IsDynamicEnd}
+use Rattle.deno_graph_jsdoc.specs.JsDocImport.{Mode, Import, States, EndsDeclaration, EndsDynamicImport}
+use Rattle.deno_graph_jsdoc.specs.JsDocImport.{IsDeclaration, IsDynamicImport, moved, byte_count}
 use Rattle.deno_graph_jsdoc.specs.JsDocHits.{IsHit, EndsAtDynamicImport, EndsAtDeclaration}
-use Rattle.deno_graph_jsdoc.specs.JsDocReading.{Begins, Anything}
-use Rattle.deno_graph_jsdoc.proofs.Imports.{parts_of, joined, size-append}
+use Rattle.deno_graph_jsdoc.proofs.Imports.{parts_of, joined, byte_count-append}
 use Rattle.deno_graph_jsdoc.proofs.Readings.{regroup, ungroup, textwise}
 use Rattle.deno_graph_jsdoc.proofs.Runs.{front_of_front}
 use Rattle.deno_graph_jsdoc.proofs.Sites.{word, EndsIn, same_behind}
@@ -16,14 +20,15 @@ use Rattle.deno_graph_jsdoc.proofs.Unique.{only_quote}
 use Rattle.deno_graph_jsdoc.proofs.UniqueImports.{OnlyTail, only_declaration_tail, only_dynamic_tail}
 
 -- an import of `G` behind a front that has `P`
-pub record IsStated (P : List ℕ → Type 0) (G : List ℕ → Import → List ℕ → Type 0) (text front : List ℕ) (import : Import) : Type 0 where
+pub record IsStated (P : List ℕ → Type 0) (G : List ℕ → Import → List ℕ → Type 0) (text front : List ℕ)
+    (import : Import) : Type 0 where
   pub behind : List ℕ
   pub rest : List ℕ
   pub here : Import
   pub whole : text ≡ front ++ behind
   pub site : P front
   pub states : G behind here rest
-  pub place : import ≡ moved (size front) here
+  pub place : import ≡ moved (byte_count front) here
 
 abbrev pub IsDynamicHit : List ℕ → List ℕ → Import → Type 0
 IsDynamicHit = IsStated EndsAtDynamicImport IsDynamicEnd
@@ -54,8 +59,10 @@ abbrev DeclarationHead : List ℕ → Type 0
 DeclarationHead = IsGap · IsClause · IsSpace · Is (codes "from") · IsSpace
 
 module _ (First Head Whole : List ℕ → Type 0) (Tail : List ℕ → Mode → List ℕ → Type 0)
-    (apart : (text : List ℕ) → Whole text → (First · Head) text) (together : (text : List ℕ) → (First · Head) text → Whole text) where
-  stated_by : (text front back rest : List ℕ) (here import : Import) → text ≡ front ++ back → States Whole Tail back here rest → import ≡ moved (size front) here
+    (apart : (text : List ℕ) → Whole text → (First · Head) text)
+    (together : (text : List ℕ) → (First · Head) text → Whole text) where
+  stated_by : (text front back rest : List ℕ) (here import : Import) → text ≡ front ++ back
+      → States Whole Tail back here rest → import ≡ moved (byte_count front) here
       → (next : List ℕ) × IsStated (Anything · First) (States Head Tail) text next import
   stated_by text front back rest here import whole s place =
       let parts = parts_of Anything First Head Whole Tail apart together (λ _ _ _ _. tt) back s in (
@@ -64,11 +71,19 @@ module _ (First Head Whole : List ℕ → Type 0) (Tail : List ℕ → Mode → 
           behind = parts.middle;
           rest = rest;
           here = parts.later;
-          whole = whole ∙ ap (λ t. front ++ t) parts.first.whole ∙ sym (append_assoc front parts.first.piece parts.middle);
-          site = record { front = front; back = parts.first.piece; whole = refl; is_front = tt; is_back = parts.first.is };
+          whole = whole ∙ ap (λ t. front ++ t) parts.first.whole
+              ∙ sym (append_assoc front parts.first.piece parts.middle);
+          site = record {
+            front = front;
+            back = parts.first.piece;
+            whole = refl;
+            is_front = tt;
+            is_back = parts.first.is;
+          };
           states = parts.states;
-          place = place ∙ ap (moved (size front)) parts.same ∙ moved-moved (size front) (size parts.first.piece) parts.later
-              ∙ ap (λ n. moved n parts.later) (sym (size-append front parts.first.piece));
+          place = place ∙ ap (moved (byte_count front)) parts.same
+              ∙ moved-moved (byte_count front) (byte_count parts.first.piece) parts.later
+              ∙ ap (λ n. moved n parts.later) (sym (byte_count-append front parts.first.piece));
         },
       )
 
@@ -79,21 +94,25 @@ module _ (First Head Whole : List ℕ → Type 0) (Tail : List ℕ → Mode → 
     here : Import
     whole : text ≡ front ++ back
     states : States Whole Tail back here rest
-    place : import ≡ moved (size front) here
+    place : import ≡ moved (byte_count front) here
 
-  found_by : (text next : List ℕ) (import : Import) → IsStated (Anything · First) (States Head Tail) text next import → Found text import
+  found_by : (text next : List ℕ) (import : Import)
+      → IsStated (Anything · First) (States Head Tail) text next import → Found text import
   found_by text next import s =
       let site = s.site in
-      let first : Begins First (site.back ++ s.behind) s.behind = record { piece = site.back; whole = refl; is = site.is_back } in
+      let first : Begins First (site.back ++ s.behind) s.behind =
+      record { piece = site.back; whole = refl; is = site.is_back } in
       record {
         front = site.front;
         back = site.back ++ s.behind;
         rest = s.rest;
-        here = moved (size site.back) s.here;
+        here = moved (byte_count site.back) s.here;
         whole = s.whole ∙ ap (λ t. t ++ s.behind) site.whole ∙ append_assoc site.front site.back s.behind;
-        states = joined Anything First Head Whole Tail apart together (λ _ _ _ _. tt) (site.back ++ s.behind) s.behind first s.states;
-        place = s.place ∙ ap (λ t. moved (size t) s.here) site.whole ∙ ap (λ n. moved n s.here) (size-append site.front site.back)
-            ∙ sym (moved-moved (size site.front) (size site.back) s.here);
+        states = joined Anything First Head Whole Tail apart together (λ _ _ _ _. tt)
+            (site.back ++ s.behind) s.behind first s.states;
+        place = s.place ∙ ap (λ t. moved (byte_count t) s.here) site.whole
+            ∙ ap (λ n. moved n s.here) (byte_count-append site.front site.back)
+            ∙ sym (moved-moved (byte_count site.front) (byte_count site.back) s.here);
       }
 
 dynamic_apart : (text : List ℕ) → DynamicWhole text → (DynamicFirst · DynamicHead) text
@@ -104,25 +123,48 @@ dynamic_together = textwise (λ input rest b. ungroup b)
 
 -- a hit is stated behind the end of an `import`
 pub hit_stated : (text : List ℕ) (import : Import) → IsHit text import
-    → ((front : List ℕ) × IsDynamicHit text front import) ⊎ ((front : List ℕ) × IsDeclarationHit text front import)
+    → ((front : List ℕ) × IsDynamicHit text front import)
+    ⊎ ((front : List ℕ) × IsDeclarationHit text front import)
 hit_stated text import hit = by_form hit.states
   where
     by_form : IsDynamicImport hit.back hit.here hit.rest ⊎ IsDeclaration hit.back hit.here hit.rest
-        → ((front : List ℕ) × IsDynamicHit text front import) ⊎ ((front : List ℕ) × IsDeclarationHit text front import)
+        → ((front : List ℕ) × IsDynamicHit text front import)
+        ⊎ ((front : List ℕ) × IsDeclarationHit text front import)
     by_form (inl s) =
-        inl (stated_by DynamicFirst DynamicHead DynamicWhole EndsDynamicImport dynamic_apart dynamic_together text hit.front hit.back hit.rest hit.here import hit.whole s hit.place)
+        inl (stated_by DynamicFirst DynamicHead DynamicWhole EndsDynamicImport dynamic_apart dynamic_together
+        text hit.front hit.back hit.rest hit.here import hit.whole s hit.place)
     by_form (inr s) =
-        inr (stated_by DeclarationFirst DeclarationHead (DeclarationFirst · DeclarationHead) EndsDeclaration (λ _ is. is) (λ _ is. is) text hit.front hit.back hit.rest hit.here import hit.whole s hit.place)
+        inr (stated_by DeclarationFirst DeclarationHead (DeclarationFirst · DeclarationHead) EndsDeclaration
+        (λ _ is. is) (λ _ is. is) text hit.front hit.back hit.rest hit.here import hit.whole s hit.place)
 
 pub dynamic_hit : (text front : List ℕ) (import : Import) → IsDynamicHit text front import → IsHit text import
 dynamic_hit text front import s =
-    let found = found_by DynamicFirst DynamicHead DynamicWhole EndsDynamicImport dynamic_apart dynamic_together text front import s in
-    record { front = found.front; back = found.back; rest = found.rest; here = found.here; whole = found.whole; states = inl found.states; place = found.place }
+    let found = found_by DynamicFirst DynamicHead DynamicWhole EndsDynamicImport dynamic_apart
+    dynamic_together text front import s in
+    record {
+      front = found.front;
+      back = found.back;
+      rest = found.rest;
+      here = found.here;
+      whole = found.whole;
+      states = inl found.states;
+      place = found.place;
+    }
 
-pub declaration_hit : (text front : List ℕ) (import : Import) → IsDeclarationHit text front import → IsHit text import
+pub declaration_hit : (text front : List ℕ) (import : Import)
+    → IsDeclarationHit text front import → IsHit text import
 declaration_hit text front import s =
-    let found = found_by DeclarationFirst DeclarationHead (DeclarationFirst · DeclarationHead) EndsDeclaration (λ _ is. is) (λ _ is. is) text front import s in
-    record { front = found.front; back = found.back; rest = found.rest; here = found.here; whole = found.whole; states = inr found.states; place = found.place }
+    let found = found_by DeclarationFirst DeclarationHead (DeclarationFirst · DeclarationHead) EndsDeclaration
+    (λ _ is. is) (λ _ is. is) text front import s in
+    record {
+      front = found.front;
+      back = found.back;
+      rest = found.rest;
+      here = found.here;
+      whole = found.whole;
+      states = inr found.states;
+      place = found.place;
+    }
 
 -- where such imports are stated, an `import` ends
 pub dynamic_ends : (front : List ℕ) → EndsAtDynamicImport front → EndsIn front
@@ -131,25 +173,34 @@ dynamic_ends front is =
     let up = inner.is_back in (
       is.front ++ (inner.front ++ up.front),
       is.whole ∙ ap (λ t. is.front ++ t) (inner.whole ∙ ap (λ t. inner.front ++ t) up.whole)
-          ∙ ap (λ t. is.front ++ t) (sym (append_assoc inner.front up.front word)) ∙ sym (append_assoc is.front (inner.front ++ up.front) word),
+          ∙ ap (λ t. is.front ++ t) (sym (append_assoc inner.front up.front word))
+          ∙ sym (append_assoc is.front (inner.front ++ up.front) word),
     )
 
 pub declaration_ends : (front : List ℕ) → EndsAtDeclaration front → EndsIn front
-declaration_ends front is =
-    (is.front ++ 64 ∷ [], is.whole ∙ ap (λ t. is.front ++ t) is.is_back ∙ sym (append_assoc is.front (64 ∷ []) word))
+declaration_ends front is = (
+  is.front ++ at_sign ∷ [],
+  is.whole ∙ ap (λ t. is.front ++ t) is.is_back
+      ∙ sym (append_assoc is.front (at_sign ∷ []) word),
+)
 
 -- the answer of a parser behind a front says what is stated there
-module _ (P : List ℕ → Type 0) (G : List ℕ → Import → List ℕ → Type 0) (text front behind : List ℕ) (whole : text ≡ front ++ behind) where
+module _ (P : List ℕ → Type 0) (G : List ℕ → Import → List ℕ → Type 0) (text front behind : List ℕ)
+    (whole : text ≡ front ++ behind) where
   here_of : (import : Import) (s : IsStated P G text front import) → G behind s.here s.rest
-  here_of import s = subst (λ t. G t s.here s.rest) (same_behind text front s.behind behind s.whole whole) s.states
+  here_of import s =
+      subst (λ t. G t s.here s.rest) (same_behind text front s.behind behind s.whole whole) s.states
 
-  pub stated_none : Parses G behind None → (import : Import) → IsStated P G text front import → ⊥
+  pub stated_none : ReadsImport G behind None → (import : Import) → IsStated P G text front import → ⊥
   stated_none none import s = none s.here s.rest (here_of import s)
 
-  pub stated_only : (answer : List ℕ × Import) → Parses G behind (Some answer) → (import : Import) → IsStated P G text front import → import ≡ moved (size front) answer.1
-  stated_only answer found import s = s.place ∙ ap (moved (size front)) (found.1 s.here s.rest (here_of import s)).0
+  pub stated_only : (answer : List ℕ × Import) → ReadsImport G behind (Some answer) → (import : Import)
+      → IsStated P G text front import → import ≡ moved (byte_count front) answer.1
+  stated_only answer found import s =
+      s.place ∙ ap (moved (byte_count front)) (found.1 s.here s.rest (here_of import s)).0
 
-  pub stated_some : (answer : List ℕ × Import) → Parses G behind (Some answer) → P front → IsStated P G text front (moved (size front) answer.1)
+  pub stated_some : (answer : List ℕ × Import) → ReadsImport G behind (Some answer) → P front
+      → IsStated P G text front (moved (byte_count front) answer.1)
   stated_some answer found site = record {
     behind = behind;
     rest = answer.0;
@@ -161,13 +212,15 @@ module _ (P : List ℕ → Type 0) (G : List ℕ → Import → List ℕ → Typ
   }
 
 -- two fronts of a text that take as many bytes are the same
-same_size : (text front other back behind : List ℕ) → text ≡ front ++ back → text ≡ other ++ behind → size front ≡ size other → front ≡ other
+same_size : (text front other back behind : List ℕ) → text ≡ front ++ back → text ≡ other ++ behind
+    → byte_count front ≡ byte_count other → front ≡ other
 same_size text front other back behind is are same = by_length (cases_lt (length other) (length front))
   where
-    longer : (a b c d : List ℕ) → a ++ b ≡ c ++ d → length a ≤ length c → size a ≡ size c → a ≡ c
+    longer : (a b c d : List ℕ) → a ++ b ≡ c ++ d → length a ≤ length c → byte_count a ≡ byte_count c → a ≡ c
     longer a b c d whole fits sizes =
         let middle = front_of_front a b c d whole fits in
-        let none : length middle.0 ≡ 0 = omega (arith, ap size middle.1, size-append a middle.0, length-le-encodes middle.0) in
+        let none : length middle.0 ≡ 0 =
+        omega (arith, ap byte_count middle.1, byte_count-append a middle.0, length-le-encodes middle.0) in
         sym (middle.1 ∙ ap (λ t. a ++ t) (empty middle.0 none) ∙ append-nil a)
       where
         empty : (t : List ℕ) → length t ≡ 0 → t ≡ []
@@ -175,15 +228,18 @@ same_size text front other back behind is are same = by_length (cases_lt (length
         empty (x ∷ t) is = absurd (omega arith)
 
     by_length : (length other < length front) ⊎ (length front ≤ length other) → front ≡ other
-    by_length (inl more) = sym (longer other behind front back (sym are ∙ is) (omega (arith, more)) (sym same))
+    by_length (inl more) =
+        sym (longer other behind front back (sym are ∙ is) (omega (arith, more)) (sym same))
     by_length (inr less) = longer front back other behind (sym is ∙ are) less same
 
 -- the last character of a text that is no white space
-last_solid : (a b : ℕ) (xs ys space other : List ℕ) → IsSpace space → IsSpace other → is_whitespace a ≡ false → is_whitespace b ≡ false
+last_solid : (a b : ℕ) (xs ys space other : List ℕ) → IsSpace space → IsSpace other
+    → is_whitespace a ≡ false → is_whitespace b ≡ false
     → xs ++ a ∷ space ≡ ys ++ b ∷ other → a ≡ b
 last_solid a b xs ys space other white blank solid hard same = by_length (cases_lt (length xs) (length ys))
   where
-    no_solid : (c : ℕ) (cs ds space : List ℕ) → is_whitespace c ≡ false → IsSpace space → space ≡ cs ++ c ∷ ds → ⊥
+    no_solid : (c : ℕ) (cs ds space : List ℕ) → is_whitespace c ≡ false → IsSpace space
+        → space ≡ cs ++ c ∷ ds → ⊥
     no_solid c [] ds [] hard white is = absurd (cc)
     no_solid c [] ds (s ∷ space) hard white is =
         let first : s ≡ c = cc in
@@ -193,7 +249,8 @@ last_solid a b xs ys space other white blank solid hard same = by_length (cases_
         let tails : space ≡ cs ++ c ∷ ds = cc in
         no_solid c cs ds space hard white.1 tails
 
-    behind : (a b : ℕ) (middle space other : List ℕ) → IsSpace space → is_whitespace b ≡ false → a ∷ space ≡ middle ++ b ∷ other → a ≡ b
+    behind : (a b : ℕ) (middle space other : List ℕ) → IsSpace space → is_whitespace b ≡ false
+        → a ∷ space ≡ middle ++ b ∷ other → a ≡ b
     behind a b [] space other white hard is = cc
     behind a b (m ∷ middle) space other white hard is =
         let tails : space ≡ middle ++ b ∷ other = cc in
@@ -203,19 +260,28 @@ last_solid a b xs ys space other white blank solid hard same = by_length (cases_
     by_length (inl less) =
         let middle = front_of_front xs (a ∷ space) ys (b ∷ other) same (omega (arith, less)) in
         behind a b middle.0 space other white hard
-        (append_cancel_left xs (a ∷ space) (middle.0 ++ b ∷ other) (same ∙ ap (λ t. t ++ b ∷ other) middle.1 ∙ append_assoc xs middle.0 (b ∷ other)))
+        (append_cancel_left xs (a ∷ space) (middle.0 ++ b ∷ other)
+        (same ∙ ap (λ t. t ++ b ∷ other) middle.1 ∙ append_assoc xs middle.0 (b ∷ other)))
     by_length (inr more) =
         let middle = front_of_front ys (b ∷ other) xs (a ∷ space) (sym same) more in
         sym (behind b a middle.0 other space blank solid
-        (append_cancel_left ys (b ∷ other) (middle.0 ++ a ∷ space) (sym same ∙ ap (λ t. t ++ a ∷ space) middle.1 ∙ append_assoc ys middle.0 (a ∷ space))))
+        (append_cancel_left ys (b ∷ other) (middle.0 ++ a ∷ space)
+        (sym same ∙ ap (λ t. t ++ a ∷ space) middle.1 ∙ append_assoc ys middle.0 (a ∷ space))))
 
 -- how what is before a specifier ends
-dynamic_head_ends : (before : List ℕ) → DynamicHead before → (front : List ℕ) × (space : List ℕ) × IsSpace space × (before ≡ front ++ 40 ∷ space)
+dynamic_head_ends : (before : List ℕ) → DynamicHead before → (front : List ℕ) × (space : List ℕ)
+    × IsSpace space × (before ≡ front ++ 40 ∷ space)
 dynamic_head_ends before is =
-    let open_ = is.is_back in
-    (is.front, open_.back, open_.is_back, is.whole ∙ ap (λ t. is.front ++ t) (open_.whole ∙ ap (λ t. t ++ open_.back) open_.is_front))
+    let open_ = is.is_back in (
+      is.front,
+      open_.back,
+      open_.is_back,
+      is.whole
+          ∙ ap (λ t. is.front ++ t) (open_.whole ∙ ap (λ t. t ++ open_.back) open_.is_front),
+    )
 
-declaration_head_ends : (before : List ℕ) → DeclarationHead before → (front : List ℕ) × (space : List ℕ) × IsSpace space × (before ≡ front ++ 109 ∷ space)
+declaration_head_ends : (before : List ℕ) → DeclarationHead before → (front : List ℕ) × (space : List ℕ)
+    × IsSpace space × (before ≡ front ++ 109 ∷ space)
 declaration_head_ends before is =
     let clause = is.is_back in
     let space = clause.is_back in
@@ -225,14 +291,16 @@ declaration_head_ends before is =
       from.is_back,
       is.whole ∙ ap (λ t. is.front ++ t)
           (clause.whole ∙ ap (λ t. clause.front ++ t)
-          (space.whole ∙ ap (λ t. space.front ++ t) (from.whole ∙ ap (λ t. t ++ from.back) from.is_front ∙ append_assoc (codes "fro") (109 ∷ []) from.back)
+          (space.whole ∙ ap (λ t. space.front ++ t) (from.whole ∙ ap (λ t. t ++ from.back) from.is_front
+          ∙ append_assoc (codes "fro") (109 ∷ []) from.back)
           ∙ sym (append_assoc space.front (codes "fro") (109 ∷ from.back)))
           ∙ sym (append_assoc clause.front (space.front ++ codes "fro") (109 ∷ from.back)))
           ∙ sym (append_assoc is.front (clause.front ++ (space.front ++ codes "fro")) (109 ∷ from.back)),
     )
 
 -- what is before the specifier of a hit, the specifier in quotes, and what is behind
-record Specified (Head : List ℕ → Type 0) (Tail : List ℕ → Mode → List ℕ → Type 0) (text : List ℕ) (import : Import) : Type 0 where
+record Specified (Head : List ℕ → Type 0) (Tail : List ℕ → Mode → List ℕ → Type 0) (text : List ℕ)
+    (import : Import) : Type 0 where
   front : List ℕ
   before : List ℕ
   quote : List ℕ
@@ -241,18 +309,19 @@ record Specified (Head : List ℕ → Type 0) (Tail : List ℕ → Mode → List
   whole : text ≡ (front ++ before) ++ (quote ++ behind)
   head : Head before
   quoted : IsQuote import.specifier quote
-  start : import.start ≡ size (front ++ before) + 1
-  end : import.end ≡ import.start + size import.specifier
+  start : import.start ≡ byte_count (front ++ before) + 1
+  end : import.end ≡ import.start + byte_count import.specifier
   tail : Tail behind import.mode rest
 
-specified_by : (P Head : List ℕ → Type 0) (Tail : List ℕ → Mode → List ℕ → Type 0) (text front : List ℕ) (import : Import)
+specified_by : (P Head : List ℕ → Type 0) (Tail : List ℕ → Mode → List ℕ → Type 0)
+    (text front : List ℕ) (import : Import)
     → IsStated P (States Head Tail) text front import → Specified Head Tail text import
 specified_by P Head Tail text front import s =
     let states = s.states in
     let specifier : import.specifier ≡ s.here.specifier = ap (λ (i : Import). i.specifier) s.place in
     let mode : import.mode ≡ s.here.mode = ap (λ (i : Import). i.mode) s.place in
-    let starts : import.start ≡ s.here.start + size front = ap (λ (i : Import). i.start) s.place in
-    let ends : import.end ≡ s.here.end + size front = ap (λ (i : Import). i.end) s.place in
+    let starts : import.start ≡ s.here.start + byte_count front = ap (λ (i : Import). i.start) s.place in
+    let ends : import.end ≡ s.here.end + byte_count front = ap (λ (i : Import). i.end) s.place in
     let start = states.start in
     let end = states.end in
     record {
@@ -261,39 +330,49 @@ specified_by P Head Tail text front import s =
       quote = states.quote;
       behind = states.behind;
       rest = s.rest;
-      whole = s.whole ∙ ap (λ t. front ++ t) states.whole ∙ sym (append_assoc front states.before (states.quote ++ states.behind));
+      whole = s.whole ∙ ap (λ t. front ++ t) states.whole
+          ∙ sym (append_assoc front states.before (states.quote ++ states.behind));
       head = states.head;
       quoted = subst (λ t. IsQuote t states.quote) (sym specifier) states.quoted;
-      start = omega (arith, size-append front states.before);
-      end = omega (arith, ap size specifier);
+      start = omega (arith, byte_count-append front states.before);
+      end = omega (arith, ap byte_count specifier);
       tail = subst (λ m. Tail states.behind m s.rest) (sym mode) states.tail;
     }
 
-module _ (Head Other : List ℕ → Type 0) (Tail Ending : List ℕ → Mode → List ℕ → Type 0) (text : List ℕ) (import other : Import)
-    (s : Specified Head Tail text import) (t : Specified Other Ending text other) (same : import.start ≡ other.start) where
+module _ (Head Other : List ℕ → Type 0) (Tail Ending : List ℕ → Mode → List ℕ → Type 0)
+    (text : List ℕ) (import other : Import)
+    (s : Specified Head Tail text import) (t : Specified Other Ending text other)
+    (same : import.start ≡ other.start) where
   befores : s.front ++ s.before ≡ t.front ++ t.before
   befores =
-      same_size text (s.front ++ s.before) (t.front ++ t.before) (s.quote ++ s.behind) (t.quote ++ t.behind) s.whole t.whole
+      same_size text (s.front ++ s.before) (t.front ++ t.before) (s.quote ++ s.behind)
+      (t.quote ++ t.behind) s.whole t.whole
       (let first = s.start in let second = t.start in omega arith)
 
   quotes : s.quote ++ s.behind ≡ t.quote ++ t.behind
-  quotes = append_cancel_left (t.front ++ t.before) (s.quote ++ s.behind) (t.quote ++ t.behind) (ap (λ x. x ++ (s.quote ++ s.behind)) (sym befores) ∙ sym s.whole ∙ t.whole)
+  quotes = append_cancel_left (t.front ++ t.before) (s.quote ++ s.behind) (t.quote ++ t.behind)
+      (ap (λ x. x ++ (s.quote ++ s.behind)) (sym befores) ∙ sym s.whole ∙ t.whole)
 
   texts : (import.specifier ≡ other.specifier) × (s.behind ≡ t.behind)
   texts =
       only_quote (t.quote ++ t.behind) s.behind t.behind import.specifier other.specifier tt tt
-      (record { piece = s.quote; whole = sym quotes; is = s.quoted }) (record { piece = t.quote; whole = refl; is = t.quoted })
+      (record { piece = s.quote; whole = sym quotes; is = s.quoted })
+      (record { piece = t.quote; whole = refl; is = t.quoted })
 
-module _ (Head : List ℕ → Type 0) (Tail : List ℕ → Mode → List ℕ → Type 0) (only_tail : OnlyTail Tail) (text : List ℕ) (import other : Import) where
-  one_specified : Specified Head Tail text import → Specified Head Tail text other → import.start ≡ other.start → import ≡ other
+module _ (Head : List ℕ → Type 0) (Tail : List ℕ → Mode → List ℕ → Type 0) (only_tail : OnlyTail Tail)
+    (text : List ℕ) (import other : Import) where
+  one_specified : Specified Head Tail text import → Specified Head Tail text other
+      → import.start ≡ other.start → import ≡ other
   one_specified s t same =
       let both = texts Head Head Tail Tail text import other s t same in
-      let mode = (only_tail t.behind import.mode other.mode s.rest t.rest (subst (λ b. Tail b import.mode s.rest) both.1 s.tail) t.tail).0 in
-      let end : import.end ≡ other.end = s.end ∙ (λ i. same i + size (both.0 i)) ∙ sym t.end in
+      let mode = (only_tail t.behind import.mode other.mode s.rest t.rest
+      (subst (λ b. Tail b import.mode s.rest) both.1 s.tail) t.tail).0 in
+      let end : import.end ≡ other.end = s.end ∙ (λ i. same i + byte_count (both.0 i)) ∙ sym t.end in
       λ i. record { specifier = both.0 i; start = same i; end = end i; mode = mode i }
 
 -- no specifier is both of a dynamic import and of a declaration
-forms_apart : (text : List ℕ) (import other : Import) → Specified DynamicHead EndsDynamicImport text import → Specified DeclarationHead EndsDeclaration text other
+forms_apart : (text : List ℕ) (import other : Import) → Specified DynamicHead EndsDynamicImport text import
+    → Specified DeclarationHead EndsDeclaration text other
     → import.start ≡ other.start → ⊥
 forms_apart text import other s t same =
     let left = dynamic_head_ends s.before s.head in
@@ -302,25 +381,36 @@ forms_apart text import other s t same =
     append_assoc s.front left.0 (40 ∷ left.1) ∙ ap (λ x. s.front ++ x) (sym left.3)
     ∙ befores DynamicHead DeclarationHead EndsDynamicImport EndsDeclaration text import other s t same
     ∙ ap (λ x. t.front ++ x) right.3 ∙ sym (append_assoc t.front right.0 (109 ∷ right.1)) in
-    let last : ◌≡◌ {A = ℕ} 40 109 = last_solid 40 109 (s.front ++ left.0) (t.front ++ right.0) left.1 right.1 left.2 right.2 refl refl whole in
+    let last : ◌≡◌ {A = ℕ} 40 109 = last_solid 40 109 (s.front ++ left.0)
+    (t.front ++ right.0) left.1 right.1 left.2 right.2 refl refl whole in
     omega (arith, last)
 
 -- a start determines a hit
-pub one_hit : (text : List ℕ) (import other : Import) → IsHit text import → IsHit text other → import.start ≡ other.start → import ≡ other
+pub one_hit : (text : List ℕ) (import other : Import) → IsHit text import → IsHit text other
+    → import.start ≡ other.start → import ≡ other
 one_hit text import other hit again same = by_form (hit_stated text import hit) (hit_stated text other again)
   where
-    dynamic : (i : Import) (found : (front : List ℕ) × IsDynamicHit text front i) → Specified DynamicHead EndsDynamicImport text i
+    dynamic : (i : Import) (found : (front : List ℕ) × IsDynamicHit text front i)
+        → Specified DynamicHead EndsDynamicImport text i
     dynamic i found = specified_by EndsAtDynamicImport DynamicHead EndsDynamicImport text found.0 i found.1
 
-    declaration : (i : Import) (found : (front : List ℕ) × IsDeclarationHit text front i) → Specified DeclarationHead EndsDeclaration text i
-    declaration i found = specified_by EndsAtDeclaration DeclarationHead EndsDeclaration text found.0 i found.1
+    declaration : (i : Import) (found : (front : List ℕ) × IsDeclarationHit text front i)
+        → Specified DeclarationHead EndsDeclaration text i
+    declaration i found =
+        specified_by EndsAtDeclaration DeclarationHead EndsDeclaration text found.0 i found.1
 
-    by_form : ((front : List ℕ) × IsDynamicHit text front import) ⊎ ((front : List ℕ) × IsDeclarationHit text front import)
-        → ((front : List ℕ) × IsDynamicHit text front other) ⊎ ((front : List ℕ) × IsDeclarationHit text front other) → import ≡ other
-    by_form (inl x) (inl y) = one_specified DynamicHead EndsDynamicImport only_dynamic_tail text import other (dynamic import x) (dynamic other y) same
-    by_form (inr x) (inr y) = one_specified DeclarationHead EndsDeclaration only_declaration_tail text import other (declaration import x) (declaration other y) same
-    by_form (inl x) (inr y) = absurd (forms_apart text import other (dynamic import x) (declaration other y) same)
-    by_form (inr x) (inl y) = absurd (forms_apart text other import (dynamic other y) (declaration import x) (sym same))
+    by_form : ((front : List ℕ) × IsDynamicHit text front import)
+        ⊎ ((front : List ℕ) × IsDeclarationHit text front import)
+        → ((front : List ℕ) × IsDynamicHit text front other)
+        ⊎ ((front : List ℕ) × IsDeclarationHit text front other) → import ≡ other
+    by_form (inl x) (inl y) = one_specified DynamicHead EndsDynamicImport only_dynamic_tail text import other
+        (dynamic import x) (dynamic other y) same
+    by_form (inr x) (inr y) = one_specified DeclarationHead EndsDeclaration only_declaration_tail text import
+        other (declaration import x) (declaration other y) same
+    by_form (inl x) (inr y) =
+        absurd (forms_apart text import other (dynamic import x) (declaration other y) same)
+    by_form (inr x) (inl y) =
+        absurd (forms_apart text other import (dynamic other y) (declaration import x) (sym same))
 
 -- where the specifier of a hit stands in its text
 pub record IsPlaced (text : List ℕ) (import : Import) : Type 0 where
@@ -329,13 +419,14 @@ pub record IsPlaced (text : List ℕ) (import : Import) : Type 0 where
   pub behind : List ℕ
   pub whole : text ≡ before ++ (quote ++ behind)
   pub quoted : IsQuote import.specifier quote
-  pub start : import.start ≡ size before + 1
-  pub end : import.end ≡ import.start + size import.specifier
+  pub start : import.start ≡ byte_count before + 1
+  pub end : import.end ≡ import.start + byte_count import.specifier
 
 pub hit_placed : (text : List ℕ) (import : Import) → IsHit text import → IsPlaced text import
 hit_placed text import hit = by_form (hit_stated text import hit)
   where
-    placed : (Head : List ℕ → Type 0) (Tail : List ℕ → Mode → List ℕ → Type 0) → Specified Head Tail text import → IsPlaced text import
+    placed : (Head : List ℕ → Type 0) (Tail : List ℕ → Mode → List ℕ → Type 0)
+        → Specified Head Tail text import → IsPlaced text import
     placed Head Tail s = record {
       before = s.front ++ s.before;
       quote = s.quote;
@@ -346,6 +437,9 @@ hit_placed text import hit = by_form (hit_stated text import hit)
       end = s.end;
     }
 
-    by_form : ((front : List ℕ) × IsDynamicHit text front import) ⊎ ((front : List ℕ) × IsDeclarationHit text front import) → IsPlaced text import
-    by_form (inl found) = placed DynamicHead EndsDynamicImport (specified_by EndsAtDynamicImport DynamicHead EndsDynamicImport text found.0 import found.1)
-    by_form (inr found) = placed DeclarationHead EndsDeclaration (specified_by EndsAtDeclaration DeclarationHead EndsDeclaration text found.0 import found.1)
+    by_form : ((front : List ℕ) × IsDynamicHit text front import)
+        ⊎ ((front : List ℕ) × IsDeclarationHit text front import) → IsPlaced text import
+    by_form (inl found) = placed DynamicHead EndsDynamicImport
+        (specified_by EndsAtDynamicImport DynamicHead EndsDynamicImport text found.0 import found.1)
+    by_form (inr found) = placed DeclarationHead EndsDeclaration
+        (specified_by EndsAtDeclaration DeclarationHead EndsDeclaration text found.0 import found.1)

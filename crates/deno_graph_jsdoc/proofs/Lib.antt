@@ -14,6 +14,7 @@ pub mod Words
 pub mod Unique
 pub mod UniqueImports
 pub mod Sites
+pub mod Occurrences
 pub mod Hits
 pub mod Existence
 pub mod Collected

@@ -1,56 +1,80 @@
 -- What the parsers of the smallest parts answer.
-use Rattle.std.proofs.Common.{◌≡◌, ◌≢◌, ℕ, ◌-◌, ◌<◌, ◌≤◌, inl, inr, true, false, Option, Some, None, List, [], ◌∷◌, ◌++◌, length, take, drop, refl, sym, ap, ◌∙◌, subst, arith, append_assoc, codes, length-append, slice_range}
+use Rattle.std.proofs.Common.{◌≡◌, ◌≢◌, ℕ, ◌-◌, ◌<◌, ◌≤◌, inl, inr, true, false, Option, Some, None, List, []}
+use Rattle.std.proofs.Common.{◌∷◌, ◌++◌, length, take, drop, refl, sym, ap, ◌∙◌, subst, arith, append_assoc}
+use Rattle.std.proofs.Common.{codes, length-append, slice_range}
 use Rattle.std.proofs.lemmas.Bool.{both_ways, false≢true}
 use Rattle.std.proofs.lemmas.Str.{encodes-chars, length-le-encodes}
 use Rattle.std.specs.List.{AllByRecursion}
 use Rattle.std.specs.Str.{IsUtf8, chars, skip_leading_whitespace}
 use lib.Utf8.{encodes}
-use Rattle.deno_graph_jsdoc.specs.JsDocGrammar.{◌·◌, Is, IsSpace, IsGap, IsBetween, IsQuote, IsIdent, Lacks, begins_ident, ends_ident}
-use Rattle.deno_graph_jsdoc.specs.JsDocReading.{Begins, Reads, Anything, NoSpace, EndOfIdent}
+use Rattle.deno_graph_jsdoc.specs.Characters.{double_quote, apostrophe, closing_brace}
+use Rattle.deno_graph_jsdoc.specs.JsDocGrammar.{◌·◌, Is, IsSpace, IsGap, IsBetween, IsQuote, IsIdent, Lacks}
+use Rattle.deno_graph_jsdoc.specs.JsDocGrammar.{ends_ident, Begins, Anything, NoSpace}
+use Rattle.deno_graph_jsdoc.specs.JsDocReading.{begins_ident, Reads, EndOfIdent}
 use Rattle.deno_graph_jsdoc.proofs.Alphabetic.{Alphabetic-ends_ident}
-use Rattle.deno_graph_jsdoc.proofs.Runs.{same_run, space_whole, same_space, same_before_mark, Lacks-not_inside}
+use Rattle.deno_graph_jsdoc.proofs.Runs.{same_run, space_whole, same_space, same_before_mark}
+use Rattle.deno_graph_jsdoc.proofs.Runs.{Lacks-not_inside}
 use Rattle.deno_graph_jsdoc.proofs.Texts.{bytes_from_chars}
 
 -- what is left of a text is shorter where white space was skipped
-module _ (input rest : List ℕ) (utf8 : IsUtf8 input) (utf8_rest : IsUtf8 rest) (skips : chars rest ≡ skip_leading_whitespace (chars input)) where
-  some_space : (space : List ℕ) → IsSpace space → chars input ≡ space ++ chars rest → length rest < length input → IsGap space
+module _ (input rest : List ℕ) (utf8 : IsUtf8 input) (utf8_rest : IsUtf8 rest)
+    (skips : chars rest ≡ skip_leading_whitespace (chars input)) where
+  some_space : (space : List ℕ) → IsSpace space → chars input ≡ space ++ chars rest
+      → length rest < length input → IsGap space
   some_space [] white whole shorter =
-      let same : input ≡ rest = sym (encodes-chars input utf8) ∙ ap encodes whole ∙ encodes-chars rest utf8_rest in
+      let same : input ≡ rest = sym (encodes-chars input utf8) ∙ ap encodes whole
+      ∙ encodes-chars rest utf8_rest in
       absurd (omega (arith, ap length same))
   some_space (c ∷ cs) white whole shorter = (white, omega arith)
 
-  pub gap_read : length rest < length input → Reads NoSpace (λ (_ : Unit {0}). IsGap) (chars input) (Some (chars rest, tt))
+  pub gap_read : length rest < length input
+      → Reads NoSpace (λ (_ : Unit {0}). IsGap) (chars input) (Some (chars rest, tt))
   gap_read shorter =
       let own = space_whole (chars input) in
       let whole : chars input ≡ own.0 ++ chars rest = own.2 ∙ ap (λ t. own.0 ++ t) (sym skips) in (
         record { piece = own.0; whole = whole; is = some_space own.0 own.1 whole shorter },
-        λ other behind stop begins. (refl, same_space (chars input) begins.piece behind begins.is.0 stop begins.whole ∙ sym skips),
+        λ other behind stop begins.
+            (refl, same_space (chars input) begins.piece behind begins.is.0 stop begins.whole ∙ sym skips),
       )
 
   pub gap_none : length input ≤ length rest → Reads NoSpace (λ (_ : Unit {0}). IsGap) (chars input) None
   gap_none longer other behind stop begins =
-      let same : behind ≡ chars rest = same_space (chars input) begins.piece behind begins.is.0 stop begins.whole ∙ sym skips in
-      let bytes : input ≡ encodes begins.piece ++ encodes behind = bytes_from_chars input begins.piece behind utf8 begins.whole in
+      let same : behind ≡ chars rest =
+      same_space (chars input) begins.piece behind begins.is.0 stop begins.whole ∙ sym skips in
+      let bytes : input ≡ encodes begins.piece ++ encodes behind =
+      bytes_from_chars input begins.piece behind utf8 begins.whole in
       let left : encodes behind ≡ rest = ap encodes same ∙ encodes-chars rest utf8_rest in
       let some = begins.is.1 in
-      omega (arith, ap length bytes, length-append (encodes begins.piece) (encodes behind), ap length left, length-le-encodes begins.piece)
+      omega (
+        arith,
+        ap length bytes,
+        length-append (encodes begins.piece) (encodes behind),
+        ap length left,
+        length-le-encodes begins.piece,
+      )
 
 -- a text between marks
 module _ (mark : ℕ) where
-  pub marked : (inside behind : List ℕ) → (mark ∷ inside ++ mark ∷ []) ++ behind ≡ mark ∷ (inside ++ mark ∷ behind)
+  pub marked : (inside behind : List ℕ)
+      → (mark ∷ inside ++ mark ∷ []) ++ behind ≡ mark ∷ (inside ++ mark ∷ behind)
   marked inside behind = ap (λ t. mark ∷ t) (append_assoc inside (mark ∷ []) behind)
 
-  pub unmarked_read : (input : List ℕ) → ((rest : List ℕ) → input ≢ mark ∷ rest) → Reads Anything (IsBetween mark) input None
+  pub unmarked_read : (input : List ℕ) → ((rest : List ℕ) → input ≢ mark ∷ rest)
+      → Reads Anything (IsBetween mark) input None
   unmarked_read input no_mark inside behind _ begins =
-      no_mark (inside ++ mark ∷ behind) (begins.whole ∙ ap (λ piece. piece ++ behind) begins.is.1 ∙ marked inside behind)
+      no_mark (inside ++ mark ∷ behind)
+      (begins.whole ∙ ap (λ piece. piece ++ behind) begins.is.1 ∙ marked inside behind)
 
-  pub unclosed_read : (input rest : List ℕ) → input ≡ mark ∷ rest → Lacks mark rest → Reads Anything (IsBetween mark) input None
+  pub unclosed_read : (input rest : List ℕ) → input ≡ mark ∷ rest → Lacks mark rest
+      → Reads Anything (IsBetween mark) input None
   unclosed_read input rest opens lacks inside behind _ begins =
-      let all : mark ∷ rest ≡ mark ∷ (inside ++ mark ∷ behind) = sym opens ∙ begins.whole ∙ ap (λ piece. piece ++ behind) begins.is.1 ∙ marked inside behind in
+      let all : mark ∷ rest ≡ mark ∷ (inside ++ mark ∷ behind) =
+      sym opens ∙ begins.whole ∙ ap (λ piece. piece ++ behind) begins.is.1 ∙ marked inside behind in
       let same : rest ≡ inside ++ mark ∷ behind = cc in
       Lacks-not_inside mark inside behind (subst (Lacks mark) same lacks)
 
-  pub between_read : (input opened text rest : List ℕ) → input ≡ mark ∷ opened → Lacks mark text → opened ≡ text ++ mark ∷ rest
+  pub between_read : (input opened text rest : List ℕ) → input ≡ mark ∷ opened → Lacks mark text
+      → opened ≡ text ++ mark ∷ rest
       → Reads Anything (IsBetween mark) input (Some (rest, text))
   between_read input opened text rest opens lacks closes = (
     record {
@@ -60,31 +84,43 @@ module _ (mark : ℕ) where
     },
     λ inside behind _ begins.
         let all : mark ∷ (text ++ mark ∷ rest) ≡ mark ∷ (inside ++ mark ∷ behind) =
-        ap (λ t. mark ∷ t) (sym closes) ∙ sym opens ∙ begins.whole ∙ ap (λ piece. piece ++ behind) begins.is.1 ∙ marked inside behind in
+        ap (λ t. mark ∷ t) (sym closes) ∙ sym opens ∙ begins.whole ∙ ap (λ piece. piece ++ behind) begins.is.1
+        ∙ marked inside behind in
         let same : text ++ mark ∷ rest ≡ inside ++ mark ∷ behind = cc in
         let found = same_before_mark mark text inside rest behind lacks begins.is.0 same in
         (sym found.0, sym found.1),
   )
 
 -- a quoted text has marks of one kind
-pub marks_apart : (input inside other rest behind : List ℕ) → Begins (IsBetween 34 inside) input rest → Begins (IsBetween 39 other) input behind → ⊥
+pub marks_apart : (input inside other rest behind : List ℕ)
+    → Begins (IsBetween double_quote inside) input rest
+    → Begins (IsBetween apostrophe other) input behind → ⊥
 marks_apart input inside other rest behind double single =
-    let first : input ≡ 34 ∷ (inside ++ 34 ∷ rest) = double.whole ∙ ap (λ piece. piece ++ rest) double.is.1 ∙ marked 34 inside rest in
-    let second : input ≡ 39 ∷ (other ++ 39 ∷ behind) = single.whole ∙ ap (λ piece. piece ++ behind) single.is.1 ∙ marked 39 other behind in
-    let same : 34 ∷ (inside ++ 34 ∷ rest) ≡ 39 ∷ (other ++ 39 ∷ behind) = sym first ∙ second in
+    let first : input ≡ double_quote ∷ (inside ++ double_quote ∷ rest) =
+    double.whole ∙ ap (λ piece. piece ++ rest) double.is.1
+    ∙ marked double_quote inside rest in
+    let second : input ≡ apostrophe ∷ (other ++ apostrophe ∷ behind) =
+    single.whole ∙ ap (λ piece. piece ++ behind) single.is.1 ∙ marked apostrophe other behind in
+    let same : double_quote ∷ (inside ++ double_quote ∷ rest) ≡ apostrophe ∷ (other ++ apostrophe ∷ behind) =
+    sym first ∙ second in
     let heads : ◌≡◌ {A = ℕ} 34 39 = cc in
     absurd (omega (arith, heads))
 
-pub quote_double : (input rest inside : List ℕ) → Reads Anything (IsBetween 34) input (Some (rest, inside)) → Reads Anything IsQuote input (Some (rest, inside))
+pub quote_double : (input rest inside : List ℕ)
+    → Reads Anything (IsBetween double_quote) input (Some (rest, inside))
+    → Reads Anything IsQuote input (Some (rest, inside))
 quote_double input rest inside found = (
   record { piece = found.0.piece; whole = found.0.whole; is = inl found.0.is },
   λ other behind _ begins. elim begins.is [
     | inl is ↦ found.1 other behind tt (record { piece = begins.piece; whole = begins.whole; is = is })
-    | inr is ↦ absurd (marks_apart input inside other rest behind found.0 (record { piece = begins.piece; whole = begins.whole; is = is }))
+    | inr is ↦ absurd (marks_apart input inside other rest behind found.0
+        (record { piece = begins.piece; whole = begins.whole; is = is }))
   ],
 )
 
-pub quote_single : (input : List ℕ) (answer : Option (List ℕ × List ℕ)) → Reads Anything (IsBetween 34) input None → Reads Anything (IsBetween 39) input answer → Reads Anything IsQuote input answer
+pub quote_single : (input : List ℕ) (answer : Option (List ℕ × List ℕ))
+    → Reads Anything (IsBetween double_quote) input
+    None → Reads Anything (IsBetween apostrophe) input answer → Reads Anything IsQuote input answer
 quote_single input None none other = λ inside rest _ begins. elim begins.is [
   | inl is ↦ none inside rest tt (record { piece = begins.piece; whole = begins.whole; is = is })
   | inr is ↦ other inside rest tt (record { piece = begins.piece; whole = begins.whole; is = is })
@@ -98,57 +134,71 @@ quote_single input (Some answer) none found = (
 )
 
 -- the text up to a closing brace
-braced : (front behind : List ℕ) → (front ++ 125 ∷ []) ++ behind ≡ front ++ 125 ∷ behind
-braced front behind = append_assoc front (125 ∷ []) behind
+braced : (front behind : List ℕ) → (front ++ closing_brace ∷ []) ++ behind ≡ front ++ closing_brace ∷ behind
+braced front behind = append_assoc front (closing_brace ∷ []) behind
 
-pub brace_none : (input : List ℕ) → Lacks 125 input → Reads Anything (λ (_ : Unit {0}). Lacks 125 · Is (codes "}")) input None
+pub brace_none : (input : List ℕ) → Lacks closing_brace input
+    → Reads Anything (λ (_ : Unit {0}). Lacks closing_brace · Is (codes "}")) input None
 brace_none input lacks other behind _ begins =
     let parts = begins.is in
-    let same : input ≡ parts.front ++ 125 ∷ behind =
-    begins.whole ∙ ap (λ piece. piece ++ behind) (parts.whole ∙ ap (λ brace. parts.front ++ brace) parts.is_back) ∙ braced parts.front behind in
-    Lacks-not_inside 125 parts.front behind (subst (Lacks 125) same lacks)
+    let same : input ≡ parts.front ++ closing_brace ∷ behind =
+    begins.whole ∙ ap (λ piece. piece ++ behind)
+    (parts.whole ∙ ap (λ brace. parts.front ++ brace) parts.is_back) ∙ braced parts.front behind in
+    Lacks-not_inside closing_brace parts.front behind (subst (Lacks closing_brace) same lacks)
 
-pub brace_read : (input text rest : List ℕ) → Lacks 125 text → input ≡ text ++ 125 ∷ rest → Reads Anything (λ (_ : Unit {0}). Lacks 125 · Is (codes "}")) input (Some (rest, tt))
+pub brace_read : (input text rest : List ℕ) → Lacks closing_brace text → input ≡ text ++ closing_brace ∷ rest
+    → Reads Anything (λ (_ : Unit {0}). Lacks closing_brace · Is (codes "}")) input (Some (rest, tt))
 brace_read input text rest lacks whole = (
   record {
-    piece = text ++ 125 ∷ [];
+    piece = text ++ closing_brace ∷ [];
     whole = whole ∙ sym (braced text rest);
-    is = record { front = text; back = 125 ∷ []; whole = refl; is_front = lacks; is_back = refl };
+    is = record { front = text; back = closing_brace ∷ []; whole = refl; is_front = lacks; is_back = refl };
   },
   λ other behind _ begins.
       let parts = begins.is in
-      let same : input ≡ parts.front ++ 125 ∷ behind =
-      begins.whole ∙ ap (λ piece. piece ++ behind) (parts.whole ∙ ap (λ brace. parts.front ++ brace) parts.is_back) ∙ braced parts.front behind in
-      (refl, sym (same_before_mark 125 text parts.front rest behind lacks parts.is_front (sym whole ∙ same)).1),
+      let same : input ≡ parts.front ++ closing_brace ∷ behind =
+      begins.whole ∙ ap (λ piece. piece ++ behind)
+      (parts.whole ∙ ap (λ brace. parts.front ++ brace) parts.is_back) ∙ braced parts.front behind in (
+        refl,
+        sym (same_before_mark closing_brace text parts.front rest behind lacks parts.is_front
+            (sym whole ∙ same)).1,
+      ),
 )
 
 -- characters that end no identifier, and then one that does
 abbrev pub IsNameRun : List ℕ → List ℕ → List ℕ → Type 0
-IsNameRun input name rest = (input ≡ name ++ rest) × AllByRecursion (λ c. ends_ident c ≡ false) name × EndOfIdent rest
+IsNameRun input name rest = (input ≡ name ++ rest)
+    × AllByRecursion (λ c. ends_ident c ≡ false) name × EndOfIdent rest
 
 pub IsNameRun-found : (input name : List ℕ) (end at : ℕ) → end ≡ at → name ≡ slice_range input 0 end
-    → IsNameRun (chars input) (chars (take at input)) (chars (drop at input)) → IsNameRun (chars input) (chars name) (chars (drop end input))
+    → IsNameRun (chars input) (chars (take at input)) (chars (drop at input))
+    → IsNameRun (chars input) (chars name) (chars (drop end input))
 IsNameRun-found input name end at is cut run =
     let size : end - 0 ≡ end = omega arith in
     let front : name ≡ take end input = cut ∙ ap (λ n. take n input) size in
     subst (λ t. IsNameRun (chars input) (chars t) (chars (drop end input))) (sym front)
     (subst (λ n. IsNameRun (chars input) (chars (take n input)) (chars (drop n input))) (sym is) run)
 
-pub run_of_ident : (name : List ℕ) → IsIdent name → AllByRecursion (λ c. ends_ident c ≡ false) name × (begins_ident name ≡ true)
+pub run_of_ident : (name : List ℕ) → IsIdent name → AllByRecursion (λ c. ends_ident c ≡ false) name
+    × (begins_ident name ≡ true)
 run_of_ident [] is = absurd is
 run_of_ident (c ∷ cs) is = ((Alphabetic-ends_ident c is.0, is.1), is.0)
 
-ident_of_run : (name : List ℕ) → AllByRecursion (λ c. ends_ident c ≡ false) name → begins_ident name ≡ true → IsIdent name
+ident_of_run : (name : List ℕ) → AllByRecursion (λ c. ends_ident c ≡ false) name
+    → begins_ident name ≡ true → IsIdent name
 ident_of_run [] all first = absurd (false≢true first)
 ident_of_run (c ∷ cs) all first = (first, all.1)
 
 module _ (input name rest : List ℕ) (run : IsNameRun input name rest) where
-  the_run : (other behind : List ℕ) → IsIdent other → EndOfIdent behind → input ≡ other ++ behind → (name ≡ other) × (rest ≡ behind)
+  the_run : (other behind : List ℕ) → IsIdent other → EndOfIdent behind → input ≡ other ++ behind
+      → (name ≡ other) × (rest ≡ behind)
   the_run other behind is end whole =
-      same_run (λ c. ends_ident c ≡ false) (λ c. ends_ident c ≡ true) (λ c not is. both_ways (ends_ident c) not is) name other rest behind
+      same_run (λ c. ends_ident c ≡ false) (λ c. ends_ident c ≡ true)
+      (λ c not is. both_ways (ends_ident c) not is) name other rest behind
       run.1 (run_of_ident other is).0 run.2 end (sym run.0 ∙ whole)
 
-  pub ident_read : begins_ident name ≡ true → Reads EndOfIdent (λ name text. IsIdent text × (name ≡ text)) input (Some (rest, name))
+  pub ident_read : begins_ident name ≡ true
+      → Reads EndOfIdent (λ name text. IsIdent text × (name ≡ text)) input (Some (rest, name))
   ident_read first = (
     record { piece = name; whole = run.0; is = (ident_of_run name run.1 first, refl) },
     λ other behind end begins.
@@ -156,7 +206,9 @@ module _ (input name rest : List ℕ) (run : IsNameRun input name rest) where
         (begins.is.1 ∙ sym same.0, sym same.1),
   )
 
-  pub ident_none : begins_ident name ≡ false → Reads {V = List ℕ} EndOfIdent (λ name text. IsIdent text × (name ≡ text)) input None
+  pub ident_none : begins_ident name ≡ false
+      → Reads {V = List ℕ} EndOfIdent (λ name text. IsIdent text × (name ≡ text)) input None
   ident_none first other behind end begins =
       let same = the_run begins.piece behind begins.is.0 end begins.whole in
-      both_ways (begins_ident name) first (subst (λ t. begins_ident t ≡ true) (sym same.0) (run_of_ident begins.piece begins.is.0).1)
+      both_ways (begins_ident name) first
+      (subst (λ t. begins_ident t ≡ true) (sym same.0) (run_of_ident begins.piece begins.is.0).1)

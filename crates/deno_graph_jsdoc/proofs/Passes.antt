@@ -1,17 +1,27 @@
 -- A pass over a text, from one `import` to the next.
-use Rattle.std.proofs.Common.{◌≡◌, ◌≢◌, ℕ, ◌+◌, ◌<◌, ◌≤◌, ◌⊎◌, inl, inr, Option, Some, None, List, [], ◌∷◌, ◌++◌, length, refl, sym, ap, ◌∙◌, subst, codes, append_assoc, length-append, arith}
+use Rattle.std.proofs.Common.{◌≡◌, ◌≢◌, ℕ, ◌+◌, ◌<◌, ◌≤◌, ◌⊎◌, inl, inr, Option, Some, None, List, [], ◌∷◌}
+use Rattle.std.proofs.Common.{◌++◌, length, refl, sym, ap, ◌∙◌, subst, codes, append_assoc, length-append}
+use Rattle.std.proofs.Common.{arith}
 use Rattle.std.proofs.lemmas.Bool.{cases_lt}
 use Rattle.std.proofs.lemmas.List.{append_cancel_left, append_cancel_right, append-nil}
 use Rattle.std.specs.List.{AllPairs, Contains}
 use Rattle.std.specs.Option.{MatchOption}
-use Rattle.deno_graph_jsdoc.specs.JsDocImport.{Import, Parses, IsDeclarationEnd, IsDynamicEnd, moved, size}
-use Rattle.deno_graph_jsdoc.specs.JsDocHits.{AreHits, HasFronts, IsHit, IsFront, EndsAtDynamicImport, EndsAtDeclaration, EndsWithAt, LeavesOpen, GainsImport}
-use Rattle.deno_graph_jsdoc.proofs.Hits.{IsStated, IsDynamicHit, IsDeclarationHit, hit_stated, dynamic_hit, declaration_hit, dynamic_ends, declaration_ends, stated_none, stated_only, stated_some, one_hit}
+use Rattle.deno_graph_jsdoc.specs.Characters.{at_sign, opening_brace}
+use Rattle.deno_graph_jsdoc.specs.JsDocReading.{ReadsImport, IsDeclarationEnd, IsDynamicEnd}
+use Rattle.deno_graph_jsdoc.specs.JsDocImport.{Import, moved, byte_count}
+use Rattle.deno_graph_jsdoc.specs.JsDocHits.{AreHits, HasFronts, IsHit, IsFront, EndsAtDynamicImport}
+use Rattle.deno_graph_jsdoc.specs.JsDocHits.{EndsAtDeclaration, GainsImport}
+use Rattle.deno_graph_jsdoc.specs.JsDocPass.{EndsWithAt, LeavesOpen}
+use Rattle.deno_graph_jsdoc.proofs.Hits.{IsStated, IsDynamicHit, IsDeclarationHit, hit_stated, dynamic_hit}
+use Rattle.deno_graph_jsdoc.proofs.Hits.{declaration_hit, dynamic_ends, declaration_ends, stated_none}
+use Rattle.deno_graph_jsdoc.proofs.Hits.{stated_only, stated_some, one_hit}
 use Rattle.deno_graph_jsdoc.proofs.Runs.{front_of_front}
-use Rattle.deno_graph_jsdoc.proofs.Sites.{word, EndsIn, IsCut, Skips, same_front, skips_to, no_further, Counted, Counted-start, Counted-skip, Counted-more, Counted-all}
+use Rattle.deno_graph_jsdoc.proofs.Sites.{word, EndsIn, IsCut, Skips, same_front, skips_to, no_further}
+use Rattle.deno_graph_jsdoc.proofs.Sites.{Counted, Counted-start, Counted-skip, Counted-more, Counted-all}
 
 -- no part of the word is a brace
-no_brace : (middle rest behind : List ℕ) → word ++ rest ≡ middle ++ 123 ∷ behind → length middle < 6 → ⊥
+no_brace : (middle rest behind : List ℕ)
+    → word ++ rest ≡ middle ++ opening_brace ∷ behind → length middle < 6 → ⊥
 no_brace [] rest behind same short =
     let heads : ◌≡◌ {A = ℕ} 105 123 = cc in
     omega (arith, heads)
@@ -42,14 +52,16 @@ same_last a b (x ∷ xs) (y ∷ ys) same =
     same_last a b xs ys tails
 
 -- the next `import` behind a cut
-module _ (text front before behind : List ℕ) (cut : IsCut front) (whole : text ≡ front ++ (before ++ (word ++ behind)))
+module _ (text front before behind : List ℕ) (cut : IsCut front)
+    (whole : text ≡ front ++ (before ++ (word ++ behind)))
     (first : (sooner after : List ℕ) → before ++ word ≡ sooner ++ (word ++ after) → after ≡ []) where
   abbrev pub next : List ℕ
   next = front ++ (before ++ word)
 
   pub next_whole : text ≡ next ++ behind
   next_whole =
-      whole ∙ ap (λ t. front ++ t) (sym (append_assoc before word behind)) ∙ sym (append_assoc front (before ++ word) behind)
+      whole ∙ ap (λ t. front ++ t) (sym (append_assoc before word behind))
+      ∙ sym (append_assoc front (before ++ word) behind)
 
   pub next_cut : IsCut next
   next_cut = inr (front ++ before, sym (append_assoc front before word))
@@ -71,7 +83,8 @@ module _ (text front before behind : List ℕ) (cut : IsCut front) (whole : text
     front = front ++ ends.front;
     back = codes "@import";
     whole = ap (λ t. front ++ (t ++ word)) (ends.whole ∙ ap (λ t. ends.front ++ t) ends.is_back)
-        ∙ ap (λ t. front ++ t) (append_assoc ends.front (64 ∷ []) word) ∙ sym (append_assoc front ends.front (64 ∷ word));
+        ∙ ap (λ t. front ++ t) (append_assoc ends.front (at_sign ∷ []) word)
+        ∙ sym (append_assoc front ends.front (at_sign ∷ word));
     is_front = tt;
     is_back = refl;
   }
@@ -79,16 +92,25 @@ module _ (text front before behind : List ℕ) (cut : IsCut front) (whole : text
   pub at_declaration : EndsAtDeclaration next → EndsWithAt before
   at_declaration site = by_length (cases_lt (length site.front) (length front))
     where
-      all : front ++ before ≡ site.front ++ 64 ∷ []
+      all : front ++ before ≡ site.front ++ at_sign ∷ []
       all =
-          append_cancel_right (front ++ before) (site.front ++ 64 ∷ []) word
-          (append_assoc front before word ∙ site.whole ∙ ap (λ t. site.front ++ t) site.is_back ∙ sym (append_assoc site.front (64 ∷ []) word))
+          append_cancel_right (front ++ before) (site.front ++ at_sign ∷ []) word
+          (append_assoc front before word ∙ site.whole ∙ ap (λ t. site.front ++ t) site.is_back
+          ∙ sym (append_assoc site.front (at_sign ∷ []) word))
 
       by_cut : IsCut front → before ≡ [] → EndsWithAt before
-      by_cut (inl none) empty = absurd (omega (arith, ap length all, length-append front before, length-append site.front (64 ∷ []), ap length none, ap length empty))
+      by_cut (inl none) empty = absurd (omega (
+        arith,
+        ap length all,
+        length-append front before,
+        length-append site.front (at_sign ∷ []),
+        ap length none,
+        ap length empty,
+      ))
       by_cut (inr (earlier, is)) empty =
-          let same : (earlier ++ codes "impor") ++ 116 ∷ [] ≡ site.front ++ 64 ∷ [] =
-          append_assoc earlier (codes "impor") (116 ∷ []) ∙ sym is ∙ sym (append-nil front) ∙ ap (λ t. front ++ t) (sym empty) ∙ all in
+          let same : (earlier ++ codes "impor") ++ 116 ∷ [] ≡ site.front ++ at_sign ∷ [] =
+          append_assoc earlier (codes "impor") (116 ∷ []) ∙ sym is ∙ sym (append-nil front)
+          ∙ ap (λ t. front ++ t) (sym empty) ∙ all in
           let last : ◌≡◌ {A = ℕ} 116 64 = same_last 116 64 (earlier ++ codes "impor") site.front same in
           absurd (omega (arith, last))
 
@@ -100,13 +122,15 @@ module _ (text front before behind : List ℕ) (cut : IsCut front) (whole : text
           none (x ∷ t) is = absurd (omega arith)
 
       by_length : (length site.front < length front) ⊎ (length front ≤ length site.front) → EndsWithAt before
-      by_length (inl sooner) = by_cut cut (empty_before (omega (arith, ap length all, length-append front before, length-append site.front (64 ∷ []))))
+      by_length (inl sooner) = by_cut cut (empty_before
+          (omega (arith, ap length all, length-append front before, length-append site.front (at_sign ∷ []))))
       by_length (inr later) =
-          let middle = front_of_front front before site.front (64 ∷ []) all later in
+          let middle = front_of_front front before site.front (at_sign ∷ []) all later in
           record {
             front = middle.0;
-            back = 64 ∷ [];
-            whole = append_cancel_left front before (middle.0 ++ 64 ∷ []) (all ∙ ap (λ t. t ++ 64 ∷ []) middle.1 ∙ append_assoc front middle.0 (64 ∷ []));
+            back = at_sign ∷ [];
+            whole = append_cancel_left front before (middle.0 ++ at_sign ∷ [])
+                (all ∙ ap (λ t. t ++ at_sign ∷ []) middle.1 ∙ append_assoc front middle.0 (at_sign ∷ []));
             is_front = tt;
             is_back = refl;
           }
@@ -115,15 +139,17 @@ module _ (text front before behind : List ℕ) (cut : IsCut front) (whole : text
   pub dynamic_here : LeavesOpen before → EndsAtDynamicImport next
   dynamic_here opens =
       let brace = opens.is_back in
-      let is : before ≡ opens.front ++ 123 ∷ brace.back = opens.whole ∙ ap (λ t. opens.front ++ t) (brace.whole ∙ ap (λ t. t ++ brace.back) brace.is_front) in
+      let is : before ≡ opens.front ++ opening_brace ∷ brace.back =
+      opens.whole ∙ ap (λ t. opens.front ++ t) (brace.whole ∙ ap (λ t. t ++ brace.back) brace.is_front) in
       record {
         front = front ++ opens.front;
-        back = 123 ∷ (brace.back ++ word);
-        whole = ap (λ t. front ++ (t ++ word)) is ∙ ap (λ t. front ++ t) (append_assoc opens.front (123 ∷ brace.back) word)
-            ∙ sym (append_assoc front opens.front (123 ∷ (brace.back ++ word)));
+        back = opening_brace ∷ (brace.back ++ word);
+        whole = ap (λ t. front ++ (t ++ word)) is
+            ∙ ap (λ t. front ++ t) (append_assoc opens.front (opening_brace ∷ brace.back) word)
+            ∙ sym (append_assoc front opens.front (opening_brace ∷ (brace.back ++ word)));
         is_front = tt;
         is_back = record {
-          front = 123 ∷ [];
+          front = opening_brace ∷ [];
           back = brace.back ++ word;
           whole = refl;
           is_front = refl;
@@ -132,9 +158,10 @@ module _ (text front before behind : List ℕ) (cut : IsCut front) (whole : text
             whole = refl;
             unclosed = brace.is_back;
             first = λ sooner after same.
-                first (opens.front ++ 123 ∷ sooner) after
-                (ap (λ t. t ++ word) is ∙ append_assoc opens.front (123 ∷ brace.back) word ∙ ap (λ t. opens.front ++ 123 ∷ t) same
-                ∙ sym (append_assoc opens.front (123 ∷ sooner) (word ++ after)));
+                first (opens.front ++ opening_brace ∷ sooner) after
+                (ap (λ t. t ++ word) is ∙ append_assoc opens.front (opening_brace ∷ brace.back) word
+                ∙ ap (λ t. opens.front ++ opening_brace ∷ t) same
+                ∙ sym (append_assoc opens.front (opening_brace ∷ sooner) (word ++ after)));
           };
         };
       }
@@ -145,76 +172,108 @@ module _ (text front before behind : List ℕ) (cut : IsCut front) (whole : text
       upto : List ℕ
       upto = (site.is_back).is_back.front
 
-      all : front ++ (before ++ word) ≡ site.front ++ 123 ∷ (upto ++ word)
+      all : front ++ (before ++ word) ≡ site.front ++ opening_brace ∷ (upto ++ word)
       all =
           let back = site.is_back in
-          site.whole ∙ ap (λ t. site.front ++ t) (back.whole ∙ (λ k. back.is_front k ++ (back.is_back).whole k))
+          site.whole ∙ ap (λ t. site.front ++ t)
+          (back.whole ∙ (λ k. back.is_front k ++ (back.is_back).whole k))
 
-      by_place : (earlier : List ℕ) → front ≡ earlier ++ word → (length site.front < length earlier) ⊎ (length earlier ≤ length site.front) → length site.front < length front → LeavesOpen before
+      by_place : (earlier : List ℕ) → front ≡ earlier ++ word → (length site.front < length earlier)
+          ⊎ (length earlier ≤ length site.front) → length site.front < length front → LeavesOpen before
       by_place earlier is (inl sooner) less =
-          let same : site.front ++ 123 ∷ (upto ++ word) ≡ earlier ++ (word ++ (before ++ word)) =
+          let same : site.front ++ opening_brace ∷ (upto ++ word) ≡ earlier ++ (word ++ (before ++ word)) =
           sym all ∙ ap (λ t. t ++ (before ++ word)) is ∙ append_assoc earlier word (before ++ word) in
-          let middle = front_of_front (site.front ++ 123 ∷ []) (upto ++ word) earlier (word ++ (before ++ word)) (append_assoc site.front (123 ∷ []) (upto ++ word) ∙ same)
-          (omega (arith, length-append site.front (123 ∷ []))) in
+          let middle = front_of_front (site.front ++ opening_brace ∷ []) (upto ++ word) earlier
+          (word ++ (before ++ word)) (append_assoc site.front (opening_brace ∷ []) (upto ++ word) ∙ same)
+          (omega (arith, length-append site.front (opening_brace ∷ []))) in
           let tails : upto ++ word ≡ middle.0 ++ (word ++ (before ++ word)) =
-          append_cancel_left (site.front ++ 123 ∷ []) (upto ++ word) (middle.0 ++ (word ++ (before ++ word)))
-          (append_assoc site.front (123 ∷ []) (upto ++ word) ∙ same ∙ ap (λ t. t ++ (word ++ (before ++ word))) middle.1
-          ∙ append_assoc (site.front ++ 123 ∷ []) middle.0 (word ++ (before ++ word))) in
-          let none = ((site.is_back).is_back).first middle.0 (before ++ word) (((site.is_back).is_back).whole ∙ tails) in
+          append_cancel_left (site.front ++ opening_brace ∷ []) (upto ++ word)
+          (middle.0 ++ (word ++ (before ++ word)))
+          (append_assoc site.front (opening_brace ∷ []) (upto ++ word) ∙ same
+          ∙ ap (λ t. t ++ (word ++ (before ++ word))) middle.1
+          ∙ append_assoc (site.front ++ opening_brace ∷ []) middle.0 (word ++ (before ++ word))) in
+          let none = ((site.is_back).is_back).first middle.0 (before ++ word)
+          (((site.is_back).is_back).whole ∙ tails) in
           absurd (omega (arith, ap length none, length-append before word))
       by_place earlier is (inr later) less =
-          let same : earlier ++ (word ++ (before ++ word)) ≡ site.front ++ 123 ∷ (upto ++ word) =
+          let same : earlier ++ (word ++ (before ++ word)) ≡ site.front ++ opening_brace ∷ (upto ++ word) =
           sym (append_assoc earlier word (before ++ word)) ∙ ap (λ t. t ++ (before ++ word)) (sym is) ∙ all in
-          let middle = front_of_front earlier (word ++ (before ++ word)) site.front (123 ∷ (upto ++ word)) same later in
-          let tails : word ++ (before ++ word) ≡ middle.0 ++ 123 ∷ (upto ++ word) =
-          append_cancel_left earlier (word ++ (before ++ word)) (middle.0 ++ 123 ∷ (upto ++ word))
-          (same ∙ ap (λ t. t ++ 123 ∷ (upto ++ word)) middle.1 ∙ append_assoc earlier middle.0 (123 ∷ (upto ++ word))) in
+          let middle = front_of_front earlier (word ++ (before ++ word)) site.front
+          (opening_brace ∷ (upto ++ word)) same later in
+          let tails : word ++ (before ++ word) ≡ middle.0 ++ opening_brace ∷ (upto ++ word) =
+          append_cancel_left earlier (word ++ (before ++ word)) (middle.0 ++ opening_brace ∷ (upto ++ word))
+          (same ∙ ap (λ t. t ++ opening_brace ∷ (upto ++ word)) middle.1
+          ∙ append_assoc earlier middle.0 (opening_brace ∷ (upto ++ word))) in
           absurd (no_brace middle.0 (before ++ word) (upto ++ word) tails
-          (omega (arith, ap length is, length-append earlier word, ap length middle.1, length-append earlier middle.0)))
+          (omega (
+            arith,
+            ap length is,
+            length-append earlier word,
+            ap length middle.1,
+            length-append earlier middle.0,
+          )))
 
       by_cut : IsCut front → length site.front < length front → LeavesOpen before
       by_cut (inl none) less = absurd (omega (arith, ap length none))
-      by_cut (inr (earlier, is)) less = by_place earlier is (cases_lt (length site.front) (length earlier)) less
+      by_cut (inr (earlier, is)) less =
+          by_place earlier is (cases_lt (length site.front) (length earlier)) less
 
       by_length : (length site.front < length front) ⊎ (length front ≤ length site.front) → LeavesOpen before
       by_length (inl sooner) = by_cut cut sooner
       by_length (inr later) =
-          let middle = front_of_front front (before ++ word) site.front (123 ∷ (upto ++ word)) all later in
-          let tails : before ++ word ≡ middle.0 ++ 123 ∷ (upto ++ word) =
-          append_cancel_left front (before ++ word) (middle.0 ++ 123 ∷ (upto ++ word)) (all ∙ ap (λ t. t ++ 123 ∷ (upto ++ word)) middle.1 ∙ append_assoc front middle.0 (123 ∷ (upto ++ word))) in
+          let middle =
+          front_of_front front (before ++ word) site.front (opening_brace ∷ (upto ++ word)) all later in
+          let tails : before ++ word ≡ middle.0 ++ opening_brace ∷ (upto ++ word) =
+          append_cancel_left front (before ++ word) (middle.0 ++ opening_brace ∷ (upto ++ word))
+          (all ∙ ap (λ t. t ++ opening_brace ∷ (upto ++ word)) middle.1
+          ∙ append_assoc front middle.0 (opening_brace ∷ (upto ++ word))) in
           record {
             front = middle.0;
-            back = 123 ∷ upto;
-            whole = append_cancel_right before (middle.0 ++ 123 ∷ upto) word (tails ∙ sym (append_assoc middle.0 (123 ∷ upto) word));
+            back = opening_brace ∷ upto;
+            whole = append_cancel_right before (middle.0 ++ opening_brace ∷ upto) word
+                (tails ∙ sym (append_assoc middle.0 (opening_brace ∷ upto) word));
             is_front = tt;
-            is_back = record { front = 123 ∷ []; back = upto; whole = refl; is_front = refl; is_back = (site.is_back).is_back.unclosed };
+            is_back = record {
+              front = opening_brace ∷ [];
+              back = upto;
+              whole = refl;
+              is_front = refl;
+              is_back = (site.is_back).is_back.unclosed;
+            };
           }
 
 -- the imports of one form that stand behind fronts up to a length
-module _ (P : List ℕ → Type 0) (ends : (front : List ℕ) → P front → EndsIn front) (G : List ℕ → Import → List ℕ → Type 0) (text : List ℕ) where
+module _ (P : List ℕ → Type 0) (ends : (front : List ℕ) → P front → EndsIn front)
+    (G : List ℕ → Import → List ℕ → Type 0) (text : List ℕ) where
   abbrev pub Complete : ℕ → List Import → Type 0
-  Complete limit imports = (front : List ℕ) (import : Import) → IsStated P G text front import → length front ≤ limit → Contains imports import
+  Complete limit imports = (front : List ℕ) (import : Import) → IsStated P G text front import
+      → length front ≤ limit → Contains imports import
 
   pub Complete-start : Complete 0 []
   Complete-start front import s fits =
       let end = ends front s.site in
       absurd (omega (arith, ap length end.1, length-append end.0 word))
 
-  pub Complete-grow : (limit : ℕ) (imports more : List Import) → ((import : Import) → Contains imports import → Contains more import) → Complete limit imports → Complete limit more
+  pub Complete-grow : (limit : ℕ) (imports more : List Import) → ((import : Import) → Contains imports import
+      → Contains more import) → Complete limit imports → Complete limit more
   Complete-grow limit imports more kept all front import s fits = kept import (all front import s fits)
 
-  module _ (last after : List ℕ) (here : IsFront text after) (skips : Skips text last after) (imports : List Import) (all : Complete (length last) imports) where
-    pub Complete-next : ((import : Import) → IsStated P G text after import → Contains imports import) → Complete (length after) imports
+  module _ (last after : List ℕ) (here : IsFront text after) (skips : Skips text last after)
+      (imports : List Import) (all : Complete (length last) imports) where
+    pub Complete-next : ((import : Import) → IsStated P G text after import → Contains imports import)
+        → Complete (length after) imports
     Complete-next new front import s fits = by_length (cases_lt (length last) (length front))
       where
         by_length : (length last < length front) ⊎ (length front ≤ length last) → Contains imports import
         by_length (inr old) = all front import s old
         by_length (inl longer) =
             let far = skips front (s.behind, s.whole) (ends front s.site) longer in
-            new import (subst (λ f. IsStated P G text f import) (same_front text front after (s.behind, s.whole) here (omega (arith, far))) s)
+            new import (subst (λ f. IsStated P G text f import)
+            (same_front text front after (s.behind, s.whole) here (omega (arith, far))) s)
 
 -- what a pass has found: the imports, and how many sites there are, behind fronts up to two lengths
-pub record Found (text : List ℕ) (imports : List Import) (dynamics decls : ℕ) (dynamic_front decl_front : List ℕ) : Type 0 where
+pub record Found (text : List ℕ) (imports : List Import) (dynamics decls : ℕ)
+    (dynamic_front decl_front : List ℕ) : Type 0 where
   pub ascending : AllPairs (λ (import later : Import). import.start < later.start) imports
   pub sound : (import : Import) → Contains imports import → IsHit text import
   pub dynamic : Complete EndsAtDynamicImport dynamic_ends IsDynamicEnd text (length dynamic_front) imports
@@ -237,17 +296,22 @@ Found-start text = record {
 }
 
 -- the new list has the import that it gains, where all are hits
-pub gained : (text : List ℕ) (old new : List Import) (import : Import) → ((other : Import) → Contains old other → IsHit text other) → IsHit text import → GainsImport old import new
+pub gained : (text : List ℕ) (old new : List Import) (import : Import)
+    → ((other : Import) → Contains old other → IsHit text other) → IsHit text import
+    → GainsImport old import new
     → Contains new import
 gained text old new import sound hit gains =
     let there = gains.there in
-    subst (Contains new) (one_hit text there.0 import (by_place there.0 (gains.only there.0 there.1)) hit there.2) there.1
+    subst (Contains new)
+    (one_hit text there.0 import (by_place there.0 (gains.only there.0 there.1)) hit there.2) there.1
   where
     by_place : (other : Import) → Contains old other ⊎ (import ≡ other) → IsHit text other
     by_place other (inl has) = sound other has
     by_place other (inr is) = subst (IsHit text) is hit
 
-pub gained_sound : (text : List ℕ) (old new : List Import) (import : Import) → ((other : Import) → Contains old other → IsHit text other) → IsHit text import → GainsImport old import new
+pub gained_sound : (text : List ℕ) (old new : List Import) (import : Import)
+    → ((other : Import) → Contains old other → IsHit text other) → IsHit text import
+    → GainsImport old import new
     → (other : Import) → Contains new other → IsHit text other
 gained_sound text old new import sound hit gains other has = by_place (gains.only other has)
   where
@@ -257,110 +321,143 @@ gained_sound text old new import sound hit gains other has = by_place (gains.onl
 
 -- the list after a start of a parser at the end of `after`
 abbrev pub Takes : List ℕ → List Import → Option (List ℕ × Import) → List Import → Type 0
-Takes after old answer new = MatchOption answer (new ≡ old) (λ found. GainsImport old (moved (size after) found.1) new)
+Takes after old answer new =
+    MatchOption answer (new ≡ old) (λ found. GainsImport old (moved (byte_count after) found.1) new)
 
-module _ (text last after behind : List ℕ) (whole : text ≡ after ++ behind) (skips : Skips text last after) (longer : length last < length after) where
-  pub dynamic_skip : {imports : List Import} {dynamics decls : ℕ} {other : List ℕ} → Found text imports dynamics decls last other → (EndsAtDynamicImport after → ⊥)
+module _ (text last after behind : List ℕ) (whole : text ≡ after ++ behind) (skips : Skips text last after)
+    (longer : length last < length after) where
+  pub dynamic_skip : {imports : List Import} {dynamics decls : ℕ} {other : List ℕ}
+      → Found text imports dynamics decls last other → (EndsAtDynamicImport after → ⊥)
       → Found text imports dynamics decls after other
   dynamic_skip {imports} {dynamics} found none = record {
     ascending = found.ascending;
     sound = found.sound;
-    dynamic = Complete-next EndsAtDynamicImport dynamic_ends IsDynamicEnd text last after (behind, whole) skips imports found.dynamic (λ import s. absurd (none s.site));
+    dynamic = Complete-next EndsAtDynamicImport dynamic_ends IsDynamicEnd text last after
+        (behind, whole) skips imports found.dynamic (λ import s. absurd (none s.site));
     decl = found.decl;
-    dynamic_count = Counted-skip EndsAtDynamicImport dynamic_ends text last after (behind, whole) skips dynamics found.dynamic_count none (omega arith);
+    dynamic_count = Counted-skip EndsAtDynamicImport dynamic_ends text last after
+        (behind, whole) skips dynamics found.dynamic_count none (omega arith);
     decl_count = found.decl_count;
     few_dynamics = (let few = found.few_dynamics in omega arith);
     few_decls = found.few_decls;
   }
 
-  pub decl_skip : {imports : List Import} {dynamics decls : ℕ} {other : List ℕ} → Found text imports dynamics decls other last → (EndsAtDeclaration after → ⊥)
+  pub decl_skip : {imports : List Import} {dynamics decls : ℕ} {other : List ℕ}
+      → Found text imports dynamics decls other last → (EndsAtDeclaration after → ⊥)
       → Found text imports dynamics decls other after
   decl_skip {imports} {dynamics} {decls} found none = record {
     ascending = found.ascending;
     sound = found.sound;
     dynamic = found.dynamic;
-    decl = Complete-next EndsAtDeclaration declaration_ends IsDeclarationEnd text last after (behind, whole) skips imports found.decl (λ import s. absurd (none s.site));
+    decl = Complete-next EndsAtDeclaration declaration_ends IsDeclarationEnd text last after
+        (behind, whole) skips imports found.decl (λ import s. absurd (none s.site));
     dynamic_count = found.dynamic_count;
-    decl_count = Counted-skip EndsAtDeclaration declaration_ends text last after (behind, whole) skips decls found.decl_count none (omega arith);
+    decl_count = Counted-skip EndsAtDeclaration declaration_ends text last after
+        (behind, whole) skips decls found.decl_count none (omega arith);
     few_dynamics = found.few_dynamics;
     few_decls = (let few = found.few_decls in omega arith);
   }
 
-  pub dynamic_take : {imports : List Import} {dynamics decls : ℕ} {other : List ℕ} (more : List Import) (answer : Option (List ℕ × Import)) → Found text imports dynamics decls last other
-      → EndsAtDynamicImport after → Parses IsDynamicEnd behind answer → Takes after imports answer more → Found text more (dynamics + 1) decls after other
+  pub dynamic_take : {imports : List Import} {dynamics decls : ℕ} {other : List ℕ} (more : List Import)
+      (answer : Option (List ℕ × Import)) → Found text imports dynamics decls last other
+      → EndsAtDynamicImport after → ReadsImport IsDynamicEnd behind answer → Takes after imports answer more
+      → Found text more (dynamics + 1) decls after other
   dynamic_take {imports} {dynamics} {decls} {other} more None found site none same =
       subst (λ is. Found text is (dynamics + 1) decls after other) (sym same)
       (record {
         ascending = found.ascending;
         sound = found.sound;
-        dynamic = Complete-next EndsAtDynamicImport dynamic_ends IsDynamicEnd text last after (behind, whole) skips imports found.dynamic
-            (λ import s. absurd (stated_none EndsAtDynamicImport IsDynamicEnd text after behind whole none import s));
+        dynamic = Complete-next EndsAtDynamicImport dynamic_ends IsDynamicEnd text last after
+            (behind, whole) skips imports found.dynamic
+            (λ import s. absurd
+            (stated_none EndsAtDynamicImport IsDynamicEnd text after behind whole none import s));
         decl = found.decl;
-        dynamic_count = Counted-more EndsAtDynamicImport dynamic_ends text last after (behind, whole) skips dynamics found.dynamic_count site longer;
+        dynamic_count = Counted-more EndsAtDynamicImport dynamic_ends text last after
+            (behind, whole) skips dynamics found.dynamic_count site longer;
         decl_count = found.decl_count;
         few_dynamics = (let few = found.few_dynamics in omega arith);
         few_decls = found.few_decls;
       })
   dynamic_take {imports} {dynamics} {decls} {other} more (Some answer) found site parses gains =
-      let import = moved (size after) answer.1 in
-      let hit = dynamic_hit text after import (stated_some EndsAtDynamicImport IsDynamicEnd text after behind whole answer parses site) in
+      let import = moved (byte_count after) answer.1 in
+      let hit = dynamic_hit text after import
+      (stated_some EndsAtDynamicImport IsDynamicEnd text after behind whole answer parses site) in
       let has = gained text imports more import found.sound hit gains in
       record {
         ascending = gains.ascending;
         sound = gained_sound text imports more import found.sound hit gains;
-        dynamic = Complete-next EndsAtDynamicImport dynamic_ends IsDynamicEnd text last after (behind, whole) skips more
-            (Complete-grow EndsAtDynamicImport dynamic_ends IsDynamicEnd text (length last) imports more gains.kept found.dynamic)
-            (λ i s. subst (Contains more) (sym (stated_only EndsAtDynamicImport IsDynamicEnd text after behind whole answer parses i s)) has);
-        decl = Complete-grow EndsAtDeclaration declaration_ends IsDeclarationEnd text (length other) imports more gains.kept found.decl;
-        dynamic_count = Counted-more EndsAtDynamicImport dynamic_ends text last after (behind, whole) skips dynamics found.dynamic_count site longer;
+        dynamic = Complete-next EndsAtDynamicImport dynamic_ends IsDynamicEnd text last after
+            (behind, whole) skips more
+            (Complete-grow EndsAtDynamicImport dynamic_ends IsDynamicEnd text
+            (length last) imports more gains.kept found.dynamic)
+            (λ i s. subst (Contains more) (sym (stated_only EndsAtDynamicImport IsDynamicEnd text after behind
+            whole answer parses i s)) has);
+        decl = Complete-grow EndsAtDeclaration declaration_ends IsDeclarationEnd text
+            (length other) imports more gains.kept found.decl;
+        dynamic_count = Counted-more EndsAtDynamicImport dynamic_ends text last after
+            (behind, whole) skips dynamics found.dynamic_count site longer;
         decl_count = found.decl_count;
         few_dynamics = (let few = found.few_dynamics in omega arith);
         few_decls = found.few_decls;
       }
 
-  pub decl_take : {imports : List Import} {dynamics decls : ℕ} {other : List ℕ} (more : List Import) (answer : Option (List ℕ × Import)) → Found text imports dynamics decls other last
-      → EndsAtDeclaration after → Parses IsDeclarationEnd behind answer → Takes after imports answer more → Found text more dynamics (decls + 1) other after
+  pub decl_take : {imports : List Import} {dynamics decls : ℕ} {other : List ℕ} (more : List Import)
+      (answer : Option (List ℕ × Import)) → Found text imports dynamics decls other last
+      → EndsAtDeclaration after → ReadsImport IsDeclarationEnd behind answer → Takes after imports answer more
+      → Found text more dynamics (decls + 1) other after
   decl_take {imports} {dynamics} {decls} {other} more None found site none same =
       subst (λ is. Found text is dynamics (decls + 1) other after) (sym same)
       (record {
         ascending = found.ascending;
         sound = found.sound;
         dynamic = found.dynamic;
-        decl = Complete-next EndsAtDeclaration declaration_ends IsDeclarationEnd text last after (behind, whole) skips imports found.decl
-            (λ import s. absurd (stated_none EndsAtDeclaration IsDeclarationEnd text after behind whole none import s));
+        decl = Complete-next EndsAtDeclaration declaration_ends IsDeclarationEnd text last after
+            (behind, whole) skips imports found.decl
+            (λ import s. absurd
+            (stated_none EndsAtDeclaration IsDeclarationEnd text after behind whole none import s));
         dynamic_count = found.dynamic_count;
-        decl_count = Counted-more EndsAtDeclaration declaration_ends text last after (behind, whole) skips decls found.decl_count site longer;
+        decl_count = Counted-more EndsAtDeclaration declaration_ends text last after
+            (behind, whole) skips decls found.decl_count site longer;
         few_dynamics = found.few_dynamics;
         few_decls = (let few = found.few_decls in omega arith);
       })
   decl_take {imports} {dynamics} {decls} {other} more (Some answer) found site parses gains =
-      let import = moved (size after) answer.1 in
-      let hit = declaration_hit text after import (stated_some EndsAtDeclaration IsDeclarationEnd text after behind whole answer parses site) in
+      let import = moved (byte_count after) answer.1 in
+      let hit = declaration_hit text after import
+      (stated_some EndsAtDeclaration IsDeclarationEnd text after behind whole answer parses site) in
       let has = gained text imports more import found.sound hit gains in
       record {
         ascending = gains.ascending;
         sound = gained_sound text imports more import found.sound hit gains;
-        dynamic = Complete-grow EndsAtDynamicImport dynamic_ends IsDynamicEnd text (length other) imports more gains.kept found.dynamic;
-        decl = Complete-next EndsAtDeclaration declaration_ends IsDeclarationEnd text last after (behind, whole) skips more
-            (Complete-grow EndsAtDeclaration declaration_ends IsDeclarationEnd text (length last) imports more gains.kept found.decl)
-            (λ i s. subst (Contains more) (sym (stated_only EndsAtDeclaration IsDeclarationEnd text after behind whole answer parses i s)) has);
+        dynamic = Complete-grow EndsAtDynamicImport dynamic_ends IsDynamicEnd text
+            (length other) imports more gains.kept found.dynamic;
+        decl = Complete-next EndsAtDeclaration declaration_ends IsDeclarationEnd text last after
+            (behind, whole) skips more
+            (Complete-grow EndsAtDeclaration declaration_ends IsDeclarationEnd text
+            (length last) imports more gains.kept found.decl)
+            (λ i s. subst (Contains more) (sym (stated_only EndsAtDeclaration IsDeclarationEnd text after
+            behind whole answer parses i s)) has);
         dynamic_count = found.dynamic_count;
-        decl_count = Counted-more EndsAtDeclaration declaration_ends text last after (behind, whole) skips decls found.decl_count site longer;
+        decl_count = Counted-more EndsAtDeclaration declaration_ends text last after
+            (behind, whole) skips decls found.decl_count site longer;
         few_dynamics = found.few_dynamics;
         few_decls = (let few = found.few_decls in omega arith);
       }
 
 -- at the end of a pass
-module _ (text front rest : List ℕ) (cut : IsCut front) (whole : text ≡ front ++ rest) (none : (sooner after : List ℕ) → rest ≢ sooner ++ (word ++ after))
+module _ (text front rest : List ℕ) (cut : IsCut front) (whole : text ≡ front ++ rest)
+    (none : (sooner after : List ℕ) → rest ≢ sooner ++ (word ++ after))
     (imports : List Import) (dynamics decls : ℕ) (found : Found text imports dynamics decls front front) where
   no_more : (other : List ℕ) → IsFront text other → EndsIn other → length other ≤ length front
   no_more other is ends = no_further front rest cut none other (is.0, sym whole ∙ is.1) ends
 
   pub Found-dynamics : HasFronts EndsAtDynamicImport text dynamics
-  Found-dynamics = Counted-all EndsAtDynamicImport dynamic_ends text (length front) dynamics found.dynamic_count no_more
+  Found-dynamics = Counted-all EndsAtDynamicImport dynamic_ends text
+      (length front) dynamics found.dynamic_count no_more
 
   pub Found-decls : HasFronts EndsAtDeclaration text decls
-  Found-decls = Counted-all EndsAtDeclaration declaration_ends text (length front) decls found.decl_count no_more
+  Found-decls = Counted-all EndsAtDeclaration declaration_ends text
+      (length front) decls found.decl_count no_more
 
   pub Found-hits : AreHits text imports
   Found-hits = record {
@@ -368,6 +465,9 @@ module _ (text front rest : List ℕ) (cut : IsCut front) (whole : text ≡ fron
     exact = λ import. (found.sound import, λ hit. by_form import (hit_stated text import hit));
   }
     where
-      by_form : (import : Import) → ((f : List ℕ) × IsDynamicHit text f import) ⊎ ((f : List ℕ) × IsDeclarationHit text f import) → Contains imports import
-      by_form import (inl (f, s)) = found.dynamic f import s (no_more f (s.behind, s.whole) (dynamic_ends f s.site))
-      by_form import (inr (f, s)) = found.decl f import s (no_more f (s.behind, s.whole) (declaration_ends f s.site))
+      by_form : (import : Import) → ((f : List ℕ) × IsDynamicHit text f import)
+          ⊎ ((f : List ℕ) × IsDeclarationHit text f import) → Contains imports import
+      by_form import (inl (f, s)) =
+          found.dynamic f import s (no_more f (s.behind, s.whole) (dynamic_ends f s.site))
+      by_form import (inr (f, s)) =
+          found.decl f import s (no_more f (s.behind, s.whole) (declaration_ends f s.site))

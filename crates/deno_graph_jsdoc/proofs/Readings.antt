@@ -1,30 +1,46 @@
 -- Texts that begin with one thing and then another, and parsers one after another.
-use Rattle.std.proofs.Common.{◌≡◌, ℕ, false, Option, Some, None, List, [], ◌∷◌, ◌++◌, refl, sym, ap, ◌∙◌, subst, append_assoc, option_map, ◌<◌, ◌≤◌, length, length-append, arith}
+use Rattle.std.proofs.Common.{◌≡◌, ℕ, false, Option, Some, None, List, [], ◌∷◌, ◌++◌, refl, sym, ap, ◌∙◌}
+use Rattle.std.proofs.Common.{subst, append_assoc, option_map, ◌<◌, ◌≤◌, length, length-append, arith}
 use Rattle.std.proofs.lemmas.List.{append-nil}
 use Rattle.std.specs.Char.{is_whitespace}
 use Rattle.std.specs.Str.{skip_leading_whitespace}
-use Rattle.deno_graph_jsdoc.specs.JsDocGrammar.{◌·◌, Is, IsSpace}
-use Rattle.deno_graph_jsdoc.specs.JsDocReading.{Begins, Anything, NoSpace, Reads}
+use Rattle.deno_graph_jsdoc.specs.JsDocGrammar.{◌·◌, Is, IsSpace, Attribute, Begins, Anything, NoSpace}
+use Rattle.deno_graph_jsdoc.specs.JsDocReading.{Reads}
 use Rattle.deno_graph_jsdoc.proofs.Runs.{space_whole, same_space, IsSpace-append}
 
 -- where one text ends, the other begins
-pub Begins-split : {P Q : List ℕ → Type 0} {input rest : List ℕ} → Begins (P · Q) input rest → (middle : List ℕ) × Begins P input middle × Begins Q middle rest
+pub Begins-split : {P Q : List ℕ → Type 0} {input rest : List ℕ} → Begins (P · Q) input rest
+    → (middle : List ℕ) × Begins P input middle × Begins Q middle rest
 Begins-split {P} {Q} {input} {rest} b =
     let parts = b.is in (
       parts.back ++ rest,
-      record { piece = parts.front; whole = b.whole ∙ ap (λ t. t ++ rest) parts.whole ∙ append_assoc parts.front parts.back rest; is = parts.is_front },
+      record {
+        piece = parts.front;
+        whole = b.whole ∙ ap (λ t. t ++ rest) parts.whole
+            ∙ append_assoc parts.front parts.back rest;
+        is = parts.is_front;
+      },
       record { piece = parts.back; whole = refl; is = parts.is_back },
     )
 
-pub Begins-join : {P Q : List ℕ → Type 0} {input middle rest : List ℕ} → Begins P input middle → Begins Q middle rest → Begins (P · Q) input rest
+pub Begins-join : {P Q : List ℕ → Type 0} {input middle rest : List ℕ} → Begins P input middle
+    → Begins Q middle rest → Begins (P · Q) input rest
 Begins-join {P} {Q} {input} {middle} {rest} first second = record {
   piece = first.piece ++ second.piece;
-  whole = first.whole ∙ ap (λ t. first.piece ++ t) second.whole ∙ sym (append_assoc first.piece second.piece rest);
-  is = record { front = first.piece; back = second.piece; whole = refl; is_front = first.is; is_back = second.is };
+  whole = first.whole ∙ ap (λ t. first.piece ++ t) second.whole
+      ∙ sym (append_assoc first.piece second.piece rest);
+  is = record {
+    front = first.piece;
+    back = second.piece;
+    whole = refl;
+    is_front = first.is;
+    is_back = second.is;
+  };
 }
 
 -- the same text as one of another set
-pub Begins-as : {P Q : List ℕ → Type 0} {input rest : List ℕ} → ((text : List ℕ) → P text → Q text) → Begins P input rest → Begins Q input rest
+pub Begins-as : {P Q : List ℕ → Type 0} {input rest : List ℕ} → ((text : List ℕ) → P text → Q text)
+    → Begins P input rest → Begins Q input rest
 Begins-as same b = record { piece = b.piece; whole = b.whole; is = same b.piece b.is }
 
 -- a text that begins with no white space
@@ -40,15 +56,20 @@ pub NoSpace-solid : (text : List ℕ) → IsSolid text → NoSpace text
 NoSpace-solid [] solid = absurd solid
 NoSpace-solid (c ∷ cs) solid = solid
 
-pub IsSolid-word : {Q : List ℕ → Type 0} (c : ℕ) (cs : List ℕ) → is_whitespace c ≡ false → (text : List ℕ) → (Is (c ∷ cs) · Q) text → IsSolid text
-IsSolid-word c cs solid text parts = subst IsSolid (sym (parts.whole ∙ ap (λ t. t ++ parts.back) parts.is_front)) solid
+pub IsSolid-word : {Q : List ℕ → Type 0} (c : ℕ) (cs : List ℕ) → is_whitespace c ≡ false → (text : List ℕ)
+    → (Is (c ∷ cs) · Q) text → IsSolid text
+IsSolid-word c cs solid text parts =
+    subst IsSolid (sym (parts.whole ∙ ap (λ t. t ++ parts.back) parts.is_front)) solid
 
-pub NoSpace-before : {Q : List ℕ → Type 0} {input rest : List ℕ} → ((text : List ℕ) → Q text → IsSolid text) → Begins Q input rest → NoSpace input
+pub NoSpace-before : {Q : List ℕ → Type 0} {input rest : List ℕ} → ((text : List ℕ) → Q text → IsSolid text)
+    → Begins Q input rest → NoSpace input
 NoSpace-before {Q} {input} {rest} solid b =
-    subst NoSpace (sym b.whole) (NoSpace-solid (b.piece ++ rest) (IsSolid-append b.piece rest (solid b.piece b.is)))
+    subst NoSpace (sym b.whole)
+    (NoSpace-solid (b.piece ++ rest) (IsSolid-append b.piece rest (solid b.piece b.is)))
 
 -- white space is skipped in one way
-pub space_read : (text : List ℕ) → Reads NoSpace (λ (_ : Unit {0}). IsSpace) text (Some (skip_leading_whitespace text, tt))
+pub space_read : (text : List ℕ) → Reads NoSpace (λ (_ : Unit {0}). IsSpace) text
+    (Some (skip_leading_whitespace text, tt))
 space_read text =
     let own = space_whole text in (
       record { piece = own.0; whole = own.2; is = own.1 },
@@ -62,39 +83,43 @@ module _ {V : Type 0} (P : V → List ℕ → Type 0) (input : List ℕ) where
       let parts = Begins-split begins in
       none v parts.0 tt parts.1
 
-  pub spaced : (middle : List ℕ) (v : V) → Reads Anything P input (Some (middle, v)) → Reads NoSpace (λ v. P v · IsSpace) input (Some (skip_leading_whitespace middle, v))
+  pub spaced : (middle : List ℕ) (v : V) → Reads Anything P input (Some (middle, v))
+      → Reads NoSpace (λ v. P v · IsSpace) input (Some (skip_leading_whitespace middle, v))
   spaced middle v found = (
     Begins-join found.0 (space_read middle).0,
     λ other behind stop begins.
         let parts = Begins-split begins in
-        let same = found.1 other parts.0 tt parts.1 in
-        (same.0, ((space_read middle).1 tt behind stop (subst (λ m. Begins IsSpace m behind) same.1 parts.2)).1),
+        let same = found.1 other parts.0 tt parts.1 in (
+          same.0,
+          ((space_read middle).1 tt behind stop (subst (λ m. Begins IsSpace m behind) same.1 parts.2)).1,
+        ),
   )
 
--- `P`, of the first value, and then `Q`, of the second, where a text of `Q` may follow `P`
-module _ {V W : Type 0} (F G : List ℕ → Type 0) (P : V → List ℕ → Type 0) (Q : W → List ℕ → Type 0)
-    (follows : (w : W) (middle rest : List ℕ) → G rest → Begins (Q w) middle rest → F middle) where
-  abbrev pub Both : V × W → List ℕ → Type 0
-  Both u = P u.0 · Q u.1
+-- `P`, of an attribute's key, and then `Q`, of its value, where a text of `Q` may follow `P`
+module _ (F G : List ℕ → Type 0) (P Q : List ℕ → List ℕ → Type 0)
+    (follows : (w : List ℕ) (middle rest : List ℕ) → G rest → Begins (Q w) middle rest → F middle) where
+  abbrev pub Both : Attribute → List ℕ → Type 0
+  Both u = P u.key · Q u.value
 
   pub both_none : (input : List ℕ) → Reads F P input None → Reads G Both input None
   both_none input none u rest g b =
       let parts = Begins-split b in
-      none u.0 parts.0 (follows u.1 parts.0 rest g parts.2) parts.1
+      none u.key parts.0 (follows u.value parts.0 rest g parts.2) parts.1
 
-  pub both_then : (input middle : List ℕ) (v : V) (o : Option (List ℕ × W)) → Reads F P input (Some (middle, v)) → Reads G Q middle o
-      → Reads G Both input (option_map (λ x. (x.0, (v, x.1))) o)
-  both_then input middle v None first none = λ u rest g b.
+  pub both_then : (input middle key : List ℕ) (o : Option (List ℕ × List ℕ))
+      → Reads F P input (Some (middle, key)) → Reads G Q middle o
+      → Reads G Both input (option_map (λ x. (x.0, record { key = key; value = x.1 })) o)
+  both_then input middle key None first none = λ u rest g b.
       let parts = Begins-split b in
-      let same = first.1 u.0 parts.0 (follows u.1 parts.0 rest g parts.2) parts.1 in
-      none u.1 rest g (subst (λ m. Begins (Q u.1) m rest) same.1 parts.2)
-  both_then input middle v (Some x) first second = (
+      let same = first.1 u.key parts.0 (follows u.value parts.0 rest g parts.2) parts.1 in
+      none u.value rest g (subst (λ m. Begins (Q u.value) m rest) same.1 parts.2)
+  both_then input middle key (Some x) first second = (
     Begins-join first.0 second.0,
     λ u rest g b.
         let parts = Begins-split b in
-        let same = first.1 u.0 parts.0 (follows u.1 parts.0 rest g parts.2) parts.1 in
-        let again = second.1 u.1 rest g (subst (λ m. Begins (Q u.1) m rest) same.1 parts.2) in
-        (λ i. (same.0 i, again.0 i), again.1),
+        let same = first.1 u.key parts.0 (follows u.value parts.0 rest g parts.2) parts.1 in
+        let again = second.1 u.value rest g (subst (λ m. Begins (Q u.value) m rest) same.1 parts.2) in
+        (λ i. record { key = same.0 i; value = again.0 i }, again.1),
   )
 
 -- `P`, which has a value, and then `Q`, which has none, where a text of `Q` may follow `P`
@@ -105,7 +130,8 @@ module _ {V : Type 0} (F G : List ℕ → Type 0) (P : V → List ℕ → Type 0
       let parts = Begins-split b in
       none v parts.0 (follows parts.0 rest g parts.2) parts.1
 
-  pub value_then : (input middle : List ℕ) (v : V) (o : Option (List ℕ × Unit {0})) → Reads F P input (Some (middle, v)) → Reads G (λ _. Q) middle o
+  pub value_then : (input middle : List ℕ) (v : V) (o : Option (List ℕ × Unit {0}))
+      → Reads F P input (Some (middle, v)) → Reads G (λ _. Q) middle o
       → Reads G (λ v. P v · Q) input (option_map (λ x. (x.0, v)) o)
   value_then input middle v None first none = λ other rest g b.
       let parts = Begins-split b in
@@ -122,12 +148,14 @@ module _ {V : Type 0} (F G : List ℕ → Type 0) (P : V → List ℕ → Type 0
 -- `P`, which has no value, and then `Q`, where a text of `Q` may follow `P`
 module _ {W : Type 0} (F G : List ℕ → Type 0) (P : List ℕ → Type 0) (Q : W → List ℕ → Type 0)
     (follows : (w : W) (middle rest : List ℕ) → G rest → Begins (Q w) middle rest → F middle) where
-  pub then_none : (input : List ℕ) → Reads F (λ (_ : Unit {0}). P) input None → Reads G (λ w. P · Q w) input None
+  pub then_none : (input : List ℕ) → Reads F (λ (_ : Unit {0}). P) input None
+      → Reads G (λ w. P · Q w) input None
   then_none input none w rest g b =
       let parts = Begins-split b in
       none tt parts.0 (follows w parts.0 rest g parts.2) parts.1
 
-  pub then_some : (input middle : List ℕ) (o : Option (List ℕ × W)) → Reads F (λ (_ : Unit {0}). P) input (Some (middle, tt)) → Reads G Q middle o
+  pub then_some : (input middle : List ℕ) (o : Option (List ℕ × W))
+      → Reads F (λ (_ : Unit {0}). P) input (Some (middle, tt)) → Reads G Q middle o
       → Reads G (λ w. P · Q w) input o
   then_some input middle None first none = λ w rest g b.
       let parts = Begins-split b in
@@ -142,33 +170,38 @@ module _ {W : Type 0} (F G : List ℕ → Type 0) (P : List ℕ → Type 0) (Q :
   )
 
 -- what begins with `P`, white space and `Q` begins with `P` and white space, and then with `Q`
-pub regroup : {P Q R : List ℕ → Type 0} {input rest : List ℕ} → Begins (P · Q · R) input rest → Begins ((P · Q) · R) input rest
+pub regroup : {P Q R : List ℕ → Type 0} {input rest : List ℕ} → Begins (P · Q · R) input rest
+    → Begins ((P · Q) · R) input rest
 regroup b =
     let first = Begins-split b in
     let second = Begins-split first.2 in
     Begins-join (Begins-join first.1 second.1) second.2
 
-pub ungroup : {P Q R : List ℕ → Type 0} {input rest : List ℕ} → Begins ((P · Q) · R) input rest → Begins (P · Q · R) input rest
+pub ungroup : {P Q R : List ℕ → Type 0} {input rest : List ℕ} → Begins ((P · Q) · R) input rest
+    → Begins (P · Q · R) input rest
 ungroup b =
     let first = Begins-split b in
     let second = Begins-split first.1 in
     Begins-join second.1 (Begins-join second.2 first.2)
 
-pub regroup_3 : {A B C R : List ℕ → Type 0} {input rest : List ℕ} → Begins (A · B · C · R) input rest → Begins ((A · B · C) · R) input rest
+pub regroup_3 : {A B C R : List ℕ → Type 0} {input rest : List ℕ} → Begins (A · B · C · R) input rest
+    → Begins ((A · B · C) · R) input rest
 regroup_3 b =
     let first = Begins-split b in
     let second = Begins-split first.2 in
     let third = Begins-split second.2 in
     Begins-join (Begins-join first.1 (Begins-join second.1 third.1)) third.2
 
-pub ungroup_3 : {A B C R : List ℕ → Type 0} {input rest : List ℕ} → Begins ((A · B · C) · R) input rest → Begins (A · B · C · R) input rest
+pub ungroup_3 : {A B C R : List ℕ → Type 0} {input rest : List ℕ} → Begins ((A · B · C) · R) input rest
+    → Begins (A · B · C · R) input rest
 ungroup_3 b =
     let parts = Begins-split b in
     let first = Begins-split parts.1 in
     let second = Begins-split first.2 in
     Begins-join first.1 (Begins-join second.1 (Begins-join second.2 parts.2))
 
-pub regroup_4 : {A B C D R : List ℕ → Type 0} {input rest : List ℕ} → Begins (A · B · C · D · R) input rest → Begins ((A · B · C · D) · R) input rest
+pub regroup_4 : {A B C D R : List ℕ → Type 0} {input rest : List ℕ} → Begins (A · B · C · D · R) input rest
+    → Begins ((A · B · C · D) · R) input rest
 regroup_4 b =
     let first = Begins-split b in
     let second = Begins-split first.2 in
@@ -176,7 +209,8 @@ regroup_4 b =
     let fourth = Begins-split third.2 in
     Begins-join (Begins-join first.1 (Begins-join second.1 (Begins-join third.1 fourth.1))) fourth.2
 
-pub ungroup_4 : {A B C D R : List ℕ → Type 0} {input rest : List ℕ} → Begins ((A · B · C · D) · R) input rest → Begins (A · B · C · D · R) input rest
+pub ungroup_4 : {A B C D R : List ℕ → Type 0} {input rest : List ℕ} → Begins ((A · B · C · D) · R) input rest
+    → Begins (A · B · C · D · R) input rest
 ungroup_4 b =
     let all = Begins-split b in
     let first = Begins-split all.1 in
@@ -190,46 +224,61 @@ pub Reads-as : {V : Type 0} (F : List ℕ → Type 0) (P Q : V → List ℕ → 
     → ((v : V) (input rest : List ℕ) → Begins (Q v) input rest → Begins (P v) input rest)
     → (input : List ℕ) (o : Option (List ℕ × V)) → Reads F P input o → Reads F Q input o
 Reads-as F P Q to from input None none = λ v rest f b. none v rest f (from v input rest b)
-Reads-as F P Q to from input (Some x) found = (to x.1 input x.0 found.0, λ v rest f b. found.1 v rest f (from v input rest b))
+Reads-as F P Q to from input (Some x) found =
+    (to x.1 input x.0 found.0, λ v rest f b. found.1 v rest f (from v input rest b))
 
 -- what begins with no white space, behind white space or behind a word and white space
-module _ {W : Type 0} (G : List ℕ → Type 0) (Q : W → List ℕ → Type 0) (solid : (w : W) (text : List ℕ) → Q w text → IsSolid text) where
-  pub space_then : (input : List ℕ) (o : Option (List ℕ × W)) → Reads G Q (skip_leading_whitespace input) o → Reads G (λ w. IsSpace · Q w) input o
+module _ {W : Type 0} (G : List ℕ → Type 0) (Q : W → List ℕ → Type 0)
+    (solid : (w : W) (text : List ℕ) → Q w text → IsSolid text) where
+  pub space_then : (input : List ℕ) (o : Option (List ℕ × W)) → Reads G Q (skip_leading_whitespace input) o
+      → Reads G (λ w. IsSpace · Q w) input o
   space_then input o found =
-      then_some NoSpace G IsSpace Q (λ w middle rest g b. NoSpace-before (solid w) b) input (skip_leading_whitespace input) o (space_read input) found
+      then_some NoSpace G IsSpace Q (λ w middle rest g b. NoSpace-before (solid w) b) input
+      (skip_leading_whitespace input) o (space_read input) found
 
   module _ (P : List ℕ → Type 0) where
-    pub lexeme_none : (input : List ℕ) → Reads NoSpace (λ (_ : Unit {0}). P · IsSpace) input None → Reads G (λ w. P · IsSpace · Q w) input None
+    pub lexeme_none : (input : List ℕ) → Reads NoSpace (λ (_ : Unit {0}). P · IsSpace) input None
+        → Reads G (λ w. P · IsSpace · Q w) input None
     lexeme_none input none =
-        Reads-as G (λ w. (P · IsSpace) · Q w) (λ w. P · IsSpace · Q w) (λ w input rest b. ungroup b) (λ w input rest b. regroup b) input None
+        Reads-as G (λ w. (P · IsSpace) · Q w) (λ w. P · IsSpace · Q w) (λ w input rest b. ungroup b)
+        (λ w input rest b. regroup b) input None
         (then_none NoSpace G (P · IsSpace) Q (λ w middle rest g b. NoSpace-before (solid w) b) input none)
 
-    pub lexeme_then : (input middle : List ℕ) (o : Option (List ℕ × W)) → Reads NoSpace (λ (_ : Unit {0}). P · IsSpace) input (Some (middle, tt)) → Reads G Q middle o
+    pub lexeme_then : (input middle : List ℕ) (o : Option (List ℕ × W))
+        → Reads NoSpace (λ (_ : Unit {0}). P · IsSpace) input (Some (middle, tt)) → Reads G Q middle o
         → Reads G (λ w. P · IsSpace · Q w) input o
     lexeme_then input middle o first second =
-        Reads-as G (λ w. (P · IsSpace) · Q w) (λ w. P · IsSpace · Q w) (λ w input rest b. ungroup b) (λ w input rest b. regroup b) input o
-        (then_some NoSpace G (P · IsSpace) Q (λ w middle rest g b. NoSpace-before (solid w) b) input middle o first second)
+        Reads-as G (λ w. (P · IsSpace) · Q w) (λ w. P · IsSpace · Q w) (λ w input rest b. ungroup b)
+        (λ w input rest b. regroup b) input o
+        (then_some NoSpace G (P · IsSpace) Q
+        (λ w middle rest g b. NoSpace-before (solid w) b) input middle o first second)
 
 -- behind white space, and before it
-pub behind_space : {Q : List ℕ → Type 0} {input rest : List ℕ} → ((text : List ℕ) → Q text → IsSolid text) → Begins (IsSpace · Q) input rest → Begins Q (skip_leading_whitespace input) rest
+pub behind_space : {Q : List ℕ → Type 0} {input rest : List ℕ} → ((text : List ℕ) → Q text → IsSolid text)
+    → Begins (IsSpace · Q) input rest → Begins Q (skip_leading_whitespace input) rest
 behind_space {Q} {input} {rest} solid b =
     let parts = Begins-split b in
-    subst (λ m. Begins Q m rest) ((space_read input).1 tt parts.0 (NoSpace-before solid parts.2) parts.1).1 parts.2
+    subst (λ m. Begins Q m rest)
+    ((space_read input).1 tt parts.0 (NoSpace-before solid parts.2) parts.1).1 parts.2
 
-pub before_space : {Q : List ℕ → Type 0} (input : List ℕ) {rest : List ℕ} → Begins Q (skip_leading_whitespace input) rest → Begins (IsSpace · Q) input rest
+pub before_space : {Q : List ℕ → Type 0} (input : List ℕ) {rest : List ℕ}
+    → Begins Q (skip_leading_whitespace input) rest → Begins (IsSpace · Q) input rest
 before_space input b = Begins-join (space_read input).0 b
 
 -- nothing before a text
-pub behind_nothing : {Q : List ℕ → Type 0} {input rest : List ℕ} → Begins (Is [] · Q) input rest → Begins Q input rest
+pub behind_nothing : {Q : List ℕ → Type 0} {input rest : List ℕ}
+    → Begins (Is [] · Q) input rest → Begins Q input rest
 behind_nothing {Q} {input} {rest} b =
     let parts = Begins-split b in
     subst (λ m. Begins Q m rest) (sym (parts.1.whole ∙ ap (λ piece. piece ++ parts.0) parts.1.is)) parts.2
 
-pub before_nothing : {Q : List ℕ → Type 0} {input rest : List ℕ} → Begins Q input rest → Begins (Is [] · Q) input rest
+pub before_nothing : {Q : List ℕ → Type 0} {input rest : List ℕ} → Begins Q input rest
+    → Begins (Is [] · Q) input rest
 before_nothing {Q} {input} {rest} b = Begins-join (record { piece = []; whole = refl; is = refl }) b
 
 -- a text doesn't begin with two words
-pub same_first : {c d : ℕ} {cs ds input rest behind : List ℕ} → Begins (Is (c ∷ cs)) input rest → Begins (Is (d ∷ ds)) input behind → c ≡ d
+pub same_first : {c d : ℕ} {cs ds input rest behind : List ℕ} → Begins (Is (c ∷ cs)) input rest
+    → Begins (Is (d ∷ ds)) input behind → c ≡ d
 same_first {c} {d} {cs} {ds} {input} {rest} {behind} first second =
     let one : input ≡ (c ∷ cs) ++ rest = first.whole ∙ ap (λ piece. piece ++ rest) first.is in
     let other : input ≡ (d ∷ ds) ++ behind = second.whole ∙ ap (λ piece. piece ++ behind) second.is in
@@ -237,10 +286,12 @@ same_first {c} {d} {cs} {ds} {input} {rest} {behind} first second =
     cc
 
 -- what is behind something is not longer, and behind a word shorter
-pub Begins-length : {P : List ℕ → Type 0} {input rest : List ℕ} → Begins P input rest → length rest ≤ length input
+pub Begins-length : {P : List ℕ → Type 0} {input rest : List ℕ} → Begins P input rest
+    → length rest ≤ length input
 Begins-length {P} {input} {rest} b = omega (arith, ap length b.whole, length-append b.piece rest)
 
-pub Begins-shorter : {Q : List ℕ → Type 0} {c : ℕ} {cs input rest : List ℕ} → Begins (Is (c ∷ cs) · Q) input rest → length rest < length input
+pub Begins-shorter : {Q : List ℕ → Type 0} {c : ℕ} {cs input rest : List ℕ}
+    → Begins (Is (c ∷ cs) · Q) input rest → length rest < length input
 Begins-shorter {Q} {c} {cs} {input} {rest} b =
     let parts = Begins-split b in
     let first = parts.1 in
@@ -248,13 +299,16 @@ Begins-shorter {Q} {c} {cs} {input} {rest} b =
     omega (arith, ap length first.whole, length-append first.piece parts.0, ap length first.is, later)
 
 -- white space behind white space
-pub one_space : {Q : List ℕ → Type 0} {input rest : List ℕ} → Begins (IsSpace · IsSpace · Q) input rest → Begins (IsSpace · Q) input rest
+pub one_space : {Q : List ℕ → Type 0} {input rest : List ℕ} → Begins (IsSpace · IsSpace · Q) input rest
+    → Begins (IsSpace · Q) input rest
 one_space b =
     let parts = Begins-split (regroup b) in
-    Begins-join (Begins-as (λ text both. subst IsSpace (sym both.whole) (IsSpace-append both.front both.back both.is_front both.is_back)) parts.1) parts.2
+    Begins-join (Begins-as (λ text both. subst IsSpace (sym both.whole)
+    (IsSpace-append both.front both.back both.is_front both.is_back)) parts.1) parts.2
 
 -- what holds of the front of any text holds of a whole text
-pub textwise : {P Q : List ℕ → Type 0} → ((input rest : List ℕ) → Begins P input rest → Begins Q input rest) → (text : List ℕ) → P text → Q text
+pub textwise : {P Q : List ℕ → Type 0} → ((input rest : List ℕ) → Begins P input rest → Begins Q input rest)
+    → (text : List ℕ) → P text → Q text
 textwise {P} {Q} same text is =
     let b = same text [] (record { piece = text; whole = sym (append-nil text); is = is }) in
     subst Q (sym (b.whole ∙ append-nil b.piece)) b.is

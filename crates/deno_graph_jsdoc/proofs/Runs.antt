@@ -1,16 +1,17 @@
 -- The longest run of characters of one kind with which a text begins.
-use Rattle.std.proofs.Common.{◌≡◌, ◌≢◌, ℕ, Bool, true, false, List, [], ◌∷◌, ◌++◌, refl, sym, ap, ◌∙◌, subst, cond, ◌≤◌, length, arith}
+use Rattle.std.proofs.Common.{◌≡◌, ◌≢◌, ℕ, Bool, true, false, List, [], ◌∷◌, ◌++◌, refl, sym, ap, ◌∙◌, subst}
+use Rattle.std.proofs.Common.{cond, ◌≤◌, length, arith}
 use Rattle.std.proofs.lemmas.Bool.{both_ways, and_parts}
 use Rattle.std.specs.Char.{is_whitespace}
 use Rattle.std.specs.List.{AllByRecursion}
 use Rattle.std.specs.Str.{skip_leading_whitespace}
 use lib.Utf8.{scalar, scalars}
-use Rattle.deno_graph_jsdoc.specs.JsDocGrammar.{IsSpace, Lacks}
-use Rattle.deno_graph_jsdoc.specs.JsDocReading.{EmptyOr, NoSpace}
+use Rattle.deno_graph_jsdoc.specs.JsDocGrammar.{IsSpace, Lacks, EmptyOr, NoSpace}
 
 -- characters of one kind, and then a character of another: there is one place between
 pub same_run : (P S : ℕ → Type 0) → ((c : ℕ) → P c → S c → ⊥) → (xs ys rest behind : List ℕ)
-    → AllByRecursion P xs → AllByRecursion P ys → EmptyOr S rest → EmptyOr S behind → xs ++ rest ≡ ys ++ behind → (xs ≡ ys) × (rest ≡ behind)
+    → AllByRecursion P xs → AllByRecursion P ys → EmptyOr S rest → EmptyOr S behind
+    → xs ++ rest ≡ ys ++ behind → (xs ≡ ys) × (rest ≡ behind)
 same_run P S apart [] [] rest behind all each stop end same = (refl, same)
 same_run P S apart [] (y ∷ ys) [] behind all each stop end same = absurd (cc)
 same_run P S apart [] (y ∷ ys) (c ∷ rest) behind all each stop end same =
@@ -27,11 +28,13 @@ same_run P S apart (x ∷ xs) (y ∷ ys) rest behind all each stop end same =
     (λ i. first i ∷ again.0 i, again.1)
 
 -- the white space with which a text begins
-pub space_whole : (text : List ℕ) → (space : List ℕ) × IsSpace space × (text ≡ space ++ skip_leading_whitespace text)
+pub space_whole : (text : List ℕ) → (space : List ℕ) × IsSpace space
+    × (text ≡ space ++ skip_leading_whitespace text)
 space_whole [] = ([], tt, refl)
 space_whole (c ∷ cs) = by_first (is_whitespace c) refl (space_whole cs)
   where
-    by_first : (b : Bool) → is_whitespace c ≡ b → (space : List ℕ) × IsSpace space × (cs ≡ space ++ skip_leading_whitespace cs)
+    by_first : (b : Bool) → is_whitespace c ≡ b → (space : List ℕ) × IsSpace space
+        × (cs ≡ space ++ skip_leading_whitespace cs)
         → (space : List ℕ) × IsSpace space × (c ∷ cs ≡ space ++ cond b (skip_leading_whitespace cs) (c ∷ cs))
     by_first true is more = (c ∷ more.0, (is, more.1), ap (λ t. c ∷ t) more.2)
     by_first false is more = ([], tt, refl)
@@ -40,21 +43,26 @@ pub space_ends : (text : List ℕ) → NoSpace (skip_leading_whitespace text)
 space_ends [] = tt
 space_ends (c ∷ cs) = by_first (is_whitespace c) refl (space_ends cs)
   where
-    by_first : (b : Bool) → is_whitespace c ≡ b → NoSpace (skip_leading_whitespace cs) → NoSpace (cond b (skip_leading_whitespace cs) (c ∷ cs))
+    by_first : (b : Bool) → is_whitespace c ≡ b → NoSpace (skip_leading_whitespace cs)
+        → NoSpace (cond b (skip_leading_whitespace cs) (c ∷ cs))
     by_first true is more = more
     by_first false is more = is
 
 -- no other white space can be skipped before a text that begins with none
-pub same_space : (text space rest : List ℕ) → IsSpace space → NoSpace rest → text ≡ space ++ rest → rest ≡ skip_leading_whitespace text
+pub same_space : (text space rest : List ℕ) → IsSpace space → NoSpace rest → text ≡ space ++ rest
+    → rest ≡ skip_leading_whitespace text
 same_space text space rest white stop whole =
     let own = space_whole text in
-    (same_run (λ c. is_whitespace c ≡ true) (λ c. is_whitespace c ≡ false) (λ c is not. both_ways (is_whitespace c) not is) space own.0 rest
+    (same_run (λ c. is_whitespace c ≡ true) (λ c. is_whitespace c ≡ false)
+    (λ c is not. both_ways (is_whitespace c) not is) space own.0 rest
     (skip_leading_whitespace text) white own.1 stop (space_ends text) (sym whole ∙ own.2)).1
 
 -- the text before a mark that it doesn't hold
-pub same_before_mark : (mark : ℕ) (xs ys rest behind : List ℕ) → Lacks mark xs → Lacks mark ys → xs ++ mark ∷ rest ≡ ys ++ mark ∷ behind → (xs ≡ ys) × (rest ≡ behind)
+pub same_before_mark : (mark : ℕ) (xs ys rest behind : List ℕ) → Lacks mark xs → Lacks mark ys
+    → xs ++ mark ∷ rest ≡ ys ++ mark ∷ behind → (xs ≡ ys) × (rest ≡ behind)
 same_before_mark mark xs ys rest behind left right same =
-    let found = same_run (λ c. c ≢ mark) (λ c. c ≡ mark) (λ c not is. not is) xs ys (mark ∷ rest) (mark ∷ behind) left right refl refl same in
+    let found = same_run (λ c. c ≢ mark) (λ c. c ≡ mark) (λ c not is. not is) xs ys (mark ∷ rest)
+    (mark ∷ behind) left right refl refl same in
     let tails : mark ∷ rest ≡ mark ∷ behind = found.1 in
     (found.0, cc)
 
@@ -65,9 +73,11 @@ Lacks-not_inside mark (x ∷ xs) rest all = Lacks-not_inside mark xs rest all.1
 -- what is behind white space are characters too
 pub scalars_behind_space : (cs : List ℕ) → scalars cs ≡ true → scalars (skip_leading_whitespace cs) ≡ true
 scalars_behind_space [] all = all
-scalars_behind_space (c ∷ cs) all = by_first (is_whitespace c) (scalars_behind_space cs (and_parts (scalar c) (scalars cs) all).1)
+scalars_behind_space (c ∷ cs) all =
+    by_first (is_whitespace c) (scalars_behind_space cs (and_parts (scalar c) (scalars cs) all).1)
   where
-    by_first : (b : Bool) → scalars (skip_leading_whitespace cs) ≡ true → scalars (cond b (skip_leading_whitespace cs) (c ∷ cs)) ≡ true
+    by_first : (b : Bool) → scalars (skip_leading_whitespace cs) ≡ true
+        → scalars (cond b (skip_leading_whitespace cs) (c ∷ cs)) ≡ true
     by_first true more = more
     by_first false more = all
 
@@ -76,7 +86,8 @@ IsSpace-append [] ys left right = right
 IsSpace-append (x ∷ xs) ys left right = (left.0, IsSpace-append xs ys left.1 right)
 
 -- of two fronts of a text the shorter is a front of the longer
-pub front_of_front : (xs ys zs ws : List ℕ) → xs ++ ys ≡ zs ++ ws → length xs ≤ length zs → (middle : List ℕ) × (zs ≡ xs ++ middle)
+pub front_of_front : (xs ys zs ws : List ℕ) → xs ++ ys ≡ zs ++ ws → length xs ≤ length zs
+    → (middle : List ℕ) × (zs ≡ xs ++ middle)
 front_of_front [] ys zs ws same fits = (zs, refl)
 front_of_front (x ∷ xs) ys [] ws same fits = absurd (omega arith)
 front_of_front (x ∷ xs) ys (z ∷ zs) ws same fits =

@@ -1,8 +1,10 @@
 -- The occurrences of `import` in a text, one after another, and what holds of those so far.
-use Rattle.std.proofs.Common.{◌≡◌, ◌≢◌, ℕ, ◌+◌, ◌<◌, ◌≤◌, ◌⊎◌, inl, inr, ⊎_elim, List, [], ◌∷◌, ◌++◌, length, refl, sym, ap, ◌∙◌, subst, codes, append_assoc, length-append, arith}
+use Rattle.std.proofs.Common.{◌≡◌, ◌≢◌, ℕ, ◌+◌, ◌<◌, ◌≤◌, ◌⊎◌, inl, inr, ⊎_elim, List, [], ◌∷◌, ◌++◌, length}
+use Rattle.std.proofs.Common.{refl, sym, ap, ◌∙◌, subst, codes, append_assoc, length-append, arith}
 use Rattle.std.proofs.lemmas.Bool.{cases_lt}
 use Rattle.std.proofs.lemmas.List.{append_cancel_left, append-nil}
-use Rattle.std.proofs.lemmas.List.Elements.{Contains-append_left, Contains-push, Contains-push_cases, Contains-get_or}
+use Rattle.std.proofs.lemmas.List.Elements.{Contains-append_left, Contains-push, Contains-push_cases}
+use Rattle.std.proofs.lemmas.List.Elements.{Contains-get_or}
 use Rattle.std.proofs.lemmas.List.Quantifiers.{all_pairs_push}
 use Rattle.std.specs.List.{AllPairs, Contains}
 use Rattle.deno_graph_jsdoc.specs.JsDocHits.{IsFront, HasFronts}
@@ -20,7 +22,8 @@ abbrev pub IsCut : List ℕ → Type 0
 IsCut front = (front ≡ []) ⊎ EndsIn front
 
 -- the word doesn't begin again inside itself
-inside : (middle rest behind : List ℕ) → word ++ rest ≡ middle ++ (word ++ behind) → 0 < length middle → length middle < 6 → ⊥
+inside : (middle rest behind : List ℕ) → word ++ rest ≡ middle ++ (word ++ behind)
+    → 0 < length middle → length middle < 6 → ⊥
 inside [] rest behind same some short = omega arith
 inside (a ∷ []) rest behind same some short =
     let heads : ◌≡◌ {A = ℕ} 109 105 = cc in
@@ -43,24 +46,29 @@ length-word : length word ≡ 6
 length-word = refl
 
 -- an occurrence that begins before a cut ends before it
-no_overlap : (front rest before behind : List ℕ) → IsCut front → front ++ rest ≡ before ++ (word ++ behind) → length before < length front
+no_overlap : (front rest before behind : List ℕ) → IsCut front → front ++ rest ≡ before ++ (word ++ behind)
+    → length before < length front
     → length before + 6 ≤ length front
 no_overlap front rest before behind (inl none) same less = absurd (omega (arith, ap length none))
 no_overlap front rest before behind (inr (earlier, is)) same less =
-    let whole : earlier ++ (word ++ rest) ≡ before ++ (word ++ behind) = sym (append_assoc earlier word rest) ∙ ap (λ t. t ++ rest) (sym is) ∙ same in
+    let whole : earlier ++ (word ++ rest) ≡ before ++ (word ++ behind) =
+    sym (append_assoc earlier word rest) ∙ ap (λ t. t ++ rest) (sym is) ∙ same in
     let size : length front ≡ length earlier + 6 = ap length is ∙ length-append earlier word in
     ⊎_elim
     (λ sooner.
-    let middle = front_of_front earlier (word ++ rest) before (word ++ behind) whole (omega (arith, sooner)) in
+    let middle = front_of_front earlier (word ++ rest) before (word ++ behind) whole
+    (omega (arith, sooner)) in
     let tails : word ++ rest ≡ middle.0 ++ (word ++ behind) =
     append_cancel_left earlier (word ++ rest) (middle.0 ++ (word ++ behind))
     (whole ∙ ap (λ t. t ++ (word ++ behind)) middle.1 ∙ append_assoc earlier middle.0 (word ++ behind)) in
-    let sizes : length before ≡ length earlier + length middle.0 = ap length middle.1 ∙ length-append earlier middle.0 in
+    let sizes : length before ≡ length earlier + length middle.0 =
+    ap length middle.1 ∙ length-append earlier middle.0 in
     absurd (inside middle.0 rest behind tails (omega (arith, sooner)) (omega arith)))
     (λ later. omega (arith, later)) (cases_lt (length earlier) (length before))
 
 -- two fronts of a text that are as long are the same
-pub same_front : (text front other : List ℕ) → IsFront text front → IsFront text other → length front ≡ length other → front ≡ other
+pub same_front : (text front other : List ℕ) → IsFront text front → IsFront text other
+    → length front ≡ length other → front ≡ other
 same_front text front other is are size =
     let middle = front_of_front front is.0 other are.0 (sym is.1 ∙ are.1) (omega (arith, size)) in
     let none : length middle.0 ≡ 0 = omega (arith, ap length middle.1, length-append front middle.0) in
@@ -70,12 +78,14 @@ same_front text front other is are size =
     empty [] is = refl
     empty (x ∷ t) is = absurd (omega arith)
 
-pub same_behind : (text front behind other : List ℕ) → text ≡ front ++ behind → text ≡ front ++ other → behind ≡ other
+pub same_behind : (text front behind other : List ℕ) → text ≡ front ++ behind
+    → text ≡ front ++ other → behind ≡ other
 same_behind text front behind other is are = append_cancel_left front behind other (sym is ∙ are)
 
 -- no front of the text ends in the word between a cut and `next`
 abbrev pub Skips : List ℕ → List ℕ → List ℕ → Type 0
-Skips text front next = (other : List ℕ) → IsFront text other → EndsIn other → length front < length other → length next ≤ length other
+Skips text front next = (other : List ℕ) → IsFront text other → EndsIn other → length front < length other
+    → length next ≤ length other
 
 module _ (front rest : List ℕ) (cut : IsCut front) where
   pub skips_to : (before behind : List ℕ) → rest ≡ before ++ (word ++ behind)
@@ -92,45 +102,66 @@ module _ (front rest : List ℕ) (cut : IsCut front) where
       sizes : length (front ++ (before ++ word)) ≡ length front + (length before + 6)
       sizes = length-append front (before ++ word) ∙ ap (λ n. length front + n) (length-append before word)
 
-      by_place : (length ends.0 < length front) ⊎ (length front ≤ length ends.0) → length (front ++ (before ++ word)) ≤ length other
+      by_place : (length ends.0 < length front) ⊎ (length front ≤ length ends.0)
+          → length (front ++ (before ++ word)) ≤ length other
       by_place (inl sooner) = absurd (omega (arith, no_overlap front rest ends.0 is.0 cut all sooner, size))
       by_place (inr later) =
           let middle = front_of_front front rest ends.0 (word ++ is.0) all later in
           let tails : rest ≡ middle.0 ++ (word ++ is.0) =
-          append_cancel_left front rest (middle.0 ++ (word ++ is.0)) (all ∙ ap (λ t. t ++ (word ++ is.0)) middle.1 ∙ append_assoc front middle.0 (word ++ is.0)) in
-          let place : length ends.0 ≡ length front + length middle.0 = ap length middle.1 ∙ length-append front middle.0 in
-          let fits : length before ≤ length middle.0 = not_sooner middle.0 tails (cases_lt (length middle.0) (length before)) in
+          append_cancel_left front rest (middle.0 ++ (word ++ is.0))
+          (all ∙ ap (λ t. t ++ (word ++ is.0)) middle.1 ∙ append_assoc front middle.0 (word ++ is.0)) in
+          let place : length ends.0 ≡ length front + length middle.0 =
+          ap length middle.1 ∙ length-append front middle.0 in
+          let fits : length before ≤ length middle.0 =
+          not_sooner middle.0 tails (cases_lt (length middle.0) (length before)) in
           omega (arith, size, sizes, place)
         where
-          not_sooner : (middle : List ℕ) → rest ≡ middle ++ (word ++ is.0) → (length middle < length before) ⊎ (length before ≤ length middle) → length before ≤ length middle
+          not_sooner : (middle : List ℕ) → rest ≡ middle ++ (word ++ is.0) → (length middle < length before)
+              ⊎ (length before ≤ length middle) → length before ≤ length middle
           not_sooner middle tails (inr fits) = fits
           not_sooner middle tails (inl less) =
               let more = front_of_front (middle ++ word) is.0 (before ++ word) behind
               (append_assoc middle word is.0 ∙ sym tails ∙ whole ∙ sym (append_assoc before word behind))
               (omega (arith, length-append middle word, length-append before word)) in
               let none = first middle more.0 (more.1 ∙ append_assoc middle word more.0) in
-              absurd (omega (arith, ap length more.1, length-append (middle ++ word) more.0, ap length none, length-append middle word, length-append before word))
+              absurd (omega (
+                arith,
+                ap length more.1,
+                length-append (middle ++ word) more.0,
+                ap length none,
+                length-append middle word,
+                length-append before word,
+              ))
 
   -- where the rest has no `import`, none ends behind the cut
-  pub no_further : ((sooner after : List ℕ) → rest ≢ sooner ++ (word ++ after)) → (other : List ℕ) → IsFront (front ++ rest) other → EndsIn other → length other ≤ length front
+  pub no_further : ((sooner after : List ℕ) → rest ≢ sooner ++ (word ++ after)) → (other : List ℕ)
+      → IsFront (front ++ rest) other → EndsIn other → length other ≤ length front
   no_further none other is ends = by_place (cases_lt (length ends.0) (length front))
     where
       all : front ++ rest ≡ ends.0 ++ (word ++ is.0)
       all = is.1 ∙ ap (λ t. t ++ is.0) ends.1 ∙ append_assoc ends.0 word is.0
 
       by_place : (length ends.0 < length front) ⊎ (length front ≤ length ends.0) → length other ≤ length front
-      by_place (inl sooner) = omega (arith, no_overlap front rest ends.0 is.0 cut all sooner, ap length ends.1, length-append ends.0 word)
+      by_place (inl sooner) = omega (
+        arith,
+        no_overlap front rest ends.0 is.0 cut all sooner,
+        ap length ends.1,
+        length-append ends.0 word,
+      )
       by_place (inr later) =
           let middle = front_of_front front rest ends.0 (word ++ is.0) all later in
           absurd (none middle.0 is.0
-          (append_cancel_left front rest (middle.0 ++ (word ++ is.0)) (all ∙ ap (λ t. t ++ (word ++ is.0)) middle.1 ∙ append_assoc front middle.0 (word ++ is.0))))
+          (append_cancel_left front rest (middle.0 ++ (word ++ is.0))
+          (all ∙ ap (λ t. t ++ (word ++ is.0)) middle.1 ∙ append_assoc front middle.0 (word ++ is.0))))
 
 -- fronts that end in the word and have `P`, up to a length
 module _ (P : List ℕ → Type 0) (ends : (front : List ℕ) → P front → EndsIn front) (text : List ℕ) where
   pub record Reached (limit : ℕ) (fronts : List (List ℕ)) : Type 0 where
     pub ascending : AllPairs (λ (front longer : List ℕ). length front < length longer) fronts
-    pub sound : (front : List ℕ) → Contains fronts front → IsFront text front × P front × (length front ≤ limit)
-    pub complete : (front : List ℕ) → IsFront text front → P front → length front ≤ limit → Contains fronts front
+    pub sound : (front : List ℕ) → Contains fronts front → IsFront text front × P front
+        × (length front ≤ limit)
+    pub complete : (front : List ℕ) → IsFront text front → P front → length front ≤ limit
+        → Contains fronts front
 
   -- so many
   abbrev pub Counted : ℕ → ℕ → Type 0
@@ -152,7 +183,8 @@ module _ (P : List ℕ → Type 0) (ends : (front : List ℕ) → P front → En
     refl,
   )
 
-  pub Counted-all : (limit count : ℕ) → Counted limit count → ((front : List ℕ) → IsFront text front → EndsIn front → length front ≤ limit) → HasFronts P text count
+  pub Counted-all : (limit count : ℕ) → Counted limit count
+      → ((front : List ℕ) → IsFront text front → EndsIn front → length front ≤ limit) → HasFronts P text count
   Counted-all limit count (fronts, reached, is) short = (
     fronts,
     record {
@@ -168,7 +200,8 @@ module _ (P : List ℕ → Type 0) (ends : (front : List ℕ) → P front → En
   )
 
   module _ (last next : List ℕ) (here : IsFront text next) (skips : Skips text last next) where
-    pub Counted-skip : (count : ℕ) → Counted (length last) count → (P next → ⊥) → length last ≤ length next → Counted (length next) count
+    pub Counted-skip : (count : ℕ) → Counted (length last) count → (P next → ⊥) → length last ≤ length next
+        → Counted (length next) count
     Counted-skip count (fronts, reached, is) none longer = (
       fronts,
       record {
@@ -176,39 +209,50 @@ module _ (P : List ℕ → Type 0) (ends : (front : List ℕ) → P front → En
         sound = λ front has.
             let all = reached.sound front has in
             (all.0, all.1, omega (arith, all.2));
-        complete = λ front fits has short. by_length front fits has short (cases_lt (length last) (length front));
+        complete = λ front fits has short. by_length front fits has short
+            (cases_lt (length last) (length front));
       },
       is,
     )
       where
-        by_length : (front : List ℕ) → IsFront text front → P front → length front ≤ length next → (length last < length front) ⊎ (length front ≤ length last) → Contains fronts front
+        by_length : (front : List ℕ) → IsFront text front → P front → length front ≤ length next
+            → (length last < length front) ⊎ (length front ≤ length last) → Contains fronts front
         by_length front fits has short (inr old) = reached.complete front fits has old
         by_length front fits has short (inl new) =
             let far = skips front fits (ends front has) new in
             absurd (none (subst P (same_front text front next fits here (omega (arith, far))) has))
 
-    pub Counted-more : (count : ℕ) → Counted (length last) count → P next → length last < length next → Counted (length next) (count + 1)
+    pub Counted-more : (count : ℕ) → Counted (length last) count → P next → length last < length next
+        → Counted (length next) (count + 1)
     Counted-more count (fronts, reached, is) some longer = (
       fronts ++ next ∷ [],
       record {
-        ascending = all_pairs_push (λ (front other : List ℕ). length front < length other) fronts next reached.ascending
+        ascending = all_pairs_push
+            (λ (front other : List ℕ). length front < length other) fronts next reached.ascending
             (λ k d inside.
             let has = reached.sound _ (Contains-get_or fronts k d inside) in
             omega (arith, has.2));
         sound = λ front has. by_place front (Contains-push_cases fronts next front has);
-        complete = λ front fits has short. by_length front fits has short (cases_lt (length last) (length front));
+        complete = λ front fits has short. by_length front fits has short
+            (cases_lt (length last) (length front));
       },
       omega (arith, is, length-append fronts (next ∷ [])),
     )
       where
-        by_place : (front : List ℕ) → Contains fronts front ⊎ (next ≡ front) → IsFront text front × P front × (length front ≤ length next)
+        by_place : (front : List ℕ) → Contains fronts front ⊎ (next ≡ front)
+            → IsFront text front × P front × (length front ≤ length next)
         by_place front (inl old) =
             let all = reached.sound front old in
             (all.0, all.1, omega (arith, all.2))
-        by_place front (inr new) = (subst (IsFront text) new here, subst P new some, omega (arith, ap length new))
+        by_place front (inr new) =
+            (subst (IsFront text) new here, subst P new some, omega (arith, ap length new))
 
-        by_length : (front : List ℕ) → IsFront text front → P front → length front ≤ length next → (length last < length front) ⊎ (length front ≤ length last) → Contains (fronts ++ next ∷ []) front
-        by_length front fits has short (inr old) = Contains-append_left fronts (next ∷ []) front (reached.complete front fits has old)
+        by_length : (front : List ℕ) → IsFront text front → P front → length front ≤ length next
+            → (length last < length front) ⊎ (length front ≤ length last)
+            → Contains (fronts ++ next ∷ []) front
+        by_length front fits has short (inr old) =
+            Contains-append_left fronts (next ∷ []) front (reached.complete front fits has old)
         by_length front fits has short (inl new) =
             let far = skips front fits (ends front has) new in
-            subst (Contains (fronts ++ next ∷ [])) (same_front text next front here fits (omega (arith, far))) (Contains-push fronts next)
+            subst (Contains (fronts ++ next ∷ [])) (same_front text next front here fits (omega (arith, far)))
+            (Contains-push fronts next)

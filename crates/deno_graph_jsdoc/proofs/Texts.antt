@@ -1,24 +1,34 @@
 -- What std says of the bytes of a text, said of its characters.
-use Rattle.std.proofs.Common.{◌≡◌, ◌≢◌, ℕ, ◌+◌, ◌<◌, ◌≤◌, ◌==◌, Bool, true, false, Option, Some, None, List, [], ◌∷◌, ◌++◌, length, take, drop, get_or, refl, sym, ap, ◌∙◌, subst, arith, append_assoc, length-append}
-use Rattle.std.proofs.lemmas.List.{append_cancel_left, append-nil, drop_all, drop_at, take-append-drop, take_all}
+use Rattle.std.proofs.Common.{◌≡◌, ◌≢◌, ℕ, ◌+◌, ◌<◌, ◌≤◌, ◌==◌, Bool, true, false, Option, Some, None, List}
+use Rattle.std.proofs.Common.{[], ◌∷◌, ◌++◌, length, take, drop, get_or, refl, sym, ap, ◌∙◌, subst, arith}
+use Rattle.std.proofs.Common.{append_assoc, length-append}
+use Rattle.std.proofs.lemmas.List.{append_cancel_left, append-nil, drop_all, drop_at, take-append-drop}
+use Rattle.std.proofs.lemmas.List.{take_all}
 use Rattle.std.proofs.lemmas.Bool.{eqb-false}
-use Rattle.std.proofs.lemmas.Str.{IsUtf8-from_ascii, IsUtf8-past_char, IsUtf8-take, IsUtf8-drop, chars-append, chars-nil, chars-IsAscii, chars_from_encodes, chars_past_char, encodes-append, encodes-chars, encodes-IsAscii, IsCharBoundary-before_ascii, length-le-encodes, len_utf8_bounds}
+use Rattle.std.proofs.lemmas.Str.{IsUtf8-from_ascii, IsUtf8-past_char, IsUtf8-take, IsUtf8-drop, chars-append}
+use Rattle.std.proofs.lemmas.Str.{chars-nil, chars-IsAscii, chars_from_encodes, chars_past_char}
+use Rattle.std.proofs.lemmas.Str.{encodes-append, encodes-chars, encodes-IsAscii, IsCharBoundary-before_ascii}
+use Rattle.std.proofs.lemmas.Str.{length-le-encodes, len_utf8_bounds}
 use Rattle.std.specs.List.{AllByRecursion}
 use Rattle.std.specs.Option.{MatchOption, unwrap_or}
 use Rattle.std.specs.Str.{IsAscii, IsUtf8, IsCharBoundary, NonePass, NoCharPasses, chars}
-use Rattle.std.specs.Str.Pattern.{FindsBy, FindsChar, FindsCharPrefix, RFindsChar, FindsText, FindsTextPrefix, StripsPrefix, SplitsAroundMatch}
+use Rattle.std.specs.Str.Pattern.{FindsBy, FindsChar, FindsCharPrefix, RFindsChar, FindsText, FindsTextPrefix}
+use Rattle.std.specs.Str.Pattern.{StripsPrefix, SplitsAroundMatch}
 use denote.Ref.{Bor}
 use lib.Utf8.{encodes, encode}
-use Rattle.deno_graph_jsdoc.specs.JsDocGrammar.{Is, Lacks}
-use Rattle.deno_graph_jsdoc.specs.JsDocReading.{Reads, Anything, EmptyOr, rest_of}
+use Rattle.deno_graph_jsdoc.specs.JsDocGrammar.{Is, Lacks, Anything, EmptyOr}
+use Rattle.deno_graph_jsdoc.specs.JsDocReading.{Reads, rest_of}
 
 -- a text is spelled by its characters
-pub bytes_from_chars : (text front rest : List ℕ) → IsUtf8 text → chars text ≡ front ++ rest → text ≡ encodes front ++ encodes rest
-bytes_from_chars text front rest utf8 is = sym (encodes-chars text utf8) ∙ ap encodes is ∙ encodes-append front rest
+pub bytes_from_chars : (text front rest : List ℕ) → IsUtf8 text → chars text ≡ front ++ rest
+    → text ≡ encodes front ++ encodes rest
+bytes_from_chars text front rest utf8 is = sym (encodes-chars text utf8) ∙ ap encodes is
+    ∙ encodes-append front rest
 
 -- the word with which a text begins
 pub word_read : (word input : List ℕ) (answer : Option (Bor (List ℕ))) → IsUtf8 input → IsAscii word
-    → MatchOption answer (FindsTextPrefix word input None) (λ rest. StripsPrefix (FindsTextPrefix word) input rest.now)
+    → MatchOption answer (FindsTextPrefix word input None)
+    (λ rest. StripsPrefix (FindsTextPrefix word) input rest.now)
     → Reads Anything (λ (_ : Unit {0}). Is word) (chars input) (rest_of answer)
 word_read word input None utf8 ascii none = λ _ rest _ begins.
     none (encodes rest)
@@ -27,11 +37,13 @@ word_read word input None utf8 ascii none = λ _ rest _ begins.
 word_read word input (Some rest) utf8 ascii (n, is, cut, size) =
     let bytes : input ≡ word ++ rest.now = is.1 ∙ ap (λ t. word ++ t) (sym cut) in
     let whole : chars input ≡ word ++ chars rest.now =
-    ap chars bytes ∙ chars-append word rest.now (IsUtf8-from_ascii word ascii) ∙ ap (λ t. t ++ chars rest.now) (chars-IsAscii word ascii) in (
+    ap chars bytes ∙ chars-append word rest.now (IsUtf8-from_ascii word ascii)
+    ∙ ap (λ t. t ++ chars rest.now) (chars-IsAscii word ascii) in (
       record { piece = word; whole = whole; is = refl },
       λ other behind _ begins. (
         refl,
-        append_cancel_left word behind (chars rest.now) (sym (begins.whole ∙ ap (λ piece. piece ++ behind) begins.is) ∙ whole),
+        append_cancel_left word behind (chars rest.now)
+            (sym (begins.whole ∙ ap (λ piece. piece ++ behind) begins.is) ∙ whole),
       ),
     )
 
@@ -39,52 +51,65 @@ Lacks-from_test : (mark : ℕ) (cs : List ℕ) → NonePass (λ d. d == mark) cs
 Lacks-from_test mark [] none = tt
 Lacks-from_test mark (c ∷ cs) none = (eqb-false c mark none.0, Lacks-from_test mark cs none.1)
 
-pub Lacks-chars : (mark : ℕ) (text : List ℕ) → IsUtf8 text → NoCharPasses (λ d. d == mark) text → Lacks mark (chars text)
+pub Lacks-chars : (mark : ℕ) (text : List ℕ) → IsUtf8 text
+    → NoCharPasses (λ d. d == mark) text → Lacks mark (chars text)
 Lacks-chars mark text utf8 (cs, is, none) =
     subst (Lacks mark) (chars_from_encodes cs text utf8 is) (Lacks-from_test mark cs none)
 
 -- the mark with which a text begins
-pub no_mark_chars : (mark : ℕ) (input : List ℕ) → IsUtf8 input → ((rest : List ℕ) → input ≢ encode mark ++ rest) → (rest : List ℕ) → chars input ≢ mark ∷ rest
-no_mark_chars mark input utf8 none rest is = none (encodes rest) (sym (encodes-chars input utf8) ∙ ap encodes is)
+pub no_mark_chars : (mark : ℕ) (input : List ℕ) → IsUtf8 input
+    → ((rest : List ℕ) → input ≢ encode mark ++ rest) → (rest : List ℕ) → chars input ≢ mark ∷ rest
+no_mark_chars mark input utf8 none rest is =
+    none (encodes rest) (sym (encodes-chars input utf8) ∙ ap encodes is)
 
-pub mark_chars : (mark : ℕ) (input rest : List ℕ) → IsUtf8 input → StripsPrefix (FindsCharPrefix mark) input rest → (chars input ≡ mark ∷ chars rest) × IsUtf8 rest
+pub mark_chars : (mark : ℕ) (input rest : List ℕ) → IsUtf8 input
+    → StripsPrefix (FindsCharPrefix mark) input rest → (chars input ≡ mark ∷ chars rest) × IsUtf8 rest
 mark_chars mark input rest utf8 (n, at, cut, size) =
     let bytes : input ≡ encode mark ++ rest = at.split ∙ ap (λ t. encode mark ++ t) (sym cut) in
     (chars_past_char input rest mark utf8 bytes, IsUtf8-past_char input rest mark utf8 bytes)
 
 -- the characters before and behind the first of a mark
-pub split_chars : (mark : ℕ) (input : List ℕ) (answer : Option (Bor (List ℕ) × Bor (List ℕ))) → IsUtf8 input → mark < 128
-    → MatchOption answer (FindsChar mark input None) (λ x. SplitsAroundMatch (FindsChar mark) input x.0.now x.1.now)
-    → MatchOption answer (Lacks mark (chars input)) (λ x. Lacks mark (chars x.0.now) × (chars input ≡ chars x.0.now ++ mark ∷ chars x.1.now))
+pub split_chars : (mark : ℕ) (input : List ℕ) (answer : Option (Bor (List ℕ) × Bor (List ℕ)))
+    → IsUtf8 input → mark < 128
+    → MatchOption answer (FindsChar mark input None)
+    (λ x. SplitsAroundMatch (FindsChar mark) input x.0.now x.1.now)
+    → MatchOption answer (Lacks mark (chars input))
+    (λ x. Lacks mark (chars x.0.now) × (chars input ≡ chars x.0.now ++ mark ∷ chars x.1.now))
 split_chars mark input None utf8 ascii none = Lacks-chars mark input utf8 none
 split_chars mark input (Some x) utf8 ascii (i, j, found, front, back, order, front_size, back_size) =
     let at = found.1 in
     let inside : i < length input = omega (arith, at.ends, len_utf8_bounds mark) in
     let byte : get_or input i 0 ≡ mark = at.byte ascii in
-    let boundary : IsCharBoundary input i = IsCharBoundary-before_ascii input i inside (omega (arith, byte)) in
+    let boundary : IsCharBoundary input i =
+    IsCharBoundary-before_ascii input i inside (omega (arith, byte)) in
     let before : IsUtf8 (take i input) = IsUtf8-take input i utf8 boundary in
     let behind : chars (drop i input) ≡ mark ∷ chars (drop j input) =
     chars_past_char (drop i input) (drop j input) mark (IsUtf8-drop input i utf8 boundary) at.split in
     let whole : chars input ≡ chars (take i input) ++ mark ∷ chars (drop j input) =
-    ap chars (sym (take-append-drop i input)) ∙ chars-append (take i input) (drop i input) before ∙ ap (λ t. chars (take i input) ++ t) behind in (
+    ap chars (sym (take-append-drop i input)) ∙ chars-append (take i input) (drop i input) before
+    ∙ ap (λ t. chars (take i input) ++ t) behind in (
       subst (λ t. Lacks mark (chars t)) (sym front) (Lacks-chars mark (take i input) before found.0),
       whole ∙ (λ k. chars (sym front k) ++ mark ∷ chars (sym back k)),
     )
 
 -- the characters before and behind the last of a mark
-pub rsplit_chars : (mark : ℕ) (input before rest : List ℕ) → IsUtf8 input → mark < 128 → SplitsAroundMatch (RFindsChar mark) input before rest
+pub rsplit_chars : (mark : ℕ) (input before rest : List ℕ) → IsUtf8 input → mark < 128
+    → SplitsAroundMatch (RFindsChar mark) input before rest
     → Lacks mark (chars rest) × (chars input ≡ chars before ++ mark ∷ chars rest)
 rsplit_chars mark input before rest utf8 ascii (i, j, found, front, back, order, front_size, back_size) =
     let at = found.1 in
     let inside : i < length input = omega (arith, at.ends, len_utf8_bounds mark) in
     let byte : get_or input i 0 ≡ mark = at.byte ascii in
-    let boundary : IsCharBoundary input i = IsCharBoundary-before_ascii input i inside (omega (arith, byte)) in
+    let boundary : IsCharBoundary input i =
+    IsCharBoundary-before_ascii input i inside (omega (arith, byte)) in
     let start : IsUtf8 (take i input) = IsUtf8-take input i utf8 boundary in
     let from : IsUtf8 (drop i input) = IsUtf8-drop input i utf8 boundary in
-    let behind : chars (drop i input) ≡ mark ∷ chars (drop j input) = chars_past_char (drop i input) (drop j input) mark from at.split in
+    let behind : chars (drop i input) ≡ mark ∷ chars (drop j input) =
+    chars_past_char (drop i input) (drop j input) mark from at.split in
     let past : IsUtf8 (drop j input) = IsUtf8-past_char (drop i input) (drop j input) mark from at.split in
     let whole : chars input ≡ chars (take i input) ++ mark ∷ chars (drop j input) =
-    ap chars (sym (take-append-drop i input)) ∙ chars-append (take i input) (drop i input) start ∙ ap (λ t. chars (take i input) ++ t) behind in (
+    ap chars (sym (take-append-drop i input)) ∙ chars-append (take i input) (drop i input) start
+    ∙ ap (λ t. chars (take i input) ++ t) behind in (
       subst (λ t. Lacks mark (chars t)) (sym back) (Lacks-chars mark (drop j input) past found.0),
       whole ∙ (λ k. chars (sym front k) ++ mark ∷ chars (sym back k)),
     )
@@ -94,60 +119,74 @@ from_none : (test : ℕ → Bool) (cs : List ℕ) → NonePass test cs → AllBy
 from_none test [] none = tt
 from_none test (c ∷ cs) none = (none.0, from_none test cs none.1)
 
-none_chars : (test : ℕ → Bool) (text : List ℕ) → IsUtf8 text → NoCharPasses test text → AllByRecursion (λ c. test c ≡ false) (chars text)
+none_chars : (test : ℕ → Bool) (text : List ℕ) → IsUtf8 text → NoCharPasses test text
+    → AllByRecursion (λ c. test c ≡ false) (chars text)
 none_chars test text utf8 (cs, is, none) =
     subst (AllByRecursion (λ c. test c ≡ false)) (chars_from_encodes cs text utf8 is) (from_none test cs none)
 
 abbrev pub FindsAt : (ℕ → Bool) → List ℕ → Option ℕ → Type 0
 FindsAt test input answer =
     MatchOption answer (FindsBy test input None)
-    (λ i. (j : ℕ) × FindsBy test input (Some (i, j)) × (i ≤ j) × IsCharBoundary input i × IsCharBoundary input j)
+    (λ i. (j : ℕ) × FindsBy test input (Some (i, j)) × (i ≤ j) × IsCharBoundary input i
+    × IsCharBoundary input j)
 
 -- the test by which a closure finds
-pub find_by_test : (test : ℕ → Bool) (IsTest : (ℕ → Bool) → Type 0) (input : List ℕ) (answer : Option ℕ) → IsTest test
+pub find_by_test : (test : ℕ → Bool) (IsTest : (ℕ → Bool) → Type 0) (input : List ℕ)
+    (answer : Option ℕ) → IsTest test
     → MatchOption answer ((k : ℕ → Bool) → IsTest k → FindsBy k input None)
-    (λ i. (j : ℕ) × ((k : ℕ → Bool) → IsTest k → FindsBy k input (Some (i, j))) × (i ≤ j) × IsCharBoundary input i × IsCharBoundary input j)
+    (λ i. (j : ℕ) × ((k : ℕ → Bool) → IsTest k → FindsBy k input (Some (i, j))) × (i ≤ j)
+    × IsCharBoundary input i × IsCharBoundary input j)
     → FindsAt test input answer
 find_by_test test IsTest input None is found = found test is
-find_by_test test IsTest input (Some i) is (j, found, order, start, end) = (j, found test is, order, start, end)
+find_by_test test IsTest input (Some i) is (j, found, order, start, end) =
+    (j, found test is, order, start, end)
 
 pub find_chars : (test : ℕ → Bool) (input : List ℕ) (answer : Option ℕ) → IsUtf8 input
     → FindsAt test input answer
-    → let at = unwrap_or answer (length input) in (chars input ≡ chars (take at input) ++ chars (drop at input))
+    → let at = unwrap_or answer (length input) in
+    (chars input ≡ chars (take at input) ++ chars (drop at input))
     × AllByRecursion (λ c. test c ≡ false) (chars (take at input))
     × EmptyOr (λ c. test c ≡ true) (chars (drop at input))
 find_chars test input None utf8 none =
     let front : take (length input) input ≡ input = take_all (length input) input (omega arith) in
     let behind : drop (length input) input ≡ [] = drop_all (length input) input (omega arith) in
     let rest : chars (drop (length input) input) ≡ [] = ap chars behind ∙ chars-nil in (
-      sym (ap chars front) ∙ sym (append-nil (chars (take (length input) input))) ∙ ap (λ t. chars (take (length input) input) ++ t) (sym rest),
-      subst (λ t. AllByRecursion (λ c. test c ≡ false) (chars t)) (sym front) (none_chars test input utf8 none),
+      sym (ap chars front) ∙ sym (append-nil (chars (take (length input) input)))
+          ∙ ap (λ t. chars (take (length input) input) ++ t) (sym rest),
+      subst (λ t. AllByRecursion (λ c. test c ≡ false) (chars t)) (sym front)
+          (none_chars test input utf8 none),
       subst (EmptyOr (λ c. test c ≡ true)) (sym rest) tt,
     )
 find_chars test input (Some i) utf8 (j, found, order, boundary, end) =
     let front : IsUtf8 (take i input) = IsUtf8-take input i utf8 boundary in
     let passing = found.1 in
     let behind : chars (drop i input) ≡ passing.0 ∷ chars (drop j input) =
-    chars_past_char (drop i input) (drop j input) passing.0 (IsUtf8-drop input i utf8 boundary) passing.2.split in (
+    chars_past_char (drop i input) (drop j input) passing.0
+    (IsUtf8-drop input i utf8 boundary) passing.2.split in (
       ap chars (sym (take-append-drop i input)) ∙ chars-append (take i input) (drop i input) front,
       none_chars test (take i input) front found.0,
       subst (EmptyOr (λ c. test c ≡ true)) (sym behind) passing.1,
     )
 
 -- the characters before and behind the first of a word
-pub split_word : (word input : List ℕ) (answer : Option (Bor (List ℕ) × Bor (List ℕ))) → IsUtf8 input → IsAscii word
+pub split_word : (word input : List ℕ) (answer : Option (Bor (List ℕ) × Bor (List ℕ)))
+    → IsUtf8 input → IsAscii word
     → MatchOption answer (Unit {0}) (λ x. IsUtf8 x.0.now)
-    → MatchOption answer (FindsText word input None) (λ x. SplitsAroundMatch (FindsText word) input x.0.now x.1.now)
+    → MatchOption answer (FindsText word input None)
+    (λ x. SplitsAroundMatch (FindsText word) input x.0.now x.1.now)
     → MatchOption answer ((front rest : List ℕ) → chars input ≢ front ++ (word ++ rest))
     (λ x. (chars input ≡ chars x.0.now ++ (word ++ chars x.1.now))
     × ((before behind : List ℕ) → chars x.0.now ++ word ≡ before ++ (word ++ behind) → behind ≡ []))
 split_word word input None utf8 ascii _ none = λ front rest whole.
     let bytes = bytes_from_chars input front (word ++ rest) utf8 whole in
     let here : drop (length (encodes front)) input ≡ word ++ encodes rest =
-    ap (drop (length (encodes front))) bytes ∙ drop_at (encodes front) (encodes (word ++ rest)) (length (encodes front)) refl
+    ap (drop (length (encodes front))) bytes ∙ drop_at (encodes front) (encodes (word ++ rest))
+    (length (encodes front)) refl
     ∙ encodes-append word rest ∙ ap (λ t. t ++ encodes rest) (encodes-IsAscii word ascii) in
-    none (length (encodes front)) (omega (arith, ap length bytes, length-append (encodes front) (encodes (word ++ rest)))) (encodes rest) here
-split_word word input (Some x) utf8 ascii utf8_front (i, j, found, front, back, order, front_size, back_size) = (whole, first)
+    none (length (encodes front)) (omega
+    (arith, ap length bytes, length-append (encodes front) (encodes (word ++ rest)))) (encodes rest) here
+split_word word input (Some x) utf8 ascii utf8_front
+    (i, j, found, front, back, order, front_size, back_size) = (whole, first)
   where
     at : drop i input ≡ word ++ drop j input
     at = found.1.split
@@ -155,33 +194,44 @@ split_word word input (Some x) utf8 ascii utf8_front (i, j, found, front, back, 
     bytes : input ≡ x.0.now ++ (word ++ x.1.now)
     bytes =
         let front_is : take i input ≡ x.0.now = sym front in
-        sym (take-append-drop i input) ∙ (λ k. front_is k ++ at k) ∙ ap (λ t. x.0.now ++ (word ++ t)) (sym back)
+        sym (take-append-drop i input) ∙ (λ k. front_is k ++ at k)
+        ∙ ap (λ t. x.0.now ++ (word ++ t)) (sym back)
 
     whole : chars input ≡ chars x.0.now ++ (word ++ chars x.1.now)
     whole =
         ap chars bytes ∙ chars-append x.0.now (word ++ x.1.now) utf8_front
-        ∙ ap (λ t. chars x.0.now ++ t) (chars-append word x.1.now (IsUtf8-from_ascii word ascii) ∙ ap (λ t. t ++ chars x.1.now) (chars-IsAscii word ascii))
+        ∙ ap (λ t. chars x.0.now ++ t) (chars-append word x.1.now (IsUtf8-from_ascii word ascii)
+        ∙ ap (λ t. t ++ chars x.1.now) (chars-IsAscii word ascii))
 
     first : (before behind : List ℕ) → chars x.0.now ++ word ≡ before ++ (word ++ behind) → behind ≡ []
     first before [] same = refl
     first before (c ∷ cs) same =
         let all : chars input ≡ before ++ (word ++ ((c ∷ cs) ++ chars x.1.now)) =
         whole ∙ sym (append_assoc (chars x.0.now) word (chars x.1.now)) ∙ ap (λ t. t ++ chars x.1.now) same
-        ∙ append_assoc before (word ++ c ∷ cs) (chars x.1.now) ∙ ap (λ t. before ++ t) (append_assoc word (c ∷ cs) (chars x.1.now)) in
+        ∙ append_assoc before (word ++ c ∷ cs) (chars x.1.now)
+        ∙ ap (λ t. before ++ t) (append_assoc word (c ∷ cs) (chars x.1.now)) in
         let spelled = bytes_from_chars input before (word ++ ((c ∷ cs) ++ chars x.1.now)) utf8 all in
         let here : drop (length (encodes before)) input ≡ word ++ encodes ((c ∷ cs) ++ chars x.1.now) =
-        ap (drop (length (encodes before))) spelled ∙ drop_at (encodes before) (encodes (word ++ ((c ∷ cs) ++ chars x.1.now))) (length (encodes before)) refl
-        ∙ encodes-append word ((c ∷ cs) ++ chars x.1.now) ∙ ap (λ t. t ++ encodes ((c ∷ cs) ++ chars x.1.now)) (encodes-IsAscii word ascii) in
+        ap (drop (length (encodes before))) spelled ∙ drop_at (encodes before)
+        (encodes (word ++ ((c ∷ cs) ++ chars x.1.now))) (length (encodes before)) refl
+        ∙ encodes-append word ((c ∷ cs) ++ chars x.1.now)
+        ∙ ap (λ t. t ++ encodes ((c ∷ cs) ++ chars x.1.now)) (encodes-IsAscii word ascii) in
         let left : length (encodes (chars x.0.now ++ word)) ≡ length x.0.now + length (encodes word) =
-        ap length (encodes-append (chars x.0.now) word) ∙ length-append (encodes (chars x.0.now)) (encodes word) ∙ ap (λ t. length t + length (encodes word)) (encodes-chars x.0.now utf8_front) in
-        let right : length (encodes (before ++ (word ++ c ∷ cs))) ≡ length (encodes before) + (length (encodes word) + length (encodes (c ∷ cs))) =
-        ap length (encodes-append before (word ++ c ∷ cs) ∙ ap (λ t. encodes before ++ t) (encodes-append word (c ∷ cs)))
-        ∙ length-append (encodes before) (encodes word ++ encodes (c ∷ cs)) ∙ ap (λ n. length (encodes before) + n) (length-append (encodes word) (encodes (c ∷ cs))) in
-        let sooner : length (encodes before) < i = omega (arith, left, right, ap (λ t. length (encodes t)) same, length-le-encodes (c ∷ cs), front_size) in
+        ap length (encodes-append (chars x.0.now) word) ∙ length-append (encodes (chars x.0.now))
+        (encodes word) ∙ ap (λ t. length t + length (encodes word)) (encodes-chars x.0.now utf8_front) in
+        let right : length (encodes (before ++ (word ++ c ∷ cs))) ≡ length
+        (encodes before) + (length (encodes word) + length (encodes (c ∷ cs))) =
+        ap length (encodes-append before (word ++ c ∷ cs)
+        ∙ ap (λ t. encodes before ++ t) (encodes-append word (c ∷ cs)))
+        ∙ length-append (encodes before) (encodes word ++ encodes (c ∷ cs))
+        ∙ ap (λ n. length (encodes before) + n) (length-append (encodes word) (encodes (c ∷ cs))) in
+        let sooner : length (encodes before) < i = omega
+        (arith, left, right, ap (λ t. length (encodes t)) same, length-le-encodes (c ∷ cs), front_size) in
         absurd (found.0 (length (encodes before)) sooner (encodes ((c ∷ cs) ++ chars x.1.now)) here)
 
 -- a mark that a text holds
-pub mark_inside : (mark : ℕ) (text : List ℕ) → IsUtf8 text → mark < 128 → (i : ℕ) × (j : ℕ) × FindsChar mark text (Some (i, j)) × (i ≤ j) × (j ≤ length text)
+pub mark_inside : (mark : ℕ) (text : List ℕ) → IsUtf8 text → mark < 128
+    → (i : ℕ) × (j : ℕ) × FindsChar mark text (Some (i, j)) × (i ≤ j) × (j ≤ length text)
     → (inside : List ℕ) × (after : List ℕ) × (chars text ≡ inside ++ mark ∷ after)
 mark_inside mark text utf8 ascii (i, j, found, order, fits) =
     let at = found.1 in
@@ -192,5 +242,6 @@ mark_inside mark text utf8 ascii (i, j, found, order, fits) =
     chars_past_char (drop i text) (drop j text) mark (IsUtf8-drop text i utf8 boundary) at.split in (
       chars (take i text),
       chars (drop j text),
-      ap chars (sym (take-append-drop i text)) ∙ chars-append (take i text) (drop i text) (IsUtf8-take text i utf8 boundary) ∙ ap (λ t. chars (take i text) ++ t) behind,
+      ap chars (sym (take-append-drop i text)) ∙ chars-append (take i text) (drop i text)
+          (IsUtf8-take text i utf8 boundary) ∙ ap (λ t. chars (take i text) ++ t) behind,
     )

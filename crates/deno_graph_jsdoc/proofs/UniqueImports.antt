@@ -1,30 +1,41 @@
 -- A text states at most one declaration and at most one dynamic import at its start.
-use Rattle.std.proofs.Common.{◌≡◌, ℕ, ◌+◌, ◌⊎◌, inl, inr, None, List, [], ◌∷◌, ◌++◌, refl, sym, ap, ◌∙◌, subst, codes, append_assoc}
+use Rattle.std.proofs.Common.{◌≡◌, ℕ, ◌+◌, ◌⊎◌, inl, inr, None, List, [], ◌∷◌, ◌++◌, refl, sym, ap, ◌∙◌}
+use Rattle.std.proofs.Common.{subst, codes, append_assoc}
 use Rattle.std.proofs.lemmas.List.{append_cancel_right}
 use Rattle.std.specs.Str.{skip_leading_whitespace}
-use Rattle.deno_graph_jsdoc.specs.JsDocGrammar.{◌·◌, Is, IsSpace, IsGap, IsNames, IsNamespace, IsName, IsClause, IsOptions, IsUpTo}
-use Rattle.deno_graph_jsdoc.specs.JsDocImport.{Mode, Import, States, EndsDeclaration, EndsDynamicImport, IsDeclaration, IsDynamicImport, size}
-use Rattle.deno_graph_jsdoc.specs.JsDocReading.{Begins, Anything, NoSpace, EndOfIdent}
-use Rattle.deno_graph_jsdoc.proofs.Arguments.{tail_apart, options_apart, end_apart, up_to_read, parts_of, Paren, Paren-solid, Through as ThroughBrace}
+use Rattle.deno_graph_jsdoc.specs.Characters.{closing_brace}
+use Rattle.deno_graph_jsdoc.specs.JsDocGrammar.{◌·◌, Is, IsSpace, IsGap, IsNames, IsNamespace, IsName}
+use Rattle.deno_graph_jsdoc.specs.JsDocGrammar.{IsClause, IsOptions, IsUpTo, Begins, Anything, NoSpace}
+use Rattle.deno_graph_jsdoc.specs.JsDocReading.{EndOfIdent}
+use Rattle.deno_graph_jsdoc.specs.JsDocImport.{Mode, Import, States, EndsDeclaration, EndsDynamicImport}
+use Rattle.deno_graph_jsdoc.specs.JsDocImport.{IsDeclaration, IsDynamicImport, byte_count}
+use Rattle.deno_graph_jsdoc.proofs.Arguments.{tail_apart, options_apart, end_apart, up_to_read, parts_of}
+use Rattle.deno_graph_jsdoc.proofs.Arguments.{Paren, Paren-solid, Through as ThroughBrace}
 use Rattle.deno_graph_jsdoc.proofs.Attributes.{IsSolid-quote}
-use Rattle.deno_graph_jsdoc.proofs.Clauses.{clause_apart, names_or_namespace, names_or_name, namespace_or_name, EndOfIdent-gap, gap_before_name, gap_before_clause}
+use Rattle.deno_graph_jsdoc.proofs.Clauses.{clause_apart, names_or_namespace, names_or_name}
+use Rattle.deno_graph_jsdoc.proofs.Clauses.{namespace_or_name, EndOfIdent-gap, gap_before_name}
+use Rattle.deno_graph_jsdoc.proofs.Clauses.{gap_before_clause}
 use Rattle.deno_graph_jsdoc.proofs.Imports.{with_solid}
 use Rattle.deno_graph_jsdoc.proofs.Parts.{brace_read}
-use Rattle.deno_graph_jsdoc.proofs.Readings.{Begins-split, IsSolid-append, IsSolid-word, NoSpace-solid, NoSpace-before, behind_space, regroup_4}
-use Rattle.deno_graph_jsdoc.proofs.Unique.{OneRest, one_then, one_word, one_space, one_gap, one_ident, only_quote, only_with, only_options}
+use Rattle.deno_graph_jsdoc.proofs.Readings.{Begins-split, IsSolid-append, IsSolid-word, NoSpace-solid}
+use Rattle.deno_graph_jsdoc.proofs.Readings.{NoSpace-before, behind_space, regroup_4}
+use Rattle.deno_graph_jsdoc.proofs.Unique.{OneRest, one_then, one_word, one_space, one_gap, one_ident}
+use Rattle.deno_graph_jsdoc.proofs.Unique.{only_quote, only_with, only_options}
 
 -- the text up to a brace
 pub one_through : OneRest Anything ThroughBrace
 one_through input rest behind _ _ b c =
     let parts = b.is in
-    let whole : input ≡ parts.front ++ 125 ∷ rest =
-    b.whole ∙ ap (λ t. t ++ rest) (parts.whole ∙ ap (λ brace. parts.front ++ brace) parts.is_back) ∙ append_assoc parts.front (125 ∷ []) rest in
+    let whole : input ≡ parts.front ++ closing_brace ∷ rest =
+    b.whole ∙ ap (λ t. t ++ rest) (parts.whole ∙ ap (λ brace. parts.front ++ brace) parts.is_back)
+    ∙ append_assoc parts.front (closing_brace ∷ []) rest in
     sym ((brace_read input parts.front rest parts.is_front whole).1 tt behind tt c).1
 
 -- clauses
 one_names : OneRest NoSpace (IsNames · IsSpace)
 one_names =
-    one_then Anything NoSpace (one_then Anything Anything (one_word (codes "{")) one_through (λ _ _ _ _. tt)) one_space (λ _ _ _ _. tt)
+    one_then Anything NoSpace (one_then Anything Anything (one_word (codes "{")) one_through (λ _ _ _ _. tt))
+    one_space (λ _ _ _ _. tt)
 
 one_name : OneRest NoSpace IsName
 one_name = one_then EndOfIdent NoSpace one_ident one_gap (λ middle rest _ b. EndOfIdent-gap middle rest b)
@@ -33,15 +44,18 @@ one_namespace : OneRest NoSpace IsNamespace
 one_namespace =
     one_then Anything NoSpace (one_word (codes "*"))
     (one_then NoSpace NoSpace one_space
-    (one_then Anything NoSpace (one_word (codes "as")) (one_then NoSpace NoSpace one_gap one_name (λ middle rest g b. gap_before_name tt middle rest g b)) (λ _ _ _ _. tt))
+    (one_then Anything NoSpace (one_word (codes "as")) (one_then NoSpace NoSpace one_gap one_name
+    (λ middle rest g b. gap_before_name tt middle rest g b)) (λ _ _ _ _. tt))
     (λ middle rest _ b. NoSpace-before (IsSolid-word 97 (codes "s") refl) b))
     (λ _ _ _ _. tt)
 
 one_clause : OneRest NoSpace (IsClause · IsSpace)
 one_clause input rest behind stop end b c = by_form (clause_apart b) (clause_apart c)
   where
-    by_form : Begins (IsNames · IsSpace) input rest ⊎ (Begins IsNamespace input rest ⊎ Begins IsName input rest)
-        → Begins (IsNames · IsSpace) input behind ⊎ (Begins IsNamespace input behind ⊎ Begins IsName input behind) → rest ≡ behind
+    by_form : Begins (IsNames · IsSpace) input rest
+        ⊎ (Begins IsNamespace input rest ⊎ Begins IsName input rest)
+        → Begins (IsNames · IsSpace) input behind
+        ⊎ (Begins IsNamespace input behind ⊎ Begins IsName input behind) → rest ≡ behind
     by_form (inl x) (inl y) = one_names input rest behind stop end x y
     by_form (inl x) (inr (inl y)) = absurd (names_or_namespace x y)
     by_form (inl x) (inr (inr y)) = absurd (names_or_name x y)
@@ -61,12 +75,14 @@ one_from = one_then Anything NoSpace (one_word (codes "from")) one_space (λ _ _
 
 one_declaration_head : OneRest NoSpace DeclarationHead
 one_declaration_head input rest behind stop end b c =
-    one_then NoSpace NoSpace head one_from (λ middle others _ d. NoSpace-before (IsSolid-word 102 (codes "rom") refl) d) input rest behind stop end (regroup_4 b) (regroup_4 c)
+    one_then NoSpace NoSpace head one_from (λ middle others _ d. NoSpace-before
+    (IsSolid-word 102 (codes "rom") refl) d) input rest behind stop end (regroup_4 b) (regroup_4 c)
   where
     head : OneRest NoSpace (Is (codes "@import") · IsGap · IsClause · IsSpace)
     head =
         one_then Anything NoSpace (one_word (codes "@import"))
-        (one_then NoSpace NoSpace one_gap one_clause (λ middle others g d. gap_before_clause tt middle others g d)) (λ _ _ _ _. tt)
+        (one_then NoSpace NoSpace one_gap one_clause
+        (λ middle others g d. gap_before_clause tt middle others g d)) (λ _ _ _ _. tt)
 
 abbrev DynamicHead : List ℕ → Type 0
 DynamicHead = Is (codes "{") · IsUpTo (codes "import") · IsSpace · Is (codes "(") · IsSpace
@@ -80,21 +96,25 @@ one_dynamic_head : OneRest NoSpace DynamicHead
 one_dynamic_head =
     one_then Anything NoSpace (one_word (codes "{"))
     (one_then Anything NoSpace one_import
-    (one_then NoSpace NoSpace one_space (one_then Anything NoSpace (one_word (codes "(")) one_space (λ _ _ _ _. tt))
+    (one_then NoSpace NoSpace one_space
+    (one_then Anything NoSpace (one_word (codes "(")) one_space (λ _ _ _ _. tt))
     (λ middle rest _ b. NoSpace-before (IsSolid-word 40 [] refl) b))
     (λ _ _ _ _. tt))
     (λ _ _ _ _. tt)
 
 -- what is behind it
 abbrev pub OnlyTail : (List ℕ → Mode → List ℕ → Type 0) → Type 0
-OnlyTail Tail = (text : List ℕ) (mode other : Mode) (rest behind : List ℕ) → Tail text mode rest → Tail text other behind → (mode ≡ other) × (rest ≡ behind)
+OnlyTail Tail = (text : List ℕ) (mode other : Mode) (rest behind : List ℕ) → Tail text mode rest
+    → Tail text other behind → (mode ≡ other) × (rest ≡ behind)
 
 pub only_declaration_tail : OnlyTail EndsDeclaration
 only_declaration_tail text mode other rest behind (inl b) (inl c) =
-    only_with (skip_leading_whitespace text) rest behind mode other tt tt (behind_space (with_solid text mode) b) (behind_space (with_solid text other) c)
+    only_with (skip_leading_whitespace text) rest behind mode other tt tt
+    (behind_space (with_solid text mode) b) (behind_space (with_solid text other) c)
 only_declaration_tail text mode other rest behind (inl b) (inr c) = absurd (c.1 mode rest b)
 only_declaration_tail text mode other rest behind (inr b) (inl c) = absurd (b.1 other behind c)
-only_declaration_tail text mode other rest behind (inr b) (inr c) = (b.0 ∙ sym c.0, one_space text rest behind b.3 c.3 b.2 c.2)
+only_declaration_tail text mode other rest behind (inr b) (inr c) =
+    (b.0 ∙ sym c.0, one_space text rest behind b.3 c.3 b.2 c.2)
 
 one_paren : OneRest Anything Paren
 one_paren = one_word (codes ")")
@@ -103,43 +123,64 @@ pub only_dynamic_tail : OnlyTail EndsDynamicImport
 only_dynamic_tail text mode other rest behind b c =
     let left = end_apart text mode rest b in
     let right = end_apart text other behind c in
-    let same = by_form (tail_apart left.1) (tail_apart right.1) in
-    (same.0, one_through right.0 rest behind tt tt (subst (λ m. Begins ThroughBrace m rest) same.1 left.2) right.2)
+    let same = by_form (tail_apart left.1) (tail_apart right.1) in (
+      same.0,
+      one_through right.0 rest behind tt tt
+          (subst (λ m. Begins ThroughBrace m rest) same.1 left.2) right.2,
+    )
   where
     by_form : {middle next : List ℕ}
-        → Begins (IsOptions mode · IsSpace · Paren) (skip_leading_whitespace text) middle ⊎ ((mode ≡ None) × Begins Paren (skip_leading_whitespace text) middle)
-        → Begins (IsOptions other · IsSpace · Paren) (skip_leading_whitespace text) next ⊎ ((other ≡ None) × Begins Paren (skip_leading_whitespace text) next)
+        → Begins (IsOptions mode · IsSpace · Paren) (skip_leading_whitespace text) middle
+        ⊎ ((mode ≡ None) × Begins Paren (skip_leading_whitespace text) middle)
+        → Begins (IsOptions other · IsSpace · Paren) (skip_leading_whitespace text) next
+        ⊎ ((other ≡ None) × Begins Paren (skip_leading_whitespace text) next)
         → (mode ≡ other) × (middle ≡ next)
     by_form {middle} {next} (inl x) (inl y) =
         let left = Begins-split x in
         let right = Begins-split y in
-        let same = only_options (skip_leading_whitespace text) left.0 right.0 mode other tt tt left.1 right.1 in
-        let closing = one_then NoSpace Anything one_space one_paren (λ m r _ b. NoSpace-before Paren-solid b) in
-        (same.0, closing right.0 middle next tt tt (subst (λ m. Begins (IsSpace · Paren) m middle) same.1 left.2) right.2)
+        let same =
+        only_options (skip_leading_whitespace text) left.0 right.0 mode other tt tt left.1 right.1 in
+        let closing =
+        one_then NoSpace Anything one_space one_paren (λ m r _ b. NoSpace-before Paren-solid b) in (
+          same.0,
+          closing right.0 middle next tt tt
+              (subst (λ m. Begins (IsSpace · Paren) m middle) same.1 left.2) right.2,
+        )
     by_form (inl x) (inr y) = absurd (options_apart (Begins-split x).1 y.1)
     by_form (inr x) (inl y) = absurd (options_apart (Begins-split y).1 x.1)
-    by_form {middle} {next} (inr x) (inr y) = (x.0 ∙ sym y.0, one_paren (skip_leading_whitespace text) middle next tt tt x.1 y.1)
+    by_form {middle} {next} (inr x) (inr y) =
+        (x.0 ∙ sym y.0, one_paren (skip_leading_whitespace text) middle next tt tt x.1 y.1)
 
 -- the whole
-module _ (Head : List ℕ → Type 0) (Tail : List ℕ → Mode → List ℕ → Type 0) (one_head : OneRest NoSpace Head) (only_tail : OnlyTail Tail) where
-  solid_quote : {input rest : List ℕ} {a : Import} (s : States Head Tail input a rest) → NoSpace (s.quote ++ s.behind)
-  solid_quote {a = a} s = NoSpace-solid (s.quote ++ s.behind) (IsSolid-append s.quote s.behind (IsSolid-quote a.specifier s.quote s.quoted))
+module _ (Head : List ℕ → Type 0) (Tail : List ℕ → Mode → List ℕ → Type 0) (one_head : OneRest NoSpace Head)
+    (only_tail : OnlyTail Tail) where
+  solid_quote : {input rest : List ℕ} {a : Import} (s : States Head Tail input a rest)
+      → NoSpace (s.quote ++ s.behind)
+  solid_quote {a = a} s = NoSpace-solid (s.quote ++ s.behind)
+      (IsSolid-append s.quote s.behind (IsSolid-quote a.specifier s.quote s.quoted))
 
-  pub only_import : (input : List ℕ) (a b : Import) (rest behind : List ℕ) → States Head Tail input a rest → States Head Tail input b behind → (a ≡ b) × (rest ≡ behind)
+  pub only_import : (input : List ℕ) (a b : Import) (rest behind : List ℕ) → States Head Tail input a rest
+      → States Head Tail input b behind → (a ≡ b) × (rest ≡ behind)
   only_import input a b rest behind s t =
       let quotes = one_head input (s.quote ++ s.behind) (t.quote ++ t.behind) (solid_quote s) (solid_quote t)
-      (record { piece = s.before; whole = s.whole; is = s.head }) (record { piece = t.before; whole = t.whole; is = t.head }) in
+      (record { piece = s.before; whole = s.whole; is = s.head })
+      (record { piece = t.before; whole = t.whole; is = t.head }) in
       let befores : s.before ≡ t.before =
-      append_cancel_right s.before t.before (t.quote ++ t.behind) (ap (λ q. s.before ++ q) (sym quotes) ∙ sym s.whole ∙ t.whole) in
+      append_cancel_right s.before t.before (t.quote ++ t.behind)
+      (ap (λ q. s.before ++ q) (sym quotes) ∙ sym s.whole ∙ t.whole) in
       let texts = only_quote (t.quote ++ t.behind) s.behind t.behind a.specifier b.specifier tt tt
-      (record { piece = s.quote; whole = sym quotes; is = s.quoted }) (record { piece = t.quote; whole = refl; is = t.quoted }) in
-      let tails = only_tail t.behind a.mode b.mode rest behind (subst (λ m. Tail m a.mode rest) texts.1 s.tail) t.tail in
-      let start : a.start ≡ b.start = s.start ∙ ap (λ p. size p + 1) befores ∙ sym t.start in
-      let end : a.end ≡ b.end = s.end ∙ (λ i. start i + size (texts.0 i)) ∙ sym t.end in
+      (record { piece = s.quote; whole = sym quotes; is = s.quoted })
+      (record { piece = t.quote; whole = refl; is = t.quoted }) in
+      let tails = only_tail t.behind a.mode b.mode rest behind
+      (subst (λ m. Tail m a.mode rest) texts.1 s.tail) t.tail in
+      let start : a.start ≡ b.start = s.start ∙ ap (λ p. byte_count p + 1) befores ∙ sym t.start in
+      let end : a.end ≡ b.end = s.end ∙ (λ i. start i + byte_count (texts.0 i)) ∙ sym t.end in
       ((λ i. record { specifier = texts.0 i; start = start i; end = end i; mode = tails.0 i }), tails.1)
 
-pub one_declaration : (input : List ℕ) (a b : Import) (rest behind : List ℕ) → IsDeclaration input a rest → IsDeclaration input b behind → (a ≡ b) × (rest ≡ behind)
+pub one_declaration : (input : List ℕ) (a b : Import) (rest behind : List ℕ) → IsDeclaration input a rest
+    → IsDeclaration input b behind → (a ≡ b) × (rest ≡ behind)
 one_declaration = only_import DeclarationHead EndsDeclaration one_declaration_head only_declaration_tail
 
-pub one_dynamic_import : (input : List ℕ) (a b : Import) (rest behind : List ℕ) → IsDynamicImport input a rest → IsDynamicImport input b behind → (a ≡ b) × (rest ≡ behind)
+pub one_dynamic_import : (input : List ℕ) (a b : Import) (rest behind : List ℕ) → IsDynamicImport input a rest
+    → IsDynamicImport input b behind → (a ≡ b) × (rest ≡ behind)
 one_dynamic_import = only_import DynamicHead EndsDynamicImport one_dynamic_head only_dynamic_tail

@@ -1,5 +1,6 @@
 -- Words of ASCII, by their bytes and by their characters.
-use Rattle.std.proofs.Common.{◌≡◌, ℕ, Bool, true, false, cond, List, Option, Some, None, ◌++◌, ◌∷◌, [], refl, sym, ap, ◌∙◌, codes, option_map, ltb}
+use Rattle.std.proofs.Common.{◌≡◌, ℕ, Bool, true, false, cond, List, Option, Some, None, ◌++◌, ◌∷◌, [], refl}
+use Rattle.std.proofs.Common.{sym, ap, ◌∙◌, codes, option_map, ltb}
 use Rattle.std.proofs.lemmas.Bool.{and_parts, ltb-true}
 use Rattle.std.proofs.lemmas.Bool.Decides.{Decides-like, same_from_decides}
 use Rattle.std.proofs.lemmas.List.Folds.{find-append}
@@ -14,11 +15,13 @@ use denote.Ref.{Bor}
 use lib.Utf8.{encodes}
 use Rattle.deno_graph_jsdoc.specs.JsDocGrammar.{Attribute, mode_name}
 use Rattle.deno_graph_jsdoc.specs.JsDocReading.{text_of}
-use Rattle.deno_graph_values.specs.ResolutionMode.{mode_named}
-use Rattle.deno_graph_values.specs.declared.resolution_mode.TypeScriptTypesResolutionMode.TheVariants.{Require, Import}
+use Rattle.deno_graph_text.specs.ResolutionMode.{mode_named}
+use Rattle.deno_graph_text.specs.declared.values.resolution_mode.TypeScriptTypesResolutionMode.TheVariants.{Require}
+use Rattle.deno_graph_text.specs.declared.values.resolution_mode.TypeScriptTypesResolutionMode.TheVariants.{Import}
 
 -- whether a text is a word
-pub bytes_eq-chars : (text word : List ℕ) → IsUtf8 text → IsAscii word → bytes_eq (chars text) word ≡ bytes_eq text word
+pub bytes_eq-chars : (text word : List ℕ) → IsUtf8 text → IsAscii word
+    → bytes_eq (chars text) word ≡ bytes_eq text word
 bytes_eq-chars text word utf8 ascii =
     same_from_decides (bytes_eq (chars text) word) (bytes_eq text word)
     (Decides-like (bytes_eq (chars text) word)
@@ -41,36 +44,48 @@ mode_named-chars text utf8 =
 
 -- the name of the mode behind one attribute more
 abbrev is_mode : Attribute → Bool
-is_mode attribute = bytes_eq attribute.0 (codes "resolution-mode")
+is_mode attribute = bytes_eq attribute.key (codes "resolution-mode")
 
 mode_name-append : (before : List Attribute) (attribute : Attribute) → mode_name (before ++ attribute ∷ [])
-    ≡ option_map (λ (a : Attribute). a.1) (option_or (find is_mode before) (cond (is_mode attribute) (Some attribute) None))
-mode_name-append before attribute = ap (option_map (λ (a : Attribute). a.1)) (find-append is_mode before (attribute ∷ []))
+    ≡ option_map (λ (a : Attribute). a.value)
+    (option_or (find is_mode before) (cond (is_mode attribute) (Some attribute) None))
+mode_name-append before attribute =
+    ap (option_map (λ (a : Attribute). a.value)) (find-append is_mode before (attribute ∷ []))
 
-pub mode_name-kept : (before : List Attribute) (attribute : Attribute) (name : List ℕ) → Some name ≡ mode_name before → Some name ≡ mode_name (before ++ attribute ∷ [])
-mode_name-kept before attribute name is = by_found (find is_mode before) is ∙ sym (mode_name-append before attribute)
+pub mode_name-kept : (before : List Attribute) (attribute : Attribute) (name : List ℕ)
+    → Some name ≡ mode_name before → Some name ≡ mode_name (before ++ attribute ∷ [])
+mode_name-kept before attribute name is = by_found (find is_mode before) is
+    ∙ sym (mode_name-append before attribute)
   where
-    by_found : (found : Option Attribute) → Some name ≡ option_map (λ (a : Attribute). a.1) found
-        → Some name ≡ option_map (λ (a : Attribute). a.1) (option_or found (cond (is_mode attribute) (Some attribute) None))
+    by_found : (found : Option Attribute) → Some name ≡ option_map (λ (a : Attribute). a.value) found
+        → Some name ≡ option_map (λ (a : Attribute). a.value)
+        (option_or found (cond (is_mode attribute) (Some attribute) None))
     by_found None is = absurd (cc)
     by_found (Some a) is = is
 
-pub mode_name-first : (before : List Attribute) (attribute : Attribute) (test : Bool) → None ≡ mode_name before → test ≡ is_mode attribute
-    → cond test (Some attribute.1) None ≡ mode_name (before ++ attribute ∷ [])
-mode_name-first before attribute test is tested = by_found (find is_mode before) is ∙ sym (mode_name-append before attribute)
+pub mode_name-first : (before : List Attribute) (attribute : Attribute) (test : Bool)
+    → None ≡ mode_name before → test ≡ is_mode attribute
+    → cond test (Some attribute.value) None ≡ mode_name (before ++ attribute ∷ [])
+mode_name-first before attribute test is tested =
+    by_found (find is_mode before) is ∙ sym (mode_name-append before attribute)
   where
-    by_test : (t : Bool) → cond t (Some attribute.1) None ≡ option_map (λ (a : Attribute). a.1) (cond t (Some attribute) None)
+    by_test : (t : Bool) → cond t (Some attribute.value) None ≡ option_map (λ (a : Attribute). a.value)
+        (cond t (Some attribute) None)
     by_test true = refl
     by_test false = refl
 
-    by_found : (found : Option Attribute) → None ≡ option_map (λ (a : Attribute). a.1) found
-        → cond test (Some attribute.1) None ≡ option_map (λ (a : Attribute). a.1) (option_or found (cond (is_mode attribute) (Some attribute) None))
-    by_found None is = ap (λ t. cond t (Some attribute.1) None) tested ∙ by_test (is_mode attribute)
+    by_found : (found : Option Attribute) → None ≡ option_map (λ (a : Attribute). a.value) found
+        → cond test (Some attribute.value) None ≡ option_map (λ (a : Attribute). a.value)
+        (option_or found (cond (is_mode attribute) (Some attribute) None))
+    by_found None is = ap (λ t. cond t (Some attribute.value) None) tested ∙ by_test (is_mode attribute)
     by_found (Some a) is = absurd (cc)
 
-pub is_mode-chars : (key : List ℕ) → IsUtf8 key → bytes_eq (chars key) (codes "resolution-mode") ≡ bytes_eq key (codes "resolution-mode")
-is_mode-chars key utf8 = bytes_eq-chars key (codes "resolution-mode") utf8 (IsAscii-from_test (codes "resolution-mode") refl)
+pub is_mode-chars : (key : List ℕ) → IsUtf8 key
+    → bytes_eq (chars key) (codes "resolution-mode") ≡ bytes_eq key (codes "resolution-mode")
+is_mode-chars key utf8 =
+    bytes_eq-chars key (codes "resolution-mode") utf8 (IsAscii-from_test (codes "resolution-mode") refl)
 
-pub text_of-then_some : (test : Bool) (value : Bor (List ℕ)) → text_of (then_some test value) ≡ cond test (Some (chars value.now)) None
+pub text_of-then_some : (test : Bool) (value : Bor (List ℕ))
+    → text_of (then_some test value) ≡ cond test (Some (chars value.now)) None
 text_of-then_some true value = refl
 text_of-then_some false value = refl

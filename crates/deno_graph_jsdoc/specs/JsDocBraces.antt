@@ -1,35 +1,36 @@
--- The closing braces of a text, and what a pass over the text keeps of them.
+-- The closing braces of a text, and what a pass over the text keeps of them. No promise of a public call
+-- names it.
 use Rattle.std.specs.Prelude.{◌≡◌, ◌≤◌, ◌⊎◌, ◌↔◌, ℕ, Option, IfSome, List, ◌∷◌, ◌++◌, codes, option_map}
 use Rattle.std.specs.Str.{IsUtf8, chars, skip_leading_whitespace}
-use Rattle.deno_graph_jsdoc.specs.JsDocGrammar.{◌·◌, Is, Lacks}
-use Rattle.deno_graph_jsdoc.specs.JsDocImport.{Import, IsSource, Parses, rest_and_import, size}
-use Rattle.deno_graph_jsdoc.specs.JsDocReading.{Anything, Reads}
+use Rattle.deno_graph_jsdoc.specs.Characters.{closing_brace}
+use Rattle.deno_graph_jsdoc.specs.JsDocGrammar.{◌·◌, Anything, Is, Lacks}
+use Rattle.deno_graph_jsdoc.specs.JsDocReading.{IsSource, Reads, ReadsImport, rest_and_import}
+use Rattle.deno_graph_jsdoc.specs.JsDocImport.{byte_count}
 use Rattle.deno_graph_jsdoc.specs.declared.import.JsDocImport.{JsDocImport}
 use Rattle.deno_graph_jsdoc.specs.declared.grammar.declaration.NamesEnd.{NamesEnd}
 
 -- a back of the text lacks `}` exactly where it takes at most so many bytes
 abbrev pub IsUnclosed : List ℕ → ℕ → Type 0
-IsUnclosed text count = (front back : List ℕ) → text ≡ front ++ back → (size back ≤ count) ↔ Lacks 125 back
-
--- the answer is the only import that `input` states, whatever is behind it; None where it states none
-abbrev pub Finds : (List ℕ → Import → List ℕ → Type 0) → List ℕ → Option Import → Type 0
-Finds G input answer = (rest : List ℕ) × Parses G input (option_map (λ import. (rest, import)) answer)
+IsUnclosed text count =
+    (front back : List ℕ) → text ≡ front ++ back → (byte_count back ≤ count) ↔ Lacks closing_brace back
 
 -- `behind` is what is behind the first `}` of the text, or the text is an end of it
 abbrev pub IsBehindBrace : List ℕ → List ℕ → Type 0
 IsBehindBrace behind text =
-    ((inside : List ℕ) × Lacks 125 inside × (text ≡ inside ++ 125 ∷ behind)) ⊎ ((front : List ℕ) × (behind ≡ front ++ text))
+    ((inside : List ℕ) × Lacks closing_brace inside × (text ≡ inside ++ closing_brace ∷ behind))
+    ⊎ ((front : List ℕ) × (behind ≡ front ++ text))
 
 -- the specifier ends among so many bytes
 abbrev pub IsWithin : JsDocImport → ℕ → Type 0
-IsWithin import count = (import.specifier_range.start ≤ import.specifier_range.end) × (import.specifier_range.end ≤ count)
+IsWithin import count =
+    (import.specifier_range.start ≤ import.specifier_range.end) × (import.specifier_range.end ≤ count)
 
 -- the source that stands behind a `}` and white space, as it is read there
 pub record IsNamesEnd (end : NamesEnd) : Type 0 where
   pub utf8 : IsUtf8 end.behind.now
   pub from : chars end.from.now ≡ skip_leading_whitespace (chars end.behind.now)
   pub from_utf8 : IsUtf8 end.from.now
-  pub source : Parses IsSource (chars end.from.now) (rest_and_import end.source)
+  pub source : ReadsImport IsSource (chars end.from.now) (rest_and_import end.source)
 
 -- what is behind the `}`, as a parser of the text up to it gives it
 abbrev pub rest_of_end : Option NamesEnd → Option (List ℕ × Unit {0})
@@ -38,7 +39,8 @@ rest_of_end known = option_map (λ end. (chars end.behind.now, tt)) known
 -- it tells of the next `}` of the text, and is None where there is none
 pub record IsNextEnd (text : List ℕ) (known : Option NamesEnd) : Type 0 where
   pub is_end : IfSome known IsNamesEnd
-  pub is_next : Reads Anything (λ (_ : Unit {0}). Lacks 125 · Is (codes "}")) text (rest_of_end known)
+  pub is_next : Reads Anything
+      (λ (_ : Unit {0}). Lacks closing_brace · Is (codes "}")) text (rest_of_end known)
 
 -- it tells of the next `}` of the text, or of one before the text
 abbrev pub Keeps : List ℕ → Option NamesEnd → Type 0

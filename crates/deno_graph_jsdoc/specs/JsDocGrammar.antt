@@ -1,11 +1,13 @@
 -- The parts of a JSDoc import, as sets of texts. A text is its list of characters.
-use Rattle.std.specs.Prelude.{◌≡◌, ◌≢◌, ◌==◌, ◌<◌, ◌⊎◌, ◌||◌, ℕ, Bool, true, false, Option, None, List, [], ◌∷◌, ◌++◌, length, codes, option_and_then, option_map}
+use Rattle.std.specs.Prelude.{◌≡◌, ◌≢◌, ◌==◌, ◌<◌, ◌⊎◌, ◌||◌, ℕ, Bool, true, false, Option, None}
+use Rattle.std.specs.Prelude.{List, [], ◌∷◌, ◌++◌, length, codes, option_and_then, option_map}
 use Rattle.std.specs.Char.{is_whitespace}
 use Rattle.std.specs.Char.Unicode.Alphabetic.{is_alphabetic}
 use Rattle.std.specs.List.{AllByRecursion, find}
 use Rattle.std.specs.Str.{bytes_eq}
-use Rattle.deno_graph_values.specs.ResolutionMode.{mode_named}
-use Rattle.deno_graph_values.specs.declared.resolution_mode.TypeScriptTypesResolutionMode.{TypeScriptTypesResolutionMode}
+use Rattle.deno_graph_jsdoc.specs.Characters.{double_quote, apostrophe, hyphen, colon, closing_brace}
+use Rattle.deno_graph_text.specs.ResolutionMode.{mode_named}
+use Rattle.deno_graph_text.specs.declared.values.resolution_mode.TypeScriptTypesResolutionMode.{TypeScriptTypesResolutionMode}
 
 -- a text of `P` and then a text of `Q`
 infixr 6 ◌·◌
@@ -15,6 +17,25 @@ pub record ◌·◌ (P Q : List ℕ → Type 0) (text : List ℕ) : Type 0 where
   pub whole : text ≡ front ++ back
   pub is_front : P front
   pub is_back : Q back
+
+-- `input` is a text of `P` and then `rest`
+pub record Begins (P : List ℕ → Type 0) (input rest : List ℕ) : Type 0 where
+  pub piece : List ℕ
+  pub whole : input ≡ piece ++ rest
+  pub is : P piece
+
+-- any text
+abbrev pub Anything : List ℕ → Type 0
+Anything text = Unit {0}
+
+-- the text is empty or begins with such a character
+abbrev pub EmptyOr : (ℕ → Type 0) → List ℕ → Type 0
+EmptyOr P [] = Unit {0}
+EmptyOr P (c ∷ cs) = P c
+
+-- the text begins with no white space
+abbrev pub NoSpace : List ℕ → Type 0
+NoSpace text = EmptyOr (λ c. is_whitespace c ≡ false) text
 
 -- the text `word`
 abbrev pub Is : List ℕ → List ℕ → Type 0
@@ -38,16 +59,11 @@ IsBetween mark inside text = Lacks mark inside × (text ≡ mark ∷ inside ++ m
 
 -- `inside` between two `"`, or between two `'`
 abbrev pub IsQuote : List ℕ → List ℕ → Type 0
-IsQuote inside text = IsBetween 34 inside text ⊎ IsBetween 39 inside text
+IsQuote inside text = IsBetween double_quote inside text ⊎ IsBetween apostrophe inside text
 
 -- what ends an identifier: white space, `:` or `-`
 abbrev pub ends_ident : ℕ → Bool
-ends_ident c = is_whitespace c || (c == 58 || c == 45)
-
--- what begins one: an Alphabetic character
-abbrev pub begins_ident : List ℕ → Bool
-begins_ident [] = false
-begins_ident (c ∷ cs) = is_alphabetic c
+ends_ident c = is_whitespace c || (c == colon || c == hyphen)
 
 -- an Alphabetic character, and then any that don't end an identifier
 abbrev pub IsIdent : List ℕ → Type 0
@@ -58,17 +74,18 @@ IsIdent (c ∷ cs) = (is_alphabetic c ≡ true) × AllByRecursion (λ d. ends_id
 abbrev pub IsKey : List ℕ → List ℕ → Type 0
 IsKey key text = IsQuote key text ⊎ (IsIdent text × (key ≡ text))
 
--- a key and its value
-abbrev pub Attribute : Type 0
-Attribute = List ℕ × List ℕ
+pub record Attribute : Type 0 where
+  pub key : List ℕ
+  pub value : List ℕ
 
 abbrev pub IsAttribute : Attribute → List ℕ → Type 0
-IsAttribute attribute = IsKey attribute.0 · IsSpace · Is (codes ":") · IsSpace · IsQuote attribute.1
+IsAttribute attribute = IsKey attribute.key · IsSpace · Is (codes ":") · IsSpace · IsQuote attribute.value
 
 -- attributes, each behind a comma
 abbrev pub AreFurther : List Attribute → List ℕ → Type 0
 AreFurther [] = Is []
-AreFurther (attribute ∷ others) = IsSpace · Is (codes ",") · IsSpace · IsAttribute attribute · AreFurther others
+AreFurther (attribute ∷ others) =
+    IsSpace · Is (codes ",") · IsSpace · IsAttribute attribute · AreFurther others
 
 -- attributes with commas between them, and none behind the last; or nothing
 abbrev pub AreAttributes : List Attribute → List ℕ → Type 0
@@ -82,7 +99,8 @@ IsBlock attributes = Is (codes "{") · IsSpace · AreAttributes attributes · Is
 -- the value of the first `resolution-mode`
 abbrev pub mode_name : List Attribute → Option (List ℕ)
 mode_name attributes =
-    option_map (λ attribute. attribute.1) (find (λ attribute. bytes_eq attribute.0 (codes "resolution-mode")) attributes)
+    option_map (λ attribute. attribute.value)
+    (find (λ attribute. bytes_eq attribute.key (codes "resolution-mode")) attributes)
 
 -- the mode that attributes give: the one that this value names
 abbrev pub mode_of : List Attribute → Option TypeScriptTypesResolutionMode
@@ -92,15 +110,9 @@ mode_of attributes = option_and_then mode_named (mode_name attributes)
 abbrev pub IsModeBlock : Option TypeScriptTypesResolutionMode → List ℕ → Type 0
 IsModeBlock mode text = (attributes : List Attribute) × (mode ≡ mode_of attributes) × IsBlock attributes text
 
--- what is left of such a block from its first attribute on
-abbrev pub IsModeBlockEnd : Option TypeScriptTypesResolutionMode → List ℕ → Type 0
-IsModeBlockEnd mode text =
-    (attributes : List Attribute) × (0 < length attributes) × (mode ≡ mode_of attributes)
-    × (AreAttributes attributes · IsSpace · Is (codes "}")) text
-
 -- what is imported: names in braces, all under one name, or the default
 abbrev pub IsNames : List ℕ → Type 0
-IsNames = Is (codes "{") · Lacks 125 · Is (codes "}")
+IsNames = Is (codes "{") · Lacks closing_brace · Is (codes "}")
 
 abbrev pub IsName : List ℕ → Type 0
 IsName = IsIdent · IsGap
@@ -118,8 +130,8 @@ IsWith mode = Is (codes "with") · IsSpace · IsModeBlock mode
 -- the second argument of a dynamic import, with the comma before it
 abbrev pub IsOptions : Option TypeScriptTypesResolutionMode → List ℕ → Type 0
 IsOptions mode =
-    Is (codes ",") · IsSpace · Is (codes "{") · IsSpace · Is (codes "with") · IsSpace · Is (codes ":") · IsSpace
-    · IsModeBlock mode · IsSpace · Is (codes "}")
+    Is (codes ",") · IsSpace · Is (codes "{") · IsSpace · Is (codes "with") · IsSpace · Is (codes ":")
+    · IsSpace · IsModeBlock mode · IsSpace · Is (codes "}")
 
 -- that, or nothing and no mode
 abbrev pub IsSecond : Option TypeScriptTypesResolutionMode → List ℕ → Type 0
@@ -129,5 +141,5 @@ IsSecond mode text = IsOptions mode text ⊎ ((text ≡ []) × (mode ≡ None))
 pub record IsUpTo (word text : List ℕ) : Type 0 where
   pub front : List ℕ
   pub whole : text ≡ front ++ word
-  pub unclosed : Lacks 125 front
+  pub unclosed : Lacks closing_brace front
   pub first : (before behind : List ℕ) → text ≡ before ++ (word ++ behind) → behind ≡ []

@@ -1,9 +1,10 @@
 -- The imports that the text of a comment states, as a set, and the places where they may begin.
-use Rattle.std.specs.Prelude.{◌≡◌, ◌<◌, ◌⊎◌, ◌↔◌, ℕ, List, ◌++◌, length, codes}
+use Rattle.std.specs.Prelude.{◌≡◌, ◌<◌, ◌⊎◌, ◌↔◌, ℕ, ◌+◌, Bool, List, [], ◌∷◌, ◌++◌, length, take, codes}
+use Rattle.std.specs.Prelude.{if◌then◌else◌}
 use Rattle.std.specs.List.{AllPairs, Contains}
-use Rattle.deno_graph_jsdoc.specs.JsDocGrammar.{◌·◌, Is, IsUpTo, Lacks}
-use Rattle.deno_graph_jsdoc.specs.JsDocImport.{Import, IsDeclaration, IsDynamicImport, moved, size}
-use Rattle.deno_graph_jsdoc.specs.JsDocReading.{Anything}
+use Rattle.std.specs.Str.{bytes_eq}
+use Rattle.deno_graph_jsdoc.specs.JsDocGrammar.{◌·◌, Anything, Is, IsUpTo}
+use Rattle.deno_graph_jsdoc.specs.JsDocImport.{Import, IsDeclaration, IsDynamicImport, moved, byte_count}
 
 -- behind some front of the text stands a dynamic import or a declaration that states this import
 pub record IsHit (text : List ℕ) (import : Import) : Type 0 where
@@ -13,7 +14,7 @@ pub record IsHit (text : List ℕ) (import : Import) : Type 0 where
   pub here : Import
   pub whole : text ≡ front ++ back
   pub states : IsDynamicImport back here rest ⊎ IsDeclaration back here rest
-  pub place : import ≡ moved (size front) here
+  pub place : import ≡ moved (byte_count front) here
 
 -- each start is above those before it
 abbrev pub Ascend : List Import → Type 0
@@ -24,11 +25,19 @@ pub record AreHits (text : List ℕ) (imports : List Import) : Type 0 where
   pub ascending : Ascend imports
   pub exact : (import : Import) → Contains imports import ↔ IsHit text import
 
+-- The new list has this import, or one with its start, and else what the old one has. It ascends as that
+-- does.
+pub record GainsImport (old : List Import) (import : Import) (new : List Import) : Type 0 where
+  pub ascending : Ascend new
+  pub only : (other : Import) → Contains new other → Contains old other ⊎ (import ≡ other)
+  pub kept : (other : Import) → Contains old other → Contains new other
+  pub there : (other : Import) × Contains new other × (other.start ≡ import.start)
+
 -- a front of the text
 abbrev pub IsFront : List ℕ → List ℕ → Type 0
 IsFront text front = (back : List ℕ) × (text ≡ front ++ back)
 
--- the list has all fronts of the text of which `P` holds and nothing else, each longer than those before it
+-- The list has all fronts of the text of which `P` holds and nothing else, each longer than those before it.
 pub record AreFronts (P : List ℕ → Type 0) (text : List ℕ) (fronts : List (List ℕ)) : Type 0 where
   pub ascending : AllPairs (λ (front longer : List ℕ). length front < length longer) fronts
   pub exact : (front : List ℕ) → Contains fronts front ↔ (IsFront text front × P front)
@@ -45,17 +54,10 @@ EndsAtDynamicImport = Anything · Is (codes "{") · IsUpTo (codes "import")
 abbrev pub EndsAtDeclaration : List ℕ → Type 0
 EndsAtDeclaration = Anything · Is (codes "@import")
 
--- the text has a `{` and no `}` behind it
-abbrev pub LeavesOpen : List ℕ → Type 0
-LeavesOpen = Anything · Is (codes "{") · Lacks 125
+abbrev pub begins_with : List ℕ → List ℕ → Bool
+begins_with word text = bytes_eq (take (length word) text) word
 
--- the text ends with `@`
-abbrev pub EndsWithAt : List ℕ → Type 0
-EndsWithAt = Anything · Is (codes "@")
-
--- the new list has this import, or one with its start, and else what the old one has; it ascends as that does
-pub record GainsImport (old : List Import) (import : Import) (new : List Import) : Type 0 where
-  pub ascending : Ascend new
-  pub only : (other : Import) → Contains new other → Contains old other ⊎ (import ≡ other)
-  pub kept : (other : Import) → Contains old other → Contains new other
-  pub there : (other : Import) × Contains new other × (other.start ≡ import.start)
+-- how often `word`, which isn't empty, begins in the text
+abbrev pub occurrences : List ℕ → List ℕ → ℕ
+occurrences word [] = 0
+occurrences word (c ∷ cs) = (if begins_with word (c ∷ cs) then 1 else 0) + occurrences word cs

@@ -1,11 +1,11 @@
 -- The two forms of a JSDoc import, and what each states.
-use Rattle.std.specs.Prelude.{◌≡◌, ◌+◌, ◌⊎◌, ℕ, Option, Some, None, List, ◌++◌, length, codes, encode_utf8_all}
+use Rattle.std.specs.Prelude.{◌≡◌, ◌+◌, ◌⊎◌, ℕ, Option, None, List, ◌++◌, length, codes, encode_utf8_all}
 use Rattle.std.specs.Str.{chars}
-use denote.Ref.{Bor}
-use Rattle.deno_graph_jsdoc.specs.JsDocGrammar.{◌·◌, Is, IsSpace, IsGap, IsClause, IsQuote, IsWith, IsSecond, IsUpTo, Lacks}
-use Rattle.deno_graph_jsdoc.specs.JsDocReading.{Begins, NoSpace}
+use Rattle.deno_graph_jsdoc.specs.Characters.{closing_brace}
+use Rattle.deno_graph_jsdoc.specs.JsDocGrammar.{◌·◌, Begins, NoSpace, Is, IsSpace, IsGap, Lacks}
+use Rattle.deno_graph_jsdoc.specs.JsDocGrammar.{IsClause, IsQuote, IsWith, IsSecond, IsUpTo}
 use Rattle.deno_graph_jsdoc.specs.declared.import.JsDocImport.{JsDocImport}
-use Rattle.deno_graph_values.specs.declared.resolution_mode.TypeScriptTypesResolutionMode.{TypeScriptTypesResolutionMode}
+use Rattle.deno_graph_text.specs.declared.values.resolution_mode.TypeScriptTypesResolutionMode.{TypeScriptTypesResolutionMode}
 
 -- a mode, or none
 abbrev pub Mode : Type 0
@@ -18,20 +18,21 @@ pub record Import : Type 0 where
   pub end : ℕ
   pub mode : Mode
 
--- the bytes that a text takes
-abbrev pub size : List ℕ → ℕ
-size text = length (encode_utf8_all text)
+-- the number of bytes of these characters
+abbrev pub byte_count : List ℕ → ℕ
+byte_count text = length (encode_utf8_all text)
 
 -- `input` is a text of `Head`, the specifier in quotes, and what gives the mode and ends before `rest`
-pub record States (Head : List ℕ → Type 0) (Tail : List ℕ → Mode → List ℕ → Type 0) (input : List ℕ) (import : Import) (rest : List ℕ) : Type 0 where
+pub record States (Head : List ℕ → Type 0) (Tail : List ℕ → Mode → List ℕ → Type 0) (input : List ℕ)
+    (import : Import) (rest : List ℕ) : Type 0 where
   pub before : List ℕ
   pub quote : List ℕ
   pub behind : List ℕ
   pub whole : input ≡ before ++ (quote ++ behind)
   pub head : Head before
   pub quoted : IsQuote import.specifier quote
-  pub start : import.start ≡ size before + 1
-  pub end : import.end ≡ import.start + size import.specifier
+  pub start : import.start ≡ byte_count before + 1
+  pub end : import.end ≡ import.start + byte_count import.specifier
   pub tail : Tail behind import.mode rest
 
 -- behind the specifier of a declaration: attributes where they parse; and else no mode, and the rest from
@@ -39,44 +40,25 @@ pub record States (Head : List ℕ → Type 0) (Tail : List ℕ → Mode → Lis
 abbrev pub EndsDeclaration : List ℕ → Mode → List ℕ → Type 0
 EndsDeclaration behind mode rest =
     Begins (IsSpace · IsWith mode) behind rest
-    ⊎ ((mode ≡ None) × ((other : Mode) (others_rest : List ℕ) → ¬ (Begins (IsSpace · IsWith other) behind others_rest))
+    ⊎ ((mode ≡ None)
+    × ((other : Mode) (others_rest : List ℕ) → ¬ (Begins (IsSpace · IsWith other) behind others_rest))
     × Begins IsSpace behind rest × NoSpace rest)
 
 -- `input` begins with a declaration that states `import`, and `rest` is behind it
 abbrev pub IsDeclaration : List ℕ → Import → List ℕ → Type 0
-IsDeclaration = States (Is (codes "@import") · IsGap · IsClause · IsSpace · Is (codes "from") · IsSpace) EndsDeclaration
+IsDeclaration =
+    States (Is (codes "@import") · IsGap · IsClause · IsSpace · Is (codes "from") · IsSpace) EndsDeclaration
 
 -- behind the specifier of a dynamic import: maybe a second argument, and the rest behind the next `}`
 abbrev pub EndsDynamicImport : List ℕ → Mode → List ℕ → Type 0
 EndsDynamicImport behind mode rest =
-    Begins (IsSpace · IsSecond mode · IsSpace · Is (codes ")") · Lacks 125 · Is (codes "}")) behind rest
+    Begins (IsSpace · IsSecond mode · IsSpace · Is (codes ")") · Lacks closing_brace · Is (codes "}")) behind
+    rest
 
 -- `input` begins with a dynamic import that states `import`, and `rest` is behind it
 abbrev pub IsDynamicImport : List ℕ → Import → List ℕ → Type 0
-IsDynamicImport = States (Is (codes "{") · IsUpTo (codes "import") · IsSpace · Is (codes "(") · IsSpace) EndsDynamicImport
-
--- both from behind their `import` on
-abbrev pub IsDeclarationEnd : List ℕ → Import → List ℕ → Type 0
-IsDeclarationEnd = States (IsGap · IsClause · IsSpace · Is (codes "from") · IsSpace) EndsDeclaration
-
-abbrev pub IsDynamicEnd : List ℕ → Import → List ℕ → Type 0
-IsDynamicEnd = States (IsSpace · Is (codes "(") · IsSpace) EndsDynamicImport
-
--- the declaration from its `from` on, and the dynamic import from its argument list on, to the end of that
-abbrev pub IsSource : List ℕ → Import → List ℕ → Type 0
-IsSource = States (Is (codes "from") · IsSpace) EndsDeclaration
-
-abbrev pub EndsArguments : List ℕ → Mode → List ℕ → Type 0
-EndsArguments behind mode rest = Begins (IsSpace · IsSecond mode · IsSpace · Is (codes ")")) behind rest
-
-abbrev pub HasArguments : List ℕ → Import → List ℕ → Type 0
-HasArguments = States (IsSpace · Is (codes "(") · IsSpace) EndsArguments
-
--- the answer is the only import that `input` states, with what is behind it; None where it states none
-abbrev pub Parses : (List ℕ → Import → List ℕ → Type 0) → List ℕ → Option (List ℕ × Import) → Type 0
-Parses G input None = (import : Import) (rest : List ℕ) → G input import rest → ⊥
-Parses G input (Some answer) =
-    G input answer.1 answer.0 × ((other : Import) (behind : List ℕ) → G input other behind → (other ≡ answer.1) × (behind ≡ answer.0))
+IsDynamicImport =
+    States (Is (codes "{") · IsUpTo (codes "import") · IsSpace · Is (codes "(") · IsSpace) EndsDynamicImport
 
 -- what a value of the program states
 abbrev pub import_of : JsDocImport → Import
@@ -86,10 +68,6 @@ import_of import = record {
   end = import.specifier_range.end;
   mode = import.resolution_mode;
 }
-
-abbrev pub rest_and_import : Option (Bor (List ℕ) × JsDocImport) → Option (List ℕ × Import)
-rest_and_import None = None
-rest_and_import (Some parsed) = Some (chars parsed.0.now, import_of parsed.1)
 
 -- an import whose place is counted from `by` bytes before
 abbrev pub moved : ℕ → Import → Import

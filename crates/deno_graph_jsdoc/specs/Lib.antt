@@ -1,5 +1,7 @@
+pub mod Characters
 pub mod JsDocGrammar
 pub mod JsDocReading
 pub mod JsDocImport
 pub mod JsDocBraces
 pub mod JsDocHits
+pub mod JsDocPass

@@ -1,6 +1,6 @@
 //! What a JSDoc import states.
 
-use deno_graph_values::TypeScriptTypesResolutionMode;
+use deno_graph_text::values::TypeScriptTypesResolutionMode;
 use std::ops::Range;
 
 /// An import that a JSDoc comment states.
@@ -34,7 +34,7 @@ impl<'a> JsDocImport<'a> {
 }
 
 /// What a pass over the text of a comment found.
-#[derive(Debug, Drop)]
+#[derive(Clone, Debug, PartialEq, Eq, Drop)]
 pub struct Scan<'a> {
     /// The imports by ascending start, each once. Their ranges are in bytes from the start of the
     /// text.

@@ -1,8 +1,8 @@
 //! Laws of the imports that the text of a comment states.
 
 ghost use Rattle.std.specs.Prelude.{◌≡◌, ℕ, List};
-ghost use Rattle.deno_graph_jsdoc.specs.JsDocHits.{AreHits, IsHit};
 ghost use Rattle.deno_graph_jsdoc.specs.JsDocImport.{Import};
+ghost use Rattle.deno_graph_jsdoc.specs.JsDocHits.{AreHits, IsHit};
 
 /// In one text a start determines an import: its specifier, its end and its mode.
 pub fn one_import_at_a_start()

@@ -1,9 +1,12 @@
 //! All imports that the text of a comment states, found in one pass.
 
-ghost use Rattle.std.specs.Prelude.{◌≡◌, ◌+◌, ◌<◌, ◌≤◌, ◌^◌, ◌↔◌, IfOk, OnOk, IsTrue, IfSome, MatchOption, map};
+ghost use Rattle.std.specs.Prelude.{◌≡◌, ◌+◌, ◌<◌, ◌≤◌, ◌^◌, ◌↔◌, IfOk, OnOk, OnErr, IsTrue, codes};
+ghost use Rattle.std.specs.Prelude.{IfSome, MatchOption, map};
 ghost use Rattle.std.specs.Str.{chars};
 ghost use Rattle.deno_graph_jsdoc.specs.JsDocImport.{import_of, moved};
-ghost use Rattle.deno_graph_jsdoc.specs.JsDocHits.{Ascend, AreHits, HasFronts, EndsAtDynamicImport, EndsAtDeclaration, LeavesOpen, EndsWithAt, GainsImport};
+ghost use Rattle.deno_graph_jsdoc.specs.JsDocHits.{Ascend, AreHits, HasFronts, EndsAtDynamicImport};
+ghost use Rattle.deno_graph_jsdoc.specs.JsDocHits.{EndsAtDeclaration, GainsImport, occurrences};
+ghost use Rattle.deno_graph_jsdoc.specs.JsDocPass.{LeavesOpen, EndsWithAt};
 
 use crate::grammar::parts::unclosed_len;
 use crate::grammar::{declaration, dynamic};
@@ -19,6 +22,8 @@ pub fn scan<'a>(alloc: Global, text: &'a str) -> Result<Scan<'a>, AllocError>
         (λ scan. AreHits (chars text.now) (map import_of scan.imports.items)) }
     ensures dynamic { IfOk result
         (λ scan. HasFronts EndsAtDynamicImport (chars text.now) scan.dynamic_starts) }
+    ensures dynamic_at_most { IfOk result
+        (λ scan. scan.dynamic_starts ≤ occurrences (codes "import") (chars text.now)) }
     ensures declarations { IfOk result
         (λ scan. HasFronts EndsAtDeclaration (chars text.now) scan.decl_starts) }
 {
@@ -69,14 +74,16 @@ fn add<'a>(
     insert(imports, import.moved(by))
 }
 
-/// Puts an import into its place by its start, unless one with that start is there.
+/// Puts an import into its place by its start, unless one with that start is there. Where memory is
+/// refused the list stays as it was.
 pub fn insert<'a>(
     imports: &mut Vec<JsDocImport<'a>>,
     import: JsDocImport<'a>,
 ) -> Result<(), AllocError>
     requires ascending { Ascend (map import_of imports.old.items) }
-    ensures { OnOk result (GainsImport (map import_of imports.old.items)
+    ensures ok { OnOk result (GainsImport (map import_of imports.old.items)
         (import_of import.entry) (map import_of imports.new.items)) }
+    ensures err { OnErr result (imports.new.items ≡ imports.old.items) }
 {
     let start = import.specifier_range.start;
     let at = imports

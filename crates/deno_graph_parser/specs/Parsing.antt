@@ -1,5 +1,5 @@
 -- Parsers: what a text has as its outcome, and which answers show it.
-use Rattle.std.specs.Prelude.{◌≡◌, ℕ, List, Option, Some, Result, Ok, Err}
+use Rattle.std.specs.Prelude.{◌≡◌, ℕ, Bool, List, Option, Some, Result, Ok, Err}
 use Rattle.std.specs.Rc.{rc_str_bytes}
 use Rattle.url.specs.Parts.{Parts, serialize}
 use Rattle.deno_graph_source.specs.Comments.{FiledComments}
@@ -63,3 +63,7 @@ abbrev pub AnswersAs : ParseFunction → Input → Result ParsedModule ParseErro
 AnswersAs parses input (Ok source) = IsParsed parses input source
 AnswersAs parses input (Err (Diagnostic diagnostic)) = parses input ≡ Some (refused diagnostic)
 AnswersAs parses input (Err OutOfMemory) = Unit {0}
+
+-- which answers there may be to an input, asked with or without the scope option
+abbrev pub AnswerRelation : Type 1
+AnswerRelation = Input → Bool → Result ParsedModule ParseError → Type 0

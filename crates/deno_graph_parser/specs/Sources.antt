@@ -5,7 +5,7 @@ use Rattle.std.specs.Cmp.Lexicographic.{slice_cmp}
 use Rattle.std.specs.FinMap as map
 use Rattle.std.specs.Ordering.{nat_cmp}
 use Rattle.deno_graph_source.specs.ParsedSource.{ParsedModule, marked}
-use Rattle.deno_graph_values.specs.TextMap.{entries_of}
+use Rattle.deno_graph_text.specs.TextMap.{entries_of}
 
 abbrev pub Sources : Type 0
 Sources = map.FinMap (slice_cmp nat_cmp) ParsedModule

@@ -15,6 +15,8 @@ impl EsParser for Box<dyn EsParser> {
 
     ghost is_sound = { λ boxed. (EsParser-box boxed).is_sound boxed.value };
 
+    ghost may_answer = { λ boxed. (EsParser-box boxed).may_answer boxed.value };
+
     fn parse_program(
         &mut self,
         alloc: Global,

@@ -1,6 +1,7 @@
-ghost use Rattle.std.specs.Prelude.{◌≡◌, ◌+◌, ◌≤◌, ◌⊎◌, ◌↔◌, IsTrue, Some, IfSome, IfNone, IfOk, OnOk, OnErr};
+ghost use Rattle.std.specs.Prelude.{◌≡◌, ◌+◌, ◌≤◌, ◌⊎◌, ◌↔◌, IsTrue, Some, Err, IfSome, IfNone, IfOk, OnOk, OnErr};
 ghost use Rattle.std.specs.Rc.{rc_str_bytes};
-ghost use Rattle.deno_graph_parser.specs.Capturing.{IsFaithful, HasText, IsHit, once_asked, AnswersFromStore, AnswersFromParser};
+ghost use Rattle.deno_graph_parser.specs.Captures.{Captures, state};
+ghost use Rattle.deno_graph_parser.specs.Capturing.{HasText, once_asked};
 ghost use Rattle.deno_graph_parser.specs.Parsing.{AnswersAs, asked, specifier_text};
 ghost use Rattle.deno_graph_parser.specs.Sources.{source_at, with_source};
 
@@ -9,7 +10,7 @@ use crate::parse_error::ParseError;
 use crate::parse_options::ParseOptions;
 use crate::parsed_source_store::ParsedSourceStore;
 use deno_graph_source::tree::ParsedSource;
-use deno_graph_source::values::TryClone;
+use deno_graph_text::values::TryClone;
 use std::alloc::{AllocError, Global};
 
 /// Answers the source in the store where it has the options' text and media type. Otherwise the
@@ -23,27 +24,10 @@ pub fn capture<P: EsParser, S: ParsedSourceStore>(
     store: &mut S,
     options: ParseOptions<'_>,
 ) -> Result<ParsedSource, ParseError>
-    ensures hit { IsHit (S.sources store.old) (asked options.entry)
-        → AnswersFromStore (once_asked options.entry (S.sources store.old)) (asked options.entry)
-        parser.old result parser.new (S.sources store.new) }
-    ensures miss { ¬ IsHit (S.sources store.old) (asked options.entry)
-        → AnswersFromParser (P.parses parser.old) (P.is_sound parser.old)
-        (once_asked options.entry (S.sources store.old)) (asked options.entry)
-        result (S.sources store.new) }
-    ensures err { OnErr result
-        ((S.sources store.new ≡ S.sources store.old)
-        ⊎ (S.sources store.new ≡ once_asked options.entry (S.sources store.old))) }
-    ensures function { P.parses parser.new ≡ P.parses parser.old }
-    ensures counted { (P.count parser.old ≤ P.count parser.new)
-        × (P.count parser.new ≤ P.count parser.old + 1) }
-    ensures sound { P.is_sound parser.old → P.is_sound parser.new }
-    // A store that is faithful to a sound parser stays so, and the answer is then the parser's.
-    ensures faithful { P.is_sound parser.old
-        → IsFaithful (P.parses parser.old) (S.sources store.old)
-        → IsFaithful (P.parses parser.new) (S.sources store.new) }
-    ensures answer { P.is_sound parser.old
-        → IsFaithful (P.parses parser.old) (S.sources store.old)
-        → AnswersAs (P.parses parser.old) (asked options.entry) result }
+    ensures { Captures P.parses P.count P.is_sound P.may_answer
+        options.entry.scope_analysis (asked options.entry)
+        (state parser.old (S.sources store.old)) result
+        (state parser.new (S.sources store.new)) }
 {
     match matching(ask(alloc, store, &options)?, &options) {
         Some(source) => Ok(source),
@@ -98,6 +82,8 @@ fn parse_anew<P: EsParser, S: ParsedSourceStore>(
 ) -> Result<ParsedSource, ParseError>
     ensures answer { P.is_sound parser.old
         → AnswersAs (P.parses parser.old) (asked options.entry) result }
+    ensures own { (result ≡ Err ParseError.OutOfMemory)
+        ⊎ P.may_answer parser.old (asked options.entry) options.entry.scope_analysis result }
     ensures kept { IfOk result (λ source. S.sources store.new
         ≡ with_source (S.sources store.old) (asked options.entry).specifier source) }
     ensures err { OnErr result (S.sources store.new ≡ S.sources store.old) }

@@ -1,5 +1,6 @@
-ghost use Rattle.std.specs.Prelude.{◌≡◌, ◌+◌, ◌≤◌, ◌⊎◌, OnErr};
-ghost use Rattle.deno_graph_parser.specs.Capturing.{IsFaithful, IsHit, once_asked, AnswersFromStore, AnswersFromParser};
+ghost use Rattle.std.specs.Prelude.{◌≡◌, ◌+◌, ◌≤◌};
+ghost use Rattle.deno_graph_parser.specs.Captures.{IsSoundState, Captures};
+ghost use Rattle.deno_graph_parser.specs.CapturingEsParser.{lent_parser, lent_store, lent_state};
 ghost use Rattle.deno_graph_parser.specs.Parsing.{AnswersAs, asked};
 
 use crate::capturing::capture;
@@ -21,10 +22,10 @@ pub struct CapturingEsParser<'a, P: EsParser, S: ParsedSourceStore> {
 impl<'a, P: EsParser, S: ParsedSourceStore> CapturingEsParser<'a, P, S> {
     /// A parser over `parser` and `store`. Takes no memory.
     pub fn new(parser: &'a mut P, store: &'a mut S) -> CapturingEsParser<'a, P, S>
-        ensures parser { result.parser.now ≡ parser.old }
-        ensures store { result.store.now ≡ store.old }
-        ensures same_parser { result.parser.ghost_name ≡ parser.entry.ghost_name }
-        ensures same_store { result.store.ghost_name ≡ store.entry.ghost_name }
+        ensures parser { (lent_parser result).now ≡ parser.old }
+        ensures store { (lent_store result).now ≡ store.old }
+        ensures same_parser { (lent_parser result).ghost_name ≡ parser.entry.ghost_name }
+        ensures same_store { (lent_store result).ghost_name ≡ store.entry.ghost_name }
     {
         CapturingEsParser { parser, store }
     }
@@ -33,47 +34,24 @@ impl<'a, P: EsParser, S: ParsedSourceStore> CapturingEsParser<'a, P, S> {
 /// It parses as its parser does, and is sound where its parser is and where each source in its
 /// store is that parser's.
 impl<'a, P: EsParser, S: ParsedSourceStore> EsParser for CapturingEsParser<'a, P, S> {
-    ghost parses = { λ it. P.parses it.parser.now };
+    ghost parses = { λ it. P.parses (lent_parser it).now };
 
-    ghost count = { λ it. P.count it.parser.now };
+    ghost count = { λ it. P.count (lent_parser it).now };
 
-    ghost is_sound = { λ it. P.is_sound it.parser.now
-        × IsFaithful (P.parses it.parser.now) (S.sources it.store.now) };
+    ghost is_sound = { λ it. IsSoundState P.parses P.is_sound (lent_state S.sources it) };
 
-    /// Answers the source in the store where it has the options' text and media type. Otherwise
-    /// the parser is asked, and its answer is kept under the specifier.
-    ///
-    /// An error leaves the store as it was, except that with the scope option the source under the
-    /// specifier may have its mark set, even where it has another text.
+    /// As [`capture`] with its parser and its store.
     fn parse_program(
         &mut self,
         alloc: Global,
         options: ParseOptions<'_>,
     ) -> Result<ParsedSource, ParseError>
-        ensures hit { IsHit (S.sources self.old.store.now) (asked options.entry)
-            → AnswersFromStore (once_asked options.entry (S.sources self.old.store.now))
-            (asked options.entry) self.old.parser.now result self.new.parser.now
-            (S.sources self.new.store.now) }
-        ensures miss { ¬ IsHit (S.sources self.old.store.now) (asked options.entry)
-            → AnswersFromParser (P.parses self.old.parser.now) (P.is_sound self.old.parser.now)
-            (once_asked options.entry (S.sources self.old.store.now)) (asked options.entry)
-            result (S.sources self.new.store.now) }
-        ensures err { OnErr result
-            ((S.sources self.new.store.now ≡ S.sources self.old.store.now)
-            ⊎ (S.sources self.new.store.now
-            ≡ once_asked options.entry (S.sources self.old.store.now))) }
-        ensures same_parser { self.new.parser.ghost_name ≡ self.old.parser.ghost_name }
-        ensures same_store { self.new.store.ghost_name ≡ self.old.store.ghost_name }
-        ensures function { P.parses self.new.parser.now ≡ P.parses self.old.parser.now }
-        ensures counted { (P.count self.old.parser.now ≤ P.count self.new.parser.now)
-            × (P.count self.new.parser.now ≤ P.count self.old.parser.now + 1) }
-        ensures sound { P.is_sound self.old.parser.now
-            × IsFaithful (P.parses self.old.parser.now) (S.sources self.old.store.now)
-            → P.is_sound self.new.parser.now
-            × IsFaithful (P.parses self.new.parser.now) (S.sources self.new.store.now) }
-        ensures answer { P.is_sound self.old.parser.now
-            × IsFaithful (P.parses self.old.parser.now) (S.sources self.old.store.now)
-            → AnswersAs (P.parses self.old.parser.now) (asked options.entry) result }
+        ensures captures { Captures P.parses P.count P.is_sound P.may_answer
+            options.entry.scope_analysis (asked options.entry)
+            (lent_state S.sources self.old) result (lent_state S.sources self.new) }
+        ensures same_parser { (lent_parser self.new).ghost_name
+            ≡ (lent_parser self.old).ghost_name }
+        ensures same_store { (lent_store self.new).ghost_name ≡ (lent_store self.old).ghost_name }
     {
         capture(alloc, self.parser, self.store, options)
     }

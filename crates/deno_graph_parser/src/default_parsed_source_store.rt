@@ -3,7 +3,7 @@ ghost use Rattle.deno_graph_parser.specs.Sources.{no_sources, sources_of, source
 
 use crate::parsed_source_store::ParsedSourceStore;
 use deno_graph_source::tree::ParsedSource;
-use deno_graph_source::values::TryClone;
+use deno_graph_text::values::TryClone;
 use std::alloc::{AllocError, Global};
 use std::collections::BTreeMap;
 use std::marker::Model;

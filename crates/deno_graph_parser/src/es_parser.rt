@@ -6,8 +6,8 @@ use std::alloc::Global;
 /// A parser: it has one outcome, a tree with comments or a diagnostic, for a specifier, a text and
 /// a media type, however often it is asked.
 pub trait EsParser: Drop {
-    ghost use Rattle.std.specs.Prelude.{◌≡◌, ℕ, ◌+◌, ◌≤◌};
-    ghost use Rattle.deno_graph_parser.specs.Parsing.{ParseFunction, AnswersAs, asked};
+    ghost use Rattle.std.specs.Prelude.{◌≡◌, ℕ, ◌+◌, ◌≤◌, ⊤};
+    ghost use Rattle.deno_graph_parser.specs.Parsing.{ParseFunction, AnswerRelation, AnswersAs, asked};
 
     /// The outcomes.
     ghost parses: { Self → ParseFunction };
@@ -19,6 +19,9 @@ pub trait EsParser: Drop {
     /// Whether its answers are its outcomes: a plain parser is always sound, and one that answers
     /// from a store is so where the store holds nothing but outcomes.
     ghost is_sound: { Self → Type 0 };
+
+    /// Which answers it may give, with their marks: any, where it doesn't say.
+    ghost may_answer: { Self → AnswerRelation } = { λ _ _ _ _. ⊤ };
 
     /// Parses a text. The error is a diagnostic where the text is no module, and `OutOfMemory`
     /// where memory was refused.
@@ -35,5 +38,6 @@ pub trait EsParser: Drop {
         ensures sound { is_sound self.old → is_sound self.new }
         // A sound parser answers its outcome.
         ensures answer { is_sound self.old
-            → AnswersAs (parses self.old) (asked options.entry) result };
+            → AnswersAs (parses self.old) (asked options.entry) result }
+        ensures own { may_answer self.old (asked options.entry) options.entry.scope_analysis result };
 }

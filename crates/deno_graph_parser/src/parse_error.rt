@@ -1,7 +1,7 @@
 ghost use Rattle.std.specs.Prelude.{◌≡◌};
 
-use deno_graph_source::text::Position;
-use deno_graph_source::values::{Text, TryClone};
+use deno_graph_text::text::Position;
+use deno_graph_text::values::{Text, TryClone};
 use std::alloc::{AllocError, AllocFailed, Global};
 
 /// Why a text is no module: what a parser says of it.
@@ -28,6 +28,17 @@ pub enum ParseError {
     Diagnostic(ParseDiagnostic),
     /// Memory was refused.
     OutOfMemory,
+}
+
+impl TryClone for ParseError {
+    fn try_clone(&self, alloc: Global) -> Result<ParseError, AllocError> {
+        match self {
+            ParseError::Diagnostic(diagnostic) => {
+                Ok(ParseError::Diagnostic(diagnostic.try_clone(alloc)?))
+            }
+            ParseError::OutOfMemory => Ok(ParseError::OutOfMemory),
+        }
+    }
 }
 
 impl From<AllocError> for ParseError {

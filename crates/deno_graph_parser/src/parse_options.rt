@@ -3,7 +3,7 @@ use std::rc::RcStr;
 use url::Url;
 
 /// What a parser is asked to parse.
-#[derive(Drop)]
+#[derive(Clone, Debug, PartialEq, Eq, Drop)]
 pub struct ParseOptions<'a> {
     /// Where the module stands.
     pub specifier: &'a Url,

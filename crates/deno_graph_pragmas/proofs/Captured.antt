@@ -1,76 +1,109 @@
 -- What is captured: its place in the text, its quotes, and that there is one.
-use Rattle.std.proofs.Common.{◌≡◌, ℕ, ◌+◌, ◌-◌, ◌<◌, true, List, [], ◌∷◌, ◌++◌, Option, IfSome, length, take, drop, refl, sym, ap, subst, ◌∙◌, append_assoc, length-append, arith, codes}
+use Rattle.std.proofs.Common.{◌≡◌, ℕ, ◌+◌, ◌-◌, ◌<◌, true, List, [], ◌∷◌, ◌++◌, Option, IfSome, length, take}
+use Rattle.std.proofs.Common.{drop, refl, sym, ap, subst, ◌∙◌, append_assoc, length-append, arith, codes}
 use Rattle.std.proofs.lemmas.Bool.{and_parts}
 use Rattle.std.proofs.lemmas.Bool.Decides.{nat_tests}
 use Rattle.std.proofs.lemmas.List.{take_at, drop_at, append-nil}
 use Rattle.std.proofs.lemmas.Option.{IfSome_then}
-use Rattle.std.proofs.lemmas.Str.{encodes-chars, encodes-append, encode_ascii, scalars-chars, IsCharBoundary-at_seam}
+use Rattle.std.proofs.lemmas.Str.{encodes-chars, encodes-append, encode_ascii, scalars-chars}
+use Rattle.std.proofs.lemmas.Str.{IsCharBoundary-at_seam}
 use Rattle.std.specs.List.{AllByRecursion}
 use Rattle.std.specs.Str.{chars, IsUtf8}
 use lib.Utf8.{encodes, encode, scalar, scalars}
-use Rattle.deno_graph_pragmas.specs.Finders.{attribute, quoted_pragma, quoteless_pragma, jsx_pragma, source_mapping_url, finder_patterns}
+use Rattle.deno_graph_pragmas.specs.Finders.{attribute, quoted_pragma, quoteless_pragma, jsx_pragma}
+use Rattle.deno_graph_pragmas.specs.Finders.{source_mapping_url_pattern, finder_patterns}
 use Rattle.deno_graph_pragmas.specs.declared.finders.matches.Match.{Match}
 use Rattle.deno_graph_pragmas.specs.Match.{part_of}
-use Rattle.deno_graph_pragmas.specs.Piece.{Piece, white, whites, keyword, sign, quote, is_quote}
-use Rattle.deno_graph_pragmas.specs.Split.{Pattern, ArePieces, Split, IsCaptured, IsSliceOf, StandsInQuotes, StartDetermines, HasOnePart, Part, byte_count, with_beside}
-use Rattle.deno_graph_pragmas.proofs.Barriers.{attribute_apart, quoted_pragma_apart, quoteless_pragma_apart, jsx_pragma_apart, source_mapping_url_apart}
+use Rattle.deno_graph_pragmas.specs.Piece.{Piece, white_space, any_white_space, keyword, literal, quote}
+use Rattle.deno_graph_pragmas.specs.Piece.{is_quote}
+use Rattle.deno_graph_pragmas.specs.Split.{Pattern, ArePieces, Split, IsCaptured, IsSliceOf, StandsInQuotes}
+use Rattle.deno_graph_pragmas.specs.Split.{StartDetermines, HasOnePart, TextPart, byte_count, with_beside}
+use Rattle.deno_graph_pragmas.proofs.Barriers.{attribute_apart, quoted_pragma_apart, quoteless_pragma_apart}
+use Rattle.deno_graph_pragmas.proofs.Barriers.{jsx_pragma_apart, source_mapping_url_apart}
 use Rattle.deno_graph_pragmas.proofs.Splits.{IsDetermined, behind_before, same_captured}
 
 -- ---- slices
 
 scalars-back : (front back : List ℕ) → scalars (front ++ back) ≡ true → scalars back ≡ true
 scalars-back [] back all = all
-scalars-back (c ∷ front) back all = scalars-back front back (and_parts (scalar c) (scalars (front ++ back)) all).1
+scalars-back (c ∷ front) back all =
+    scalars-back front back (and_parts (scalar c) (scalars (front ++ back)) all).1
 
 -- a text by its characters, cut at a place
-cut : (text front back : List ℕ) → IsUtf8 text → chars text ≡ front ++ back → (text ≡ encodes front ++ encodes back) × IsUtf8 (encodes back)
-cut text front back utf8 whole =
-    (sym (encodes-chars text utf8) ∙ ap encodes whole ∙ encodes-append front back, (back, (scalars-back front back (ap scalars (sym whole) ∙ scalars-chars text utf8), refl)))
+cut : (text front back : List ℕ) → IsUtf8 text → chars text ≡ front ++ back
+    → (text ≡ encodes front ++ encodes back) × IsUtf8 (encodes back)
+cut text front back utf8 whole = (
+  sym (encodes-chars text utf8) ∙ ap encodes whole ∙ encodes-append front back,
+  (back, (scalars-back front back (ap scalars (sym whole) ∙ scalars-chars text utf8), refl)),
+)
 
-same_part : (one other : Part) → one.text ≡ other.text → one.start ≡ other.start → one.end ≡ other.end → one ≡ other
+same_part : (one other : TextPart) → one.text ≡ other.text → one.start ≡ other.start
+    → one.end ≡ other.end → one ≡ other
 same_part one other text start end = λ i. record { text = text i; start = start i; end = end i }
 
 -- characters between a front and what comes behind them are a slice
-slice_of_chars : (text a b c : List ℕ) → IsUtf8 text → chars text ≡ a ++ (b ++ c) → IsSliceOf text (record { text = encodes b; start = byte_count a; end = byte_count (a ++ b) })
+slice_of_chars : (text a b c : List ℕ) → IsUtf8 text → chars text ≡ a ++ (b ++ c)
+    → IsSliceOf text (record { text = encodes b; start = byte_count a; end = byte_count (a ++ b) })
 slice_of_chars text a b c utf8 whole =
     let first = cut text a (b ++ c) utf8 whole in
     let second = cut text (a ++ b) c utf8 (whole ∙ sym (append_assoc a b c)) in
-    let size : byte_count (a ++ b) ≡ byte_count a + length (encodes b) = ap length (encodes-append a b) ∙ length-append (encodes a) (encodes b) in
+    let size : byte_count (a ++ b) ≡ byte_count a + length (encodes b) =
+    ap length (encodes-append a b) ∙ length-append (encodes a) (encodes b) in
     let span : byte_count (a ++ b) - byte_count a ≡ length (encodes b) = omega (arith, size) in
-    let behind : text ≡ encodes a ++ (encodes b ++ encodes c) = first.0 ∙ ap (λ t. encodes a ++ t) (encodes-append b c) in
-    let dropped : drop (byte_count a) text ≡ encodes b ++ encodes c = ap (drop (byte_count a)) behind ∙ drop_at (encodes a) (encodes b ++ encodes c) (byte_count a) refl in
+    let behind : text ≡ encodes a ++ (encodes b ++ encodes c) =
+    first.0 ∙ ap (λ t. encodes a ++ t) (encodes-append b c) in
+    let dropped : drop (byte_count a) text ≡ encodes b ++ encodes c =
+    ap (drop (byte_count a)) behind ∙ drop_at (encodes a) (encodes b ++ encodes c) (byte_count a) refl in
     record {
       start = IsCharBoundary-at_seam text (encodes a) (encodes (b ++ c)) first.0 first.1;
       end = IsCharBoundary-at_seam text (encodes (a ++ b)) (encodes c) second.0 second.1;
       ordered = omega (arith, size);
-      is = sym (take_at (encodes b) (encodes c) (byte_count (a ++ b) - byte_count a) (sym span)) ∙ ap (take (byte_count (a ++ b) - byte_count a)) (sym dropped);
+      is = sym (take_at (encodes b) (encodes c) (byte_count (a ++ b) - byte_count a) (sym span))
+          ∙ ap (take (byte_count (a ++ b) - byte_count a)) (sym dropped);
     }
 
-pub captured_slice : (pattern : Pattern) (text : List ℕ) (part : Part) → IsUtf8 text → IsCaptured pattern text part → IsSliceOf text part
+pub captured_slice : (pattern : Pattern) (text : List ℕ) (part : TextPart) → IsUtf8 text
+    → IsCaptured pattern text part → IsSliceOf text part
 captured_slice pattern text part utf8 is =
     let split = is.split in
     let head = split.before ++ split.front in
     let tail = split.back ++ split.after in
-    let whole : chars text ≡ head ++ (split.captured ++ tail) = split.whole ∙ sym (append_assoc split.before split.front (split.captured ++ tail)) in
-    let slice : Part = record { text = encodes split.captured; start = byte_count head; end = byte_count (head ++ split.captured) } in
-    subst (IsSliceOf text) (same_part slice part (sym is.bytes) (sym is.start) (sym is.end)) (slice_of_chars text head split.captured tail utf8 whole)
+    let whole : chars text ≡ head ++ (split.captured ++ tail) =
+    split.whole ∙ sym (append_assoc split.before split.front (split.captured ++ tail)) in
+    let slice : TextPart = record {
+      text = encodes split.captured;
+      start = byte_count head;
+      end = byte_count (head ++ split.captured);
+    } in
+    subst (IsSliceOf text) (same_part slice part (sym is.bytes) (sym is.start) (sym is.end))
+    (slice_of_chars text head split.captured tail utf8 whole)
 
-pub found_slice : (pattern : Pattern) (text : List ℕ) (answer : Option Match) → IsUtf8 text → IfSome answer (λ found. IsCaptured pattern text (part_of found)) → IfSome answer (λ found. IsSliceOf text (part_of found))
-found_slice pattern text answer utf8 found = IfSome_then answer found (λ m. captured_slice pattern text (part_of m) utf8)
+pub found_slice : (pattern : Pattern) (text : List ℕ) (answer : Option Match)
+    → IsUtf8 text → IfSome answer (λ found. IsCaptured pattern text (part_of found))
+    → IfSome answer (λ found. IsSliceOf text (part_of found))
+found_slice pattern text answer utf8 found =
+    IfSome_then answer found (λ m. captured_slice pattern text (part_of m) utf8)
 
 -- ---- quotes
 
-ends_in_quote : (pieces : List Piece) (front after : List ℕ) → ArePieces (pieces ++ quote ∷ []) front after → (head : List ℕ) × (mark : ℕ) × (front ≡ head ++ mark ∷ []) × (is_quote mark ≡ true)
+ends_in_quote : (pieces : List Piece) (front after : List ℕ) → ArePieces (pieces ++ quote ∷ []) front after
+    → (head : List ℕ) × (mark : ℕ) × (front ≡ head ++ mark ∷ []) × (is_quote mark ≡ true)
 ends_in_quote [] front after (piece, rest, whole, (mark, is, passes), end) =
     ([], mark, whole ∙ ap (λ t. piece ++ t) end ∙ append-nil piece ∙ is, passes)
 ends_in_quote (p ∷ pieces) front after (piece, rest, whole, is, others) =
-    let last = ends_in_quote pieces rest after others in
-    (piece ++ last.0, last.1, whole ∙ ap (λ t. piece ++ t) last.2 ∙ sym (append_assoc piece last.0 (last.1 ∷ [])), last.3)
+    let last = ends_in_quote pieces rest after others in (
+      piece ++ last.0,
+      last.1,
+      whole ∙ ap (λ t. piece ++ t) last.2
+          ∙ sym (append_assoc piece last.0 (last.1 ∷ [])),
+      last.3,
+    )
 
 quote_ascii : (mark : ℕ) → is_quote mark ≡ true → encode mark ≡ mark ∷ []
 quote_ascii mark is = let small : mark < 128 = grind (arith, nat_tests) in encode_ascii mark small
 
-is_quote_piece : (back after : List ℕ) → ArePieces (quote ∷ []) back after → (mark : ℕ) × (back ≡ mark ∷ []) × (is_quote mark ≡ true)
+is_quote_piece : (back after : List ℕ) → ArePieces (quote ∷ []) back after
+    → (mark : ℕ) × (back ≡ mark ∷ []) × (is_quote mark ≡ true)
 is_quote_piece back after (piece, rest, whole, (mark, is, passes), end) =
     (mark, whole ∙ ap (λ t. piece ++ t) end ∙ append-nil piece ∙ is, passes)
 
@@ -84,11 +117,15 @@ record Round (before front captured back after : List ℕ) : Type 0 where
   pub left_quote : is_quote left ≡ true
   pub right_quote : is_quote right ≡ true
 
-round : (pattern : Pattern) (pieces : List Piece) (text : List ℕ) → pattern.front ≡ pieces ++ quote ∷ [] → pattern.back ≡ quote ∷ [] → (split : Split pattern text) → Round split.before split.front split.captured split.back split.after
+round : (pattern : Pattern) (pieces : List Piece) (text : List ℕ)
+    → pattern.front ≡ pieces ++ quote ∷ [] → pattern.back ≡ quote ∷ [] → (split : Split pattern text)
+    → Round split.before split.front split.captured split.back split.after
 round pattern pieces text front_is back_is split =
     let behind = split.captured ++ (split.back ++ split.after) in
-    let first = ends_in_quote pieces split.front behind (subst (λ ps. ArePieces ps split.front behind) front_is split.front_pieces) in
-    let last = is_quote_piece split.back split.after (subst (λ ps. ArePieces ps split.back split.after) back_is split.back_pieces) in
+    let first = ends_in_quote pieces split.front behind
+    (subst (λ ps. ArePieces ps split.front behind) front_is split.front_pieces) in
+    let last = is_quote_piece split.back split.after
+    (subst (λ ps. ArePieces ps split.back split.after) back_is split.back_pieces) in
     record {
       head = split.before ++ first.0;
       left = first.1;
@@ -99,7 +136,9 @@ round pattern pieces text front_is back_is split =
       right_quote = last.2;
     }
 
-in_quotes : (pattern : Pattern) (text : List ℕ) (part : Part) → IsUtf8 text → (is : IsCaptured pattern text part) → Round is.split.before is.split.front is.split.captured is.split.back is.split.after → StandsInQuotes text part
+in_quotes : (pattern : Pattern) (text : List ℕ) (part : TextPart) → IsUtf8 text
+    → (is : IsCaptured pattern text part) → Round is.split.before is.split.front is.split.captured
+    is.split.back is.split.after → StandsInQuotes text part
 in_quotes pattern text part utf8 is around =
     let split = is.split in
     let head = around.head in
@@ -112,29 +151,47 @@ in_quotes pattern text part utf8 is around =
     ∙ ap (λ t. (head ++ left ∷ []) ++ (split.captured ++ (t ++ split.after))) around.back_is
     ∙ append_assoc head (left ∷ []) (split.captured ++ right ∷ split.after)
     ∙ ap (λ t. head ++ left ∷ t) (sym (append_assoc split.captured (right ∷ []) split.after)) in
-    let first : byte_count (split.before ++ split.front) ≡ byte_count head + 1 = ap byte_count around.front_is ∙ ap length (encodes-append head (left ∷ [])) ∙ length-append (encodes head) (encodes (left ∷ [])) ∙ ap (λ t. byte_count head + length (t ++ [])) (quote_ascii left around.left_quote) in
-    let second : byte_count (split.before ++ split.front ++ split.captured) ≡ byte_count (split.before ++ split.front) + length part.text = ap length (encodes-append (split.before ++ split.front) split.captured) ∙ length-append (encodes (split.before ++ split.front)) (encodes split.captured) ∙ ap (λ t. byte_count (split.before ++ split.front) + length t) (sym is.bytes) in
-    let bytes : encodes wide ≡ left ∷ (part.text ++ right ∷ []) = ap (λ t. t ++ encodes (split.captured ++ right ∷ [])) (quote_ascii left around.left_quote)
-    ∙ ap (λ t. left ∷ t) (encodes-append split.captured (right ∷ []) ∙ ap (λ t. encodes split.captured ++ (t ++ [])) (quote_ascii right around.right_quote) ∙ ap (λ t. t ++ right ∷ []) (sym is.bytes)) in
-    let size : length (left ∷ (part.text ++ right ∷ [])) ≡ length part.text + 2 = omega (arith, length-append part.text (right ∷ [])) in
-    let third : byte_count (head ++ wide) ≡ byte_count head + (length part.text + 2) = ap length (encodes-append head wide) ∙ length-append (encodes head) (encodes wide) ∙ ap (λ t. byte_count head + length t) bytes ∙ ap (λ n. byte_count head + n) size in
-    let slice : Part = record { text = encodes wide; start = byte_count head; end = byte_count (head ++ wide) } in
+    let first : byte_count (split.before ++ split.front) ≡ byte_count head + 1 = ap byte_count around.front_is
+    ∙ ap length (encodes-append head (left ∷ [])) ∙ length-append (encodes head) (encodes (left ∷ []))
+    ∙ ap (λ t. byte_count head + length (t ++ [])) (quote_ascii left around.left_quote) in
+    let second : byte_count (split.before ++ split.front ++ split.captured) ≡ byte_count
+    (split.before ++ split.front) + length part.text =
+    ap length (encodes-append (split.before ++ split.front) split.captured)
+    ∙ length-append (encodes (split.before ++ split.front)) (encodes split.captured)
+    ∙ ap (λ t. byte_count (split.before ++ split.front) + length t) (sym is.bytes) in
+    let bytes : encodes wide ≡ left ∷ (part.text ++ right ∷ []) =
+    ap (λ t. t ++ encodes (split.captured ++ right ∷ [])) (quote_ascii left around.left_quote)
+    ∙ ap (λ t. left ∷ t) (encodes-append split.captured (right ∷ []) ∙ ap (λ t. encodes split.captured
+    ++ (t ++ [])) (quote_ascii right around.right_quote) ∙ ap (λ t. t ++ right ∷ []) (sym is.bytes)) in
+    let size : length (left ∷ (part.text ++ right ∷ [])) ≡ length part.text + 2 =
+    omega (arith, length-append part.text (right ∷ [])) in
+    let third : byte_count (head ++ wide) ≡ byte_count head + (length part.text + 2) =
+    ap length (encodes-append head wide) ∙ length-append (encodes head) (encodes wide)
+    ∙ ap (λ t. byte_count head + length t) bytes ∙ ap (λ n. byte_count head + n) size in
+    let slice : TextPart =
+    record { text = encodes wide; start = byte_count head; end = byte_count (head ++ wide) } in
     record {
       left = left;
       right = right;
       left_quote = around.left_quote;
       right_quote = around.right_quote;
       has_front = omega (arith, is.start, first);
-      is_slice = subst (IsSliceOf text) (same_part slice (with_beside left right part) bytes (omega (arith, is.start, first)) (omega (arith, is.start, is.end, first, second, third))) (slice_of_chars text head wide split.after utf8 whole);
+      is_slice = subst (IsSliceOf text) (same_part slice (with_beside left right part) bytes
+          (omega (arith, is.start, first)) (omega (arith, is.start, is.end, first, second, third)))
+          (slice_of_chars text head wide split.after utf8 whole);
     }
 
-pub attribute_in_quotes : (name : List ℕ) (text : List ℕ) (part : Part) → IsUtf8 text → IsCaptured (attribute name) text part → StandsInQuotes text part
+pub attribute_in_quotes : (name : List ℕ) (text : List ℕ) (part : TextPart) → IsUtf8 text
+    → IsCaptured (attribute name) text part → StandsInQuotes text part
 attribute_in_quotes name text part utf8 is =
-    in_quotes (attribute name) text part utf8 is (round (attribute name) (white ∷ keyword name ∷ whites ∷ sign "=" ∷ whites ∷ []) (chars text) refl refl is.split)
+    in_quotes (attribute name) text part utf8 is (round (attribute name) (white_space ∷ keyword name
+    ∷ any_white_space ∷ literal "=" ∷ any_white_space ∷ []) (chars text) refl refl is.split)
 
-pub pragma_in_quotes : (name : List ℕ) (text : List ℕ) (part : Part) → IsUtf8 text → IsCaptured (quoted_pragma name) text part → StandsInQuotes text part
+pub pragma_in_quotes : (name : List ℕ) (text : List ℕ) (part : TextPart) → IsUtf8 text
+    → IsCaptured (quoted_pragma name) text part → StandsInQuotes text part
 pragma_in_quotes name text part utf8 is =
-    in_quotes (quoted_pragma name) text part utf8 is (round (quoted_pragma name) (whites ∷ keyword name ∷ whites ∷ sign "=" ∷ whites ∷ []) (chars text) refl refl is.split)
+    in_quotes (quoted_pragma name) text part utf8 is (round (quoted_pragma name) (any_white_space ∷ keyword
+    name ∷ any_white_space ∷ literal "=" ∷ any_white_space ∷ []) (chars text) refl refl is.split)
 
 -- ---- there is one
 
@@ -147,16 +204,21 @@ one_part pattern apart text one other first second =
     let a = first.split in
     let b = second.split in
     let lengths : length a.before ≡ length b.before = omega (arith, first.first b, second.first a) in
-    let starts : a.before ≡ b.before = sym (take_at a.before (behind_before a) (length a.before) refl) ∙ ap (take (length a.before)) (sym a.whole ∙ b.whole) ∙ take_at b.before (behind_before b) (length a.before) (sym lengths) in
+    let starts : a.before ≡ b.before = sym (take_at a.before (behind_before a) (length a.before) refl)
+    ∙ ap (take (length a.before)) (sym a.whole ∙ b.whole)
+    ∙ take_at b.before (behind_before b) (length a.before) (sym lengths) in
     let parts = same_captured pattern (chars text) apart a b starts in
-    let heads : a.before ++ a.front ≡ b.before ++ b.front = ap (λ t. t ++ a.front) starts ∙ ap (λ t. b.before ++ t) parts.front in
+    let heads : a.before ++ a.front ≡ b.before ++ b.front =
+    ap (λ t. t ++ a.front) starts ∙ ap (λ t. b.before ++ t) parts.front in
     same_part one other
     (first.bytes ∙ ap encodes parts.captured ∙ sym second.bytes)
     (first.start ∙ ap byte_count heads ∙ sym second.start)
-    (first.end ∙ ap (λ t. byte_count (t ++ a.captured)) heads ∙ ap (λ t. byte_count (b.before ++ b.front ++ t)) parts.captured ∙ sym second.end)
+    (first.end ∙ ap (λ t. byte_count (t ++ a.captured)) heads
+    ∙ ap (λ t. byte_count (b.before ++ b.front ++ t)) parts.captured ∙ sym second.end)
 
 -- for each finder that captures a part
-of_each : (P : Pattern → Type 0) → ((pattern : Pattern) → IsDetermined pattern → P pattern) → AllByRecursion P finder_patterns
+of_each : (P : Pattern → Type 0) → ((pattern : Pattern) → IsDetermined pattern → P pattern)
+    → AllByRecursion P finder_patterns
 of_each P from = (
   from (attribute (codes "path")) (attribute_apart (codes "path")),
   (
@@ -166,17 +228,20 @@ of_each P from = (
       (
         from (jsx_pragma (codes "@jsxImportSource")) (jsx_pragma_apart (codes "@jsxImportSource") refl),
         (
-          from (jsx_pragma (codes "@jsxImportSourceTypes")) (jsx_pragma_apart (codes "@jsxImportSourceTypes") refl),
+          from (jsx_pragma (codes "@jsxImportSourceTypes"))
+              (jsx_pragma_apart (codes "@jsxImportSourceTypes") refl),
           (
-            from source_mapping_url source_mapping_url_apart,
+            from source_mapping_url_pattern source_mapping_url_apart,
             (
-              from (quoted_pragma (codes "@ts-self-types")) (quoted_pragma_apart (codes "@ts-self-types") refl),
+              from (quoted_pragma (codes "@ts-self-types"))
+                  (quoted_pragma_apart (codes "@ts-self-types") refl),
               (
                 from (quoted_pragma (codes "@ts-types")) (quoted_pragma_apart (codes "@ts-types") refl),
                 (
                   from (quoted_pragma (codes "@deno-types")) (quoted_pragma_apart (codes "@deno-types") refl),
                   (
-                    from (quoteless_pragma (codes "@deno-types")) (quoteless_pragma_apart (codes "@deno-types") refl),
+                    from (quoteless_pragma (codes "@deno-types"))
+                        (quoteless_pragma_apart (codes "@deno-types") refl),
                     tt,
                   ),
                 ),

@@ -1,5 +1,6 @@
 -- Which characters have the simple folding of an ASCII character.
-use Rattle.std.proofs.Common.{◌≡◌, ◌↔◌, ℕ, ◌<◌, ◌≤◌, Bool, true, false, List, [], ◌∷◌, slice_index_or, refl, sym, ap, ◌∙◌, arith, inl, inr, nat_lt, eqb-true, eq-eqb}
+use Rattle.std.proofs.Common.{◌≡◌, ◌↔◌, ℕ, ◌<◌, ◌≤◌, Bool, true, false, List, [], ◌∷◌, slice_index_or, refl}
+use Rattle.std.proofs.Common.{sym, ap, ◌∙◌, arith, inl, inr, nat_lt, eqb-true, eq-eqb}
 use Rattle.std.proofs.lemmas.Bool.{cases_lt, ltb-false}
 use Rattle.std.proofs.lemmas.Bool.Decides.{nat_tests}
 use Rattle.std.proofs.lemmas.Str.Ascii.{lowercase_ascii}
@@ -37,7 +38,8 @@ low_runs = same_steps-true _ _ refl
 
 low_value : (c : ℕ) → c < 0x11_0000 → one_if (folds_low c) ≡ step_value 0 low_steps c
 low_value c small =
-    sym (step_value-runs_of (λ x. one_if (folds_low x)) (map_stepped one_if folds_low folds_low_stepped) c small) ∙ ap (λ steps. step_value 0 steps c) low_runs
+    sym (step_value-runs_of (λ x. one_if (folds_low x)) (map_stepped one_if folds_low folds_low_stepped) c
+    small) ∙ ap (λ steps. step_value 0 steps c) low_runs
 
 zero_if : (b : Bool) → one_if b ≡ 0 → b ≡ false
 zero_if true e = absurd (omega (arith, e))
@@ -71,7 +73,8 @@ unfolding ucd_case
 simple_fold-kelvin = refl
 
 -- apart from these two, only ASCII characters fold as an ASCII character does
-pub same_fold-other : (c letter : ℕ) → letter < 128 → ¬ (c ≡ 383) → ¬ (c ≡ 8490) → IsTrue (eq_ignore_ascii_case c letter) ↔ (simple_fold c ≡ simple_fold letter)
+pub same_fold-other : (c letter : ℕ) → letter < 128 → ¬ (c ≡ 383) → ¬ (c ≡ 8490)
+    → IsTrue (eq_ignore_ascii_case c letter) ↔ (simple_fold c ≡ simple_fold letter)
 same_fold-other c letter ascii other another = elim (cases_lt c 128) [
   | inl near ↦ (
     λ same. simple_fold-ascii c near ∙ eqb-true _ _ same ∙ sym (simple_fold-ascii letter ascii),
@@ -85,14 +88,17 @@ same_fold-other c letter ascii other another = elim (cases_lt c 128) [
 ]
 
 -- a character that folds to an ASCII letter in lower case
-same_fold-to : (c to letter : ℕ) → letter < 128 → to_ascii_lowercase to ≡ to → simple_fold c ≡ to → IsTrue (eq_ignore_ascii_case letter to) ↔ (simple_fold c ≡ simple_fold letter)
+same_fold-to : (c to letter : ℕ) → letter < 128 → to_ascii_lowercase to ≡ to → simple_fold c ≡ to
+    → IsTrue (eq_ignore_ascii_case letter to) ↔ (simple_fold c ≡ simple_fold letter)
 same_fold-to c to letter ascii lower folds = (
   λ same. folds ∙ sym lower ∙ sym (eqb-true _ _ same) ∙ sym (simple_fold-ascii letter ascii),
   λ same. eq-eqb _ _ (sym (simple_fold-ascii letter ascii) ∙ sym same ∙ folds ∙ sym lower),
 )
 
-pub same_fold-long_s : (letter : ℕ) → letter < 128 → IsTrue (eq_ignore_ascii_case letter 115) ↔ (simple_fold 383 ≡ simple_fold letter)
+pub same_fold-long_s : (letter : ℕ) → letter < 128 → IsTrue (eq_ignore_ascii_case letter 115)
+    ↔ (simple_fold 383 ≡ simple_fold letter)
 same_fold-long_s letter ascii = same_fold-to 383 115 letter ascii refl simple_fold-long_s
 
-pub same_fold-kelvin : (letter : ℕ) → letter < 128 → IsTrue (eq_ignore_ascii_case letter 107) ↔ (simple_fold 8490 ≡ simple_fold letter)
+pub same_fold-kelvin : (letter : ℕ) → letter < 128 → IsTrue (eq_ignore_ascii_case letter 107)
+    ↔ (simple_fold 8490 ≡ simple_fold letter)
 same_fold-kelvin letter ascii = same_fold-to 8490 107 letter ascii refl simple_fold-kelvin

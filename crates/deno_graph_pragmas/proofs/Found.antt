@@ -1,5 +1,7 @@
 -- From what reading leaves to what a finder answers.
-use Rattle.std.proofs.Common.{◌≡◌, ℕ, ◌+◌, ◌-◌, ◌≤◌, true, false, List, [], ◌∷◌, ◌++◌, Option, Some, None, IsSome, IsNone, IfSome, is_some, ◌↔◌, IsTrue, length, refl, sym, ap, subst, ◌∙◌, append_assoc, length-append, arith, zero-le}
+use Rattle.std.proofs.Common.{◌≡◌, ℕ, ◌+◌, ◌-◌, ◌≤◌, true, false, List, [], ◌∷◌, ◌++◌, Option, Some, None}
+use Rattle.std.proofs.Common.{IsSome, IsNone, IfSome, is_some, ◌↔◌, IsTrue, length, refl, sym, ap, subst, ◌∙◌}
+use Rattle.std.proofs.Common.{append_assoc, length-append, arith, zero-le}
 use Rattle.std.proofs.lemmas.Bool.{false≢true}
 use Rattle.std.proofs.lemmas.List.{append_cancel_right}
 use Rattle.std.proofs.lemmas.Option.{IfSome_then}
@@ -7,13 +9,15 @@ use Rattle.std.proofs.lemmas.Str.{encodes-chars, encodes-append}
 use Rattle.std.specs.Option.{option_and_then}
 use Rattle.std.specs.Str.{chars, IsUtf8}
 use lib.Utf8.{encodes}
-use Rattle.deno_graph_pragmas.specs.Match.{part_of}
+use Rattle.deno_graph_pragmas.specs.Match.{part_of, FindsFirst, FindsFirstInQuotes}
 use Rattle.deno_graph_pragmas.specs.declared.finders.matches.Match.{Match}
 use Rattle.deno_graph_pragmas.specs.Piece.{Piece, IsPiece}
 use Rattle.deno_graph_pragmas.specs.Reading.{after_piece, after_pieces, IsReadAt}
-use Rattle.deno_graph_pragmas.specs.Split.{Pattern, ArePieces, Split, Part, IsCaptured, byte_count}
+use Rattle.deno_graph_pragmas.specs.Split.{Pattern, ArePieces, Split, HasSplit, TextPart, IsCaptured}
+use Rattle.deno_graph_pragmas.specs.Split.{byte_count}
 use Rattle.deno_graph_pragmas.proofs.ReadPieces.{after_piece-front, after_pieces-front}
-use Rattle.deno_graph_pragmas.proofs.Splits.{IsDetermined, behind_before, behind_front, front_read, captured_read, back_read}
+use Rattle.deno_graph_pragmas.proofs.Splits.{IsDetermined, behind_before, behind_front, front_read}
+use Rattle.deno_graph_pragmas.proofs.Splits.{captured_read, back_read}
 
 -- ---- where there is no split
 
@@ -21,24 +25,33 @@ none_some : {A : Type 0} (o : Option A) (x : A) → o ≡ None → o ≡ Some x 
 none_some o x none some = cc
 
 -- an anchored split is at the start
-pub at_start : (pattern : Pattern) (text : List ℕ) → pattern.anchored ≡ true → (split : Split pattern text) → behind_before split ≡ text
+pub at_start : (pattern : Pattern) (text : List ℕ) → pattern.anchored ≡ true → (split : Split pattern text)
+    → behind_before split ≡ text
 at_start pattern text anchored split =
     ap (λ before. before ++ behind_before split) (sym (split.anchored anchored)) ∙ sym split.whole
 
-pub no_front : (pattern : Pattern) (text : List ℕ) → IsDetermined pattern → pattern.anchored ≡ true → after_pieces pattern.front text ≡ None → ¬ (Split pattern text)
+pub no_front : (pattern : Pattern) (text : List ℕ) → IsDetermined pattern → pattern.anchored ≡ true
+    → after_pieces pattern.front text ≡ None → ¬ (Split pattern text)
 no_front pattern text determined anchored none split =
-    none_some _ _ none (ap (after_pieces pattern.front) (sym (at_start pattern text anchored split)) ∙ front_read pattern text determined split)
+    none_some _ _ none (ap (after_pieces pattern.front) (sym (at_start pattern text anchored split))
+    ∙ front_read pattern text determined split)
 
 -- what a split captures, with the pieces behind it, is read behind its front
-pub rest_read : (pattern : Pattern) (text : List ℕ) → IsDetermined pattern → (split : Split pattern text) → after_pieces (pattern.captured ∷ pattern.back) (behind_front split) ≡ Some split.after
+pub rest_read : (pattern : Pattern) (text : List ℕ) → IsDetermined pattern → (split : Split pattern text)
+    → after_pieces (pattern.captured ∷ pattern.back) (behind_front split) ≡ Some split.after
 rest_read pattern text determined split =
-    ap (option_and_then (after_pieces pattern.back)) (captured_read pattern text determined split) ∙ back_read pattern text determined split
+    ap (option_and_then (after_pieces pattern.back)) (captured_read pattern text determined split)
+    ∙ back_read pattern text determined split
 
-pub no_rest : (pattern : Pattern) (text rest : List ℕ) → IsDetermined pattern → pattern.anchored ≡ true → after_pieces pattern.front text ≡ Some rest → after_pieces (pattern.captured ∷ pattern.back) rest ≡ None → ¬ (Split pattern text)
+pub no_rest : (pattern : Pattern) (text rest : List ℕ) → IsDetermined pattern
+    → pattern.anchored ≡ true → after_pieces pattern.front text ≡ Some rest
+    → after_pieces (pattern.captured ∷ pattern.back) rest ≡ None → ¬ (Split pattern text)
 no_rest pattern text rest determined anchored front none split =
-    let here : after_pieces pattern.front text ≡ Some (behind_front split) = ap (after_pieces pattern.front) (sym (at_start pattern text anchored split)) ∙ front_read pattern text determined split in
+    let here : after_pieces pattern.front text ≡ Some (behind_front split) = ap (after_pieces pattern.front)
+    (sym (at_start pattern text anchored split)) ∙ front_read pattern text determined split in
     let same : rest ≡ behind_front split = cc in
-    none_some _ _ none (ap (after_pieces (pattern.captured ∷ pattern.back)) same ∙ rest_read pattern text determined split)
+    none_some _ _ none
+    (ap (after_pieces (pattern.captured ∷ pattern.back)) same ∙ rest_read pattern text determined split)
 
 -- a finder answers None where there is none
 pub none_answer : {A : Type 0} {S : Type 0} (answer : Option A) → answer ≡ None → ¬ S → IsNone answer ↔ ¬ S
@@ -53,14 +66,18 @@ some_is : {A : Type 0} (o : Option A) → IsSome o → (x : A) × (o ≡ Some x)
 some_is None is = absurd (false≢true is)
 some_is (Some x) is = (x, refl)
 
-made : (pattern : Pattern) (text rest before tail : List ℕ) (part : Part) → chars text ≡ before ++ tail → (IsTrue pattern.anchored → before ≡ []) → after_pieces pattern.front tail ≡ Some (chars rest) → IsReadAt pattern.captured pattern.back text rest part → Split pattern (chars text)
+made : (pattern : Pattern) (text rest before tail : List ℕ) (part : TextPart) → chars text ≡ before ++ tail
+    → (IsTrue pattern.anchored → before ≡ []) → after_pieces pattern.front tail ≡ Some (chars rest)
+    → IsReadAt pattern.captured pattern.back text rest part → Split pattern (chars text)
 made pattern text rest before tail part whole anchored front read =
     let first = after_pieces-front pattern.front tail (chars rest) front in
     let second = after_piece-front pattern.captured (chars rest) read.behind read.captured in
     let more = some_is (after_pieces pattern.back read.behind) read.back_read in
     let third = after_pieces-front pattern.back read.behind more.0 more.1 in
-    let same : second.0 ≡ chars part.text = append_cancel_right second.0 (chars part.text) read.behind (sym second.1 ∙ read.whole) in
-    let all : chars rest ≡ chars part.text ++ (third.0 ++ more.0) = read.whole ∙ ap (λ t. chars part.text ++ t) third.1 in
+    let same : second.0 ≡ chars part.text =
+    append_cancel_right second.0 (chars part.text) read.behind (sym second.1 ∙ read.whole) in
+    let all : chars rest ≡ chars part.text ++ (third.0 ++ more.0) =
+    read.whole ∙ ap (λ t. chars part.text ++ t) third.1 in
     record {
       before = before;
       front = first.0;
@@ -70,35 +87,57 @@ made pattern text rest before tail part whole anchored front read =
       whole = whole ∙ ap (λ t. before ++ t) (first.1 ∙ ap (λ t. first.0 ++ t) all);
       anchored = anchored;
       front_pieces = subst (ArePieces pattern.front first.0) all first.2;
-      captured_piece = subst (IsPiece pattern.captured (chars part.text)) third.1 (subst (λ t. IsPiece pattern.captured t read.behind) same second.2);
+      captured_piece = subst (IsPiece pattern.captured (chars part.text)) third.1
+          (subst (λ t. IsPiece pattern.captured t read.behind) same second.2);
       back_pieces = third.2;
     }
 
 -- a text is the bytes of the front of its characters and what they leave
-pub bytes_of : (text rest front : List ℕ) → IsUtf8 text → IsUtf8 rest → chars text ≡ front ++ chars rest → text ≡ encodes front ++ rest
+pub bytes_of : (text rest front : List ℕ) → IsUtf8 text → IsUtf8 rest → chars text ≡ front ++ chars rest
+    → text ≡ encodes front ++ rest
 bytes_of text rest front text_utf8 rest_utf8 whole =
-    sym (encodes-chars text text_utf8) ∙ ap encodes whole ∙ encodes-append front (chars rest) ∙ ap (λ bytes. encodes front ++ bytes) (encodes-chars rest rest_utf8)
+    sym (encodes-chars text text_utf8) ∙ ap encodes whole ∙ encodes-append front (chars rest)
+    ∙ ap (λ bytes. encodes front ++ bytes) (encodes-chars rest rest_utf8)
 
 -- what is left is no longer
-pub length_left : (pieces : List Piece) (text rest : List ℕ) → IsUtf8 text → IsUtf8 rest → after_pieces pieces (chars text) ≡ Some (chars rest) → length rest ≤ length text
+pub length_left : (pieces : List Piece) (text rest : List ℕ) → IsUtf8 text → IsUtf8 rest
+    → after_pieces pieces (chars text) ≡ Some (chars rest) → length rest ≤ length text
 length_left pieces text rest text_utf8 rest_utf8 left =
     let front = after_pieces-front pieces (chars text) (chars rest) left in
-    omega (arith, ap length (bytes_of text rest front.0 text_utf8 rest_utf8 front.1), length-append (encodes front.0) rest)
+    omega (
+      arith,
+      ap length (bytes_of text rest front.0 text_utf8 rest_utf8 front.1),
+      length-append (encodes front.0) rest,
+    )
 
 -- a front is no longer than the text
-pub length_front : (text front : List ℕ) (rest : List ℕ) → IsUtf8 text → IsUtf8 front → chars text ≡ chars front ++ rest → length front ≤ length text
+pub length_front : (text front : List ℕ) (rest : List ℕ) → IsUtf8 text → IsUtf8 front
+    → chars text ≡ chars front ++ rest → length front ≤ length text
 length_front text front rest text_utf8 front_utf8 whole =
-    let bytes : text ≡ front ++ encodes rest = sym (encodes-chars text text_utf8) ∙ ap encodes whole ∙ encodes-append (chars front) rest ∙ ap (λ t. t ++ encodes rest) (encodes-chars front front_utf8) in
+    let bytes : text ≡ front ++ encodes rest = sym (encodes-chars text text_utf8) ∙ ap encodes whole
+    ∙ encodes-append (chars front) rest ∙ ap (λ t. t ++ encodes rest) (encodes-chars front front_utf8) in
     omega (arith, ap length bytes, length-append front (encodes rest))
 
-pub IsCaptured-read : (pattern : Pattern) (text rest before tail : List ℕ) (part : Part) → IsUtf8 text → IsUtf8 rest → chars text ≡ before ++ tail → (IsTrue pattern.anchored → before ≡ []) → ((other : Split pattern (chars text)) → length before ≤ length other.before) → after_pieces pattern.front tail ≡ Some (chars rest) → IsReadAt pattern.captured pattern.back text rest part → IsCaptured pattern text part
+pub IsCaptured-read : (pattern : Pattern) (text rest before tail : List ℕ) (part : TextPart)
+    → IsUtf8 text → IsUtf8 rest → chars text ≡ before ++ tail → (IsTrue pattern.anchored → before ≡ [])
+    → ((other : Split pattern (chars text)) → length before ≤ length other.before)
+    → after_pieces pattern.front tail ≡ Some (chars rest)
+    → IsReadAt pattern.captured pattern.back text rest part → IsCaptured pattern text part
 unfolding made
 IsCaptured-read pattern text rest before tail part text_utf8 rest_utf8 whole anchored first front read =
-    let split : Split pattern (chars text) = made pattern text rest before tail part whole anchored front read in
-    let head : chars text ≡ (before ++ split.front) ++ chars rest = whole ∙ ap (λ t. before ++ t) (after_pieces-front pattern.front tail (chars rest) front).1 ∙ sym (append_assoc before split.front (chars rest)) in
-    let bytes : text ≡ encodes (before ++ split.front) ++ rest = bytes_of text rest (before ++ split.front) text_utf8 rest_utf8 head in
-    let size : length text ≡ byte_count (before ++ split.front) + length rest = ap length bytes ∙ length-append (encodes (before ++ split.front)) rest in
-    let more : byte_count (before ++ split.front ++ chars part.text) ≡ byte_count (before ++ split.front) + length part.text = ap length (encodes-append (before ++ split.front) (chars part.text)) ∙ length-append (encodes (before ++ split.front)) (encodes (chars part.text)) ∙ ap (λ t. byte_count (before ++ split.front) + length t) (encodes-chars part.text read.utf8) in
+    let split : Split pattern (chars text) =
+    made pattern text rest before tail part whole anchored front read in
+    let head : chars text ≡ (before ++ split.front) ++ chars rest =
+    whole ∙ ap (λ t. before ++ t) (after_pieces-front pattern.front tail (chars rest) front).1
+    ∙ sym (append_assoc before split.front (chars rest)) in
+    let bytes : text ≡ encodes (before ++ split.front) ++ rest =
+    bytes_of text rest (before ++ split.front) text_utf8 rest_utf8 head in
+    let size : length text ≡ byte_count (before ++ split.front) + length rest =
+    ap length bytes ∙ length-append (encodes (before ++ split.front)) rest in
+    let more : byte_count (before ++ split.front ++ chars part.text) ≡ byte_count (before ++ split.front)
+    + length part.text = ap length (encodes-append (before ++ split.front) (chars part.text))
+    ∙ length-append (encodes (before ++ split.front)) (encodes (chars part.text))
+    ∙ ap (λ t. byte_count (before ++ split.front) + length t) (encodes-chars part.text read.utf8) in
     record {
       split = split;
       first = first;
@@ -108,12 +147,18 @@ IsCaptured-read pattern text rest before tail part text_utf8 rest_utf8 whole anc
     }
 
 -- at the start of the text
-pub IsCaptured-at_start : (pattern : Pattern) (text rest : List ℕ) (part : Part) → IsUtf8 text → IsUtf8 rest → after_pieces pattern.front (chars text) ≡ Some (chars rest) → IsReadAt pattern.captured pattern.back text rest part → IsCaptured pattern text part
+pub IsCaptured-at_start : (pattern : Pattern) (text rest : List ℕ) (part : TextPart)
+    → IsUtf8 text → IsUtf8 rest → after_pieces pattern.front (chars text) ≡ Some (chars rest)
+    → IsReadAt pattern.captured pattern.back text rest part → IsCaptured pattern text part
 IsCaptured-at_start pattern text rest part text_utf8 rest_utf8 front read =
-    IsCaptured-read pattern text rest [] (chars text) part text_utf8 rest_utf8 refl (λ _. refl) (λ other. zero-le) front read
+    IsCaptured-read pattern text rest [] (chars text) part text_utf8 rest_utf8 refl (λ _. refl)
+    (λ other. zero-le) front read
 
 -- what is read at the start of `rest` is a part
-pub IsReadAt-front : (piece : Piece) (back : List Piece) (text rest front behind : List ℕ) (part : Part) → IsUtf8 front → after_piece piece (chars rest) ≡ Some behind → IsSome (after_pieces back behind) → chars rest ≡ chars front ++ behind → part.text ≡ front → part.start ≡ length text - length rest → part.end ≡ part.start + length front → IsReadAt piece back text rest part
+pub IsReadAt-front : (piece : Piece) (back : List Piece) (text rest front behind : List ℕ) (part : TextPart)
+    → IsUtf8 front → after_piece piece (chars rest) ≡ Some behind → IsSome (after_pieces back behind)
+    → chars rest ≡ chars front ++ behind → part.text ≡ front → part.start ≡ length text - length rest
+    → part.end ≡ part.start + length front → IsReadAt piece back text rest part
 IsReadAt-front piece back text rest front behind part utf8 captured back_read whole is start end = record {
   behind = behind;
   captured = captured;
@@ -126,12 +171,40 @@ IsReadAt-front piece back text rest front behind part utf8 captured back_read wh
 
 -- ---- what is answered behind a front that was read
 
-pub found_behind : (pattern : Pattern) (text rest : List ℕ) (answer : Option Match) → IsUtf8 text → IsUtf8 rest → after_pieces pattern.front (chars text) ≡ Some (chars rest) → IfSome answer (λ found. IsReadAt pattern.captured pattern.back text rest (part_of found)) → IfSome answer (λ found. IsCaptured pattern text (part_of found))
+pub found_behind : (pattern : Pattern) (text rest : List ℕ) (answer : Option Match)
+    → IsUtf8 text → IsUtf8 rest → after_pieces pattern.front (chars text) ≡ Some (chars rest)
+    → IfSome answer (λ found. IsReadAt pattern.captured pattern.back text rest (part_of found))
+    → IfSome answer (λ found. IsCaptured pattern text (part_of found))
 found_behind pattern text rest answer text_utf8 rest_utf8 front read =
-    IfSome_then answer read (λ found. IsCaptured-at_start pattern text rest (part_of found) text_utf8 rest_utf8 front)
+    IfSome_then answer read
+    (λ found. IsCaptured-at_start pattern text rest (part_of found) text_utf8 rest_utf8 front)
 
-pub none_behind : (pattern : Pattern) (text rest : List ℕ) (answer : Option Match) → IsUtf8 text → IsUtf8 rest → IsDetermined pattern → pattern.anchored ≡ true → after_pieces pattern.front (chars text) ≡ Some (chars rest) → IfSome answer (λ found. IsReadAt pattern.captured pattern.back text rest (part_of found)) → (IsNone answer → after_pieces (pattern.captured ∷ pattern.back) (chars rest) ≡ None) → IsNone answer ↔ ¬ (Split pattern (chars text))
+pub none_behind : (pattern : Pattern) (text rest : List ℕ) (answer : Option Match) → IsUtf8 text → IsUtf8 rest
+    → IsDetermined pattern → pattern.anchored ≡ true → after_pieces pattern.front (chars text) ≡ Some
+    (chars rest) → IfSome answer (λ found. IsReadAt pattern.captured pattern.back text rest (part_of found))
+    → (IsNone answer → after_pieces (pattern.captured ∷ pattern.back) (chars rest) ≡ None)
+    → IsNone answer ↔ ¬ (Split pattern (chars text))
 none_behind pattern text rest None text_utf8 rest_utf8 determined anchored front read none =
-    none_answer {A = Match} None refl (no_rest pattern (chars text) (chars rest) determined anchored front (none refl))
+    none_answer {A = Match} None refl
+    (no_rest pattern (chars text) (chars rest) determined anchored front (none refl))
 none_behind pattern text rest (Some found) text_utf8 rest_utf8 determined anchored front read none =
     some_answer (IsCaptured-at_start pattern text rest (part_of found) text_utf8 rest_utf8 front read).split
+
+-- ---- the two forms of a finder's answer, where there is none
+
+pub finds_none : (pattern : Pattern) (text : List ℕ) (answer : Option Match)
+    → answer ≡ None → ¬ HasSplit pattern text
+    → FindsFirst pattern text answer
+finds_none pattern text (Some found) is none = absurd (cc)
+finds_none pattern text None is none =
+    record { found = tt; none = none_answer {A = Match} None refl none; slice = tt }
+
+pub finds_none_in_quotes : (pattern : Pattern) (text : List ℕ) (answer : Option Match) → answer ≡ None
+    → ¬ HasSplit pattern text → FindsFirstInQuotes pattern text answer
+finds_none_in_quotes pattern text (Some found) is none = absurd (cc)
+finds_none_in_quotes pattern text None is none = record {
+  found = tt;
+  none = none_answer {A = Match} None refl none;
+  slice = tt;
+  quotes = tt;
+}

@@ -1,8 +1,9 @@
 -- Triple-slash references.
-use Rattle.std.proofs.Common.{◌≡◌, ◌↔◌, ℕ, Bool, true, false, List, [], ◌++◌, Option, Some, None, refl, sym, ap, subst, ◌∙◌, codes}
+use Rattle.std.proofs.Common.{◌≡◌, ◌↔◌, ℕ, Bool, true, false, List, [], ◌++◌, Option, Some, None, refl, sym}
+use Rattle.std.proofs.Common.{ap, subst, ◌∙◌, codes}
 use Rattle.std.proofs.lemmas.Bool.{false≢true}
 use Rattle.std.proofs.lemmas.List.{append-nil}
-use Rattle.deno_graph_pragmas.specs.Finders.{triple_slash_reference}
+use Rattle.deno_graph_pragmas.specs.Finders.{triple_slash_reference_pattern}
 use Rattle.deno_graph_pragmas.specs.Reading.{after_pieces, IsClosedInLine}
 use Rattle.deno_graph_pragmas.specs.Split.{ArePieces, Split}
 use Rattle.deno_graph_pragmas.proofs.Barriers.{white-keyword}
@@ -11,16 +12,21 @@ use Rattle.deno_graph_pragmas.proofs.ReadPieces.{AreApart, after_pieces-append, 
 use Rattle.deno_graph_pragmas.proofs.Splits.{behind_front}
 
 -- what is behind the front is determined, though what is captured isn't
-front_apart : (after : List ℕ) → AreApart triple_slash_reference.front after
+front_apart : (after : List ℕ) → AreApart triple_slash_reference_pattern.front after
 front_apart after = (tt, (white-keyword (codes "<reference") refl, (tt, tt)))
 
-front_is : (text : List ℕ) → (split : Split triple_slash_reference text) → after_pieces triple_slash_reference.front text ≡ Some (behind_front split)
+front_is : (text : List ℕ) → (split : Split triple_slash_reference_pattern text)
+    → after_pieces triple_slash_reference_pattern.front text ≡ Some (behind_front split)
 front_is text split =
-    ap (after_pieces triple_slash_reference.front) (sym (at_start triple_slash_reference text refl split)) ∙ after_pieces-append triple_slash_reference.front split.front (behind_front split) (front_apart (behind_front split)) split.front_pieces
+    ap (after_pieces triple_slash_reference_pattern.front)
+    (sym (at_start triple_slash_reference_pattern text refl split))
+    ∙ after_pieces-append triple_slash_reference_pattern.front split.front (behind_front split)
+    (front_apart (behind_front split)) split.front_pieces
 
-made : (text rest : List ℕ) → after_pieces triple_slash_reference.front text ≡ Some rest → IsClosedInLine rest → Split triple_slash_reference text
+made : (text rest : List ℕ) → after_pieces triple_slash_reference_pattern.front text ≡ Some rest
+    → IsClosedInLine rest → Split triple_slash_reference_pattern text
 made text rest front (line, after, in_line, whole) =
-    let first = after_pieces-front triple_slash_reference.front text rest front in
+    let first = after_pieces-front triple_slash_reference_pattern.front text rest front in
     record {
       before = [];
       front = first.0;
@@ -29,15 +35,17 @@ made text rest front (line, after, in_line, whole) =
       after = after;
       whole = first.1 ∙ ap (λ t. first.0 ++ t) whole;
       anchored = λ _. refl;
-      front_pieces = subst (ArePieces triple_slash_reference.front first.0) whole first.2;
+      front_pieces = subst (ArePieces triple_slash_reference_pattern.front first.0) whole first.2;
       captured_piece = in_line;
       back_pieces = (codes "/>", [], sym (append-nil (codes "/>")), refl, refl);
     }
 
-closed : (text : List ℕ) → (split : Split triple_slash_reference text) → IsClosedInLine (behind_front split)
+closed : (text : List ℕ) → (split : Split triple_slash_reference_pattern text)
+    → IsClosedInLine (behind_front split)
 closed text split =
     let piece = split.back_pieces in
-    let is : split.back ≡ codes "/>" = piece.2 ∙ ap (λ t. t ++ piece.1) piece.3 ∙ ap (λ t. codes "/>" ++ t) piece.4 ∙ append-nil (codes "/>") in
+    let is : split.back ≡ codes "/>" = piece.2 ∙ ap (λ t. t ++ piece.1) piece.3
+    ∙ ap (λ t. codes "/>" ++ t) piece.4 ∙ append-nil (codes "/>") in
     (split.captured, split.after, split.captured_piece, ap (λ t. split.captured ++ (t ++ split.after)) is)
 
 some_same : {o : Option (List ℕ)} {x y : List ℕ} → o ≡ Some x → o ≡ Some y → x ≡ y
@@ -46,7 +54,9 @@ some_same one other = cc
 none_some : {o : Option (List ℕ)} {x : List ℕ} → o ≡ None → o ≡ Some x → ⊥
 none_some none some = cc
 
-pub reference_iff : (text rest : List ℕ) (answer : Bool) → after_pieces triple_slash_reference.front text ≡ Some rest → (answer ≡ true) ↔ IsClosedInLine rest → (answer ≡ true) ↔ Split triple_slash_reference text
+pub reference_iff : (text rest : List ℕ) (answer : Bool)
+    → after_pieces triple_slash_reference_pattern.front text ≡ Some rest
+    → (answer ≡ true) ↔ IsClosedInLine rest → (answer ≡ true) ↔ Split triple_slash_reference_pattern text
 reference_iff text rest answer front is = (
   λ yes. made text rest front (is.0 yes),
   λ split.
@@ -54,5 +64,7 @@ reference_iff text rest answer front is = (
       is.1 (subst IsClosedInLine same (closed text split)),
 )
 
-pub no_reference : (text : List ℕ) → after_pieces triple_slash_reference.front text ≡ None → (false ≡ true) ↔ Split triple_slash_reference text
-no_reference text none = (λ never. absurd (false≢true never), λ split. absurd (none_some none (front_is text split)))
+pub no_reference : (text : List ℕ) → after_pieces triple_slash_reference_pattern.front text ≡ None
+    → (false ≡ true) ↔ Split triple_slash_reference_pattern text
+no_reference text none =
+    (λ never. absurd (false≢true never), λ split. absurd (none_some none (front_is text split)))

@@ -1,30 +1,36 @@
--- Reading from left to right finds the splits of a text, and what each captures is determined by where it begins.
+-- Reading from left to right finds the splits of a text, and what each captures is determined by where it
+-- begins.
 use Rattle.std.proofs.Common.{◌≡◌, ℕ, List, [], ◌∷◌, ◌++◌, Option, Some, sym, ap, subst, ◌∙◌, append_assoc}
 use Rattle.std.proofs.lemmas.List.{append_cancel_left, append_cancel_right}
 use Rattle.deno_graph_pragmas.specs.Piece.{Piece, IsPiece}
 use Rattle.deno_graph_pragmas.specs.Reading.{after_piece, after_pieces}
 use Rattle.deno_graph_pragmas.specs.Split.{Pattern, ArePieces, Split}
-use Rattle.deno_graph_pragmas.proofs.ReadPieces.{AreApart, Ends, Ends-next, after_piece-append, after_pieces-append}
+use Rattle.deno_graph_pragmas.proofs.ReadPieces.{AreApart, Ends, Ends-next, after_piece-append}
+use Rattle.deno_graph_pragmas.proofs.ReadPieces.{after_pieces-append}
 
 -- each piece of the pattern ends where the next begins, and the last wherever
 abbrev pub IsDetermined : Pattern → Type 0
 IsDetermined pattern = (after : List ℕ) → AreApart (pattern.front ++ pattern.captured ∷ pattern.back) after
 
-AreApart-front : (pieces : List Piece) (next : Piece) (others : List Piece) (after piece rest : List ℕ) → AreApart (pieces ++ next ∷ others) after → IsPiece next piece rest → AreApart pieces (piece ++ rest)
+AreApart-front : (pieces : List Piece) (next : Piece) (others : List Piece) (after piece rest : List ℕ)
+    → AreApart (pieces ++ next ∷ others) after → IsPiece next piece rest → AreApart pieces (piece ++ rest)
 AreApart-front [] next others after piece rest apart is = tt
 AreApart-front (p ∷ []) next others after piece rest apart is = Ends-next p next piece rest apart.0 is
 AreApart-front (p ∷ q ∷ pieces) next others after piece rest apart is =
     (apart.0, AreApart-front (q ∷ pieces) next others after piece rest apart.1 is)
 
-AreApart-rest : (pieces : List Piece) (next : Piece) (others : List Piece) (after : List ℕ) → AreApart (pieces ++ next ∷ others) after → AreApart (next ∷ others) after
+AreApart-rest : (pieces : List Piece) (next : Piece) (others : List Piece) (after : List ℕ)
+    → AreApart (pieces ++ next ∷ others) after → AreApart (next ∷ others) after
 AreApart-rest [] next others after apart = apart
 AreApart-rest (p ∷ []) next others after apart = apart.1
 AreApart-rest (p ∷ q ∷ pieces) next others after apart = AreApart-rest (q ∷ pieces) next others after apart.1
 
-Ends-back : (p : Piece) (back : List Piece) (text after : List ℕ) → AreApart (p ∷ back) after → ArePieces back text after → Ends p (text ++ after)
+Ends-back : (p : Piece) (back : List Piece) (text after : List ℕ) → AreApart (p ∷ back) after
+    → ArePieces back text after → Ends p (text ++ after)
 Ends-back p [] text after apart is = subst (λ t. Ends p (t ++ after)) (sym is) apart
 Ends-back p (q ∷ back) text after apart (piece, rest, whole, is, others) =
-    let next : text ++ after ≡ piece ++ (rest ++ after) = ap (λ t. t ++ after) whole ∙ append_assoc piece rest after in
+    let next : text ++ after ≡ piece ++ (rest ++ after) =
+    ap (λ t. t ++ after) whole ∙ append_assoc piece rest after in
     subst (Ends p) (sym next) (Ends-next p q piece (rest ++ after) apart.0 is)
 
 -- what comes behind the front of a split, and what comes behind what it captures
@@ -37,25 +43,33 @@ behind_front split = split.captured ++ behind_captured split
 abbrev pub behind_before : {pattern : Pattern} {text : List ℕ} → Split pattern text → List ℕ
 behind_before split = split.front ++ behind_front split
 
-pub front_read : (pattern : Pattern) (text : List ℕ) → IsDetermined pattern → (split : Split pattern text) → after_pieces pattern.front (behind_before split) ≡ Some (behind_front split)
+pub front_read : (pattern : Pattern) (text : List ℕ) → IsDetermined pattern → (split : Split pattern text)
+    → after_pieces pattern.front (behind_before split) ≡ Some (behind_front split)
 front_read pattern text determined split =
-    let apart = AreApart-front pattern.front pattern.captured pattern.back split.after split.captured (behind_captured split) (determined split.after) split.captured_piece in
+    let apart = AreApart-front pattern.front pattern.captured pattern.back split.after split.captured
+    (behind_captured split) (determined split.after) split.captured_piece in
     after_pieces-append pattern.front split.front (behind_front split) apart split.front_pieces
 
-pub captured_read : (pattern : Pattern) (text : List ℕ) → IsDetermined pattern → (split : Split pattern text) → after_piece pattern.captured (behind_front split) ≡ Some (behind_captured split)
+pub captured_read : (pattern : Pattern) (text : List ℕ) → IsDetermined pattern → (split : Split pattern text)
+    → after_piece pattern.captured (behind_front split) ≡ Some (behind_captured split)
 captured_read pattern text determined split =
-    let apart = AreApart-rest pattern.front pattern.captured pattern.back split.after (determined split.after) in
+    let apart = AreApart-rest pattern.front pattern.captured pattern.back split.after
+    (determined split.after) in
     let ends = Ends-back pattern.captured pattern.back split.back split.after apart split.back_pieces in
     after_piece-append pattern.captured split.captured (behind_captured split) split.captured_piece ends
 
-AreApart-back : (p : Piece) (back : List Piece) (after : List ℕ) → AreApart (p ∷ back) after → AreApart back after
+AreApart-back : (p : Piece) (back : List Piece) (after : List ℕ)
+    → AreApart (p ∷ back) after → AreApart back after
 AreApart-back p [] after apart = tt
 AreApart-back p (q ∷ back) after apart = apart.1
 
-pub back_read : (pattern : Pattern) (text : List ℕ) → IsDetermined pattern → (split : Split pattern text) → after_pieces pattern.back (behind_captured split) ≡ Some split.after
+pub back_read : (pattern : Pattern) (text : List ℕ) → IsDetermined pattern → (split : Split pattern text)
+    → after_pieces pattern.back (behind_captured split) ≡ Some split.after
 back_read pattern text determined split =
-    let apart = AreApart-rest pattern.front pattern.captured pattern.back split.after (determined split.after) in
-    after_pieces-append pattern.back split.back split.after (AreApart-back pattern.captured pattern.back split.after apart) split.back_pieces
+    let apart = AreApart-rest pattern.front pattern.captured pattern.back split.after
+    (determined split.after) in
+    after_pieces-append pattern.back split.back split.after
+    (AreApart-back pattern.captured pattern.back split.after apart) split.back_pieces
 
 -- ---- one start, one captured part
 
@@ -66,13 +80,22 @@ pub record SameCaptured {pattern : Pattern} {text : List ℕ} (one other : Split
 some_same : {A : Type 0} (o : Option A) (x y : A) → o ≡ Some x → o ≡ Some y → x ≡ y
 some_same o x y is also = cc
 
-pub same_captured : (pattern : Pattern) (text : List ℕ) → IsDetermined pattern → (one other : Split pattern text) → one.before ≡ other.before → SameCaptured one other
+pub same_captured : (pattern : Pattern) (text : List ℕ) → IsDetermined pattern
+    → (one other : Split pattern text) → one.before ≡ other.before → SameCaptured one other
 same_captured pattern text determined one other same =
-    let wholes : one.before ++ behind_before one ≡ one.before ++ behind_before other = sym one.whole ∙ other.whole ∙ ap (λ before. before ++ behind_before other) (sym same) in
-    let starts : behind_before one ≡ behind_before other = append_cancel_left one.before (behind_before one) (behind_before other) wholes in
-    let fronts : behind_front one ≡ behind_front other = some_same (after_pieces pattern.front (behind_before one)) _ _ (front_read pattern text determined one) (ap (after_pieces pattern.front) starts ∙ front_read pattern text determined other) in
-    let rests : behind_captured one ≡ behind_captured other = some_same (after_piece pattern.captured (behind_front one)) _ _ (captured_read pattern text determined one) (ap (after_piece pattern.captured) fronts ∙ captured_read pattern text determined other) in
+    let wholes : one.before ++ behind_before one ≡ one.before ++ behind_before other =
+    sym one.whole ∙ other.whole ∙ ap (λ before. before ++ behind_before other) (sym same) in
+    let starts : behind_before one ≡ behind_before other =
+    append_cancel_left one.before (behind_before one) (behind_before other) wholes in
+    let fronts : behind_front one ≡ behind_front other = some_same
+    (after_pieces pattern.front (behind_before one)) _ _ (front_read pattern text determined one)
+    (ap (after_pieces pattern.front) starts ∙ front_read pattern text determined other) in
+    let rests : behind_captured one ≡ behind_captured other = some_same
+    (after_piece pattern.captured (behind_front one)) _ _ (captured_read pattern text determined one)
+    (ap (after_piece pattern.captured) fronts ∙ captured_read pattern text determined other) in
     record {
-      front = append_cancel_right one.front other.front (behind_front one) (starts ∙ ap (λ rest. other.front ++ rest) (sym fronts));
-      captured = append_cancel_right one.captured other.captured (behind_captured one) (fronts ∙ ap (λ rest. other.captured ++ rest) (sym rests));
+      front = append_cancel_right one.front other.front (behind_front one)
+          (starts ∙ ap (λ rest. other.front ++ rest) (sym fronts));
+      captured = append_cancel_right one.captured other.captured (behind_captured one)
+          (fronts ∙ ap (λ rest. other.captured ++ rest) (sym rests));
     }

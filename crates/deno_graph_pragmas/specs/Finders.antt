@@ -1,24 +1,26 @@
--- The patterns of the finders. W is a character of White_Space, K(word) the word in any case, Q a quote of either
--- kind, T a character that is no quote, R the longest run outside White_Space, N a character of one line. What is
--- captured stands in brackets. A star is "any number", a plus "at least one".
+-- The patterns of the finders. W is a character of White_Space, K(word) the word in any case, Q a quote of
+-- either kind, T a character that is no quote, R the longest run outside White_Space, N a character of one
+-- line. What is captured is in brackets. A star is "any number", a plus "at least one".
 use Rattle.std.specs.Prelude.{ℕ, true, false, List, [], ◌∷◌, codes}
-use Rattle.deno_graph_pragmas.specs.Piece.{one, any, is_white_or_star, is_number_or_at, white, whites, some_whites, quote, unquoted, some_unquoted, dark_run, in_line, sign, keyword}
+use Rattle.deno_graph_pragmas.specs.Piece.{one, any, is_white_or_star, is_number_or_at, white_space}
+use Rattle.deno_graph_pragmas.specs.Piece.{any_white_space, some_white_space, quote, unquoted, some_unquoted}
+use Rattle.deno_graph_pragmas.specs.Piece.{non_white_space, in_line, literal, keyword}
 use Rattle.deno_graph_pragmas.specs.Split.{Pattern}
 
 -- anchored: `/` W* K(`<reference`) W N* `/>`, where nothing is asked of the captured part
-abbrev pub triple_slash_reference : Pattern
-triple_slash_reference = record {
+abbrev pub triple_slash_reference_pattern : Pattern
+triple_slash_reference_pattern = record {
   anchored = true;
-  front = sign "/" ∷ whites ∷ keyword (codes "<reference") ∷ white ∷ [];
+  front = literal "/" ∷ any_white_space ∷ keyword (codes "<reference") ∷ white_space ∷ [];
   captured = in_line;
-  back = sign "/>" ∷ [];
+  back = literal "/>" ∷ [];
 }
 
 -- W K(name) W* `=` W* Q [T*] Q
 abbrev pub attribute : List ℕ → Pattern
 attribute name = record {
   anchored = false;
-  front = white ∷ keyword name ∷ whites ∷ sign "=" ∷ whites ∷ quote ∷ [];
+  front = white_space ∷ keyword name ∷ any_white_space ∷ literal "=" ∷ any_white_space ∷ quote ∷ [];
   captured = unquoted;
   back = quote ∷ [];
 }
@@ -27,7 +29,7 @@ attribute name = record {
 abbrev pub quoted_pragma : List ℕ → Pattern
 quoted_pragma name = record {
   anchored = true;
-  front = whites ∷ keyword name ∷ whites ∷ sign "=" ∷ whites ∷ quote ∷ [];
+  front = any_white_space ∷ keyword name ∷ any_white_space ∷ literal "=" ∷ any_white_space ∷ quote ∷ [];
   captured = some_unquoted;
   back = quote ∷ [];
 }
@@ -36,8 +38,8 @@ quoted_pragma name = record {
 abbrev pub quoteless_pragma : List ℕ → Pattern
 quoteless_pragma name = record {
   anchored = true;
-  front = whites ∷ keyword name ∷ whites ∷ sign "=" ∷ whites ∷ [];
-  captured = dark_run;
+  front = any_white_space ∷ keyword name ∷ any_white_space ∷ literal "=" ∷ any_white_space ∷ [];
+  captured = non_white_space;
   back = [];
 }
 
@@ -45,48 +47,51 @@ quoteless_pragma name = record {
 abbrev pub jsx_pragma : List ℕ → Pattern
 jsx_pragma name = record {
   anchored = true;
-  front = any is_white_or_star ∷ keyword name ∷ some_whites ∷ [];
-  captured = dark_run;
+  front = any is_white_or_star ∷ keyword name ∷ some_white_space ∷ [];
+  captured = non_white_space;
   back = [];
 }
 
 -- anchored: (`#` or `@`) W* K(`sourceMappingURL`) W* `=` W* [R]
-abbrev pub source_mapping_url : Pattern
-source_mapping_url = record {
+abbrev pub source_mapping_url_pattern : Pattern
+source_mapping_url_pattern = record {
   anchored = true;
-  front = one is_number_or_at ∷ whites ∷ keyword (codes "sourceMappingURL") ∷ whites ∷ sign "=" ∷ whites ∷ [];
-  captured = dark_run;
+  front = one is_number_or_at ∷ any_white_space ∷ keyword
+      (codes "sourceMappingURL") ∷ any_white_space ∷ literal "=" ∷ any_white_space ∷ [];
+  captured = non_white_space;
   back = [];
 }
 
-abbrev pub path_reference : Pattern
-path_reference = attribute (codes "path")
+abbrev pub path_reference_pattern : Pattern
+path_reference_pattern = attribute (codes "path")
 
-abbrev pub types_reference : Pattern
-types_reference = attribute (codes "types")
+abbrev pub types_reference_pattern : Pattern
+types_reference_pattern = attribute (codes "types")
 
-abbrev pub resolution_mode : Pattern
-resolution_mode = attribute (codes "resolution-mode")
+abbrev pub resolution_mode_pattern : Pattern
+resolution_mode_pattern = attribute (codes "resolution-mode")
 
-abbrev pub jsx_import_source : Pattern
-jsx_import_source = jsx_pragma (codes "@jsxImportSource")
+abbrev pub jsx_import_source_pattern : Pattern
+jsx_import_source_pattern = jsx_pragma (codes "@jsxImportSource")
 
-abbrev pub jsx_import_source_types : Pattern
-jsx_import_source_types = jsx_pragma (codes "@jsxImportSourceTypes")
+abbrev pub jsx_import_source_types_pattern : Pattern
+jsx_import_source_types_pattern = jsx_pragma (codes "@jsxImportSourceTypes")
 
-abbrev pub ts_self_types : Pattern
-ts_self_types = quoted_pragma (codes "@ts-self-types")
+abbrev pub ts_self_types_pattern : Pattern
+ts_self_types_pattern = quoted_pragma (codes "@ts-self-types")
 
-abbrev pub ts_types : Pattern
-ts_types = quoted_pragma (codes "@ts-types")
+abbrev pub ts_types_pattern : Pattern
+ts_types_pattern = quoted_pragma (codes "@ts-types")
 
-abbrev pub deno_types : Pattern
-deno_types = quoted_pragma (codes "@deno-types")
+abbrev pub deno_types_pattern : Pattern
+deno_types_pattern = quoted_pragma (codes "@deno-types")
 
-abbrev pub quoteless_deno_types : Pattern
-quoteless_deno_types = quoteless_pragma (codes "@deno-types")
+abbrev pub quoteless_deno_types_pattern : Pattern
+quoteless_deno_types_pattern = quoteless_pragma (codes "@deno-types")
 
 -- those of the finders that capture a part
 abbrev pub finder_patterns : List Pattern
 finder_patterns =
-    path_reference ∷ types_reference ∷ resolution_mode ∷ jsx_import_source ∷ jsx_import_source_types ∷ source_mapping_url ∷ ts_self_types ∷ ts_types ∷ deno_types ∷ quoteless_deno_types ∷ []
+    path_reference_pattern ∷ types_reference_pattern ∷ resolution_mode_pattern ∷ jsx_import_source_pattern
+    ∷ jsx_import_source_types_pattern ∷ source_mapping_url_pattern ∷ ts_self_types_pattern
+    ∷ ts_types_pattern ∷ deno_types_pattern ∷ quoteless_deno_types_pattern ∷ []

@@ -37,33 +37,40 @@ IsPiece (run test) text after = (text ≢ []) × IsTrue (list_all test text) × 
 IsPiece (exactly word) text after = text ≡ word
 IsPiece (keyword word) text after = IsInAnyCase text word
 
+-- `*`
+abbrev pub star : ℕ
+star = 42
+
+abbrev pub line_feed : ℕ
+line_feed = 10
+
 -- `"` or `'`
 abbrev pub is_quote : ℕ → Bool
-is_quote = char_set_contains (34 ∷ 39 ∷ [])
+is_quote = char_set_contains (codes "\"'")
 
 abbrev pub is_unquoted : ℕ → Bool
 is_unquoted c = not (is_quote c)
 
 abbrev pub is_white_or_star : ℕ → Bool
-is_white_or_star c = is_whitespace c || (c == 42)
+is_white_or_star c = is_whitespace c || (c == star)
 
 abbrev pub is_number_or_at : ℕ → Bool
 is_number_or_at = char_set_contains (codes "#@")
 
 abbrev pub is_in_line : ℕ → Bool
-is_in_line c = not (c == 10)
+is_in_line c = not (c == line_feed)
 
 -- W: a character of White_Space
-abbrev pub white : Piece
-white = one is_whitespace
+abbrev pub white_space : Piece
+white_space = one is_whitespace
 
 -- W*
-abbrev pub whites : Piece
-whites = any is_whitespace
+abbrev pub any_white_space : Piece
+any_white_space = any is_whitespace
 
 -- W+
-abbrev pub some_whites : Piece
-some_whites = some is_whitespace
+abbrev pub some_white_space : Piece
+some_white_space = some is_whitespace
 
 -- Q: a quote of either kind
 abbrev pub quote : Piece
@@ -78,13 +85,13 @@ abbrev pub some_unquoted : Piece
 some_unquoted = some is_unquoted
 
 -- R: the longest run of characters outside White_Space
-abbrev pub dark_run : Piece
-dark_run = run is_not_whitespace
+abbrev pub non_white_space : Piece
+non_white_space = run is_not_whitespace
 
 -- N*: characters of one line
 abbrev pub in_line : Piece
 in_line = any is_in_line
 
 -- the characters that are written out
-abbrev pub sign : String → Piece
-sign text = exactly (codes text)
+abbrev pub literal : String → Piece
+literal text = exactly (codes text)

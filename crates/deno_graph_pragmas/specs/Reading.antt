@@ -1,13 +1,16 @@
--- What is left of a text behind its front, where that is read from left to right, each piece as long as it can be.
+-- What is left of a text behind its front, where that is read from left to right, each piece as long as it
+-- can be.
 -- It says how the finders go about their work. No promise of a public call names it.
-use Rattle.std.specs.Prelude.{◌≡◌, ◌⊎◌, ℕ, ◌+◌, ◌-◌, ◌++◌, length, ◌==◌, ◌&&◌, Bool, false, nat_lt, List, [], ◌∷◌, Option, Some, None, IsSome, IsTrue, codes, if◌then◌else◌, option_and_then}
+use Rattle.std.specs.Prelude.{◌≡◌, ◌⊎◌, ℕ, ◌+◌, ◌-◌, ◌++◌, length, ◌==◌, ◌&&◌, Bool, false, nat_lt, List, []}
+use Rattle.std.specs.Prelude.{◌∷◌, Option, Some, None, IsSome, IsTrue, codes, if◌then◌else◌, option_and_then}
 use Rattle.std.specs.Borrow.{Bor}
 use Rattle.std.specs.List.{list_all}
 use Rattle.std.specs.Option.{option_map}
 use Rattle.std.specs.Str.{chars, IsUtf8}
 use Rattle.unicode.specs.CaseFolding.{simple_fold}
-use Rattle.deno_graph_pragmas.specs.Piece.{Piece, one, any, some, run, exactly, keyword, whites, sign, quote, unquoted, is_in_line}
-use Rattle.deno_graph_pragmas.specs.Split.{Part}
+use Rattle.deno_graph_pragmas.specs.Piece.{Piece, one, any, some, run, exactly, keyword, any_white_space}
+use Rattle.deno_graph_pragmas.specs.Piece.{literal, quote, unquoted, is_in_line, star, line_feed}
+use Rattle.deno_graph_pragmas.specs.Split.{TextPart}
 
 -- the characters of a text that is answered
 abbrev pub chars_left : Option (Bor (List ℕ)) → Option (List ℕ)
@@ -57,17 +60,18 @@ abbrev pub is_ascii : List ℕ → Bool
 is_ascii word = list_all (λ letter. nat_lt letter 128) word
 
 -- the word begins with a character above `*`, so with no white space and no star
-abbrev pub begins_dark : List ℕ → Bool
-begins_dark [] = false
-begins_dark (letter ∷ word) = nat_lt 42 letter && nat_lt letter 128
+abbrev pub begins_above_star : List ℕ → Bool
+begins_above_star [] = false
+begins_above_star (letter ∷ word) = nat_lt star letter && nat_lt letter 128
 
 -- K(name) W* `=` W*
 abbrev pub assignment : List ℕ → List Piece
-assignment name = keyword name ∷ whites ∷ sign "=" ∷ whites ∷ []
+assignment name = keyword name ∷ any_white_space ∷ literal "=" ∷ any_white_space ∷ []
 
--- The part stands where `rest` begins, with which `text` ends. It is what reading passes over as `piece`, and `back` can
+-- The part stands where `rest` begins, with which `text` ends. It is what reading passes over as `piece`, and
+-- `back` can
 -- be read behind it.
-pub record IsReadAt (piece : Piece) (back : List Piece) (text rest : List ℕ) (part : Part) : Type 0 where
+pub record IsReadAt (piece : Piece) (back : List Piece) (text rest : List ℕ) (part : TextPart) : Type 0 where
   pub behind : List ℕ
   pub captured : after_piece piece (chars rest) ≡ Some behind
   pub back_read : IsSome (after_pieces back behind)
@@ -78,10 +82,10 @@ pub record IsReadAt (piece : Piece) (back : List Piece) (text rest : List ℕ) (
 
 -- what an attribute begins with, behind the white space before it: K(name) W* `=` W* Q
 abbrev pub attribute_front : List ℕ → List Piece
-attribute_front name = keyword name ∷ whites ∷ sign "=" ∷ whites ∷ quote ∷ []
+attribute_front name = keyword name ∷ any_white_space ∷ literal "=" ∷ any_white_space ∷ quote ∷ []
 
 -- an attribute begins where `rest` does, with which `text` ends, and the part is its value
-pub record IsAttributeAt (name text rest : List ℕ) (part : Part) : Type 0 where
+pub record IsAttributeAt (name text rest : List ℕ) (part : TextPart) : Type 0 where
   pub value : List ℕ
   pub utf8 : IsUtf8 value
   pub front : after_pieces (attribute_front name) (chars rest) ≡ Some (chars value)
@@ -90,13 +94,16 @@ pub record IsAttributeAt (name text rest : List ℕ) (part : Part) : Type 0 wher
 -- no attribute begins with these characters
 abbrev pub HasNoAttribute : List ℕ → List ℕ → Type 0
 HasNoAttribute name text =
-    (value : List ℕ) → after_pieces (attribute_front name) text ≡ Some value → after_pieces (unquoted ∷ quote ∷ []) value ≡ None
+    (value : List ℕ) → after_pieces (attribute_front name) text ≡ Some value
+    → after_pieces (unquoted ∷ quote ∷ []) value ≡ None
 
 -- `/>` stands in the first line of the text
 abbrev pub IsClosedInLine : List ℕ → Type 0
 IsClosedInLine text =
-    (line : List ℕ) × (after : List ℕ) × IsTrue (list_all is_in_line line) × (text ≡ line ++ (codes "/>" ++ after))
+    (line : List ℕ) × (after : List ℕ) × IsTrue (list_all is_in_line line)
+    × (text ≡ line ++ (codes "/>" ++ after))
 
 -- `line` is the text up to its first line feed
 abbrev pub IsFirstLine : List ℕ → List ℕ → Type 0
-IsFirstLine text line = IsTrue (list_all is_in_line line) × ((text ≡ line) ⊎ ((after : List ℕ) × (text ≡ line ++ 10 ∷ after)))
+IsFirstLine text line = IsTrue (list_all is_in_line line)
+    × ((text ≡ line) ⊎ ((after : List ℕ) × (text ≡ line ++ line_feed ∷ after)))

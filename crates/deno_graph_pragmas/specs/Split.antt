@@ -1,5 +1,6 @@
 -- Splits of a text by a pattern, and the part of it that a finder answers.
-use Rattle.std.specs.Prelude.{◌≡◌, ◌≤◌, ◌+◌, ◌-◌, ℕ, Bool, List, [], ◌∷◌, ◌++◌, IsTrue, length, slice_range, encode_utf8_all}
+use Rattle.std.specs.Prelude.{◌≡◌, ◌≤◌, ◌+◌, ◌-◌, ℕ, Bool, List, [], ◌∷◌, ◌++◌, IsTrue, length, slice_range}
+use Rattle.std.specs.Prelude.{encode_utf8_all}
 use Rattle.std.specs.Str.{chars, IsCharBoundary}
 use Rattle.deno_graph_pragmas.specs.Piece.{Piece, IsPiece, is_quote}
 
@@ -15,9 +16,11 @@ pub record Pattern : Type 0 where
 abbrev pub ArePieces : List Piece → List ℕ → List ℕ → Type 0
 ArePieces [] text after = text ≡ []
 ArePieces (first ∷ others) text after =
-    (piece : List ℕ) × (rest : List ℕ) × (text ≡ piece ++ rest) × IsPiece first piece (rest ++ after) × ArePieces others rest after
+    (piece : List ℕ) × (rest : List ℕ) × (text ≡ piece ++ rest) × IsPiece first piece (rest ++ after)
+    × ArePieces others rest after
 
--- a split of a text, as a list of characters: what comes before, the pieces of the pattern in turn, and what comes after
+-- a split of a text, as a list of characters: what comes before, the pieces of the pattern in turn, and what
+-- comes after
 pub record Split (pattern : Pattern) (text : List ℕ) : Type 0 where
   pub before : List ℕ
   pub front : List ℕ
@@ -43,13 +46,13 @@ abbrev pub byte_count : List ℕ → ℕ
 byte_count text = length (encode_utf8_all text)
 
 -- a part of a text in bytes, and where it begins and ends
-pub record Part : Type 0 where
+pub record TextPart : Type 0 where
   pub text : List ℕ
   pub start : ℕ
   pub end : ℕ
 
 -- the part is what the first split of the text captures
-pub record IsCaptured (pattern : Pattern) (text : List ℕ) (part : Part) : Type 0 where
+pub record IsCaptured (pattern : Pattern) (text : List ℕ) (part : TextPart) : Type 0 where
   pub split : Split pattern (chars text)
   pub first : IsFirst split
   pub bytes : part.text ≡ encode_utf8_all split.captured
@@ -57,14 +60,14 @@ pub record IsCaptured (pattern : Pattern) (text : List ℕ) (part : Part) : Type
   pub end : part.end ≡ byte_count (split.before ++ split.front ++ split.captured)
 
 -- the part is what stands between its ends, and these are boundaries of the text
-pub record IsSliceOf (text : List ℕ) (part : Part) : Type 0 where
+pub record IsSliceOf (text : List ℕ) (part : TextPart) : Type 0 where
   pub start : IsCharBoundary text part.start
   pub end : IsCharBoundary text part.end
   pub ordered : part.start ≤ part.end
   pub is : part.text ≡ slice_range text part.start part.end
 
 -- the part with a character of one byte on each side
-abbrev pub with_beside : ℕ → ℕ → Part → Part
+abbrev pub with_beside : ℕ → ℕ → TextPart → TextPart
 with_beside left right part = record {
   text = left ∷ (part.text ++ right ∷ []);
   start = part.start - 1;
@@ -72,7 +75,7 @@ with_beside left right part = record {
 }
 
 -- a quote of either kind stands directly before the part, and one directly behind it
-pub record StandsInQuotes (text : List ℕ) (part : Part) : Type 0 where
+pub record StandsInQuotes (text : List ℕ) (part : TextPart) : Type 0 where
   pub left : ℕ
   pub right : ℕ
   pub left_quote : IsTrue (is_quote left)
@@ -83,9 +86,11 @@ pub record StandsInQuotes (text : List ℕ) (part : Part) : Type 0 where
 -- where a split begins determines what it captures
 abbrev pub StartDetermines : Pattern → Type 0
 StartDetermines pattern =
-    (text : List ℕ) (one other : Split pattern text) → one.before ≡ other.before → (one.front ≡ other.front) × (one.captured ≡ other.captured)
+    (text : List ℕ) (one other : Split pattern text) → one.before ≡ other.before
+    → (one.front ≡ other.front) × (one.captured ≡ other.captured)
 
 -- a text has at most one captured part
 abbrev pub HasOnePart : Pattern → Type 0
 HasOnePart pattern =
-    (text : List ℕ) (one other : Part) → IsCaptured pattern text one → IsCaptured pattern text other → one ≡ other
+    (text : List ℕ) (one other : TextPart) → IsCaptured pattern text one
+    → IsCaptured pattern text other → one ≡ other

@@ -18,31 +18,54 @@ module _ {T : Type 0} (item : T) where
   later : (xs ys : List T) → IsPermutation (item ∷ (xs ++ ys)) (xs ++ (item ∷ ys))
   later xs ys = IsPermutation-sym _ _ (IsPermutation-middle xs item ys)
 
-  at_set : (test : ℕ → Bool) (e : ℕ × List T) (entries : List (ℕ × List T)) (items : List T) → (lookup test entries ≡ Some items → IsPermutation (item ∷ all_items entries) (all_items (set_value test entries (items ++ item ∷ [])))) → (b : Bool) → cond b (Some e.1) (lookup test entries) ≡ Some items → IsPermutation (item ∷ (e.1 ++ all_items entries)) (all_items (cond b ((e.0, items ++ item ∷ []) ∷ entries) (e ∷ set_value test entries (items ++ item ∷ []))))
+  at_set : (test : ℕ → Bool) (e : ℕ × List T) (entries : List (ℕ × List T)) (items : List T)
+      → (lookup test entries ≡ Some items
+      → IsPermutation (item ∷ all_items entries) (all_items (set_value test entries (items ++ item ∷ []))))
+      → (b : Bool) → cond b (Some e.1) (lookup test entries) ≡ Some items
+      → IsPermutation (item ∷ (e.1 ++ all_items entries))
+      (all_items (cond b ((e.0, items ++ item ∷ []) ∷ entries)
+      (e ∷ set_value test entries (items ++ item ∷ []))))
   at_set test e entries items more true found =
       let is : e.1 ≡ items = cc in
       rw (is, append_assoc) (later items (all_items entries))
   at_set test e entries items more false found =
-      IsPermutation-trans _ _ _ (later e.1 (all_items entries)) (IsPermutation-append_right e.1 _ _ (more found))
+      IsPermutation-trans _ _ _ (later e.1 (all_items entries))
+      (IsPermutation-append_right e.1 _ _ (more found))
 
   -- the items where one list has the item more
-  items_set : (test : ℕ → Bool) (entries : List (ℕ × List T)) (items : List T) → lookup test entries ≡ Some items → IsPermutation (item ∷ all_items entries) (all_items (set_value test entries (items ++ item ∷ [])))
+  items_set : (test : ℕ → Bool) (entries : List (ℕ × List T)) (items : List T)
+      → lookup test entries ≡ Some items
+      → IsPermutation (item ∷ all_items entries) (all_items (set_value test entries (items ++ item ∷ [])))
   items_set test [] items found = cc
-  items_set test (e ∷ entries) items found = at_set test e entries items (items_set test entries items) (test e.0) found
+  items_set test (e ∷ entries) items found =
+      at_set test e entries items (items_set test entries items) (test e.0) found
 
-  at_inserted : (e : ℕ × List T) (entries : List (ℕ × List T)) (pos : ℕ) → (lookup (is_at (nat_cmp pos)) entries ≡ None → IsPermutation (item ∷ all_items entries) (all_items (insert_entry nat_cmp entries pos (item ∷ [])))) → (o : Ordering) → cond (is_eq o) (Some e.1) (lookup (is_at (nat_cmp pos)) entries) ≡ None → IsPermutation (item ∷ (e.1 ++ all_items entries)) (all_items (match_ordering o ((pos, item ∷ []) ∷ e ∷ entries) ((e.0, item ∷ []) ∷ entries) (e ∷ insert_entry nat_cmp entries pos (item ∷ []))))
+  at_inserted : (e : ℕ × List T) (entries : List (ℕ × List T)) (pos : ℕ)
+      → (lookup (is_at (nat_cmp pos)) entries ≡ None
+      → IsPermutation (item ∷ all_items entries) (all_items (insert_entry nat_cmp entries pos (item ∷ []))))
+      → (o : Ordering) → cond (is_eq o) (Some e.1) (lookup (is_at (nat_cmp pos)) entries) ≡ None
+      → IsPermutation (item ∷ (e.1 ++ all_items entries))
+      (all_items (match_ordering o ((pos, item ∷ []) ∷ e ∷ entries) ((e.0, item ∷ []) ∷ entries)
+      (e ∷ insert_entry nat_cmp entries pos (item ∷ []))))
   at_inserted e entries pos more Less absent = IsPermutation-refl _
   at_inserted e entries pos more Equal absent = cc
   at_inserted e entries pos more Greater absent =
-      IsPermutation-trans _ _ _ (later e.1 (all_items entries)) (IsPermutation-append_right e.1 _ _ (more absent))
+      IsPermutation-trans _ _ _ (later e.1 (all_items entries))
+      (IsPermutation-append_right e.1 _ _ (more absent))
 
   -- and where a list of the item alone is new
-  items_inserted : (entries : List (ℕ × List T)) (pos : ℕ) → lookup (is_at (nat_cmp pos)) entries ≡ None → IsPermutation (item ∷ all_items entries) (all_items (insert_entry nat_cmp entries pos (item ∷ [])))
+  items_inserted : (entries : List (ℕ × List T)) (pos : ℕ) → lookup (is_at (nat_cmp pos)) entries ≡ None
+      → IsPermutation (item ∷ all_items entries) (all_items (insert_entry nat_cmp entries pos (item ∷ [])))
   items_inserted [] pos absent = IsPermutation-refl _
-  items_inserted (e ∷ entries) pos absent = at_inserted e entries pos (items_inserted entries pos) (nat_cmp pos e.0) absent
+  items_inserted (e ∷ entries) pos absent =
+      at_inserted e entries pos (items_inserted entries pos) (nat_cmp pos e.0) absent
 
   -- a list that has the item more
-  pub added_set : (old new : List (ℕ × List T)) (pos : ℕ) (items : List T) → value_at old pos ≡ Some items → new ≡ set_value (is_at (nat_cmp pos)) old (items ++ item ∷ []) → value_at new pos ≡ Some (items ++ item ∷ []) → ((q : ℕ) → is_at (nat_cmp pos) q ≡ false → value_at new q ≡ value_at old q) → AddsItem old new pos item
+  pub added_set : (old new : List (ℕ × List T)) (pos : ℕ) (items : List T) → value_at old pos ≡ Some items
+      → new ≡ set_value (is_at (nat_cmp pos)) old (items ++ item ∷ [])
+      → value_at new pos ≡ Some (items ++ item ∷ [])
+      → ((q : ℕ) → is_at (nat_cmp pos) q ≡ false → value_at new q ≡ value_at old q)
+      → AddsItem old new pos item
   added_set old new pos items had is here others = record {
     added = rw had here;
     others = λ q apart. others q (not_at pos q apart);
@@ -50,7 +73,10 @@ module _ {T : Type 0} (item : T) where
   }
 
   -- a new list, of the item alone
-  pub added_inserted : (old new : List (ℕ × List T)) (pos : ℕ) → value_at old pos ≡ None → new ≡ insert_entry nat_cmp old pos (item ∷ []) → value_at new pos ≡ Some (item ∷ []) → ((q : ℕ) → is_at (nat_cmp pos) q ≡ false → value_at new q ≡ value_at old q) → AddsItem old new pos item
+  pub added_inserted : (old new : List (ℕ × List T)) (pos : ℕ) → value_at old pos ≡ None
+      → new ≡ insert_entry nat_cmp old pos (item ∷ []) → value_at new pos ≡ Some (item ∷ [])
+      → ((q : ℕ) → is_at (nat_cmp pos) q ≡ false → value_at new q ≡ value_at old q)
+      → AddsItem old new pos item
   added_inserted old new pos had is here others = record {
     added = rw had here;
     others = λ q apart. others q (not_at pos q apart);
@@ -58,10 +84,13 @@ module _ {T : Type 0} (item : T) where
   }
 
   -- the items of two lists of entries, with the item in the first
-  pub added_first : (old new others : List (ℕ × List T)) (pos : ℕ) → AddsItem old new pos item → IsPermutation (item ∷ (all_items old ++ all_items others)) (all_items new ++ all_items others)
+  pub added_first : (old new others : List (ℕ × List T)) (pos : ℕ) → AddsItem old new pos item
+      → IsPermutation (item ∷ (all_items old ++ all_items others)) (all_items new ++ all_items others)
   added_first old new others pos adds = IsPermutation-append_left (all_items others) _ _ adds.items
 
   -- and in the second
-  pub added_second : (others old new : List (ℕ × List T)) (pos : ℕ) → AddsItem old new pos item → IsPermutation (item ∷ (all_items others ++ all_items old)) (all_items others ++ all_items new)
+  pub added_second : (others old new : List (ℕ × List T)) (pos : ℕ) → AddsItem old new pos item
+      → IsPermutation (item ∷ (all_items others ++ all_items old)) (all_items others ++ all_items new)
   added_second others old new pos adds =
-      IsPermutation-trans _ _ _ (later (all_items others) (all_items old)) (IsPermutation-append_right (all_items others) _ _ adds.items)
+      IsPermutation-trans _ _ _ (later (all_items others) (all_items old))
+      (IsPermutation-append_right (all_items others) _ _ adds.items)

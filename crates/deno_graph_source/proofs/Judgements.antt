@@ -11,7 +11,8 @@ use Rattle.deno_graph_source.specs.declared.tree.fault.SourceFault.TheVariants.{
 use Rattle.deno_graph_source.specs.declared.tree.node.Node.{Node}
 
 -- what holds of some element of a list holds of some element of each list that has these
-pub Any-within : {X : Type 0} (P : X → Type 0) (xs ys : List X) → ((x : X) → Contains xs x → Contains ys x) → Any P xs → Any P ys
+pub Any-within : {X : Type 0} (P : X → Type 0) (xs ys : List X) → ((x : X) → Contains xs x → Contains ys x)
+    → Any P xs → Any P ys
 Any-within P xs ys within h =
     let at = within h.1 (h.0, h.2, h.3) in (at.0, h.1, at.1, at.2, h.4)
 
@@ -25,7 +26,8 @@ Any-only P x (zero, y, below, is, h) = subst P (sym is) h
 Any-only P x (suc k, y, below, is, h) = absurd (omega arith)
 
 -- a fault of a range that a node holds is one of the node
-pub range_fault_in_node : (text : List ℕ) (fault : SourceFault) (node : Node) → Any (RangeHas text fault) (held_ranges node) → NodeHas text fault node
+pub range_fault_in_node : (text : List ℕ) (fault : SourceFault) (node : Node)
+    → Any (RangeHas text fault) (held_ranges node) → NodeHas text fault node
 range_fault_in_node text Shape node h = absurd h.4
 range_fault_in_node text RangeReversed node h = h
 range_fault_in_node text RangeOutside node h = h
@@ -35,7 +37,8 @@ range_fault_in_node text CommentsOverlap node h = h
 range_fault_in_node text OutOfMemory node h = h
 
 -- a fault of a comment's range is one of the comment
-pub range_fault_in_comment : (text : List ℕ) (fault : SourceFault) (comment : DependencyComment) → RangeHas text fault comment.range → CommentHas text fault comment
+pub range_fault_in_comment : (text : List ℕ) (fault : SourceFault) (comment : DependencyComment)
+    → RangeHas text fault comment.range → CommentHas text fault comment
 range_fault_in_comment text CommentText comment h = absurd h
 range_fault_in_comment text Shape comment h = h
 range_fault_in_comment text RangeReversed comment h = h
@@ -45,7 +48,9 @@ range_fault_in_comment text CommentsOverlap comment h = h
 range_fault_in_comment text OutOfMemory comment h = h
 
 -- the answer where a `?` returns a fault
-pub returned : (Q : Type 0) (G : SourceFault → Type 0) (fault : SourceFault) (result : Result (Unit {0}) SourceFault) → IsErrAnd result (λ other. other ≡ fault) → G fault → MatchResult result (λ _. Q) G
+pub returned : (Q : Type 0) (G : SourceFault → Type 0) (fault : SourceFault)
+    (result : Result (Unit {0}) SourceFault) → IsErrAnd result (λ other. other ≡ fault) → G fault
+    → MatchResult result (λ _. Q) G
 returned Q G fault result is h =
     let p = err_from_is_err_and result is in
     rw (p.1, p.2) h

@@ -8,14 +8,16 @@ use Rattle.std.proofs.lemmas.Bool.{cases_lt}
 use Rattle.std.proofs.lemmas.Bool.Decides.{Decides-eqb}
 use Rattle.deno_graph_source.specs.Check.{Passes, RunsInto}
 use Rattle.deno_graph_source.specs.Source.{HasOverlap, IsSpelled, SharesByte, spelling}
-use Rattle.deno_graph_text.specs.declared.position.SourceRange.{SourceRange}
+use Rattle.deno_graph_text.specs.declared.text.position.SourceRange.{SourceRange}
 use Rattle.deno_graph_source.specs.declared.tree.comments.CommentKind.{CommentKind}
 use Rattle.deno_graph_source.specs.declared.tree.comments.CommentKind.TheVariants.{Line, Block}
 use Rattle.deno_graph_source.specs.declared.tree.comments.DependencyComment.{DependencyComment}
 use Rattle.deno_graph_source.proofs.Spelling.{spelled_unique}
 
 -- what holds of each two neighbours holds of those that a list of references refers to
-pub AllAdjacentBelow-map : {R X : Type 0} (f : R → X) (P : X → X → Type 0) (rs : List R) → ((k : ℕ) → k + 1 < length rs → (d : R) → P (f (get_or rs k d)) (f (get_or rs (k + 1) d))) → AllAdjacentBelow P (map f rs) (length (map f rs))
+pub AllAdjacentBelow-map : {R X : Type 0} (f : R → X) (P : X → X → Type 0) (rs : List R)
+    → ((k : ℕ) → k + 1 < length rs → (d : R) → P (f (get_or rs k d)) (f (get_or rs (k + 1) d)))
+    → AllAdjacentBelow P (map f rs) (length (map f rs))
 AllAdjacentBelow-map f P [] h = λ k d below. absurd (omega arith)
 AllAdjacentBelow-map f P (r ∷ rs) h = λ k d below.
     let inside : k + 1 < length (r ∷ rs) = omega (arith, length-map (r ∷ rs) f) in
@@ -32,17 +34,25 @@ le_or_ge m n = ⊎_elim (λ below. inl (omega arith)) inr (cases_lt m n)
 some_bytes : (text : List ℕ) (c : DependencyComment) → IsSpelled text c → c.range.start < c.range.end
 some_bytes text c is =
     let two : 2 ≤ length (spelling c.kind c.text) = two_bytes c.kind c.text in
-    omega (arith, ap length is.slice, length-take (c.range.end - c.range.start) (drop c.range.start text), two)
+    omega (
+      arith,
+      ap length is.slice,
+      length-take (c.range.end - c.range.start) (drop c.range.start text),
+      two,
+    )
 
 -- numbers of elements that do not fall along a list of references
-pub IsNonDecreasingBy-map : {R X : Type 0} (f : R → X) (n : X → ℕ) (rs : List R) → IsNonDecreasingBy (λ r. n (f r)) rs → IsNonDecreasingBy n (map f rs)
+pub IsNonDecreasingBy-map : {R X : Type 0} (f : R → X) (n : X → ℕ) (rs : List R)
+    → IsNonDecreasingBy (λ r. n (f r)) rs → IsNonDecreasingBy n (map f rs)
 IsNonDecreasingBy-map f n [] h = λ i j d up below. absurd (omega arith)
 IsNonDecreasingBy-map f n (r ∷ rs) h = λ i j d up below.
     let inside : j < length (r ∷ rs) = omega (arith, length-map (r ∷ rs) f) in
     rw (get_or-map f (r ∷ rs) i r d (omega arith), get_or-map f (r ∷ rs) j r d inside) (h i j r up inside)
 
 -- two neighbours, of which one runs into the other, among the comments that references refer to
-pub runs_into_at : {R : Type 0} (f : R → DependencyComment) (rs : List R) (k i : ℕ) (r s : R) → i ≡ k + 1 → i < length rs → RunsInto (f (get_or rs k r)) (f (get_or rs i s)) → (d : DependencyComment) → RunsInto (get_or (map f rs) k d) (get_or (map f rs) (k + 1) d)
+pub runs_into_at : {R : Type 0} (f : R → DependencyComment) (rs : List R) (k i : ℕ) (r s : R) → i ≡ k + 1
+    → i < length rs → RunsInto (f (get_or rs k r)) (f (get_or rs i s)) → (d : DependencyComment)
+    → RunsInto (get_or (map f rs) k d) (get_or (map f rs) (k + 1) d)
 runs_into_at f rs k i r s next below h d =
     let after : k + 1 < length rs = omega arith in
     rw (get_or-map f rs k r d (omega arith), get_or-map f rs (k + 1) s d after, ← next) h
@@ -54,7 +64,8 @@ differs a b test same =
     let ends = (Decides-eqb b.end a.end).1 (ap (λ r. r.end) (sym same)) in
     cc (test, starts, ends)
 
-module _ (xs : List DependencyComment) (rising : IsNonDecreasingBy (λ c. c.range.start) xs) (passes : AllAdjacentBelow Passes xs (length xs)) (d : DependencyComment) where
+module _ (xs : List DependencyComment) (rising : IsNonDecreasingBy (λ c. c.range.start) xs)
+    (passes : AllAdjacentBelow Passes xs (length xs)) (d : DependencyComment) where
   -- a later one passes each earlier one
   passes_far : (i m : ℕ) → i + m < length xs → Passes (get_or xs i d) (get_or xs (i + m) d)
   passes_far i zero below = rw add-zero (inl refl)
@@ -64,37 +75,56 @@ module _ (xs : List DependencyComment) (rising : IsNonDecreasingBy (λ c. c.rang
       let up = rising (i + m) (i + m + 1) d (omega arith) (omega arith) in
       let at : (i + m) + 1 ≡ i + suc m = omega arith in
       subst (λ n. Passes (get_or xs i d) (get_or xs n d)) at (⊎_elim
-      (λ same. ⊎_elim (λ again. inl (same ∙ again)) (λ past. inr (omega (arith, past, ap (λ r. r.end) same))) next)
+      (λ same. ⊎_elim (λ again. inl (same ∙ again)) (λ past. inr (omega (arith, past, ap (λ r. r.end) same)))
+      next)
       (λ past. inr (omega (arith, past, up))) far)
 
   -- so one that shares a byte with an earlier one is at its range
-  shared_is_same : (i j : ℕ) → i ≤ j → j < length xs → SharesByte (get_or xs i d).range (get_or xs j d).range → (get_or xs i d).range ≡ (get_or xs j d).range
+  shared_is_same : (i j : ℕ) → i ≤ j → j < length xs → SharesByte (get_or xs i d).range (get_or xs j d).range
+      → (get_or xs i d).range ≡ (get_or xs j d).range
   shared_is_same i j up below shared =
       let at : i + (j - i) ≡ j = omega arith in
       let far = subst (λ n. Passes (get_or xs i d) (get_or xs n d)) at (passes_far i (j - i) (omega arith)) in
       ⊎_elim (λ same. same) (λ past. absurd (omega (arith, past, shared.1, shared.2, shared.3, shared.4))) far
 
--- comments that are written in a text, in ascending order of their starts, where each passes the one before it: those that share a byte are equal
-pub apart_from_neighbours : (text : List ℕ) (xs : List DependencyComment) → All (IsSpelled text) xs → IsNonDecreasingBy (λ c. c.range.start) xs → AllAdjacentBelow Passes xs (length xs) → (a b : DependencyComment) → Contains xs a → Contains xs b → SharesByte a.range b.range → a ≡ b
+-- comments that are written in a text, in ascending order of their starts, where each passes the
+-- one before it: those that share a byte are equal
+pub apart_from_neighbours : (text : List ℕ) (xs : List DependencyComment) → All (IsSpelled text) xs
+    → IsNonDecreasingBy (λ c. c.range.start) xs → AllAdjacentBelow Passes xs (length xs)
+    → (a b : DependencyComment) → Contains xs a → Contains xs b → SharesByte a.range b.range → a ≡ b
 apart_from_neighbours text xs spelled rising passes a b at bt shared =
     let here : get_or xs at.0 a ≡ a = at.2 in
     let there : get_or xs bt.0 a ≡ b = get_or_default xs bt.0 a b bt.1 ∙ bt.2 in
     let spelled_a = All-contains (IsSpelled text) xs a spelled at in
     let spelled_b = All-contains (IsSpelled text) xs b spelled bt in
     spelled_unique text a b spelled_a spelled_b (⊎_elim
-    (λ up. ap (λ c. c.range) (sym here) ∙ shared_is_same xs rising passes a at.0 bt.0 up bt.1 (rw (here, there) shared) ∙ ap (λ c. c.range) there)
-    (λ down. ap (λ c. c.range) (sym here) ∙ sym (shared_is_same xs rising passes a bt.0 at.0 down at.1 (rw (here, there) (shared.0, shared.3, shared.4, shared.1, shared.2))) ∙ ap (λ c. c.range) there)
+    (λ up. ap (λ c. c.range) (sym here)
+    ∙ shared_is_same xs rising passes a at.0 bt.0 up bt.1 (rw (here, there) shared) ∙ ap (λ c. c.range) there)
+    (λ down. ap (λ c. c.range) (sym here)
+    ∙ sym (shared_is_same xs rising passes a bt.0 at.0 down at.1
+    (rw (here, there) (shared.0, shared.3, shared.4, shared.1, shared.2))) ∙ ap (λ c. c.range) there)
     (le_or_ge at.0 bt.0))
 
-overlap_at : (text : List ℕ) (xs : List DependencyComment) → All (IsSpelled text) xs → IsNonDecreasingBy (λ c. c.range.start) xs → (k : ℕ) → k + 1 < length xs → (d : DependencyComment) → RunsInto (get_or xs k d) (get_or xs (k + 1) d) → HasOverlap xs
+overlap_at : (text : List ℕ) (xs : List DependencyComment) → All (IsSpelled text) xs
+    → IsNonDecreasingBy (λ c. c.range.start) xs → (k : ℕ) → k + 1 < length xs → (d : DependencyComment)
+    → RunsInto (get_or xs k d) (get_or xs (k + 1) d) → HasOverlap xs
 overlap_at text xs spelled rising k below d into =
     let a = get_or xs k d in
     let b = get_or xs (k + 1) d in
     let up = rising k (k + 1) d (omega arith) below in
-    let some = some_bytes text b (All-get_or (IsSpelled text) xs (k + 1) d below spelled) in
-    (a, b, Contains-get_or xs k d (omega arith), Contains-get_or xs (k + 1) d below, λ same. into.0 (ap (λ c. c.range) same), (b.range.start, up, into.1, omega arith, some))
+    let some = some_bytes text b (All-get_or (IsSpelled text) xs (k + 1) d below spelled) in (
+      a,
+      b,
+      Contains-get_or xs k d (omega arith),
+      Contains-get_or xs (k + 1) d below,
+      λ same. into.0 (ap (λ c. c.range) same),
+      (b.range.start, up, into.1, omega arith, some),
+    )
 
 -- where one of two neighbours runs into the other, two comments overlap
-pub overlap_from_neighbours : (text : List ℕ) (xs : List DependencyComment) → All (IsSpelled text) xs → IsNonDecreasingBy (λ c. c.range.start) xs → (k : ℕ) → k + 1 < length xs → ((d : DependencyComment) → RunsInto (get_or xs k d) (get_or xs (k + 1) d)) → HasOverlap xs
+pub overlap_from_neighbours : (text : List ℕ) (xs : List DependencyComment) → All (IsSpelled text) xs
+    → IsNonDecreasingBy (λ c. c.range.start) xs → (k : ℕ) → k + 1 < length xs
+    → ((d : DependencyComment) → RunsInto (get_or xs k d) (get_or xs (k + 1) d)) → HasOverlap xs
 overlap_from_neighbours text [] spelled rising k below into = absurd (omega arith)
-overlap_from_neighbours text (x ∷ xs) spelled rising k below into = overlap_at text (x ∷ xs) spelled rising k below x (into x)
+overlap_from_neighbours text (x ∷ xs) spelled rising k below into =
+    overlap_at text (x ∷ xs) spelled rising k below x (into x)

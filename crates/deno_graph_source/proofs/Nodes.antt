@@ -16,16 +16,22 @@ paired = fold-Node (Node × List Node) nodes_step
 abbrev IsKept : Node → Type 0
 IsKept node = (paired node).0 ≡ node
 
-children_kept : (cs : List ((child : Node) × IsKept child)) → map (λ child. child.0) (map paired (map (λ c. c.0) cs)) ≡ map (λ c. c.0) cs
+children_kept : (cs : List ((child : Node) × IsKept child))
+    → map (λ child. child.0) (map paired (map (λ c. c.0) cs)) ≡ map (λ c. c.0) cs
 children_kept [] = refl
-children_kept (c ∷ cs) = ap (λ node. node ∷ map (λ child. child.0) (map paired (map (λ d. d.0) cs))) c.1 ∙ ap (λ nodes. c.0 ∷ nodes) (children_kept cs)
+children_kept (c ∷ cs) =
+    ap (λ node. node ∷ map (λ child. child.0) (map paired (map (λ d. d.0) cs))) c.1
+    ∙ ap (λ nodes. c.0 ∷ nodes) (children_kept cs)
 
 -- the fold keeps each node
 kept : (node : Node) → IsKept node
 kept = ind-Node IsKept (λ x y is.
-    let with_children : List Node → Node-F Node = λ cs. record { range = y.range; kind = y.kind; children = cs } in
-    let same : paired (roll-Node (with_children (map (λ c. c.0) y.children))) ≡ _ = fold-roll-Node (Node × List Node) nodes_step (with_children (map (λ c. c.0) y.children)) in
-    subst (λ z. IsKept (roll-Node z)) is (ap (λ p. p.0) same ∙ ap (λ cs. roll-Node (with_children cs)) (children_kept y.children)))
+    let with_children : List Node → Node-F Node =
+    λ cs. record { range = y.range; kind = y.kind; children = cs } in
+    let same : paired (roll-Node (with_children (map (λ c. c.0) y.children))) ≡ _ =
+    fold-roll-Node (Node × List Node) nodes_step (with_children (map (λ c. c.0) y.children)) in
+    subst (λ z. IsKept (roll-Node z)) is (ap (λ p. p.0) same
+    ∙ ap (λ cs. roll-Node (with_children cs)) (children_kept y.children)))
 
 -- the nodes of a node: itself, and those of each child
 pub nodes_in-is : (node : Node) → nodes_in node ≡ node ∷ flat_map nodes_in (children_of node)
@@ -34,17 +40,21 @@ nodes_in-is node =
     let layer = out-Node node in
     let step = fold_out-Node (Node × List Node) nodes_step node in
     let own = sym (ap (λ p. p.0) step) ∙ kept node in
-    ap (λ p. p.1) step ∙ ap (λ n. n ∷ flat_map (λ child. child.1) (map paired layer.children)) own ∙ ap (λ below. node ∷ below) (flat_map-map (λ child. child.1) paired layer.children)
+    ap (λ p. p.1) step ∙ ap (λ n. n ∷ flat_map (λ child. child.1) (map paired layer.children)) own
+    ∙ ap (λ below. node ∷ below) (flat_map-map (λ child. child.1) paired layer.children)
 
 -- a node is one of its nodes
 pub Contains-own_node : (node : Node) → Contains (nodes_in node) node
 Contains-own_node node = rw nodes_in-is (0, omega arith, refl)
 
 -- so are the nodes of its children
-pub Contains-child_node : (node child n : Node) → Contains (children_of node) child → Contains (nodes_in child) n → Contains (nodes_in node) n
+pub Contains-child_node : (node child n : Node) → Contains (children_of node) child
+    → Contains (nodes_in child) n → Contains (nodes_in node) n
 Contains-child_node node child n at h =
-    rw nodes_in-is (Contains-append_right (node ∷ []) _ n (Contains-flat_map nodes_in (children_of node) child n at h))
+    rw nodes_in-is (Contains-append_right (node ∷ []) _ n
+    (Contains-flat_map nodes_in (children_of node) child n at h))
 
 -- what holds of a node and of the nodes of its children holds of all its nodes
-pub All-nodes_in : (P : Node → Type 0) (node : Node) → P node → All P (flat_map nodes_in (children_of node)) → All P (nodes_in node)
+pub All-nodes_in : (P : Node → Type 0) (node : Node) → P node → All P (flat_map nodes_in (children_of node))
+    → All P (nodes_in node)
 All-nodes_in P node own below = rw nodes_in-is (All-cons P node _ own below)

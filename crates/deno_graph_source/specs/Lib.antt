@@ -1,6 +1,7 @@
 pub mod ByPosition
 pub mod Check
 pub mod Comments
+pub mod KindGroups
 pub mod MediaType
 pub mod Node
 pub mod ParsedSource
@@ -10,5 +11,5 @@ pub use Rattle.deno_graph_text.specs.JsString
 pub use Rattle.deno_graph_text.specs.Position
 pub use Rattle.deno_graph_text.specs.PositionRange
 pub use Rattle.deno_graph_text.specs.SourceRange
-pub use Rattle.deno_graph_values.specs.ResolutionMode
-pub use Rattle.deno_graph_values.specs.TextMap
+pub use Rattle.deno_graph_text.specs.ResolutionMode
+pub use Rattle.deno_graph_text.specs.TextMap

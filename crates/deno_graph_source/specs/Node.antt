@@ -2,13 +2,13 @@
 use Rattle.std.specs.Prelude.{◌≡◌, ℕ, ◌+◌, ◌≤◌, ◌<◌, ⊤, Bool, true, false, IsTrue, length, List, [], ◌∷◌, ◌++◌, map, Option, Some, None, IsSomeAnd, slice_get}
 use Rattle.std.specs.List.{flat_map}
 use Rattle.std.specs.Option.{option_to_list}
-use Rattle.deno_graph_text.specs.declared.position.SourceRange.{SourceRange}
+use Rattle.deno_graph_text.specs.declared.text.position.SourceRange.{SourceRange}
 use Rattle.deno_graph_source.specs.declared.tree.node.Arg.{Arg}
 use Rattle.deno_graph_source.specs.declared.tree.node.Callee.{Callee}
 use Rattle.deno_graph_source.specs.declared.tree.node.Callee.TheVariants.{Expr}
 use Rattle.deno_graph_source.specs.declared.tree.node.StrLit.{StrLit}
 use Rattle.deno_graph_source.specs.declared.tree.node.Kind.{Kind}
-use Rattle.deno_graph_source.specs.declared.tree.node.Kind.TheVariants.{ImportDecl, NamedExport, ExportAll, ExportOther, ImportEquals, ImportType, ModuleDecl, Call, Template, Binary, Object, KeyValue}
+use Rattle.deno_graph_source.specs.declared.tree.node.Kind.TheVariants.{ImportDecl, NamedExport, ExportAll, ImportEquals, ImportType, ModuleDecl, Call, Template, Binary, Object, KeyValue}
 use Rattle.deno_graph_source.specs.declared.tree.node.Node.{Node, out-Node, roll-Node}
 use Rattle.deno_graph_source.specs.declared.tree.node.Program.{Program}
 use Rattle.deno_graph_source.specs.declared.tree.node.Node.TheOpen.{Node-F}
@@ -77,20 +77,7 @@ abbrev pub callee_count : Callee → ℕ
 callee_count Expr = 1
 callee_count _ = 0
 
--- the kind is that of an import declaration, an `import name = ..` or an import type
-abbrev pub is_import : Kind → Bool
-is_import (ImportDecl type_only phase src has_specifiers with_clause) = true
-is_import (ImportEquals type_only is_export external) = true
-is_import (ImportType arg with_clause) = true
-is_import _ = false
-
--- the kind is that of an export
-abbrev pub is_export : Kind → Bool
-is_export (NamedExport type_only src with_clause) = true
-is_export (ExportAll type_only src with_clause) = true
-is_export ExportOther = true
-is_export _ = false
-
+-- the kind is that of an object literal
 abbrev pub is_object : Kind → Bool
 is_object Object = true
 is_object _ = false

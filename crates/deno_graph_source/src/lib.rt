@@ -4,5 +4,4 @@
 
 pub mod tree;
 
-pub use deno_graph_text as text;
-pub use deno_graph_values as values;
+pub use deno_graph_text::{text, values};

@@ -10,7 +10,7 @@ pub mod parsed_source;
 
 pub use check::source_fault;
 pub use comments::{CommentKind, Comments, DependencyComment};
-pub use deno_graph_values::ResolutionMode;
+pub use deno_graph_text::values::ResolutionMode;
 pub use fault::SourceFault;
 pub use media_type::MediaType;
 pub use node::{Arg, BinaryOp, Callee, ImportPhase, Kind, Node, Program, PropKey, StrLit};

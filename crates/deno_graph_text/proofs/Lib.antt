@@ -5,4 +5,5 @@ pub mod LossyText
 pub mod PlaceLemmas
 pub mod PositionLemmas
 pub mod PositionOrder
+pub mod TextEntries
 pub mod Units

@@ -9,7 +9,7 @@ use Rattle.std.proofs.lemmas.Bool.{cases_Bool, false≢true}
 use Rattle.std.proofs.lemmas.Bool.Decides.{nat_tests}
 use Rattle.std.proofs.lemmas.List.{reverse-append}
 use Rattle.std.proofs.lemmas.List.Sums.{suffix_len-le-length, sum_by-append, count_by-le-length}
-use Rattle.deno_graph_text.specs.declared.position.Position.{Position}
+use Rattle.deno_graph_text.specs.declared.text.position.Position.{Position}
 use Rattle.deno_graph_text.specs.Position.{IsBefore, is_before, line_of, character_of, position_of}
 
 -- what follows the last line feed is what stands at the end and is no line feed
@@ -22,32 +22,46 @@ by_test : (is : Bool) (n m : ℕ) → m ≡ n → cond (not is) (1 + n) 0 ≡ co
 by_test true n m e = refl
 by_test false n m e = omega arith
 
-character_of-push : (front : List ℕ) (c : ℕ) → character_of (front ++ c ∷ []) ≡ cond (c == 10) 0 (character_of front + 1)
+character_of-push : (front : List ℕ) (c : ℕ)
+    → character_of (front ++ c ∷ []) ≡ cond (c == 10) 0 (character_of front + 1)
 character_of-push front c =
-    character_of-suffix (front ++ c ∷ []) ∙ ap (prefix_len (λ d. not (d == 10))) (reverse-append front (c ∷ [])) ∙ by_test (c == 10) (suffix_len (λ d. not (d == 10)) front) _ (character_of-suffix front)
+    character_of-suffix (front ++ c ∷ [])
+    ∙ ap (prefix_len (λ d. not (d == 10))) (reverse-append front (c ∷ []))
+    ∙ by_test (c == 10) (suffix_len (λ d. not (d == 10)) front) _ (character_of-suffix front)
 
 one_more : (is : Bool) (n : ℕ) → n + (0 + cond is 1 0) ≡ cond is (n + 1) n
 one_more true n = omega arith
 one_more false n = omega arith
 
-line_of-push : (front : List ℕ) (c : ℕ) → line_of (front ++ c ∷ []) ≡ cond (c == 10) (line_of front + 1) (line_of front)
+line_of-push : (front : List ℕ) (c : ℕ)
+    → line_of (front ++ c ∷ []) ≡ cond (c == 10) (line_of front + 1) (line_of front)
 line_of-push front c =
     sum_by-append (λ d. cond (d == 10) 1 0) front (c ∷ []) ∙ one_more (c == 10) (line_of front)
 
 -- a line feed begins the next line
-pub position_of-line_feed : (front : List ℕ) (c : ℕ) → (c == 10) ≡ true → position_of (front ++ c ∷ []) ≡ record { line = (position_of front).line + 1; character = 0 }
+pub position_of-line_feed : (front : List ℕ) (c : ℕ) → (c == 10) ≡ true
+    → position_of (front ++ c ∷ []) ≡ record { line = (position_of front).line + 1; character = 0 }
 unfolding position_of
 position_of-line_feed front c is =
-    let line : line_of (front ++ c ∷ []) ≡ line_of front + 1 = line_of-push front c ∙ ap (λ b. cond b (line_of front + 1) (line_of front)) is in
-    let character : character_of (front ++ c ∷ []) ≡ 0 = character_of-push front c ∙ ap (λ b. cond b 0 (character_of front + 1)) is in
+    let line : line_of (front ++ c ∷ []) ≡ line_of front + 1 =
+    line_of-push front c ∙ ap (λ b. cond b (line_of front + 1) (line_of front)) is in
+    let character : character_of (front ++ c ∷ []) ≡ 0 =
+    character_of-push front c ∙ ap (λ b. cond b 0 (character_of front + 1)) is in
     cc
 
 -- any other character is one more of its line
-pub position_of-other : (front : List ℕ) (c : ℕ) → (c == 10) ≡ false → position_of (front ++ c ∷ []) ≡ record { line = (position_of front).line; character = (position_of front).character + 1 }
+pub position_of-other : (front : List ℕ) (c : ℕ) → (c == 10) ≡ false
+    → position_of (front ++ c ∷ []) ≡ record {
+      line = (position_of front).line;
+      character =
+          (position_of front).character + 1;
+    }
 unfolding position_of
 position_of-other front c is =
-    let line : line_of (front ++ c ∷ []) ≡ line_of front = line_of-push front c ∙ ap (λ b. cond b (line_of front + 1) (line_of front)) is in
-    let character : character_of (front ++ c ∷ []) ≡ character_of front + 1 = character_of-push front c ∙ ap (λ b. cond b 0 (character_of front + 1)) is in
+    let line : line_of (front ++ c ∷ []) ≡ line_of front =
+    line_of-push front c ∙ ap (λ b. cond b (line_of front + 1) (line_of front)) is in
+    let character : character_of (front ++ c ∷ []) ≡ character_of front + 1 =
+    character_of-push front c ∙ ap (λ b. cond b 0 (character_of front + 1)) is in
     cc
 
 -- there are no more lines, nor characters of a line, than characters
@@ -64,7 +78,8 @@ character_of-le front =
 -- two positions with the same line and the same character are the same
 pub same_position : (p q : Position) → p.line ≡ q.line → p.character ≡ q.character → p ≡ q
 same_position p q line character =
-    let by_line : p ≡ record { line = q.line; character = p.character } = ap (λ (n : ℕ). let r : Position = record { line = n; character = p.character } in r) line in
+    let by_line : p ≡ record { line = q.line; character = p.character } =
+    ap (λ (n : ℕ). let r : Position = record { line = n; character = p.character } in r) line in
     by_line ∙ ap (λ (n : ℕ). let r : Position = record { line = q.line; character = n } in r) character
 
 -- the start of every text
@@ -94,19 +109,24 @@ IsBefore-irreflexive p (inl a) = omega arith
 IsBefore-irreflexive p (inr a) = omega arith
 
 -- so does a text that isn't empty
-pub before_longer : (front : List ℕ) (c : ℕ) (more : List ℕ) → IsBefore (position_of front) (position_of (front ++ c ∷ more))
+pub before_longer : (front : List ℕ) (c : ℕ) (more : List ℕ)
+    → IsBefore (position_of front) (position_of (front ++ c ∷ more))
 before_longer front c [] = before_push front c
 before_longer front c (d ∷ more) =
-    IsBefore-trans _ _ _ (before_push front c) (subst (λ cs. IsBefore (position_of (front ++ c ∷ [])) (position_of cs)) (append_assoc front (c ∷ []) (d ∷ more)) (before_longer (front ++ c ∷ []) d more))
+    IsBefore-trans _ _ _ (before_push front c)
+    (subst (λ cs. IsBefore (position_of (front ++ c ∷ [])) (position_of cs))
+    (append_assoc front (c ∷ []) (d ∷ more)) (before_longer (front ++ c ∷ []) d more))
 
 -- what `==` on positions answers
 pub same_from_test : (p q : Position) → true ≡ ((p.line == q.line) && (p.character == q.character)) → p ≡ q
 same_from_test p q is = same_position p q (grind (arith, nat_tests)) (grind (arith, nat_tests))
 
-pub differs_from_test : (p q : Position) → false ≡ ((p.line == q.line) && (p.character == q.character)) → ¬ (p ≡ q)
+pub differs_from_test : (p q : Position) → false ≡ ((p.line == q.line) && (p.character == q.character))
+    → ¬ (p ≡ q)
 differs_from_test p q is same =
     let line : (p.line == q.line) ≡ true = eq-eqb p.line q.line (ap (λ r. r.line) same) in
-    let character : (p.character == q.character) ≡ true = eq-eqb p.character q.character (ap (λ r. r.character) same) in
+    let character : (p.character == q.character) ≡ true =
+    eq-eqb p.character q.character (ap (λ r. r.character) same) in
     false≢true (is ∙ ap (λ b. b && (p.character == q.character)) line ∙ character)
 
 -- the test of the order answers the order
@@ -114,7 +134,8 @@ pub is_before-true : (p q : Position) → is_before p q ≡ true → IsBefore p 
 is_before-true p q is = elim (cases_Bool (nat_lt p.line q.line)) [
   | inl line ↦ inl (grind (arith, nat_tests))
   | inr no_line ↦
-      let rest : ((p.line == q.line) && nat_lt p.character q.character) ≡ true = ap (λ b. b || ((p.line == q.line) && nat_lt p.character q.character)) (sym no_line) ∙ is in
+      let rest : ((p.line == q.line) && nat_lt p.character q.character) ≡ true =
+      ap (λ b. b || ((p.line == q.line) && nat_lt p.character q.character)) (sym no_line) ∙ is in
       inr (grind (arith, nat_tests), grind (arith, nat_tests))
 ]
 
@@ -136,13 +157,20 @@ abbrev pub position_cmp : Position → Position → Ordering
 position_cmp p q = ordering_then (nat_cmp p.line q.line) (nat_cmp p.character q.character)
 
 pub position_cmp-before : (p q : Position) → IsBefore p q → position_cmp p q ≡ Less
-position_cmp-before p q (inl line) = ap (λ o. ordering_then o (nat_cmp p.character q.character)) (less p.line q.line line)
-position_cmp-before p q (inr later) = ap (λ o. ordering_then o (nat_cmp p.character q.character)) (equal p.line q.line later.0) ∙ less p.character q.character later.1
+position_cmp-before p q (inl line) =
+    ap (λ o. ordering_then o (nat_cmp p.character q.character)) (less p.line q.line line)
+position_cmp-before p q (inr later) =
+    ap (λ o. ordering_then o (nat_cmp p.character q.character)) (equal p.line q.line later.0)
+    ∙ less p.character q.character later.1
 
 pub position_cmp-behind : (p q : Position) → IsBefore q p → position_cmp p q ≡ Greater
-position_cmp-behind p q (inl line) = ap (λ o. ordering_then o (nat_cmp p.character q.character)) (greater p.line q.line line)
-position_cmp-behind p q (inr later) = ap (λ o. ordering_then o (nat_cmp p.character q.character)) (equal p.line q.line (sym later.0)) ∙ greater p.character q.character later.1
+position_cmp-behind p q (inl line) =
+    ap (λ o. ordering_then o (nat_cmp p.character q.character)) (greater p.line q.line line)
+position_cmp-behind p q (inr later) =
+    ap (λ o. ordering_then o (nat_cmp p.character q.character)) (equal p.line q.line (sym later.0))
+    ∙ greater p.character q.character later.1
 
 pub position_cmp-same : (p q : Position) → p ≡ q → position_cmp p q ≡ Equal
 position_cmp-same p q same =
-    ap (λ o. ordering_then o (nat_cmp p.character q.character)) (equal p.line q.line (ap (λ r. r.line) same)) ∙ equal p.character q.character (ap (λ r. r.character) same)
+    ap (λ o. ordering_then o (nat_cmp p.character q.character)) (equal p.line q.line (ap (λ r. r.line) same))
+    ∙ equal p.character q.character (ap (λ r. r.character) same)

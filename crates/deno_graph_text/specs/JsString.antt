@@ -1,9 +1,7 @@
 -- JavaScript strings as lists of code points, of which some may be surrogates.
-use Rattle.std.specs.Prelude.{◌≡◌, ℕ, ◌+◌, Bool, false, not, ◌&&◌, List, [], ◌∷◌, ◌++◌, map, All, IsTrue, nat_le, nat_lt, nat_eq, slice_index, if◌then◌else◌, encode_utf8_all, Option, Some, None}
-use Rattle.std.specs.Char.{len_utf8}
+use Rattle.std.specs.Prelude.{◌≡◌, ℕ, ◌+◌, Bool, false, not, ◌&&◌, List, [], ◌∷◌, map, All, IsTrue, nat_le, nat_lt, slice_index, if◌then◌else◌, encode_utf8_all, Option, Some, None}
 use Rattle.std.specs.Char.Utf16.{is_high_surrogate, is_low_surrogate, surrogate_pair_char}
 use Rattle.std.specs.List.{list_all}
-use Rattle.std.specs.Str.{chars}
 
 -- half of a pair of UTF-16, which is no character: 0xD800 to 0xDFFF
 abbrev pub is_surrogate : ℕ → Bool
@@ -28,34 +26,14 @@ readable_text points = if list_all (λ p. not (is_surrogate p)) points then Some
 -- no high surrogate stands directly before a low one
 abbrev pub IsPaired : List ℕ → Type 0
 IsPaired points =
-    (k : ℕ) → IsTrue (is_high_surrogate (slice_index points k)) → IsTrue (is_low_surrogate (slice_index points (k + 1))) → ⊥
+    (k : ℕ) → IsTrue (is_high_surrogate (slice_index points k))
+    → IsTrue (is_low_surrogate (slice_index points (k + 1))) → ⊥
 
--- the code points of units of UTF-16: a high unit directly before a low one joins with it, and every other unit stays
+-- the code points of units of UTF-16: a high unit directly before a low one joins with it, and
+-- every other unit stays
 unfoldable pub points_of_units : List ℕ → List ℕ
 points_of_units [] = []
 points_of_units (u ∷ []) = u ∷ []
 points_of_units (u ∷ v ∷ units) =
-    if is_high_surrogate u && is_low_surrogate v then surrogate_pair_char u v ∷ points_of_units units else u ∷ points_of_units (v ∷ units)
-
--- the surrogates, each with the place of its U+FFFD in a lossy text, in bytes, where the first code point is at `at`
-abbrev pub lone_from : ℕ → List ℕ → List (ℕ × ℕ)
-lone_from at [] = []
-lone_from at (p ∷ points) =
-    (if is_surrogate p then (at, p) ∷ [] else []) ++ lone_from (at + len_utf8 (lossy_char p)) points
-
--- the characters of a text whose first byte is at `at`, with each of the surrogates put at its place
-abbrev pub points_from : ℕ → List ℕ → List (ℕ × ℕ) → List ℕ
-points_from at [] lone = []
-points_from at (c ∷ cs) [] = c ∷ cs
-points_from at (c ∷ cs) (l ∷ lone) =
-    if nat_eq at l.0 then l.1 ∷ points_from (at + len_utf8 c) cs lone else c ∷ points_from (at + len_utf8 c) cs (l ∷ lone)
-
--- the code points that a text and its lone surrogates stand for
-abbrev pub points_of : List ℕ → List (ℕ × ℕ) → List ℕ
-points_of text lone = points_from 0 (chars text) lone
-
--- a text and its lone surrogates are those of the string that they stand for
-pub record IsStored (text : List ℕ) (lone : List (ℕ × ℕ)) : Type 0 where
-  pub characters : chars text ≡ map lossy_char (points_of text lone)
-  pub places : lone ≡ lone_from 0 (points_of text lone)
-  pub paired : IsPaired (points_of text lone)
+    if is_high_surrogate u && is_low_surrogate v then surrogate_pair_char u v ∷ points_of_units units else u
+    ∷ points_of_units (v ∷ units)

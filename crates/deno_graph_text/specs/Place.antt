@@ -3,7 +3,8 @@ use Rattle.std.specs.Prelude.{◌≡◌, ◌+◌, ◌<◌, ◌≤◌, ◌⊎◌,
 use Rattle.std.specs.List.Sorted.{IsNonDecreasingBy}
 use Rattle.std.specs.Str.{IsCharBoundary}
 use Rattle.deno_graph_text.specs.Position.{position_at}
-use Rattle.deno_graph_text.specs.declared.place.Place.{Place}
+use Rattle.deno_graph_text.specs.declared.text.checkpoints.TheConstants.{STRIDE}
+use Rattle.deno_graph_text.specs.declared.text.place.Place.{Place}
 
 -- `place` is a boundary of `text` with its position
 pub record IsPlace (text : List ℕ) (place : Place) : Type 0 where
@@ -17,7 +18,7 @@ pub record ArePlaces (text : List ℕ) (places : List Place) : Type 0 where
 
 -- a search counts on from a checkpoint through fewer bytes than this
 abbrev pub reach : ℕ
-reach = 97
+reach = STRIDE + 1
 
 -- `pos` is within reach of the start of the text or of one of `places`, which stands at or before it
 abbrev pub IsNear : List Place → ℕ → Type 0

@@ -2,7 +2,7 @@
 use Rattle.std.specs.Prelude.{◌≡◌, ◌==◌, ◌<◌, ◌⊎◌, ◌||◌, ◌&&◌, ◌++◌, ℕ, Bool, List, length, take, count_by, nat_lt, encode_utf8_all}
 use Rattle.std.specs.List.{after_last}
 use Rattle.std.specs.Str.{IsCharBoundary, chars}
-use Rattle.deno_graph_text.specs.declared.position.Position.{Position}
+use Rattle.deno_graph_text.specs.declared.text.position.Position.{Position}
 
 -- the number of line feeds among the characters `front`
 abbrev pub line_of : List ℕ → ℕ
@@ -19,7 +19,8 @@ position_of front = record { line = line_of front; character = character_of fron
 -- `size` is the number of bytes of some front of the characters of `text`
 abbrev pub IsFrontSize : List ℕ → ℕ → Type 0
 IsFrontSize text size =
-    (front : List ℕ) × (rest : List ℕ) × (front ++ rest ≡ chars text) × (length (encode_utf8_all front) ≡ size)
+    (front : List ℕ) × (rest : List ℕ) × (front ++ rest ≡ chars text)
+    × (length (encode_utf8_all front) ≡ size)
 
 -- the position of the boundary `offset` of `text`, which is counted in bytes
 abbrev pub position_at : List ℕ → ℕ → Position

@@ -1,7 +1,7 @@
 -- Ranges of a text in bytes, and the bytes that they take out of it.
 use Rattle.std.specs.Prelude.{ℕ, ◌-◌, ◌≤◌, List, take, drop}
 use Rattle.std.specs.Str.{IsCharBoundary}
-use Rattle.deno_graph_text.specs.declared.position.SourceRange.{SourceRange}
+use Rattle.deno_graph_text.specs.declared.text.position.SourceRange.{SourceRange}
 
 -- the range is not reversed, and both its ends are boundaries of `text`, and so inside it
 pub record IsTextRange (text : List ℕ) (range : SourceRange) : Type 0 where

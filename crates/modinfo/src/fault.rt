@@ -1,10 +1,8 @@
-use crate::notation::NotationFault;
 use deno_graph_info::analysis::{ConvertFault, InfoFault};
 use deno_graph_source::tree::SourceFault;
-use modinfo_tape::TapeFault;
+use modinfo_notation::NotationFault;
 use std::alloc::{AllocError, AllocFailed};
 use thiserror::Error;
-use url::ParseError;
 
 /// Why the program gave no answer. Each prints as its name.
 #[derive(Debug, PartialEq, Eq, Drop, Error)]
@@ -17,14 +15,14 @@ pub enum Fault {
     Json,
     /// The JSON isn't in the notation.
     #[error("Tree")]
-    Tree,
+    NotInNotation,
     /// The specifier is no URL.
     #[error("Specifier")]
     Specifier,
     /// The tree or the comments don't fit the source.
     #[error("{0}")]
     Source(SourceFault),
-    /// A stored graph can't be converted.
+    /// A module's stored information can't be converted.
     #[error("{0}")]
     Convert(ConvertFault),
     /// The JSON isn't what `reach` reads, or a module's isn't that of a `ModuleInfo`.
@@ -60,38 +58,14 @@ impl From<serde_json::Error> for Fault {
     }
 }
 
-impl From<TapeFault> for Fault {
-    fn from(fault: TapeFault) -> Fault {
-        match fault {
-            TapeFault::Json => Fault::Json,
-            TapeFault::OutOfMemory => Fault::OutOfMemory,
-        }
-    }
-}
-
 impl From<NotationFault> for Fault {
     fn from(fault: NotationFault) -> Fault {
         match fault {
-            NotationFault::Tree => Fault::Tree,
+            NotationFault::Json => Fault::Json,
+            NotationFault::NotInNotation => Fault::NotInNotation,
+            NotationFault::Specifier => Fault::Specifier,
+            NotationFault::Source(fault) => Fault::Source(fault),
             NotationFault::OutOfMemory => Fault::OutOfMemory,
-        }
-    }
-}
-
-impl From<ParseError> for Fault {
-    fn from(error: ParseError) -> Fault {
-        match error {
-            ParseError::OutOfMemory => Fault::OutOfMemory,
-            _ => Fault::Specifier,
-        }
-    }
-}
-
-impl From<SourceFault> for Fault {
-    fn from(fault: SourceFault) -> Fault {
-        match fault {
-            SourceFault::OutOfMemory => Fault::OutOfMemory,
-            fault => Fault::Source(fault),
         }
     }
 }

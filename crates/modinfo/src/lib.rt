@@ -2,13 +2,15 @@
 //! found as JSON.
 #![tactic(auto)]
 
-pub mod command;
 pub mod fault;
 mod input;
-pub mod notation;
+mod invocation;
+mod lines;
 mod program;
+pub mod subcommand;
 
-pub use command::Command;
 pub use fault::Fault;
-pub use input::parse_document;
+pub use modinfo_notation as notation;
+pub use modinfo_notation::parse_document;
 pub use program::serve;
+pub use subcommand::Subcommand;

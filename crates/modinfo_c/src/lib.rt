@@ -5,7 +5,7 @@
 ghost use Rattle.std.specs.Prelude.{◌<◌};
 ghost use Rattle.modinfo_c.specs.Call.{IsAnswered};
 
-use modinfo::{Command, Fault};
+use modinfo::{Fault, Subcommand};
 use std::alloc::{AllocError, Global};
 
 /// The answer stands in the caller's room.
@@ -28,7 +28,7 @@ pub extern "C" fn modinfo_analyze(
 ) -> u8
     ensures { IsAnswered answer.old answer.new length.new result }
 {
-    call(alloc, Command::Analyze, document, answer, length)
+    call(alloc, Subcommand::Analyze, document, answer, length)
 }
 
 /// `modinfo convert`, likewise.
@@ -41,7 +41,7 @@ pub extern "C" fn modinfo_convert(
 ) -> u8
     ensures { IsAnswered answer.old answer.new length.new result }
 {
-    call(alloc, Command::Convert, document, answer, length)
+    call(alloc, Subcommand::Convert, document, answer, length)
 }
 
 /// `modinfo reach`, likewise.
@@ -54,12 +54,12 @@ pub extern "C" fn modinfo_reach(
 ) -> u8
     ensures { IsAnswered answer.old answer.new length.new result }
 {
-    call(alloc, Command::Reach, document, answer, length)
+    call(alloc, Subcommand::Reach, document, answer, length)
 }
 
 fn call(
     alloc: Global,
-    command: Command,
+    subcommand: Subcommand,
     document: &[u8],
     answer: &mut [u8],
     length: &mut usize,
@@ -67,7 +67,7 @@ fn call(
     ensures { IsAnswered answer.old answer.new length.new result }
 {
     let mut input = document;
-    match command.answer(alloc, &mut input) {
+    match subcommand.answer(alloc, &mut input) {
         Ok(line) => put(line.as_str(), ANSWERED, answer, length),
         Err(fault) => put_name(alloc, &fault, answer, length),
     }

@@ -1,9 +1,11 @@
--- A specifier with its range as JSON.
-use Rattle.std.specs.Prelude.{List, [], ◌∷◌, codes, Some}
-use Rattle.serde_json.specs.Data.{Data, string}
+-- A specifier with its range, as JSON and from it.
+use Rattle.std.specs.Prelude.{List, [], ◌∷◌, codes, Some, Option}
+use Rattle.serde_json.specs.Data.{Data, string, Members}
+use Rattle.serde_json.specs.Find.{as_object, as_str}
 use Rattle.deno_graph_dependency.specs.declared.specifier_with_range.SpecifierWithRange.{SpecifierWithRange}
-use Rattle.deno_graph_json.specs.Object.{Entry, object_of}
-use Rattle.deno_graph_json.specs.Position.{json_of_range}
+use Rattle.deno_graph_dependency.specs.Object.{Entry, object_of}
+use Rattle.deno_graph_dependency.specs.Json.Position.{json_of_range, reads_range, IsHeldRange}
+use Rattle.deno_graph_dependency.specs.Read.Partial.{◌>>=◌, member_at}
 
 abbrev pub specifier_entries : SpecifierWithRange → List Entry
 specifier_entries s =
@@ -13,3 +15,20 @@ specifier_entries s =
 
 abbrev pub json_of_specifier : SpecifierWithRange → Data
 json_of_specifier s = object_of (specifier_entries s)
+
+-- what holds of each that a program has: its positions fit
+abbrev pub IsHeldSpecifier : SpecifierWithRange → Type 0
+IsHeldSpecifier s = IsHeldRange s.range
+
+-- the members `text` and `range`, which have to be there
+unfoldable pub specifier_of : Members → Option SpecifierWithRange
+specifier_of ms = do
+  text ← member_at as_str (codes "text") ms
+  range ← member_at reads_range (codes "range") ms
+  Some (record { text = text; range = range })
+
+-- an object with these members
+unfoldable pub reads_specifier : Data → Option SpecifierWithRange
+reads_specifier d = do
+  ms ← as_object d
+  specifier_of ms

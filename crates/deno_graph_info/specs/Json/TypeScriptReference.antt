@@ -1,13 +1,16 @@
--- A triple-slash reference as JSON.
-use Rattle.std.specs.Prelude.{List, [], ◌∷◌, codes, Option, Some, option_map}
-use Rattle.serde_json.specs.Data.{Data, string}
-use Rattle.deno_graph_values.specs.declared.resolution_mode.TypeScriptTypesResolutionMode.{TypeScriptTypesResolutionMode}
+-- A triple-slash reference, as JSON and from it.
+use Rattle.std.specs.Prelude.{List, [], ◌∷◌, codes, Option, Some, option_map, ℕ, bytes_eq, None, if◌then◌else◌}
+use Rattle.serde_json.specs.Data.{Data, string, Members}
+use Rattle.serde_json.specs.Find.{as_object, as_str}
+use Rattle.deno_graph_text.specs.declared.values.resolution_mode.TypeScriptTypesResolutionMode.{TypeScriptTypesResolutionMode}
 use Rattle.deno_graph_dependency.specs.declared.specifier_with_range.SpecifierWithRange.{SpecifierWithRange}
+use Rattle.deno_graph_dependency.specs.Object.{Entry, object_of}
+use Rattle.deno_graph_dependency.specs.Json.Position.{json_of_range}
+use Rattle.deno_graph_dependency.specs.Json.ResolutionMode.{json_of_mode, reads_mode}
+use Rattle.deno_graph_dependency.specs.Read.Partial.{◌>>=◌, member_at, member_or, reads_optional}
+use Rattle.deno_graph_dependency.specs.Json.SpecifierWithRange.{specifier_of, IsHeldSpecifier}
 use Rattle.deno_graph_info.specs.declared.analysis.type_script_reference.TypeScriptReference.{TypeScriptReference}
 use Rattle.deno_graph_info.specs.declared.analysis.type_script_reference.TypeScriptReference.TheVariants.{Path, Types}
-use Rattle.deno_graph_json.specs.Object.{Entry, object_of}
-use Rattle.deno_graph_json.specs.Position.{json_of_range}
-use Rattle.deno_graph_json.specs.ResolutionMode.{json_of_mode}
 
 abbrev pub path_entries : SpecifierWithRange → List Entry
 path_entries s =
@@ -28,3 +31,32 @@ types_entries s mode =
 abbrev pub json_of_reference : TypeScriptReference → Data
 json_of_reference (Path s) = object_of (path_entries s)
 json_of_reference (Types s mode) = object_of (types_entries s mode)
+
+-- what holds of each that a program has: its positions fit
+abbrev pub IsHeldReference : TypeScriptReference → Type 0
+IsHeldReference (Path s) = IsHeldSpecifier s
+IsHeldReference (Types s mode) = IsHeldSpecifier s
+
+-- the members but `type`, of which `resolutionMode` may be missing
+unfoldable pub reference_to_types : Members → Option TypeScriptReference
+reference_to_types ms = do
+  specifier ← specifier_of ms
+  mode ← member_or (reads_optional reads_mode) (codes "resolutionMode") None ms
+  Some (Types specifier mode)
+
+-- the reference that has this `type`
+unfoldable pub reference_of_type : List ℕ → Members → Option TypeScriptReference
+reference_of_type type ms =
+    if bytes_eq type (codes "path")
+    then (do
+      specifier ← specifier_of ms
+      Some (Path specifier))
+    else if bytes_eq type (codes "types") then reference_to_types ms
+    else None
+
+-- an object whose `type` is `path` or `types`
+unfoldable pub reads_reference : Data → Option TypeScriptReference
+reads_reference d = do
+  ms ← as_object d
+  type ← member_at as_str (codes "type") ms
+  reference_of_type type ms

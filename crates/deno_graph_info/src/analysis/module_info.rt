@@ -1,22 +1,26 @@
 ghost use Rattle.std.specs.Prelude.{◌≡◌, [], false, Some, None, IfOk, IfErr};
 ghost use Rattle.serde_json.specs.View.{view};
 ghost use Rattle.serde_json.specs.Written.{has_float as float_stands};
-ghost use Rattle.deno_graph_info.specs.Json.Info.{json_of_info};
-ghost use Rattle.deno_graph_info.specs.Json.Read.Info.{reads_info, IsInfoFault};
+ghost use Rattle.deno_graph_info.specs.InfoFault.{IsInfoFault};
+ghost use Rattle.deno_graph_info.specs.Json.ModuleInfo.{json_of_info, reads_info, IsHeldInfo};
 
 use crate::analysis::fault::InfoFault;
 use crate::analysis::js_doc_import_info::JsDocImportInfo;
 use crate::analysis::type_script_reference::TypeScriptReference;
-use deno_graph_dependency::{DependencyDescriptor, SpecifierWithRange, copy_of};
-use deno_graph_json::{FromJson, ToJson, has_float};
-use deno_graph_values::{Items, TryClone};
+use deno_graph_dependency::json::{
+    FromJson, ObjectReader, ObjectWriter, ReadFault, ToJson, has_float,
+};
+use deno_graph_dependency::{DependencyDescriptor, SpecifierWithRange};
+use deno_graph_text::values::{Items, TryClone};
 use serde_json::Value;
 use std::alloc::{AllocError, Global};
 
 /// What the analysis of one module finds.
 #[derive(Debug, PartialEq, Eq, Drop)]
 pub struct ModuleInfo {
-    /// Whether the source may be run as a script.
+    /// Whether the source is a script: nothing makes it an ES module, no import or export declaration
+    /// among its items, no `await` outside every function, no `import.meta`. So it is true for
+    /// CommonJS too.
     pub is_script: bool,
     /// The dependencies, in the order of the tree, a call after those inside it.
     pub dependencies: Items<DependencyDescriptor>,
@@ -90,11 +94,57 @@ impl TryClone for ModuleInfo {
             is_script: self.is_script,
             dependencies: self.dependencies.try_clone(alloc)?,
             ts_references: self.ts_references.try_clone(alloc)?,
-            self_types_specifier: copy_of(&self.self_types_specifier, alloc)?,
-            jsx_import_source: copy_of(&self.jsx_import_source, alloc)?,
-            jsx_import_source_types: copy_of(&self.jsx_import_source_types, alloc)?,
+            self_types_specifier: self.self_types_specifier.try_clone(alloc)?,
+            jsx_import_source: self.jsx_import_source.try_clone(alloc)?,
+            jsx_import_source_types: self.jsx_import_source_types.try_clone(alloc)?,
             jsdoc_imports: self.jsdoc_imports.try_clone(alloc)?,
-            source_map_url: copy_of(&self.source_map_url, alloc)?,
+            source_map_url: self.source_map_url.try_clone(alloc)?,
+        })
+    }
+}
+
+impl ToJson for ModuleInfo {
+    ghost json = { json_of_info };
+
+    ghost is_held = { IsHeldInfo };
+
+    fn to_json(&self, alloc: Global) -> Result<Value, AllocError> {
+        let mut object = ObjectWriter::new(alloc);
+        object.put_flag("script", self.is_script)?;
+        object.put_list("dependencies", &self.dependencies)?;
+        object.put_list("tsReferences", &self.ts_references)?;
+        object.put_some("selfTypesSpecifier", &self.self_types_specifier)?;
+        object.put_some("jsxImportSource", &self.jsx_import_source)?;
+        object.put_some("jsxImportSourceTypes", &self.jsx_import_source_types)?;
+        object.put_list("jsdocImports", &self.jsdoc_imports)?;
+        object.put_some("sourceMapUrl", &self.source_map_url)?;
+        Ok(object.into_value())
+    }
+}
+
+impl FromJson for ModuleInfo {
+    ghost reads = { reads_info };
+
+    #[tactic(auto, using(deno_graph_dependency::proofs::Reading::reading), unfolding(crate::specs::Json::ModuleInfo::reads_info))]
+    fn from_json(alloc: Global, value: &Value) -> Result<ModuleInfo, ReadFault> {
+        let object = ObjectReader::new(alloc, value)?;
+        let is_script = object.read_or("script", false)?;
+        let dependencies = object.read_list("dependencies")?;
+        let ts_references = object.read_list("tsReferences")?;
+        let self_types_specifier = object.read_or("selfTypesSpecifier", None)?;
+        let jsx_import_source = object.read_or("jsxImportSource", None)?;
+        let jsx_import_source_types = object.read_or("jsxImportSourceTypes", None)?;
+        let jsdoc_imports = object.read_list("jsdocImports")?;
+        let source_map_url = object.read_or("sourceMapUrl", None)?;
+        Ok(ModuleInfo {
+            is_script,
+            dependencies,
+            ts_references,
+            self_types_specifier,
+            jsx_import_source,
+            jsx_import_source_types,
+            jsdoc_imports,
+            source_map_url,
         })
     }
 }

@@ -1,5 +1,11 @@
-use deno_graph_dependency::SpecifierWithRange;
-use deno_graph_values::{TryClone, TypeScriptTypesResolutionMode};
+ghost use Rattle.deno_graph_dependency.specs.ObjectReader.{readable};
+ghost use Rattle.deno_graph_dependency.specs.Read.Answer.{Answers};
+ghost use Rattle.deno_graph_info.specs.Json.TypeScriptReference.{json_of_reference, reads_reference, reference_of_type, reference_to_types, IsHeldReference};
+
+use deno_graph_dependency::json::{FromJson, ObjectReader, ObjectWriter, ReadFault, ToJson};
+use deno_graph_dependency::{SpecifierWithRange, read_specifier};
+use deno_graph_text::values::{TryClone, TypeScriptTypesResolutionMode};
+use serde_json::Value;
 use std::alloc::{AllocError, Global};
 
 /// What a triple-slash reference refers to.
@@ -30,4 +36,73 @@ impl TryClone for TypeScriptReference {
             }),
         }
     }
+}
+
+impl ToJson for TypeScriptReference {
+    ghost json = { json_of_reference };
+
+    ghost is_held = { IsHeldReference };
+
+    fn to_json(&self, alloc: Global) -> Result<Value, AllocError> {
+        match self {
+            TypeScriptReference::Path(specifier) => {
+                let mut object = ObjectWriter::tagged(alloc, "path")?;
+                object.put("text", &specifier.text)?;
+                object.put("range", &specifier.range)?;
+                Ok(object.into_value())
+            }
+            TypeScriptReference::Types {
+                specifier,
+                resolution_mode,
+            } => {
+                let mut object = ObjectWriter::tagged(alloc, "types")?;
+                object.put("text", &specifier.text)?;
+                object.put("range", &specifier.range)?;
+                object.put_some("resolutionMode", resolution_mode)?;
+                Ok(object.into_value())
+            }
+        }
+    }
+}
+
+impl FromJson for TypeScriptReference {
+    ghost reads = { reads_reference };
+
+    #[tactic(auto, using(deno_graph_dependency::proofs::Reading::reading), unfolding(crate::specs::Json::TypeScriptReference::reads_reference))]
+    fn from_json(alloc: Global, value: &Value) -> Result<TypeScriptReference, ReadFault> {
+        let object = ObjectReader::new(alloc, value)?;
+        let reference_type = object.read_str("type")?;
+        read_reference(reference_type, &object)
+    }
+}
+
+/// The reference that has this `type`.
+#[tactic(auto, unfolding(crate::specs::Json::TypeScriptReference::reference_of_type))]
+fn read_reference(
+    reference_type: &str,
+    object: &ObjectReader,
+) -> Result<TypeScriptReference, ReadFault>
+    ensures { Answers (reference_of_type reference_type.now (readable object.now)) result }
+{
+    match reference_type {
+        "path" => {
+            let specifier = read_specifier(object)?;
+            Ok(TypeScriptReference::Path(specifier))
+        }
+        "types" => read_types(object),
+        _ => Err(ReadFault::Shape),
+    }
+}
+
+/// The reference to types that has these members.
+#[tactic(auto, using(deno_graph_dependency::proofs::Reading::reading), unfolding(crate::specs::Json::TypeScriptReference::reference_to_types))]
+fn read_types(object: &ObjectReader) -> Result<TypeScriptReference, ReadFault>
+    ensures { Answers (reference_to_types (readable object.now)) result }
+{
+    let specifier = read_specifier(object)?;
+    let resolution_mode = object.read_or("resolutionMode", None)?;
+    Ok(TypeScriptReference::Types {
+        specifier,
+        resolution_mode,
+    })
 }

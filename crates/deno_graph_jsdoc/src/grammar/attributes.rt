@@ -2,12 +2,15 @@
 
 ghost use Rattle.std.specs.Prelude.{◌≡◌, List, ◌∷◌, [], ◌++◌, option_and_then};
 ghost use Rattle.std.specs.Str.{chars};
-ghost use Rattle.deno_graph_jsdoc.specs.JsDocGrammar.{IsKey, IsAttribute, IsModeBlock, IsModeBlockEnd, Attribute, mode_name};
-ghost use Rattle.deno_graph_values.specs.ResolutionMode.{mode_named};
-ghost use Rattle.deno_graph_jsdoc.specs.JsDocReading.{Reads, Anything, EndOfIdent, rest_and_text, rest_and_mode, rest_and_attribute, text_of};
+ghost use Rattle.deno_graph_jsdoc.specs.JsDocGrammar.{IsKey, IsAttribute, IsModeBlock, Attribute};
+ghost use Rattle.deno_graph_jsdoc.specs.JsDocGrammar.{mode_name, Anything};
+ghost use Rattle.deno_graph_jsdoc.specs.JsDocReading.{IsModeBlockEnd, Reads, EndOfIdent};
+ghost use Rattle.deno_graph_jsdoc.specs.JsDocReading.{rest_and_text, rest_and_mode};
+ghost use Rattle.deno_graph_jsdoc.specs.JsDocReading.{rest_and_attribute, text_of};
+ghost use Rattle.deno_graph_text.specs.ResolutionMode.{mode_named};
 
 use super::parts::{ident, quote, skip_space, token, word};
-use deno_graph_values::TypeScriptTypesResolutionMode;
+use deno_graph_text::values::TypeScriptTypesResolutionMode;
 
 /// What is behind attributes in braces, and the mode that they give: the one that the first
 /// `resolution-mode` names.
@@ -41,7 +44,8 @@ fn attributes(input: &str) -> Option<(&str, Option<TypeScriptTypesResolutionMode
 /// The name of the mode behind an attribute, where `name` is the one before it.
 fn name_after<'a>(name: Option<&'a str>, key: &str, value: &'a str) -> Option<&'a str>
     ensures { (before : List Attribute) → text_of name.entry ≡ mode_name before
-        → text_of result ≡ mode_name (before ++ (chars key.now, chars value.entry.now) ∷ []) }
+        → text_of result ≡ mode_name
+        (before ++ record { key = chars key.now; value = chars value.entry.now } ∷ []) }
 {
     match name {
         Some(name) => Some(name),

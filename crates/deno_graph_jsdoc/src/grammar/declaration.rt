@@ -1,16 +1,21 @@
 //! The declaration, as `@import { Type } from "./types.ts"`.
 
-ghost use Rattle.std.specs.Prelude.{◌≡◌, ◌<◌, ◌≤◌, ◌↔◌, ℕ, List, IfOk, IfSome, IsOkAnd, IsSomeAnd, IsTrue, codes, length, option_map};
+ghost use Rattle.std.specs.Prelude.{◌≡◌, ◌<◌, ◌≤◌, ◌↔◌, ℕ, List, IfOk, IfSome, IsOkAnd, IsSomeAnd};
+ghost use Rattle.std.specs.Prelude.{IsTrue, codes, length, option_map};
 ghost use Rattle.std.specs.Str.{chars};
-ghost use Rattle.deno_graph_jsdoc.specs.JsDocGrammar.{◌·◌, Is, IsSpace, IsGap, IsIdent, IsClause, IsNames, IsNamespace, IsName, IsWith};
-ghost use Rattle.deno_graph_jsdoc.specs.JsDocImport.{Import, IsDeclaration, IsDeclarationEnd, IsSource, Parses, import_of, rest_and_import};
-ghost use Rattle.deno_graph_jsdoc.specs.JsDocBraces.{Finds, IsNextEnd, IsUnclosed, IsWithin, Keeps};
-ghost use Rattle.deno_graph_jsdoc.specs.JsDocReading.{Reads, Anything, NoSpace, rest_of, rest_and_mode};
+ghost use Rattle.deno_graph_jsdoc.specs.JsDocGrammar.{◌·◌, Is, IsSpace, IsGap, IsIdent, IsClause};
+ghost use Rattle.deno_graph_jsdoc.specs.JsDocGrammar.{IsNames, IsNamespace, IsName, IsWith};
+ghost use Rattle.deno_graph_jsdoc.specs.JsDocGrammar.{Anything, NoSpace};
+ghost use Rattle.deno_graph_jsdoc.specs.JsDocReading.{IsDeclarationEnd, IsSource, ReadsImport};
+ghost use Rattle.deno_graph_jsdoc.specs.JsDocReading.{rest_and_import, ReadsImportAlone, Reads};
+ghost use Rattle.deno_graph_jsdoc.specs.JsDocReading.{rest_of, rest_and_mode};
+ghost use Rattle.deno_graph_jsdoc.specs.JsDocImport.{Import, IsDeclaration, import_of};
+ghost use Rattle.deno_graph_jsdoc.specs.JsDocBraces.{IsNextEnd, IsUnclosed, IsWithin, Keeps};
 
 use super::attributes::block;
 use super::parts::{gap, ident, quote, skip_space, through_brace, token, word};
 use crate::import::{JsDocImport, NoParse};
-use deno_graph_values::TypeScriptTypesResolutionMode;
+use deno_graph_text::values::TypeScriptTypesResolutionMode;
 
 /// The import declaration with which `input` begins, and what is behind it.
 ///
@@ -32,7 +37,7 @@ pub fn parse_jsdoc_import_decl(input: &str) -> Result<(&str, JsDocImport<'_>), N
 
 /// The declaration from behind its `@import` on, and what is behind it.
 pub(crate) fn behind_import(input: &str) -> Option<(&str, JsDocImport<'_>)>
-    ensures parsed { Parses IsDeclarationEnd (chars input.now) (rest_and_import result) }
+    ensures parsed { ReadsImport IsDeclarationEnd (chars input.now) (rest_and_import result) }
     ensures within { IfSome result (λ parsed. IsWithin parsed.1 (length input.now)) }
 {
     let from = clause_behind(input)?;
@@ -63,7 +68,8 @@ pub(crate) fn find_import<'a>(
 ) -> Option<JsDocImport<'a>>
     requires unclosed { IsUnclosed (chars input.now) unclosed }
     requires keeps { Keeps (chars input.now) known.old }
-    ensures found { Finds IsDeclarationEnd (chars input.now) (option_map import_of result) }
+    ensures found { ReadsImportAlone IsDeclarationEnd
+        (chars input.now) (option_map import_of result) }
     ensures within { IfSome result (λ import. IsWithin import (length input.now)) }
     ensures keeps { Keeps (chars input.now) known.new }
 {
@@ -162,7 +168,7 @@ fn name(input: &str) -> Option<&str>
 
 /// The import that a declaration states, from its `from` on, and what is behind it.
 pub(crate) fn source(input: &str) -> Option<(&str, JsDocImport<'_>)>
-    ensures parsed { Parses IsSource (chars input.now) (rest_and_import result) }
+    ensures parsed { ReadsImport IsSource (chars input.now) (rest_and_import result) }
     ensures within { IfSome result (λ parsed. IsWithin parsed.1 (length input.now)) }
 {
     let quoted = token(input, "from")?;

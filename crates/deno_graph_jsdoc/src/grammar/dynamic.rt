@@ -1,16 +1,20 @@
 //! The dynamic import, as `{import("./types.ts").Type}`.
 
-ghost use Rattle.std.specs.Prelude.{◌≡◌, ◌≤◌, ℕ, List, IfOk, IfSome, IsOkAnd, codes, length, option_map};
+ghost use Rattle.std.specs.Prelude.{◌≡◌, ◌≤◌, ℕ, List, IfOk, IfSome, IsOkAnd, codes, length};
+ghost use Rattle.std.specs.Prelude.{option_map};
 ghost use Rattle.std.specs.Str.{chars};
-ghost use Rattle.deno_graph_jsdoc.specs.JsDocGrammar.{◌·◌, Is, IsSpace, IsOptions, IsSecond, IsUpTo};
-ghost use Rattle.deno_graph_jsdoc.specs.JsDocImport.{Import, HasArguments, IsDynamicEnd, IsDynamicImport, Parses, import_of, rest_and_import};
-ghost use Rattle.deno_graph_jsdoc.specs.JsDocBraces.{Finds, IsUnclosed, IsWithin};
-ghost use Rattle.deno_graph_jsdoc.specs.JsDocReading.{Reads, Anything, NoSpace, rest_of, rest_and_mode};
+ghost use Rattle.deno_graph_jsdoc.specs.JsDocGrammar.{◌·◌, Is, IsSpace, IsOptions, IsSecond};
+ghost use Rattle.deno_graph_jsdoc.specs.JsDocGrammar.{IsUpTo, Anything, NoSpace};
+ghost use Rattle.deno_graph_jsdoc.specs.JsDocReading.{HasArguments, IsDynamicEnd, ReadsImport};
+ghost use Rattle.deno_graph_jsdoc.specs.JsDocReading.{rest_and_import, ReadsImportAlone, Reads};
+ghost use Rattle.deno_graph_jsdoc.specs.JsDocReading.{rest_of, rest_and_mode};
+ghost use Rattle.deno_graph_jsdoc.specs.JsDocImport.{Import, IsDynamicImport, import_of};
+ghost use Rattle.deno_graph_jsdoc.specs.JsDocBraces.{IsUnclosed, IsWithin};
 
 use super::attributes::block;
 use super::parts::{quote, skip_space, through_brace, token, word};
 use crate::import::{JsDocImport, NoParse};
-use deno_graph_values::TypeScriptTypesResolutionMode;
+use deno_graph_text::values::TypeScriptTypesResolutionMode;
 
 /// The dynamic import in braces with which `input` begins, and what is behind it.
 ///
@@ -32,7 +36,7 @@ pub fn parse_jsdoc_dynamic_import(input: &str) -> Result<(&str, JsDocImport<'_>)
 
 /// The dynamic import from behind its `import` on, and what is behind it.
 pub(crate) fn behind_import(input: &str) -> Option<(&str, JsDocImport<'_>)>
-    ensures parsed { Parses IsDynamicEnd (chars input.now) (rest_and_import result) }
+    ensures parsed { ReadsImport IsDynamicEnd (chars input.now) (rest_and_import result) }
     ensures within { IfSome result (λ parsed. IsWithin parsed.1 (length input.now)) }
 {
     let (rest, import) = arguments(input)?;
@@ -46,7 +50,7 @@ pub(crate) fn behind_import(input: &str) -> Option<(&str, JsDocImport<'_>)>
 /// for.
 pub(crate) fn find_import(input: &str, unclosed: usize) -> Option<JsDocImport<'_>>
     requires { IsUnclosed (chars input.now) unclosed }
-    ensures found { Finds IsDynamicEnd (chars input.now) (option_map import_of result) }
+    ensures found { ReadsImportAlone IsDynamicEnd (chars input.now) (option_map import_of result) }
     ensures within { IfSome result (λ import. IsWithin import (length input.now)) }
 {
     let (rest, import) = arguments(input)?;
@@ -78,7 +82,7 @@ fn up_to_import(input: &str) -> Option<&str>
 
 /// The import that the argument list behind an `import` states, and what is behind the list.
 pub(crate) fn arguments(input: &str) -> Option<(&str, JsDocImport<'_>)>
-    ensures parsed { Parses HasArguments (chars input.now) (rest_and_import result) }
+    ensures parsed { ReadsImport HasArguments (chars input.now) (rest_and_import result) }
     ensures within { IfSome result (λ parsed. IsWithin parsed.1 (length input.now)) }
 {
     let quoted = token(skip_space(input), "(")?;

@@ -3,9 +3,13 @@
 
 ghost use Rattle.std.specs.Prelude.{◌≡◌, ◌<◌, codes};
 ghost use Rattle.std.specs.Str.{IsAscii, chars, skip_leading_whitespace};
-ghost use Rattle.deno_graph_jsdoc.specs.JsDocGrammar.{◌·◌, Is, IsSpace, IsGap, IsQuote, IsBetween, IsIdent, Lacks, begins_ident, ends_ident};
+ghost use Rattle.deno_graph_jsdoc.specs.Characters.{closing_brace};
+ghost use Rattle.deno_graph_jsdoc.specs.JsDocGrammar.{◌·◌, Is, IsSpace, IsGap, IsQuote, IsBetween};
+ghost use Rattle.deno_graph_jsdoc.specs.JsDocGrammar.{IsIdent, Lacks, ends_ident, Anything};
+ghost use Rattle.deno_graph_jsdoc.specs.JsDocGrammar.{NoSpace};
+ghost use Rattle.deno_graph_jsdoc.specs.JsDocReading.{begins_ident, Reads, EndOfIdent, rest_of};
+ghost use Rattle.deno_graph_jsdoc.specs.JsDocReading.{rest_and_text};
 ghost use Rattle.deno_graph_jsdoc.specs.JsDocBraces.{IsUnclosed};
-ghost use Rattle.deno_graph_jsdoc.specs.JsDocReading.{Reads, Anything, NoSpace, EndOfIdent, rest_of, rest_and_text};
 
 /// What is behind the white space, or all where there is none.
 pub(crate) fn skip_space(input: &str) -> &str
@@ -63,7 +67,7 @@ fn between(input: &str, mark: char) -> Option<(&str, &str)>
 
 /// What is behind the next `}`.
 pub(crate) fn through_brace(input: &str) -> Option<&str>
-    ensures { Reads Anything (λ _. Lacks 125 · Is (codes "}"))
+    ensures { Reads Anything (λ _. Lacks closing_brace · Is (codes "}"))
         (chars input.now) (rest_of result) }
 {
     let (_, rest) = input.split_once('}')?;

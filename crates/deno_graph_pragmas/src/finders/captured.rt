@@ -3,7 +3,7 @@
 ghost use Rattle.std.specs.Prelude.{◌≡◌, ◌≤◌, List, [], ◌∷◌, None, IfSome, IsNone, length};
 ghost use Rattle.std.specs.Str.{chars};
 ghost use Rattle.deno_graph_pragmas.specs.Match.{part_of};
-ghost use Rattle.deno_graph_pragmas.specs.Piece.{dark_run, quote, unquoted};
+ghost use Rattle.deno_graph_pragmas.specs.Piece.{non_white_space, quote, unquoted};
 ghost use Rattle.deno_graph_pragmas.specs.Reading.{after_pieces, IsReadAt};
 
 use crate::finders::matches::Match;
@@ -25,8 +25,8 @@ pub(super) fn capture_quoted<'a>(text: &str, rest: &'a str) -> Option<Match<'a>>
 pub(super) fn capture_run<'a>(text: &str, rest: &'a str) -> Option<Match<'a>>
     requires { length rest.now ≤ length text.now }
     ensures found { IfSome result
-        (λ found. IsReadAt dark_run [] text.now rest.now (part_of found)) }
-    ensures none { IsNone result → after_pieces (dark_run ∷ []) (chars rest.now) ≡ None }
+        (λ found. IsReadAt non_white_space [] text.now rest.now (part_of found)) }
+    ensures none { IsNone result → after_pieces (non_white_space ∷ []) (chars rest.now) ≡ None }
 {
     let found = before_white_space(rest);
     if found.is_empty() {

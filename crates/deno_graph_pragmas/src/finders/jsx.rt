@@ -1,11 +1,12 @@
 //! Pragmas that name where JSX comes from.
 
-ghost use Rattle.std.specs.Prelude.{◌≡◌, ◌↔◌, IfSome, IsNone, IsTrue};
+ghost use Rattle.std.specs.Prelude.{◌≡◌, IfSome, IsTrue};
 ghost use Rattle.std.specs.Str.{chars, IsUtf8};
-ghost use Rattle.deno_graph_pragmas.specs.Finders.{jsx_import_source, jsx_import_source_types, jsx_pragma};
-ghost use Rattle.deno_graph_pragmas.specs.Match.{Captures, IsSliceIn};
-ghost use Rattle.deno_graph_pragmas.specs.Reading.{after_pieces, begins_dark, chars_left, is_ascii};
-ghost use Rattle.deno_graph_pragmas.specs.Split.{HasSplit};
+ghost use Rattle.deno_graph_pragmas.specs.Finders.{jsx_import_source_pattern};
+ghost use Rattle.deno_graph_pragmas.specs.Finders.{jsx_import_source_types_pattern, jsx_pragma};
+ghost use Rattle.deno_graph_pragmas.specs.Match.{FindsFirst};
+ghost use Rattle.deno_graph_pragmas.specs.Reading.{after_pieces, begins_above_star, chars_left};
+ghost use Rattle.deno_graph_pragmas.specs.Reading.{is_ascii};
 
 use crate::finders::captured::capture_run;
 use crate::finders::matches::Match;
@@ -15,28 +16,22 @@ use crate::finders::scan::{
 
 /// What `@jsxImportSource preact` names: the characters up to the next white space.
 pub fn find_jsx_import_source(text: &str) -> Option<Match<'_>>
-    ensures found { IfSome result (Captures jsx_import_source text.now) }
-    ensures none { IsNone result ↔ ¬ HasSplit jsx_import_source text.now }
-    ensures slice { IfSome result (IsSliceIn text.now) }
+    ensures { FindsFirst jsx_import_source_pattern text.now result }
 {
     find_jsx_pragma(text, "@jsxImportSource")
 }
 
 /// What `@jsxImportSourceTypes @types/react` names: the characters up to the next white space.
 pub fn find_jsx_import_source_types(text: &str) -> Option<Match<'_>>
-    ensures found { IfSome result (Captures jsx_import_source_types text.now) }
-    ensures none { IsNone result ↔ ¬ HasSplit jsx_import_source_types text.now }
-    ensures slice { IfSome result (IsSliceIn text.now) }
+    ensures { FindsFirst jsx_import_source_types_pattern text.now result }
 {
     find_jsx_pragma(text, "@jsxImportSourceTypes")
 }
 
 fn find_jsx_pragma<'a>(text: &'a str, name: &str) -> Option<Match<'a>>
     requires ascii { IsTrue (is_ascii name.now) }
-    requires dark { IsTrue (begins_dark name.now) }
-    ensures found { IfSome result (Captures (jsx_pragma name.now) text.now) }
-    ensures none { IsNone result ↔ ¬ HasSplit (jsx_pragma name.now) text.now }
-    ensures slice { IfSome result (IsSliceIn text.now) }
+    requires start { IsTrue (begins_above_star name.now) }
+    ensures { FindsFirst (jsx_pragma name.now) text.now result }
 {
     let value = strip_jsx_pragma(text, name)?;
     capture_run(text, value)

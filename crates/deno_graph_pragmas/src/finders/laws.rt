@@ -4,7 +4,8 @@
 ghost use Rattle.std.specs.Prelude.{ℕ, List};
 ghost use Rattle.std.specs.List.{AllByRecursion};
 ghost use Rattle.deno_graph_pragmas.specs.Finders.{attribute, finder_patterns, quoted_pragma};
-ghost use Rattle.deno_graph_pragmas.specs.Split.{HasOnePart, IsCaptured, Part, StandsInQuotes, StartDetermines};
+ghost use Rattle.deno_graph_pragmas.specs.Split.{HasOnePart, IsCaptured, TextPart, StandsInQuotes};
+ghost use Rattle.deno_graph_pragmas.specs.Split.{StartDetermines};
 
 /// A finder captures one part at most, and where its split begins determines the part.
 pub fn captures_are_unique()
@@ -14,8 +15,8 @@ pub fn captures_are_unique()
 
 /// What is captured between quotes has one directly before it and one directly behind it.
 pub fn quotes_stand_round(text: &str)
-    ensures attributes { (name : List ℕ) (part : Part)
+    ensures attributes { (name : List ℕ) (part : TextPart)
         → IsCaptured (attribute name) text.now part → StandsInQuotes text.now part }
-    ensures pragmas { (name : List ℕ) (part : Part)
+    ensures pragmas { (name : List ℕ) (part : TextPart)
         → IsCaptured (quoted_pragma name) text.now part → StandsInQuotes text.now part }
 {}

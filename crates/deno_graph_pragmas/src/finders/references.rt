@@ -2,20 +2,25 @@
 
 ghost use Rattle.std.specs.Prelude.{◌≡◌, ◌≤◌, ◌↔◌, IfSome, IsNone, IsTrue, length};
 ghost use Rattle.std.specs.Str.{chars, IsUtf8};
-ghost use Rattle.deno_graph_pragmas.specs.Finders.{attribute, path_reference, resolution_mode, triple_slash_reference, types_reference};
-ghost use Rattle.deno_graph_pragmas.specs.Match.{part_of, Captures, IsQuotedIn, IsSliceIn};
-ghost use Rattle.deno_graph_pragmas.specs.Reading.{after_pieces, attribute_front, chars_left, is_ascii, HasNoAttribute, IsAttributeAt, IsClosedInLine, IsFirstLine};
-ghost use Rattle.deno_graph_pragmas.specs.Split.{HasSplit, Split};
+ghost use Rattle.deno_graph_pragmas.specs.Finders.{attribute, path_reference_pattern};
+ghost use Rattle.deno_graph_pragmas.specs.Finders.{resolution_mode_pattern};
+ghost use Rattle.deno_graph_pragmas.specs.Finders.{triple_slash_reference_pattern};
+ghost use Rattle.deno_graph_pragmas.specs.Finders.{types_reference_pattern};
+ghost use Rattle.deno_graph_pragmas.specs.Match.{part_of, FindsFirstInQuotes};
+ghost use Rattle.deno_graph_pragmas.specs.Reading.{after_pieces, attribute_front, chars_left};
+ghost use Rattle.deno_graph_pragmas.specs.Reading.{is_ascii, HasNoAttribute, IsAttributeAt};
+ghost use Rattle.deno_graph_pragmas.specs.Reading.{IsClosedInLine, IsFirstLine};
+ghost use Rattle.deno_graph_pragmas.specs.Split.{Split};
 
 use crate::finders::captured::capture_quoted;
 use crate::finders::matches::Match;
 use crate::finders::scan::{
-    skip_white_space, strip_assignment, strip_keyword, strip_quote, strip_sign, strip_white_space,
+    skip_white_space, strip_assignment, strip_char, strip_keyword, strip_quote, strip_white_space,
 };
 
 /// Whether the text of a line comment is a reference, as `/ <reference path="./mod.d.ts" />` is.
 pub fn is_comment_triple_slash_reference(text: &str) -> bool
-    ensures { IsTrue result ↔ Split triple_slash_reference (chars text.now) }
+    ensures { IsTrue result ↔ Split triple_slash_reference_pattern (chars text.now) }
 {
     match strip_reference(text) {
         Some(rest) => is_closed_in_line(rest),
@@ -26,10 +31,10 @@ pub fn is_comment_triple_slash_reference(text: &str) -> bool
 /// A slash, `<reference` in any case, and one character of white space.
 fn strip_reference(text: &str) -> Option<&str>
     ensures left { chars_left result
-        ≡ after_pieces triple_slash_reference.front (chars text.now) }
+        ≡ after_pieces triple_slash_reference_pattern.front (chars text.now) }
     ensures utf8 { IfSome result (λ rest. IsUtf8 rest.now) }
 {
-    let behind_slash = strip_sign(text, '/')?;
+    let behind_slash = strip_char(text, '/')?;
     let behind_name = strip_keyword(skip_white_space(behind_slash), "<reference")?;
     strip_white_space(behind_name)
 }
@@ -53,40 +58,28 @@ fn first_line(text: &str) -> &str
 
 /// The value of the first attribute `path`, without its quotes.
 pub fn find_path_reference(text: &str) -> Option<Match<'_>>
-    ensures found { IfSome result (Captures path_reference text.now) }
-    ensures none { IsNone result ↔ ¬ HasSplit path_reference text.now }
-    ensures slice { IfSome result (IsSliceIn text.now) }
-    ensures quotes { IfSome result (IsQuotedIn text.now) }
+    ensures { FindsFirstInQuotes path_reference_pattern text.now result }
 {
     find_attribute(text, "path")
 }
 
 /// The value of the first attribute `types`, without its quotes.
 pub fn find_types_reference(text: &str) -> Option<Match<'_>>
-    ensures found { IfSome result (Captures types_reference text.now) }
-    ensures none { IsNone result ↔ ¬ HasSplit types_reference text.now }
-    ensures slice { IfSome result (IsSliceIn text.now) }
-    ensures quotes { IfSome result (IsQuotedIn text.now) }
+    ensures { FindsFirstInQuotes types_reference_pattern text.now result }
 {
     find_attribute(text, "types")
 }
 
 /// The value of the first attribute `resolution-mode`, without its quotes.
 pub fn find_resolution_mode(text: &str) -> Option<Match<'_>>
-    ensures found { IfSome result (Captures resolution_mode text.now) }
-    ensures none { IsNone result ↔ ¬ HasSplit resolution_mode text.now }
-    ensures slice { IfSome result (IsSliceIn text.now) }
-    ensures quotes { IfSome result (IsQuotedIn text.now) }
+    ensures { FindsFirstInQuotes resolution_mode_pattern text.now result }
 {
     find_attribute(text, "resolution-mode")
 }
 
 fn find_attribute<'a>(text: &'a str, name: &str) -> Option<Match<'a>>
     requires { IsTrue (is_ascii name.now) }
-    ensures found { IfSome result (Captures (attribute name.now) text.now) }
-    ensures none { IsNone result ↔ ¬ HasSplit (attribute name.now) text.now }
-    ensures slice { IfSome result (IsSliceIn text.now) }
-    ensures quotes { IfSome result (IsQuotedIn text.now) }
+    ensures { FindsFirstInQuotes (attribute name.now) text.now result }
 {
     let mut rest = text.chars();
     while let Some(c) = rest.next() {

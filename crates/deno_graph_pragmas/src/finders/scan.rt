@@ -3,8 +3,11 @@
 ghost use Rattle.std.specs.Prelude.{◌≡◌, [], ◌∷◌, ◌++◌, IfSome, IsNone, IsSome, IsTrue};
 ghost use Rattle.std.specs.Char.{is_whitespace, is_not_whitespace};
 ghost use Rattle.std.specs.Str.{chars, IsUtf8};
-ghost use Rattle.deno_graph_pragmas.specs.Piece.{is_number_or_at, is_quote, is_unquoted, is_white_or_star, quote};
-ghost use Rattle.deno_graph_pragmas.specs.Reading.{after_exactly, after_keyword, after_one, after_pieces, assignment, chars_left, is_ascii, skip_while};
+ghost use Rattle.deno_graph_pragmas.specs.Piece.{is_number_or_at, is_quote, is_unquoted};
+ghost use Rattle.deno_graph_pragmas.specs.Piece.{is_white_or_star, quote};
+ghost use Rattle.deno_graph_pragmas.specs.Reading.{after_exactly, after_keyword, after_one};
+ghost use Rattle.deno_graph_pragmas.specs.Reading.{after_pieces, assignment, chars_left, is_ascii};
+ghost use Rattle.deno_graph_pragmas.specs.Reading.{skip_while};
 
 use crate::finders::letter::is_letter;
 
@@ -46,12 +49,12 @@ pub(super) fn strip_number_or_at(text: &str) -> Option<&str>
     text.strip_prefix(['#', '@'])
 }
 
-/// The character `sign`.
-pub(super) fn strip_sign(text: &str, sign: char) -> Option<&str>
-    ensures left { chars_left result ≡ after_exactly (sign ∷ []) (chars text.now) }
+/// The character `c`.
+pub(super) fn strip_char(text: &str, c: char) -> Option<&str>
+    ensures left { chars_left result ≡ after_exactly (c ∷ []) (chars text.now) }
     ensures utf8 { IfSome result (λ rest. IsUtf8 rest.now) }
 {
-    text.strip_prefix(sign)
+    text.strip_prefix(c)
 }
 
 /// The characters of `word` in any case.
@@ -76,7 +79,7 @@ pub(super) fn strip_assignment<'a>(text: &'a str, name: &str) -> Option<&'a str>
     ensures utf8 { IfSome result (λ rest. IsUtf8 rest.now) }
 {
     let behind_name = strip_keyword(text, name)?;
-    let behind_sign = strip_sign(skip_white_space(behind_name), '=')?;
+    let behind_sign = strip_char(skip_white_space(behind_name), '=')?;
     Some(skip_white_space(behind_sign))
 }
 

@@ -1,11 +1,10 @@
 //! The pragma that names a source map.
 
-ghost use Rattle.std.specs.Prelude.{◌≡◌, ◌↔◌, IfSome, IsNone};
+ghost use Rattle.std.specs.Prelude.{◌≡◌, IfSome};
 ghost use Rattle.std.specs.Str.{chars, IsUtf8};
-ghost use Rattle.deno_graph_pragmas.specs.Finders.{source_mapping_url};
-ghost use Rattle.deno_graph_pragmas.specs.Match.{Captures, IsSliceIn};
+ghost use Rattle.deno_graph_pragmas.specs.Finders.{source_mapping_url_pattern};
+ghost use Rattle.deno_graph_pragmas.specs.Match.{FindsFirst};
 ghost use Rattle.deno_graph_pragmas.specs.Reading.{after_pieces, chars_left};
-ghost use Rattle.deno_graph_pragmas.specs.Split.{HasSplit};
 
 use crate::finders::captured::capture_run;
 use crate::finders::matches::Match;
@@ -13,9 +12,7 @@ use crate::finders::scan::{skip_white_space, strip_assignment, strip_number_or_a
 
 /// What `# sourceMappingURL=mod.js.map` names: the characters up to the next white space.
 pub fn find_source_mapping_url(text: &str) -> Option<Match<'_>>
-    ensures found { IfSome result (Captures source_mapping_url text.now) }
-    ensures none { IsNone result ↔ ¬ HasSplit source_mapping_url text.now }
-    ensures slice { IfSome result (IsSliceIn text.now) }
+    ensures { FindsFirst source_mapping_url_pattern text.now result }
 {
     let value = strip_source_mapping_url(text)?;
     capture_run(text, value)
@@ -24,7 +21,8 @@ pub fn find_source_mapping_url(text: &str) -> Option<Match<'_>>
 /// A number sign or an at sign, `sourceMappingURL` in any case, and an equals sign, with white
 /// space behind each.
 fn strip_source_mapping_url(text: &str) -> Option<&str>
-    ensures left { chars_left result ≡ after_pieces source_mapping_url.front (chars text.now) }
+    ensures left { chars_left result
+        ≡ after_pieces source_mapping_url_pattern.front (chars text.now) }
     ensures utf8 { IfSome result (λ rest. IsUtf8 rest.now) }
 {
     let behind_sign = strip_number_or_at(text)?;

@@ -2,10 +2,13 @@
 
 ghost use Rattle.std.specs.Prelude.{◌≡◌, ◌∷◌, ◌↔◌, IfSome, IsNone, IsTrue, false, true};
 ghost use Rattle.std.specs.Str.{chars, IsUtf8};
-ghost use Rattle.deno_graph_pragmas.specs.Finders.{deno_types, quoted_pragma, quoteless_deno_types, quoteless_pragma, ts_self_types, ts_types};
-ghost use Rattle.deno_graph_pragmas.specs.Match.{pragma_part_of, Captures, IsQuotedIn, IsSliceIn};
-ghost use Rattle.deno_graph_pragmas.specs.Piece.{whites};
-ghost use Rattle.deno_graph_pragmas.specs.Reading.{after_pieces, assignment, begins_dark, chars_left, is_ascii};
+ghost use Rattle.deno_graph_pragmas.specs.Finders.{deno_types_pattern, quoted_pragma};
+ghost use Rattle.deno_graph_pragmas.specs.Finders.{quoteless_deno_types_pattern, quoteless_pragma};
+ghost use Rattle.deno_graph_pragmas.specs.Finders.{ts_self_types_pattern, ts_types_pattern};
+ghost use Rattle.deno_graph_pragmas.specs.Match.{pragma_part_of, FindsFirst, FindsFirstInQuotes};
+ghost use Rattle.deno_graph_pragmas.specs.Piece.{any_white_space};
+ghost use Rattle.deno_graph_pragmas.specs.Reading.{after_pieces, assignment, begins_above_star};
+ghost use Rattle.deno_graph_pragmas.specs.Reading.{chars_left, is_ascii};
 ghost use Rattle.deno_graph_pragmas.specs.Split.{HasSplit, IsCaptured, IsSliceOf, StandsInQuotes};
 
 use crate::finders::captured::{capture_quoted, capture_run};
@@ -15,10 +18,7 @@ use crate::finders::scan::{skip_white_space, strip_assignment, strip_quote};
 /// The types of the module itself, as `@ts-self-types="./mod.d.ts"` names them: the text between
 /// the quotes, which isn't empty.
 pub fn find_ts_self_types(text: &str) -> Option<Match<'_>>
-    ensures found { IfSome result (Captures ts_self_types text.now) }
-    ensures none { IsNone result ↔ ¬ HasSplit ts_self_types text.now }
-    ensures slice { IfSome result (IsSliceIn text.now) }
-    ensures quotes { IfSome result (IsQuotedIn text.now) }
+    ensures { FindsFirstInQuotes ts_self_types_pattern text.now result }
 {
     find_quoted_pragma(text, "@ts-self-types")
 }
@@ -26,10 +26,7 @@ pub fn find_ts_self_types(text: &str) -> Option<Match<'_>>
 /// The types of what is imported, as `@ts-types="./mod.d.ts"` names them: the text between the
 /// quotes, which isn't empty.
 pub fn find_ts_types(text: &str) -> Option<Match<'_>>
-    ensures found { IfSome result (Captures ts_types text.now) }
-    ensures none { IsNone result ↔ ¬ HasSplit ts_types text.now }
-    ensures slice { IfSome result (IsSliceIn text.now) }
-    ensures quotes { IfSome result (IsQuotedIn text.now) }
+    ensures { FindsFirstInQuotes ts_types_pattern text.now result }
 {
     find_quoted_pragma(text, "@ts-types")
 }
@@ -39,12 +36,13 @@ pub fn find_ts_types(text: &str) -> Option<Match<'_>>
 /// space, as in `@deno-types=./mod.d.ts`.
 pub fn find_deno_types(text: &str) -> Option<DenoTypesPragmaMatch<'_>>
     ensures quoted { IfSome result (λ found. found.is_quoteless ≡ false
-        → IsCaptured deno_types text.now (pragma_part_of found)) }
+        → IsCaptured deno_types_pattern text.now (pragma_part_of found)) }
     ensures quoteless { IfSome result (λ found. found.is_quoteless ≡ true
-        → ¬ HasSplit deno_types text.now
-        × IsCaptured quoteless_deno_types text.now (pragma_part_of found)) }
+        → ¬ HasSplit deno_types_pattern text.now
+        × IsCaptured quoteless_deno_types_pattern text.now (pragma_part_of found)) }
     ensures none { IsNone result
-        ↔ (¬ HasSplit deno_types text.now × ¬ HasSplit quoteless_deno_types text.now) }
+        ↔ (¬ HasSplit deno_types_pattern text.now
+        × ¬ HasSplit quoteless_deno_types_pattern text.now) }
     ensures slice { IfSome result (λ found. IsSliceOf text.now (pragma_part_of found)) }
     ensures quotes { IfSome result (λ found. found.is_quoteless ≡ false
         → StandsInQuotes text.now (pragma_part_of found)) }
@@ -60,11 +58,8 @@ pub fn find_deno_types(text: &str) -> Option<DenoTypesPragmaMatch<'_>>
 
 fn find_quoted_pragma<'a>(text: &'a str, name: &str) -> Option<Match<'a>>
     requires ascii { IsTrue (is_ascii name.now) }
-    requires dark { IsTrue (begins_dark name.now) }
-    ensures found { IfSome result (Captures (quoted_pragma name.now) text.now) }
-    ensures none { IsNone result ↔ ¬ HasSplit (quoted_pragma name.now) text.now }
-    ensures slice { IfSome result (IsSliceIn text.now) }
-    ensures quotes { IfSome result (IsQuotedIn text.now) }
+    requires start { IsTrue (begins_above_star name.now) }
+    ensures { FindsFirstInQuotes (quoted_pragma name.now) text.now result }
 {
     let value = strip_pragma_and_quote(text, name)?;
     let found = capture_quoted(text, value)?;
@@ -76,10 +71,8 @@ fn find_quoted_pragma<'a>(text: &'a str, name: &str) -> Option<Match<'a>>
 
 fn find_quoteless_pragma<'a>(text: &'a str, name: &str) -> Option<Match<'a>>
     requires ascii { IsTrue (is_ascii name.now) }
-    requires dark { IsTrue (begins_dark name.now) }
-    ensures found { IfSome result (Captures (quoteless_pragma name.now) text.now) }
-    ensures none { IsNone result ↔ ¬ HasSplit (quoteless_pragma name.now) text.now }
-    ensures slice { IfSome result (IsSliceIn text.now) }
+    requires start { IsTrue (begins_above_star name.now) }
+    ensures { FindsFirst (quoteless_pragma name.now) text.now result }
 {
     let value = strip_pragma(text, name)?;
     capture_run(text, value)
@@ -89,7 +82,7 @@ fn find_quoteless_pragma<'a>(text: &'a str, name: &str) -> Option<Match<'a>>
 fn strip_pragma<'a>(text: &'a str, name: &str) -> Option<&'a str>
     requires { IsTrue (is_ascii name.now) }
     ensures left { chars_left result
-        ≡ after_pieces (whites ∷ assignment name.now) (chars text.now) }
+        ≡ after_pieces (any_white_space ∷ assignment name.now) (chars text.now) }
     ensures utf8 { IfSome result (λ rest. IsUtf8 rest.now) }
 {
     strip_assignment(skip_white_space(text), name)

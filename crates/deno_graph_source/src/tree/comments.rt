@@ -3,8 +3,8 @@ ghost use Rattle.std.specs.List.Sorted.{IsPermutation};
 ghost use Rattle.std.specs.Option.{option_copied};
 
 use crate::tree::by_position::ByPosition;
-use deno_graph_text::SourceRange;
-use deno_graph_values::{Items, Text, TryClone};
+use deno_graph_text::text::SourceRange;
+use deno_graph_text::values::{Items, Text, TryClone};
 use std::alloc::{AllocError, Global};
 use std::marker::Model;
 

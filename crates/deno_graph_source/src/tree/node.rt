@@ -1,9 +1,9 @@
 ghost use Rattle.std.specs.Prelude.{◌≡◌, IfOk, IsTrue};
 ghost use Rattle.std.specs.Option.{option_copied};
-ghost use Rattle.deno_graph_source.specs.Node.{is_export, is_import};
+ghost use Rattle.deno_graph_source.specs.KindGroups.{is_export, is_import};
 
-use deno_graph_text::{JsString, SourceRange};
-use deno_graph_values::{Items, Text, TryClone};
+use deno_graph_text::text::{JsString, SourceRange};
+use deno_graph_text::values::{Items, Text, TryClone};
 use std::alloc::{AllocError, Global};
 
 /// A string literal: its value, and its range with the quotes.
@@ -161,7 +161,7 @@ pub enum Kind {
 }
 
 impl Kind {
-    ghost use Rattle.deno_graph_source.specs.Node.{args_of, has_with, literal_of};
+    ghost use Rattle.deno_graph_source.specs.Node.{args_of, has_with, is_object, literal_of};
 
     /// The string literal that this kind holds: the specifier of an import or an export, or the
     /// name of a module.
@@ -191,6 +191,13 @@ impl Kind {
         }
     }
 
+    /// Whether it is an object literal.
+    pub fn is_object(&self) -> bool
+        ensures { result ≡ is_object self.now }
+    {
+        matches!(self, Kind::Object)
+    }
+
     /// The arguments of a call; none for every other kind.
     pub fn args(&self) -> &[Arg]
         ensures { result.now ≡ args_of self.now }
@@ -212,7 +219,7 @@ impl TryClone for Kind {
                 try_clone_export(alloc, self)?
             }
             Kind::ModuleDecl { name } => Kind::ModuleDecl {
-                name: try_clone_literal(alloc, name)?,
+                name: name.try_clone(alloc)?,
             },
             Kind::Call { callee, args } => Kind::Call {
                 callee: *callee,
@@ -258,7 +265,7 @@ fn try_clone_import(alloc: Global, import: &Kind) -> Result<Kind, AllocError>
         } => Kind::ImportEquals {
             type_only: *type_only,
             is_export: *is_export,
-            external: try_clone_literal(alloc, external)?,
+            external: external.try_clone(alloc)?,
         },
         Kind::ImportType { arg, has_with } => Kind::ImportType {
             arg: arg.try_clone(alloc)?,
@@ -280,7 +287,7 @@ fn try_clone_export(alloc: Global, export: &Kind) -> Result<Kind, AllocError>
             has_with,
         } => Kind::NamedExport {
             type_only: *type_only,
-            src: try_clone_literal(alloc, src)?,
+            src: src.try_clone(alloc)?,
             has_with: *has_with,
         },
         Kind::ExportAll {
@@ -295,15 +302,6 @@ fn try_clone_export(alloc: Global, export: &Kind) -> Result<Kind, AllocError>
         Kind::ExportOther => Kind::ExportOther,
         _ => unreachable!(),
     })
-}
-
-fn try_clone_literal(alloc: Global, literal: &Option<StrLit>) -> Result<Option<StrLit>, AllocError>
-    ensures { IfOk result (λ copy. copy ≡ literal.now) }
-{
-    match literal {
-        Some(literal) => Ok(Some(literal.try_clone(alloc)?)),
-        None => Ok(None),
-    }
 }
 
 /// A node of a syntax tree.

@@ -2,7 +2,7 @@
 use Rattle.std.proofs.Common.{◌≡◌, true, false, [], ◌∷◌, ◌++◌, map, ap, sym, ◌∙◌, reverse}
 use Rattle.deno_graph_source.specs.Node.{kind_of}
 use Rattle.deno_graph_dep.specs.Argument.{part_seen, is_sum, is_string, parts}
-use Rattle.deno_graph_walk.proofs.Depth.{child_smaller}
+use Rattle.deno_graph_dep.proofs.Depth.{child_smaller}
 use Rattle.deno_graph_dep.proofs.Spine.{plus_of, left_at, Descends-step, child_shaped, seen_push, seen_reverse, has_spine, LeftSpine-join, LeftSpine-end, sum_form-unknown, sum_form-known, HasFormAt-binary, Descends-all_sums, string_is_no_binary}
 use Rattle.deno_graph_dep.proofs.argument.sum_argument.Goals as goal
 
@@ -19,26 +19,31 @@ loop-operand-preserved c =
     let right = c.operands.result.1.now in
     let sum : is_sum (kind_of operand) ≡ true = sym c.is_sum.ensures ∙ c.loop-operand-test.true in
     let plus = plus_of (kind_of operand) sum in
-    let at = left_at operand left right c.operands.ensures in (
-      so_far.0 ++ (plus.0, right) ∷ [],
-      Descends-step c.args.node.now operand left so_far.0 (plus.0, right) so_far.1 plus.1 plus.2 c.operands.ensures,
-      child_shaped operand left 0 at so_far.2,
-      ap (map part_seen) c.in_ok-push.ensures.items
-          ∙ seen_push part_seen c.loop-operand.parts.items c.operand_part.result so_far.0 (plus.0, right) so_far.3 c.operand_part.ensures,
-    )
+    let at = left_at operand left right c.operands.ensures in
+    record {
+      above = so_far.above ++ (plus.0, right) ∷ [];
+      descends =
+          Descends-step c.args.node.now operand left so_far.above (plus.0, right) so_far.descends
+          plus.1 plus.2 c.operands.ensures;
+      shaped = child_shaped operand left 0 at so_far.shaped;
+      parts =
+          ap (map part_seen) c.in_ok-push.ensures.items
+          ∙ seen_push part_seen c.loop-operand.parts.items c.operand_part.result so_far.above (plus.0, right)
+          so_far.parts c.operand_part.ensures;
+    }
 
 pub returns-then-not-is_string : goal.returns-then-not-is_string
 returns-then-not-is_string c =
     let so_far = c.loop-operand.invariant in
     let operand = c.loop-operand.operand.now in
-    let rest = has_spine operand so_far.2 in
+    let rest = has_spine operand so_far.shaped in
     let no_sum : is_sum (kind_of operand) ≡ false = sym c.is_sum.ensures ∙ c.loop-operand-test.false in
     let no_string : is_string (kind_of operand) ≡ false = sym c.is_string.ensures ∙ c.if-not-is_string.true in
     HasFormAt-binary (kind_of c.args.node.now) c.args.node.now _ c.requires.binary (
-      so_far.0 ++ rest.0,
+      so_far.above ++ rest.0,
       rest.1,
-      LeftSpine-join c.args.node.now operand rest.1 so_far.0 rest.0 so_far.1 rest.2,
-      sym (sum_form-unknown operand rest.1 so_far.0 rest.0 rest.2 no_sum no_string),
+      LeftSpine-join c.args.node.now operand rest.1 so_far.above rest.0 so_far.descends rest.2,
+      sym (sum_form-unknown operand rest.1 so_far.above rest.0 rest.2 no_sum no_string),
     )
 
 pub returns : goal.returns
@@ -47,10 +52,13 @@ returns c =
     let operand = c.loop-operand.operand.now in
     let string : is_string (kind_of operand) ≡ true = sym c.is_string.ensures ∙ c.if-not-is_string.false in
     HasFormAt-binary (kind_of c.args.node.now) c.args.node.now _ c.requires.binary (
-      so_far.0,
+      so_far.above,
       operand,
-      LeftSpine-end c.args.node.now operand so_far.0 so_far.1 (string_is_no_binary (kind_of operand) string),
+      LeftSpine-end c.args.node.now operand so_far.above so_far.descends
+          (string_is_no_binary (kind_of operand) string),
       ap parts (ap (map part_seen) (c.reverse.ensures.items ∙ ap reverse c.in_ok-push-2.ensures.items)
-          ∙ seen_reverse part_seen c.loop-operand.parts.items c.operand_part-2.result so_far.0 operand so_far.3 c.operand_part-2.ensures)
-          ∙ sym (sum_form-known so_far.0 operand string (Descends-all_sums c.args.node.now operand so_far.0 so_far.1)),
+          ∙ seen_reverse part_seen c.loop-operand.parts.items c.operand_part-2.result so_far.above operand
+          so_far.parts c.operand_part-2.ensures)
+          ∙ sym (sum_form-known so_far.above operand string
+          (Descends-all_sums c.args.node.now operand so_far.above so_far.descends)),
     )

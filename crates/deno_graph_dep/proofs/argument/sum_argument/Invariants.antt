@@ -8,7 +8,12 @@ use Rattle.deno_graph_dep.proofs.argument.sum_argument.Given as goal
 
 abbrev pub invariant-loop-operand : goal.invariant-loop-operand
 invariant-loop-operand l =
-    (above : List Step) × (Descends l.node above l.operand) × (All IsShaped (nodes_in l.operand)) × (map part_seen l.parts.items ≡ map part_of (rights_of above))
+    record {
+      above : List Step;
+      descends : Descends l.node above l.operand;
+      shaped : All IsShaped (nodes_in l.operand);
+      parts : map part_seen l.parts.items ≡ map part_of (rights_of above);
+    }
 
 abbrev pub decreases-loop-operand : goal.decreases-loop-operand
 decreases-loop-operand l = size-Node l.operand

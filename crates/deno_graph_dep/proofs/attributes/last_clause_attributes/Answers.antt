@@ -16,35 +16,45 @@ loop-property-preserved c =
     let property = c.property-item.result in
     let after_with = c.loop-property.after_with in
     let last = option_copied c.loop-property.last in
-    let next : Option Node → Type 0 = λ o. LookedAtBelow xs (i + 1) (after_with || c.has_key-after_with.result) o in
+    let next : Option Node → Type 0 =
+    λ o. LookedAtBelow xs (i + 1) (after_with || c.has_key-after_with.result) o in
     elim c.if-is_clause.branch [
       | then-is_clause+in-Some w ↦
           subst next (sym (ap option_copied w.last-is))
-          (LookedAtBelow-clause xs i property c.loop-property-test.true c.property-item.is after_with last c.loop-property.invariant
-          c.has_key-after_with.result c.has_key-after_with.ensures w.in-Some.object.now (c.is_clause.ensures.0 w.if-is_clause.true)
+          (LookedAtBelow-clause xs i property c.loop-property-test.true c.property-item.is after_with last
+          c.loop-property.invariant
+          c.has_key-after_with.result c.has_key-after_with.ensures w.in-Some.object.now
+          (c.is_clause.ensures.0 w.if-is_clause.true)
           (sym w.known_object.ensures ∙ ap option_copied w.in-Some.is))
       | else-is_clause w ↦
           subst next (sym (ap option_copied w.last-is))
-          (LookedAtBelow-skip xs i property c.loop-property-test.true c.property-item.is after_with last c.loop-property.invariant
+          (LookedAtBelow-skip xs i property c.loop-property-test.true c.property-item.is after_with last
+          c.loop-property.invariant
           c.has_key-after_with.result c.has_key-after_with.ensures
           (λ clause. both_ways c.is_clause.result w.if-is_clause.false (c.is_clause.ensures.1 clause)))
     ]
 
 pub returns-in_default : goal.returns-in_default
 returns-in_default c =
-    LookedAtGive-unknown c.args.properties.now c.loop-property.property-index c.property-item.result c.loop-property-test.true c.property-item.is
+    LookedAtGive-unknown c.args.properties.now c.loop-property.property-index c.property-item.result
+    c.loop-property-test.true c.property-item.is
     c.loop-property.after_with (option_copied c.loop-property.last) c.loop-property.invariant
-    (c.is_clause.ensures.0 c.if-is_clause.true) (sym c.known_object.ensures ∙ ap option_copied c.in_default.is)
+    (c.is_clause.ensures.0 c.if-is_clause.true)
+    (sym c.known_object.ensures ∙ ap option_copied c.in_default.is)
 
 pub returns-in-Some-last : goal.returns-in-Some-last
 returns-in-Some-last c =
-    IfOk-weaker c.parse_import_attributes_from_object_lit.result (ObjectGives c.in-Some-last.object.now) (LookedAtGive c.args.properties.now)
-    (λ result gives. LookedAtGive-last c.args.properties.now c.loop-property.property-index c.loop-property.after_with
-    (option_copied c.loop-property.last) c.in-Some-last.object.now result c.loop-property-test.false (ap option_copied c.in-Some-last.is)
+    IfOk-weaker c.parse_import_attributes_from_object_lit.result (ObjectGives c.in-Some-last.object.now)
+    (LookedAtGive c.args.properties.now)
+    (λ result gives. LookedAtGive-last c.args.properties.now c.loop-property.property-index
+    c.loop-property.after_with
+    (option_copied c.loop-property.last) c.in-Some-last.object.now result c.loop-property-test.false
+    (ap option_copied c.in-Some-last.is)
     c.loop-property.invariant gives)
     c.parse_import_attributes_from_object_lit.ensures
 
 pub returns-in-None : goal.returns-in-None
 returns-in-None c =
-    LookedAtGive-none c.args.properties.now c.loop-property.property-index c.loop-property.after_with (option_copied c.loop-property.last)
+    LookedAtGive-none c.args.properties.now c.loop-property.property-index c.loop-property.after_with
+    (option_copied c.loop-property.last)
     c.loop-property-test.false (ap option_copied c.in-None.is) c.loop-property.invariant

@@ -1,45 +1,32 @@
 -- The store that was asked has a source for the options exactly where it had one before.
-use Rattle.std.proofs.Common.{◌≡◌, ◌∙◌, ap, sym, subst, Some, IfSome}
-use Rattle.deno_graph_parser.specs.Capturing.{IsFaithful, HasText}
+use Rattle.std.proofs.Common.{◌∙◌, sym, subst, refl, IfSome}
+use Rattle.deno_graph_parser.specs.Captures.{state}
+use Rattle.deno_graph_parser.specs.Capturing.{HasText}
 use Rattle.deno_graph_parser.specs.Parsing.{asked}
-use Rattle.deno_graph_parser.specs.Sources.{source_at}
-use Rattle.deno_graph_parser.proofs.Captured.{hit_before, hit_after, faithful_asked, faithful_answer, faithful_after}
+use Rattle.deno_graph_parser.proofs.CaptureCases.{answered_from_store, answered_from_parser}
 use Rattle.deno_graph_parser.proofs.capturing.capture.Goals as goal
 
-pub returns-in-Some-clause-miss : goal.returns-in-Some-clause-miss
-returns-in-Some-clause-miss g c = λ miss.
+pub returns-in-Some : goal.returns-in-Some
+returns-in-Some g c =
+    let P = g.P.EsParser in
+    let sources = g.S.ParsedSourceStore.sources in
     let options = c.args.options in
-    let found = sym c.in_ok-ask.ensures.found ∙ c.in-Some.ensures.hit.0 in
-    let at = ap (λ sources. source_at sources (asked options).specifier) (sym c.in_ok-ask.ensures.ok) ∙ found in
-    absurd (miss (hit_before options.scope_analysis (g.S.ParsedSourceStore.sources c.args.store.now) (asked options) c.in-Some.source at c.in-Some.ensures.hit.1))
+    answered_from_store P.parses P.count P.is_sound P.may_answer options.scope_analysis (asked options)
+    (state c.args.parser.now (sources c.args.store.now)) (state c.args.parser.now (sources c.ask.new.store))
+    c.in-Some.source refl c.in_ok-ask.ensures.ok
+    (sym c.in_ok-ask.ensures.found ∙ c.in-Some.ensures.hit.0) c.in-Some.ensures.hit.1
 
-pub returns-in-Some-clause-faithful : goal.returns-in-Some-clause-faithful
-returns-in-Some-clause-faithful g c = λ sound faithful.
+pub returns-in-None : goal.returns-in-None
+returns-in-None g c =
+    let P = g.P.EsParser in
+    let sources = g.S.ParsedSourceStore.sources in
     let options = c.args.options in
-    let parses = g.P.EsParser.parses c.args.parser.now in
-    subst (IsFaithful parses) (sym c.in_ok-ask.ensures.ok) (faithful_asked parses options.scope_analysis (g.S.ParsedSourceStore.sources c.args.store.now) (asked options).specifier faithful)
-
-pub returns-in-Some-clause-answer : goal.returns-in-Some-clause-answer
-returns-in-Some-clause-answer g c = λ sound faithful.
-    let options = c.args.options in
-    let parses = g.P.EsParser.parses c.args.parser.now in
-    let still = subst (IsFaithful parses) (sym c.in_ok-ask.ensures.ok) (faithful_asked parses options.scope_analysis (g.S.ParsedSourceStore.sources c.args.store.now) (asked options).specifier faithful) in
-    let found = sym c.in_ok-ask.ensures.found ∙ c.in-Some.ensures.hit.0 in
-    faithful_answer parses (g.S.ParsedSourceStore.sources c.ask.new.store) (asked options) c.in-Some.source still found c.in-Some.ensures.hit.1
-
-pub returns-in-None-clause-hit : goal.returns-in-None-clause-hit
-returns-in-None-clause-hit g c = λ hit.
-    let options = c.args.options in
-    let there = hit_after options.scope_analysis (g.S.ParsedSourceStore.sources c.args.store.now) (asked options) hit in
-    let at = c.in_ok-ask.ensures.found ∙ ap (λ sources. source_at sources (asked options).specifier) c.in_ok-ask.ensures.ok ∙ there.1 in
-    let miss = subst (λ found. IfSome found (λ source. ¬ HasText (asked options) source)) at c.in-None.ensures.miss in
-    absurd (miss there.2)
-
-pub returns-in-None-clause-faithful : goal.returns-in-None-clause-faithful
-returns-in-None-clause-faithful g c = λ sound faithful.
-    let options = c.args.options in
-    let parses = g.P.EsParser.parses c.args.parser.now in
-    let still = subst (IsFaithful parses) (sym c.in_ok-ask.ensures.ok) (faithful_asked parses options.scope_analysis (g.S.ParsedSourceStore.sources c.args.store.now) (asked options).specifier faithful) in
-    subst (λ f. IsFaithful f (g.S.ParsedSourceStore.sources c.parse_anew.new.store)) (sym c.parse_anew.ensures.function)
-    (faithful_after parses (g.S.ParsedSourceStore.sources c.ask.new.store) (asked options) c.parse_anew.result (g.S.ParsedSourceStore.sources c.parse_anew.new.store)
-    still (c.parse_anew.ensures.answer sound) c.parse_anew.ensures.kept c.parse_anew.ensures.err)
+    answered_from_parser P.parses P.count P.is_sound P.may_answer options.scope_analysis (asked options)
+    (state c.args.parser.now (sources c.args.store.now))
+    (state c.parse_anew.new.parser (sources c.parse_anew.new.store))
+    (sources c.ask.new.store) c.parse_anew.result c.in_ok-ask.ensures.ok
+    (subst (λ found. IfSome found (λ source. ¬ HasText (asked options) source)) c.in_ok-ask.ensures.found
+    c.in-None.ensures.miss)
+    c.parse_anew.ensures.answer c.parse_anew.ensures.own c.parse_anew.ensures.kept
+    c.parse_anew.ensures.err c.parse_anew.ensures.function c.parse_anew.ensures.counted
+    c.parse_anew.ensures.sound

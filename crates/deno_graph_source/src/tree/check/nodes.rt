@@ -2,7 +2,7 @@
 
 ghost use Rattle.std.specs.Prelude.{◌≡◌, ◌↔◌, map, IsTrue};
 ghost use Rattle.deno_graph_source.specs.Check.{JudgesNode, JudgesNodes, JudgesRanges};
-ghost use Rattle.deno_graph_source.specs.Node.{kind_of, nodes_in, nodes_of, ranges_in_kind, is_object, HasClause, HasCountOfKind, IsShaped};
+ghost use Rattle.deno_graph_source.specs.Node.{kind_of, nodes_in, nodes_of, ranges_in_kind, HasClause, HasCountOfKind, IsShaped};
 
 use crate::tree::check::ranges::check_range;
 use crate::tree::fault::SourceFault;
@@ -94,13 +94,7 @@ fn has_clause(has_with: bool, children: &[Node]) -> bool
         return true;
     }
     match children.first() {
-        Some(clause) => is_object(clause),
+        Some(clause) => clause.kind.is_object(),
         None => false,
     }
-}
-
-fn is_object(node: &Node) -> bool
-    ensures { result ≡ is_object (kind_of node.now) }
-{
-    matches!(node.kind, Kind::Object)
 }

@@ -5,11 +5,14 @@ use Rattle.deno_graph_jsdoc.proofs.Blocks.{block_unopened, block_empty, block_at
 use Rattle.deno_graph_jsdoc.proofs.grammar.attributes.block.Goals as goal
 
 pub returns-in_err-rest : goal.returns-in_err-rest
-returns-in_err-rest c = rw c.from_residual.ensures (block_unopened (chars c.args.input.now) c.in_err-rest.ensures)
+returns-in_err-rest c =
+    rw c.from_residual.ensures (block_unopened (chars c.args.input.now) c.in_err-rest.ensures)
 
 pub returns-in-Some : goal.returns-in-Some
-returns-in-Some c = block_empty (chars c.args.input.now) (chars c.in_ok-rest.rest.now) c.in_ok-rest.ensures (chars c.in-Some.rest.now) c.in-Some.ensures
+returns-in-Some c = block_empty (chars c.args.input.now) (chars c.in_ok-rest.rest.now) c.in_ok-rest.ensures
+    (chars c.in-Some.rest.now) c.in-Some.ensures
 
 pub returns-in-None : goal.returns-in-None
 returns-in-None c =
-    block_attributes (chars c.args.input.now) (chars c.in_ok-rest.rest.now) c.in_ok-rest.ensures (rest_and_mode c.attributes.result) c.in-None.ensures c.attributes.ensures
+    block_attributes (chars c.args.input.now) (chars c.in_ok-rest.rest.now) c.in_ok-rest.ensures
+    (rest_and_mode c.attributes.result) c.in-None.ensures c.attributes.ensures

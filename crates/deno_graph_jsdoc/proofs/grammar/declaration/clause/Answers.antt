@@ -9,7 +9,9 @@ returns-in-Some c = clause_names (chars c.args.input.now) (chars c.in-Some.rest.
 
 pub returns-in-Some-namespace : goal.returns-in-Some-namespace
 returns-in-Some-namespace c =
-    clause_namespace (chars c.args.input.now) c.in_default.ensures (chars c.in-Some-namespace.rest.now) c.in-Some-namespace.ensures
+    clause_namespace (chars c.args.input.now) c.in_default.ensures
+    (chars c.in-Some-namespace.rest.now) c.in-Some-namespace.ensures
 
 pub returns : goal.returns
-returns c = clause_name (chars c.args.input.now) c.in_default.ensures (rest_of c.name.result) c.in_default-namespace.ensures c.name.ensures
+returns c = clause_name (chars c.args.input.now) c.in_default.ensures
+    (rest_of c.name.result) c.in_default-namespace.ensures c.name.ensures

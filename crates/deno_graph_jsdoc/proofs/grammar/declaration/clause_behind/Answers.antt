@@ -8,4 +8,5 @@ pub returns-in_err-gap : goal.returns-in_err-gap
 returns-in_err-gap c = rw c.from_residual.ensures (head_no_gap (chars c.args.input.now) c.in_err-gap.ensures)
 
 pub returns : goal.returns
-returns c = head_read (chars c.args.input.now) (chars c.in_ok-gap.field-0.now) (rest_of c.clause.result) c.in_ok-gap.ensures c.clause.ensures
+returns c = head_read (chars c.args.input.now) (chars c.in_ok-gap.field-0.now)
+    (rest_of c.clause.result) c.in_ok-gap.ensures c.clause.ensures

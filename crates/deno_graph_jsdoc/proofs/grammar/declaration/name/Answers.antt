@@ -9,4 +9,5 @@ returns-in_err-rest c = rw c.from_residual.ensures (name_none (chars c.args.inpu
 
 pub returns : goal.returns
 returns c =
-    name_read (chars c.args.input.now) (chars c.in_ok-rest.rest.now) (chars c.in_ok-rest.field-0-1.now) (rest_of c.gap.result) c.in_ok-rest.ensures c.gap.ensures
+    name_read (chars c.args.input.now) (chars c.in_ok-rest.rest.now) (chars c.in_ok-rest.field-0-1.now)
+    (rest_of c.gap.result) c.in_ok-rest.ensures c.gap.ensures

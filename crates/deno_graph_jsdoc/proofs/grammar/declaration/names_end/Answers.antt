@@ -2,11 +2,12 @@
 use Rattle.std.proofs.Common.{◌≤◌, ap, length, arith}
 use Rattle.std.proofs.lemmas.Str.{encodes-chars}
 use Rattle.std.specs.Str.{chars}
-use Rattle.deno_graph_jsdoc.specs.JsDocImport.{size}
+use Rattle.deno_graph_jsdoc.specs.JsDocImport.{byte_count}
 use Rattle.deno_graph_jsdoc.proofs.Braces.{no_brace_left}
 use Rattle.deno_graph_jsdoc.proofs.grammar.declaration.names_end.Goals as goal
 
 pub returns-then-input-unclosed : goal.returns-then-input-unclosed
 returns-then-input-unclosed c =
-    let fits : size (chars c.args.input.now) ≤ c.args.unclosed = omega (arith, c.if-input-unclosed.true, ap length (encodes-chars c.args.input.now c.utf8.input)) in
+    let fits : byte_count (chars c.args.input.now) ≤ c.args.unclosed =
+    omega (arith, c.if-input-unclosed.true, ap length (encodes-chars c.args.input.now c.utf8.input)) in
     record { is_end = tt; is_next = no_brace_left (chars c.args.input.now) c.args.unclosed c.requires fits }

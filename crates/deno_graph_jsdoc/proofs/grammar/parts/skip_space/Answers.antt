@@ -9,4 +9,5 @@ pub returns : goal.returns
 unfolding trim_start
 returns c =
     ap chars c.trim_start.ensures.trim
-    ∙ chars-encodes (skip_leading_whitespace (chars c.args.input.now)) (scalars_behind_space (chars c.args.input.now) (scalars-chars c.args.input.now c.utf8.input))
+    ∙ chars-encodes (skip_leading_whitespace (chars c.args.input.now))
+    (scalars_behind_space (chars c.args.input.now) (scalars-chars c.args.input.now c.utf8.input))

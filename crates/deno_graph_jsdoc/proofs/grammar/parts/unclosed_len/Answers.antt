@@ -3,6 +3,7 @@ use Rattle.std.proofs.Common.{lit<, subst, ap, rules}
 use Rattle.std.proofs.lemmas.Str.{encodes-chars}
 use Rattle.std.specs.Str.{IsUtf8, chars}
 use Rattle.std.proofs.Common.{length}
+use Rattle.deno_graph_jsdoc.specs.Characters.{closing_brace}
 use Rattle.deno_graph_jsdoc.specs.JsDocBraces.{IsUnclosed}
 use Rattle.deno_graph_jsdoc.proofs.Braces.{IsUnclosed-last, IsUnclosed-none}
 use Rattle.deno_graph_jsdoc.proofs.Texts.{rsplit_chars, Lacks-chars}
@@ -13,7 +14,8 @@ returns-in-Some c =
     let text = c.args.text.now in
     let behind = c.in-Some.behind.now in
     let utf8 : IsUtf8 behind = search rules in
-    let split = rsplit_chars 125 text c.in-Some.field-0-0.now behind c.utf8.text (lit< tt) c.in-Some.ensures.cases in
+    let split = rsplit_chars closing_brace text c.in-Some.field-0-0.now behind c.utf8.text
+    (lit< tt) c.in-Some.ensures.cases in
     subst (IsUnclosed (chars text)) (ap length (encodes-chars behind utf8))
     (IsUnclosed-last (chars text) (chars c.in-Some.field-0-0.now) (chars behind) split.1 split.0)
 
@@ -21,4 +23,4 @@ pub returns-in-None : goal.returns-in-None
 returns-in-None c =
     let text = c.args.text.now in
     subst (IsUnclosed (chars text)) (ap length (encodes-chars text c.utf8.text))
-    (IsUnclosed-none (chars text) (Lacks-chars 125 text c.utf8.text c.in-None.ensures.cases))
+    (IsUnclosed-none (chars text) (Lacks-chars closing_brace text c.utf8.text c.in-None.ensures.cases))

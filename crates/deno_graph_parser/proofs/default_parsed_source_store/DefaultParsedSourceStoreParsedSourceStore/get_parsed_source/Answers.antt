@@ -1,5 +1,5 @@
 -- A look-up by the bytes of the specifier's text.
-use Rattle.std.proofs.Common.{◌≡◌, ◌∙◌, ap, sym, Some}
+use Rattle.std.proofs.Common.{◌∙◌, ap, sym, Some}
 use Rattle.deno_graph_parser.specs.Parsing.{specifier_text}
 use Rattle.deno_graph_parser.specs.Sources.{source_at}
 use Rattle.deno_graph_parser.proofs.KeptSources.{source_at-sources_of}
@@ -8,7 +8,8 @@ use Rattle.deno_graph_parser.proofs.default_parsed_source_store.DefaultParsedSou
 pub returns-in_ok-try_clone-in-Some : goal.returns-in_ok-try_clone-in-Some
 unfolding specifier_text
 returns-in_ok-try_clone-in-Some c =
-    ap Some c.in_ok-try_clone-in-Some.ensures ∙ c.in-Some.ensures.value ∙ sym (source_at-sources_of c.self.inside.sources c.as_str.result.now)
+    ap Some c.in_ok-try_clone-in-Some.ensures ∙ c.in-Some.ensures.value
+    ∙ sym (source_at-sources_of c.self.inside.sources c.as_str.result.now)
     ∙ (λ i. source_at (c.self.view_is i) (c.as_str.ensures.value i))
 
 pub returns-in-None : goal.returns-in-None

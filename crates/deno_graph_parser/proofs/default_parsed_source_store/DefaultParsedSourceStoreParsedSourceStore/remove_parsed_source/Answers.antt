@@ -1,5 +1,5 @@
 -- The map changes at the bytes of the specifier's text alone.
-use Rattle.std.proofs.Common.{◌∙◌, ap, sym}
+use Rattle.std.proofs.Common.{◌∙◌, sym}
 use Rattle.deno_graph_parser.specs.Parsing.{specifier_text}
 use Rattle.deno_graph_parser.specs.Sources.{source_at, without}
 use Rattle.deno_graph_parser.proofs.KeptSources.{source_at-sources_of, without-sources_of}

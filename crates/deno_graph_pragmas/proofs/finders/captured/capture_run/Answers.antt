@@ -14,8 +14,10 @@ pub returns-clause-found : goal.returns-clause-found
 returns-clause-found c =
     let found = c.before_white_space-found in
     let made = c.at_start_of.ensures in
-    IsReadAt-front _ _ _ _ _ _ _ found.utf8 (after_some-nonempty is_not_whitespace _ _ found.utf8 found.ensures (sym c.if-is_empty.ensures)) refl found.ensures made.text made.start made.end
+    IsReadAt-front _ _ _ _ _ _ _ found.utf8 (after_some-nonempty is_not_whitespace _ _ found.utf8
+    found.ensures (sym c.if-is_empty.ensures)) refl found.ensures made.text made.start made.end
 
 pub returns-then-is_empty-clause-none : goal.returns-then-is_empty-clause-none
 returns-then-is_empty-clause-none c = λ _.
-    ap (option_and_then (after_pieces [])) (after_some-empty is_not_whitespace _ _ c.before_white_space-found.ensures (sym c.if-is_empty.ensures))
+    ap (option_and_then (after_pieces [])) (after_some-empty is_not_whitespace _ _
+    c.before_white_space-found.ensures (sym c.if-is_empty.ensures))

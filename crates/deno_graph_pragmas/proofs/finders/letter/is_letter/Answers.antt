@@ -12,4 +12,5 @@ returns-in-8490 c =
 
 pub returns-in_default : goal.returns-in_default
 returns-in_default c =
-    rw c.eq_ignore_ascii_case-in_default.ensures (same_fold-other c.args.c c.args.letter c.requires (λ is. absurd (omega arith)) (λ is. absurd (omega arith)))
+    rw c.eq_ignore_ascii_case-in_default.ensures (same_fold-other c.args.c c.args.letter c.requires
+    (λ is. absurd (omega arith)) (λ is. absurd (omega arith)))

@@ -5,4 +5,6 @@ use Rattle.deno_graph_pragmas.proofs.finders.references.is_closed_in_line.Goals 
 
 pub returns : goal.returns
 returns c =
-    closed_in_line c.args.text.now c.first_line.result.now c.contains.result c.first_line.utf8 c.first_line.ensures (contains_text c.contains.result (codes "/>") c.first_line.result.now c.contains.ensures.cases)
+    closed_in_line c.args.text.now c.first_line.result.now
+    c.contains.result c.first_line.utf8 c.first_line.ensures
+    (contains_text c.contains.result (codes "/>") c.first_line.result.now c.contains.ensures.cases)

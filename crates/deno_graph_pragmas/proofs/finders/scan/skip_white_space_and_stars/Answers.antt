@@ -6,4 +6,5 @@ use Rattle.deno_graph_pragmas.proofs.finders.scan.skip_white_space_and_stars.Goa
 
 pub returns : goal.returns
 returns c =
-    trim_start_matches_skips _ is_white_or_star _ c.trim_start_matches.result.now c.utf8.text (always_returns_same _ _ _ (λ a r f k. search rules)) c.trim_start_matches.ensures.matches
+    trim_start_matches_skips _ is_white_or_star _ c.trim_start_matches.result.now c.utf8.text
+    (always_returns_same _ _ _ (λ a r f k. search rules)) c.trim_start_matches.ensures.matches

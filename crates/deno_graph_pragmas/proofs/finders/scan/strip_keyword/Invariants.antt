@@ -8,5 +8,6 @@ use Rattle.deno_graph_pragmas.proofs.finders.scan.strip_keyword.Given as goal
 abbrev pub invariant-loop-letter : goal.invariant-loop-letter
 invariant-loop-letter l = record {
   text : IsUtf8 (chars_rest l.rest);
-  left : after_keyword (drop l.letter-index l.word) (chars (chars_rest l.rest)) ≡ after_keyword l.word (chars l.text);
+  left : after_keyword (drop l.letter-index l.word)
+      (chars (chars_rest l.rest)) ≡ after_keyword l.word (chars l.text);
 }

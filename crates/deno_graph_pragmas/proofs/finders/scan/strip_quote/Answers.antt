@@ -9,4 +9,5 @@ returns-clause-left c =
 
 pub returns-clause-utf8 : goal.returns-clause-utf8
 returns-clause-utf8 c =
-    strip_prefix_one-utf8 _ is_quote _ c.strip_prefix.result c.utf8.text (λ _. refl) c.strip_prefix.ensures.cases
+    strip_prefix_one-utf8 _ is_quote _ c.strip_prefix.result c.utf8.text
+    (λ _. refl) c.strip_prefix.ensures.cases

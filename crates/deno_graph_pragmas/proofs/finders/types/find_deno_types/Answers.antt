@@ -1,14 +1,15 @@
 use Rattle.std.proofs.Common.{refl, sym, subst}
-use Rattle.deno_graph_pragmas.specs.Finders.{deno_types, quoteless_deno_types}
+use Rattle.deno_graph_pragmas.specs.Finders.{deno_types_pattern, quoteless_deno_types_pattern}
 use Rattle.deno_graph_pragmas.specs.Split.{IsCaptured}
 use Rattle.deno_graph_pragmas.proofs.finders.types.find_deno_types.Goals as goal
 
 pub returns-in-Some-clause-quoted : goal.returns-in-Some-clause-quoted
 returns-in-Some-clause-quoted c = λ _.
-    subst (IsCaptured deno_types c.args.text.now) (sym c.new.ensures.part) c.in-Some.ensures.found
+    subst (IsCaptured deno_types_pattern c.args.text.now) (sym c.new.ensures.part) c.in-Some.ensures.found
 
 pub returns-in_ok-found-in-None-clause-quoteless : goal.returns-in_ok-found-in-None-clause-quoteless
 returns-in_ok-found-in-None-clause-quoteless c = λ _. (
   c.in-None.ensures.none.0 refl,
-  subst (IsCaptured quoteless_deno_types c.args.text.now) (sym c.new-in-None.ensures.part) c.in_ok-found-in-None.ensures.found,
+  subst (IsCaptured quoteless_deno_types_pattern c.args.text.now)
+      (sym c.new-in-None.ensures.part) c.in_ok-found-in-None.ensures.found,
 )

@@ -14,15 +14,19 @@ returns-in_err-check_range c =
     let text = c.args.text.now in
     let program = c.args.program.now in
     let comments = c.args.comments.now in
-    let here = Any-only (RangeHas text c.in_err-check_range.field-0.0) program.range c.in_err-check_range.ensures in
-    returned _ (λ fault. (fault ≡ OutOfMemory) ⊎ HasFault text program comments fault) _ _ c.from_residual.ensures.1 (inr (program_range_stands text program comments _ here))
+    let here = Any-only (RangeHas text c.in_err-check_range.field-0.0) program.range
+    c.in_err-check_range.ensures in
+    returned _ (λ fault. (fault ≡ OutOfMemory) ⊎ HasFault text program comments fault) _ _
+    c.from_residual.ensures.1 (inr (program_range_stands text program comments _ here))
 
 pub returns-in_err-check_nodes : goal.returns-in_err-check_nodes
 returns-in_err-check_nodes c =
     let text = c.args.text.now in
     let program = c.args.program.now in
     let comments = c.args.comments.now in
-    returned _ (λ fault. (fault ≡ OutOfMemory) ⊎ HasFault text program comments fault) _ _ c.from_residual-in_err-check_nodes.ensures.1 (inr (node_stands text program comments _ c.in_err-check_nodes.ensures))
+    returned _ (λ fault. (fault ≡ OutOfMemory) ⊎ HasFault text program comments fault) _ _
+    c.from_residual-in_err-check_nodes.ensures.1
+    (inr (node_stands text program comments _ c.in_err-check_nodes.ensures))
 
 pub returns-in_err-check_comments : goal.returns-in_err-check_comments
 returns-in_err-check_comments c =
@@ -30,7 +34,10 @@ returns-in_err-check_comments c =
     let program = c.args.program.now in
     let comments = c.args.comments.now in
     let all = map (λ comment. comment.now) c.deref.result.now in
-    returned _ (λ fault. (fault ≡ OutOfMemory) ⊎ HasFault text program comments fault) _ _ c.from_residual-in_err-check_comments.ensures.1 (inr (comment_stands text program comments all (rw c.deref.ensures.value c.in_ok-all.ensures) _ c.in_err-check_comments.ensures))
+    returned _ (λ fault. (fault ≡ OutOfMemory) ⊎ HasFault text program comments fault) _ _
+    c.from_residual-in_err-check_comments.ensures.1
+    (inr (comment_stands text program comments all (rw c.deref.ensures.value c.in_ok-all.ensures) _
+    c.in_err-check_comments.ensures))
 
 pub returns : goal.returns
 returns c =
@@ -40,5 +47,8 @@ returns c =
     let in_range = All-head (IsTextRange text) program.range [] c.in_ok-check_range.ensures in
     let spelled = rw c.deref.ensures.value at c.in_ok-check_comments.ensures in
     let judged = rw c.deref-2.ensures.value at c.check_neighbours.ensures in
-    let rising = IsNonDecreasingBy-from_sort_by_key (λ comment. comment.now.range.start) _ c.in_ok-sort_by_key.ensures.sorted (λ a r q k. search rules) in
-    judged_sorted text program comments (λ comment. comment.now) c.in_ok-all.all.items c.sort_by_key.new.self.items _ c.in_ok-all.ensures c.in_ok-sort_by_key.ensures.permutation in_range c.in_ok-check_nodes.ensures spelled rising judged
+    let rising = IsNonDecreasingBy-from_sort_by_key (λ comment. comment.now.range.start) _
+    c.in_ok-sort_by_key.ensures.sorted (λ a r q k. search rules) in
+    judged_sorted text program comments (λ comment. comment.now) c.in_ok-all.all.items
+    c.sort_by_key.new.self.items _ c.in_ok-all.ensures c.in_ok-sort_by_key.ensures.permutation in_range
+    c.in_ok-check_nodes.ensures spelled rising judged

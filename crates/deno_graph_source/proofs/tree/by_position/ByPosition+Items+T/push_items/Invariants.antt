@@ -6,4 +6,6 @@ use Rattle.deno_graph_source.proofs.tree.by_position.ByPosition+Items+T.push_ite
 
 abbrev pub invariant-loop-items : goal.invariant-loop-items
 invariant-loop-items g l =
-    map (λ item. item.now) l.all.items ++ flat_map (λ items. items) l.items-iterator ≡ map (λ item. item.now) l.initial.all.items ++ all_items l.self
+    map (λ item. item.now) l.all.items
+    ++ flat_map (λ items. items) l.items-iterator ≡ map (λ item. item.now) l.initial.all.items
+    ++ all_items l.self

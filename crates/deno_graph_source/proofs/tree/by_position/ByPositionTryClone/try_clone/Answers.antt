@@ -8,7 +8,8 @@ pub loop-pos-preserved : goal.loop-pos-preserved
 loop-pos-preserved g c =
     let pos = c.in-Some.pos.now in
     let value = c.in-Some.value.now in
-    let next = rest_more deref_pair _ _ _ (c.in-Some.pos, c.in-Some.value) c.in-Some.is c.next.ensures.steps in
+    let next = rest_more deref_pair _ _ _ (c.in-Some.pos, c.in-Some.value) c.in-Some.is
+    c.next.ensures.steps in
     let all = ap (λ rest. c.loop-pos.map.entries ++ rest) (sym next) ∙ c.loop-pos.invariant in
     let sorted = rw (c.self.view_is, ← all) at c.self.invariant in
     let put = insert_entry_last c.loop-pos.map.entries pos value c.next.new.self sorted in

@@ -13,8 +13,10 @@ pub returns-in_err-check_range : goal.returns-in_err-check_range
 returns-in_err-check_range c =
     let text = c.args.text.now in
     let comment = c.args.comment.now in
-    let here = Any-only (RangeHas text c.in_err-check_range.field-0.0) comment.range c.in_err-check_range.ensures in
-    returned _ (λ fault. CommentHas text fault comment) _ _ c.from_residual.ensures.1 (range_fault_in_comment text _ comment here)
+    let here = Any-only (RangeHas text c.in_err-check_range.field-0.0) comment.range
+    c.in_err-check_range.ensures in
+    returned _ (λ fault. CommentHas text fault comment) _ _ c.from_residual.ensures.1
+    (range_fault_in_comment text _ comment here)
 
 pub returns-in-Some : goal.returns-in-Some
 returns-in-Some c =
@@ -28,6 +30,7 @@ returns-in-Some c =
 pub returns-in_default : goal.returns-in_default
 returns-in_default c = λ is.
     let comment = c.args.comment.now in
-    let same = spelling-injective comment.kind c.in-Some.inside.now comment.text (sym c.in-Some.ensures ∙ c.range-written.ensures.value ∙ is.slice) in
+    let same = spelling-injective comment.kind c.in-Some.inside.now comment.text
+    (sym c.in-Some.ensures ∙ c.range-written.ensures.value ∙ is.slice) in
     let equal = (slice_eq-Decides Decides-eqb _ _ _ c.eq.ensures).1 (same ∙ sym c.as_str.ensures) in
     cc (equal, c.if-eq.false)

@@ -11,8 +11,15 @@ returns-then-ne c =
     let before = c.index-comments-i.result in
     let after = c.index-comments-i-in-loop-i.result in
     let next : i ≡ (i - 1) + 1 = omega arith in
-    let apart = differs (get_or comments (i - 1) before).now.range (get_or comments i after).now.range c.if-ne.ensures in
-    (refl, i - 1, omega (arith, length-map comments (λ comment. comment.now)), runs_into_at (λ comment. comment.now) comments (i - 1) i before after next (omega arith) (apart, c.if-after-before.true))
+    let apart = differs (get_or comments (i - 1) before).now.range (get_or comments i after).now.range
+    c.if-ne.ensures in (
+      refl,
+      i - 1,
+      omega (arith, length-map comments (λ comment. comment.now)),
+      runs_into_at (λ comment. comment.now) comments (i - 1) i before after next (omega arith)
+          (apart, c.if-after-before.true),
+    )
 
 pub returns : goal.returns
-returns c = AllAdjacentBelow-map (λ comment. comment.now) Passes c.args.comments.now (λ k below. c.loop-i.invariant k (omega arith))
+returns c = AllAdjacentBelow-map (λ comment. comment.now) Passes c.args.comments.now
+    (λ k below. c.loop-i.invariant k (omega arith))

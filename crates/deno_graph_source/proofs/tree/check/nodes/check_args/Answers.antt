@@ -18,15 +18,19 @@ returns-in_err-check_range c =
     let text = c.args.text.now in
     let args = c.args.args.now in
     let arg = get_or args c.loop-arg.arg-index no_arg in
-    let at = Contains-map (λ a. a.range) args arg (Contains-get_or args c.loop-arg.arg-index no_arg c.loop-arg-test.true) in
-    returned _ (λ fault. Any (RangeHas text fault) (map (λ a. a.range) args)) _ _ c.from_residual.ensures.1 (Any-within _ (arg.range ∷ []) (map (λ a. a.range) args) (λ range. Contains-only _ arg.range range at) c.in_err-check_range.ensures)
+    let at = Contains-map (λ a. a.range) args arg
+    (Contains-get_or args c.loop-arg.arg-index no_arg c.loop-arg-test.true) in
+    returned _ (λ fault. Any (RangeHas text fault) (map (λ a. a.range) args)) _ _ c.from_residual.ensures.1
+    (Any-within _ (arg.range ∷ []) (map (λ a. a.range) args) (λ range. Contains-only _ arg.range range at)
+    c.in_err-check_range.ensures)
 
 pub loop-arg-preserved : goal.loop-arg-preserved
 loop-arg-preserved c =
     let text = c.args.text.now in
     let args = c.args.args.now in
     let arg = get_or args c.loop-arg.arg-index no_arg in
-    All-more (λ a. IsTextRange text a.range) args _ no_arg c.loop-arg-test.true c.loop-arg.invariant (All-head (IsTextRange text) arg.range [] c.in_ok-check_range.ensures)
+    All-more (λ a. IsTextRange text a.range) args _ no_arg c.loop-arg-test.true c.loop-arg.invariant
+    (All-head (IsTextRange text) arg.range [] c.in_ok-check_range.ensures)
 
 pub returns : goal.returns
 returns c =

@@ -6,4 +6,6 @@ use Rattle.deno_graph_source.proofs.tree.comments.Comments.add_leading.Goals as 
 pub returns-clause-all : goal.returns-clause-all
 unfolding comments_of
 returns-clause-all c =
-    on_ok_weaker c.add.result (λ adds. rw (← c.self.view_is) (added_first c.args.comment c.self.inside.leading _ c.self.inside.trailing c.args.pos adds)) c.add.ensures.ok
+    on_ok_weaker c.add.result (λ adds. rw (← c.self.view_is)
+    (added_first c.args.comment c.self.inside.leading _ c.self.inside.trailing c.args.pos adds))
+    c.add.ensures.ok

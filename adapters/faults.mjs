@@ -1,0 +1,78 @@
+/**
+ * Why a file has no document or no answer.
+ *
+ * @typedef {object} Fault as it is printed and handed from thread to thread
+ * @property {string} fault one of the names in README.md
+ * @property {string} message
+ * @property {number} [line] of a syntax error, with the column counted from one
+ * @property {number} [column]
+ */
+
+import { WorkerEnd } from "./pool.mjs";
+import { ModinfoFault, ProgramEnd } from "./service.mjs";
+import { SourceFault } from "./source.mjs";
+
+export class FileFault extends Error {
+  /**
+   * @param {string} fault
+   * @param {string} message
+   * @param {{ line?: number, column?: number }} [place]
+   */
+  constructor(fault, message, { line, column } = {}) {
+    super(message);
+    this.name = "FileFault";
+    this.fault = fault;
+    this.line = line;
+    this.column = column;
+  }
+}
+
+/**
+ * The fault that an error is which was thrown while a file was read, parsed or analyzed.
+ * @param {any} error
+ * @returns {Fault}
+ */
+export function faultOf(error) {
+  if (error instanceof SourceFault) {
+    const { message, line, column } = error;
+    return { fault: "Syntax", message, line, column };
+  }
+  if (error instanceof FileFault) {
+    const { fault, message, line, column } = error;
+    return { fault, message, ...(line && { line, column }) };
+  }
+  if (error instanceof RangeError && /call stack/.test(error.message)) {
+    return { fault: "Depth", message: "the text nests too deep for the parser" };
+  }
+  if (error instanceof ModinfoFault) {
+    return { fault: error.fault, message: `modinfo answers ${error.fault}` };
+  }
+  if (error instanceof ProgramEnd) {
+    return { fault: "Program", message: error.message };
+  }
+  if (error instanceof WorkerEnd && error.code === "ERR_WORKER_OUT_OF_MEMORY") {
+    return { fault: "OutOfMemory", message: "memory for the parser was refused" };
+  }
+  if (error?.syscall) {
+    return { fault: "Input", message: systemMessage(error) };
+  }
+  return { fault: "Parser", message: String(error?.message ?? error) };
+}
+
+/**
+ * What a system call says, without the path, which stands before it anyway.
+ * @param {Error} error
+ * @returns {string} as `ENOENT: no such file or directory`
+ */
+export function systemMessage({ message }) {
+  return message.replace(/, [a-z]+(?: '.*')?$/s, "");
+}
+
+/**
+ * @param {string} file
+ * @param {{ message: string, line?: number, column?: number }} fault or a warning
+ * @returns {string} as `FILE:LINE:COLUMN: MESSAGE`
+ */
+export function describeFault(file, { message, line, column }) {
+  return `${file}${line ? `:${line}:${column}` : ""}: ${message}`;
+}

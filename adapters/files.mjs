@@ -1,0 +1,151 @@
+#!/usr/bin/env node
+/**
+ * From files and folders to what `modinfo analyze` answers, one a line.
+ *
+ *     node adapters/files.mjs src
+ */
+
+import { spawn } from "node:child_process";
+import { once } from "node:events";
+import { existsSync } from "node:fs";
+import { resolve as absolute } from "node:path";
+import { fileURLToPath, pathToFileURL } from "node:url";
+
+import { isFolder } from "./finding.mjs";
+import { LINE_OPTIONS, runLines } from "./lines.mjs";
+import { writeOutput } from "./output.mjs";
+import { UsageFault, isMain, runProgram, usageOf } from "./program.mjs";
+import { canonicalUrl, reach } from "./reach.mjs";
+import { TYPESCRIPT_MEDIA_TYPES } from "./typescript/parse.mjs";
+
+/**
+ * @typedef {import("./lines.mjs").FileResult} FileResult
+ * @typedef {import("./program.mjs").Words} Words
+ */
+
+const NAME = "adapters/files.mjs";
+/** The proved program: a trial by ./modinfo answers nothing before its input ends. */
+const MODINFO = fileURLToPath(new URL("../build/modinfo", import.meta.url));
+
+const HELP = `usage: node ${NAME} [--resolve] [--jobs N] [--all] [-0] PATH ..
+       node ${NAME} --reach ENTRY [--unreached] [--jobs N] [--all] [-0] PATH ..
+
+Writes for each file what \`modinfo analyze\` answers, one a line and in order:
+
+  {"specifier":URL,"info":MODULEINFO}
+  {"specifier":URL,"fault":NAME,"message":TEXT,"line":N,"column":N}
+
+The second is for a file without an answer; the place is there for a syntax error, counted from one.
+
+  PATH               a file, a folder, or - for paths from the standard input, one a line
+  --resolve          each dependency gets "resolved": the URL of its file, or null
+  --reach ENTRY      writes the files that the entry reaches, one a line; may be given repeatedly
+  --unreached        with --reach: the files of PATH that no entry reaches
+  --jobs N           threads that parse; else one for each processor
+  --all              also what is in node_modules and in folders that begin with a dot
+  -0, --null         paths from the standard input, and files that are written, end with zero bytes
+  --help, --version  writes this, or the versions
+
+Status 0; 1 where a file has no answer, with a line on the error output for each; 2 for words that
+aren't the usage. The environment variable MODINFO names the program; else it is build/modinfo,
+which \`./modinfo --prove\` makes.
+`;
+
+/**
+ * @param {Words} words
+ * @returns {Promise<number>}
+ */
+async function main({ values, positionals }) {
+  if (values.unreached && !values.reach) {
+    throw new UsageFault("--unreached needs --reach");
+  }
+  if (positionals.length === 0) {
+    throw new UsageFault(usageOf(HELP));
+  }
+  const folder = values.reach?.find(isFolder);
+  if (folder) {
+    throw new UsageFault(`an ENTRY is to be a file, and ${folder} is a folder`);
+  }
+  const program = process.env.MODINFO ?? MODINFO;
+  const work = {
+    adapter: new URL("./typescript.mjs", import.meta.url).href,
+    mediaTypes: TYPESCRIPT_MEDIA_TYPES,
+    program,
+    resolve: Boolean(values.resolve || values.reach),
+    reach: Boolean(values.reach),
+  };
+  const run = { name: NAME, values, paths: positionals, work };
+  await checkProgram(program);
+  return values.reach ? writeReached(run, values) : runLines({ ...run, write: writeAnswer });
+}
+
+/**
+ * Runs the program without a document.
+ * @param {string} program
+ */
+async function checkProgram(program) {
+  if (program === MODINFO && !existsSync(program)) {
+    throw new Error("build/modinfo isn't made yet: ./modinfo --prove makes it");
+  }
+  const child = spawn(program, ["analyze", "--lines"], { stdio: ["ignore", "ignore", "inherit"] });
+  const end = once(child, "close").then(([status, signal]) => signal ?? `status ${status}`);
+  const how = await end.catch(({ message }) => message);
+  if (how !== "status 0") {
+    throw new Error(`${program} doesn't run with analyze --lines: ${how}`);
+  }
+}
+
+/** @param {FileResult} result */
+async function writeAnswer({ path, line, fault }) {
+  await writeOutput(line ?? `${JSON.stringify({ specifier: pathToFileURL(path), ...fault })}\n`);
+}
+
+/**
+ * Writes the files that the entries reach, or those that they don't.
+ * @param {any} run
+ * @param {{ reach: string[], unreached?: boolean, null?: boolean }} values
+ * @returns {Promise<number>}
+ */
+async function writeReached(run, { reach: entries, unreached = false, null: isNull }) {
+  const modules = new Map();
+  const paths = new Map();
+  const keep = async ({ path, module: { key, names } = moduleWithout(path) }) => {
+    if (!modules.has(key) && existsSync(path)) {
+      modules.set(key, names);
+      paths.set(key, path);
+    }
+  };
+  const all = [...run.paths, ...entries];
+  const status = await runLines({ ...run, paths: all, isQuiet: true, write: keep });
+  const keys = entries.map((entry) => canonicalUrl(absolute(entry)));
+  const reached = await reach(run.work.program, modules, keys);
+  for (const [key, path] of paths) {
+    if (reached.has(key) !== unreached) {
+      await writeOutput(path + (isNull ? "\0" : "\n"));
+    }
+  }
+  return status;
+}
+
+/**
+ * What a file is to `reach` of which nothing is known.
+ * @param {string} path
+ */
+function moduleWithout(path) {
+  return { key: canonicalUrl(absolute(path)), names: [] };
+}
+
+if (isMain(import.meta.url)) {
+  runProgram({
+    name: NAME,
+    parser: "typescript",
+    help: HELP,
+    options: {
+      ...LINE_OPTIONS,
+      resolve: { type: "boolean" },
+      reach: { type: "string", multiple: true },
+      unreached: { type: "boolean" },
+    },
+    main,
+  });
+}

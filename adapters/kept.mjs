@@ -1,0 +1,112 @@
+/**
+ * The nodes of a tree that some rule reads, and with that are written.
+ *
+ * @typedef {import("./document.mjs").Description} Description
+ * @typedef {import("./document.mjs").View} View
+ *
+ * @typedef {{ node: unknown, described: Description }} Kept
+ */
+
+/**
+ * Whether a node below an item is written.
+ * @param {Description} described
+ * @returns {boolean}
+ */
+export function isKept({ kind, src, external, name }) {
+  switch (kind) {
+    case "ImportDecl": case "ExportAll": case "ImportType": case "Call": case "ImportMeta":
+    case "Await":
+      return true;
+    case "NamedExport":
+      return src !== undefined;
+    case "ImportEquals":
+      return external !== undefined;
+    case "ModuleDecl":
+      return name !== undefined;
+    default:
+      return false;
+  }
+}
+
+/** The kept nodes of a tree, found by where they stand. */
+export class KeptNodes {
+  /**
+   * @param {Kept[]} kept each before those below it, in the order of the source
+   * @param {View} view
+   */
+  constructor(kept, view) {
+    this.view = view;
+    this.kept = kept;
+    this.starts = kept.map(({ node }) => view.from(node));
+    this.ends = kept.map(({ node }) => view.end(node));
+    this.behind = this.#placesBehind();
+  }
+
+  /**
+   * The outermost of those that stand at a node or below it.
+   * @param {unknown} node
+   * @returns {Kept[]} in the order of the source
+   */
+  within(node) {
+    return this.#find(node, undefined);
+  }
+
+  /**
+   * The outermost of those that stand below a node.
+   * @param {unknown} node
+   * @returns {Kept[]} in the order of the source
+   */
+  below(node) {
+    return this.#find(node, node);
+  }
+
+  /**
+   * @param {unknown} root
+   * @param {unknown} except
+   */
+  #find(root, except) {
+    const end = this.view.end(root);
+    const found = [];
+    let at = this.kept.length > 0 ? this.#firstFrom(this.view.from(root)) : 0;
+    while (at < this.kept.length && this.starts[at] < end) {
+      const isAround = this.ends[at] > end;
+      if (isAround || this.kept[at].node === except) {
+        at++;
+      } else {
+        found.push(this.kept[at]);
+        at = this.behind[at];
+      }
+    }
+    return found;
+  }
+
+  /**
+   * The place of the first that starts at or behind an offset.
+   * @param {number} offset
+   */
+  #firstFrom(offset) {
+    let [low, high] = [0, this.starts.length];
+    while (low < high) {
+      const middle = (low + high) >>> 1;
+      if (this.starts[middle] < offset) {
+        low = middle + 1;
+      } else {
+        high = middle;
+      }
+    }
+    return low;
+  }
+
+  /** For each the place of the next that isn't below it. */
+  #placesBehind() {
+    const behind = new Array(this.kept.length).fill(this.kept.length);
+    const open = [];
+    this.starts.forEach((start, at) => {
+      while (open.length > 0 && this.ends[open[open.length - 1]] <= start) {
+        behind[open.pop()] = at;
+      }
+      open.push(at);
+    });
+    return behind;
+  }
+}

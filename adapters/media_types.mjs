@@ -1,0 +1,68 @@
+/** Media types: which one a file has by its name, and the options of an adapter that name one. */
+
+/** All that `modinfo analyze` reads. */
+export const MEDIA_TYPES = [
+  "JavaScript", "Jsx", "Mjs", "Cjs", "TypeScript", "Mts", "Cts", "Dts", "Dmts", "Dcts", "Tsx",
+  "Json", "Other",
+];
+
+/** By the ends of names, the longer ones first. */
+const ENDINGS = [
+  [".d.ts", "Dts"], [".d.mts", "Dmts"], [".d.cts", "Dcts"],
+  [".ts", "TypeScript"], [".mts", "Mts"], [".cts", "Cts"], [".tsx", "Tsx"],
+  [".js", "JavaScript"], [".jsx", "Jsx"], [".mjs", "Mjs"], [".cjs", "Cjs"],
+];
+
+/**
+ * The media type by a file's name, or a URL's.
+ * @param {string | undefined} name
+ * @returns {string | undefined} nothing where the name has none of the endings
+ */
+export function mediaTypeOf(name) {
+  const path = name?.replace(/^([a-z][a-z0-9+.-]*:[^?#]*).*$/is, "$1").toLowerCase();
+  return ENDINGS.find(([ending]) => path?.endsWith(ending))?.[1];
+}
+
+/**
+ * Whether a text is a URL that needs no other to be read.
+ * @param {unknown} text
+ * @returns {boolean}
+ */
+export function isAbsoluteUrl(text) {
+  if (typeof text !== "string") {
+    return false;
+  }
+  if (URL.canParse) {
+    return URL.canParse(text);
+  }
+  try {
+    return Boolean(new URL(text));
+  } catch {
+    return false;
+  }
+}
+
+/**
+ * Checks what is handed to `toDocument`.
+ * @param {unknown} text
+ * @param {{ specifier?: unknown, mediaType?: unknown }} options
+ * @param {string[]} mediaTypes those that are read
+ * @throws {TypeError} with what is wrong
+ */
+export function checkOptions(text, { specifier, mediaType }, mediaTypes) {
+  if (typeof text !== "string") {
+    throw new TypeError(`the text is to be a string, and is ${shown(text)}`);
+  }
+  if (!isAbsoluteUrl(specifier)) {
+    throw new TypeError(`specifier is to be an absolute URL, and is ${shown(specifier)}`);
+  }
+  if (!mediaTypes.includes(mediaType)) {
+    const names = mediaTypes.join(", ");
+    throw new TypeError(`mediaType is to be one of ${names}, and is ${shown(mediaType)}`);
+  }
+}
+
+/** @param {unknown} value */
+function shown(value) {
+  return typeof value === "string" ? JSON.stringify(value) : String(value);
+}

@@ -1,0 +1,259 @@
+/** Worker threads, and the tasks that they are given. */
+
+import { once } from "node:events";
+import { Worker } from "node:worker_threads";
+
+import { Queue } from "./queue.mjs";
+
+/** How many tasks a worker holds at most, so that the next ones are at hand when some are done. */
+const HELD = 8;
+
+/** A worker ended before it had the result of a task. */
+export class WorkerEnd extends Error {
+  /**
+   * @param {string} message
+   * @param {string | undefined} code node's, as `ERR_WORKER_OUT_OF_MEMORY`
+   */
+  constructor(message, code) {
+    super(message);
+    this.name = "WorkerEnd";
+    this.code = code;
+  }
+}
+
+/**
+ * @typedef {object} Job
+ * @property {unknown} task
+ * @property {boolean} isSuspect whether a worker ended while it held this task
+ * @property {(result: any) => void} resolve
+ * @property {(error: Error) => void} reject
+ */
+
+/**
+ * Workers of one module, which runs `serve` of worker.mjs. They are started as tasks come. Where
+ * one ends, the tasks that it held are tried once more, each alone in a worker.
+ */
+export class Pool {
+  #module;
+  #most;
+  #options;
+  /** @type {Lane[]} */
+  #lanes = [];
+  /** @type {Queue<Job>} */
+  #waiting = new Queue();
+  /** @type {Queue<Job>} */
+  #suspects = new Queue();
+  /** Why no worker can be started. @type {Error | undefined} */
+  #broken;
+
+  /**
+   * @param {URL} module
+   * @param {object} options
+   * @param {number} options.jobs the most workers at once
+   * @param {unknown} [options.data] their `workerData`
+   * @param {object} [options.resourceLimits] as node's `Worker` has them
+   */
+  constructor(module, { jobs, data: workerData, resourceLimits }) {
+    this.#module = module;
+    this.#most = jobs;
+    this.#options = { workerData, resourceLimits };
+  }
+
+  /**
+   * @param {unknown} task is cloned into a worker
+   * @returns {Promise<any>} the result; rejected with a `WorkerEnd` where the worker ends twice
+   */
+  run(task) {
+    return new Promise((resolve, reject) => {
+      this.#waiting.push({ task, isSuspect: false, resolve, reject });
+      this.#deal();
+    });
+  }
+
+  /**
+   * Ends the workers: those that hold tasks at once, others when they have closed what they use.
+   * @returns {Promise<void>}
+   */
+  async close() {
+    await Promise.all(this.#lanes.map((lane) => lane.close()));
+  }
+
+  /** Gives tasks to workers as long as there is room. */
+  #deal() {
+    if (this.#broken) {
+      const jobs = [...this.#waiting.takeAll(), ...this.#suspects.takeAll()];
+      jobs.forEach(({ reject }) => reject(this.#broken));
+    }
+    const next = () => (this.#suspects.length > 0 ? this.#idleLane() : this.#openLane());
+    while (this.#suspects.length + this.#waiting.length > 0) {
+      const lane = next();
+      if (!lane) {
+        break;
+      }
+      lane.take(this.#suspects.shift() ?? this.#waiting.shift());
+    }
+    this.#lanes.forEach((lane) => lane.send());
+  }
+
+  #idleLane() {
+    const idle = this.#lanes.find(({ held }) => held === 0);
+    if (idle || this.#lanes.length === this.#most) {
+      return idle;
+    }
+    const worker = new Worker(this.#module, this.#options);
+    const lane = new Lane(worker, () => this.#deal(), (...end) => this.#onEnd(lane, ...end));
+    this.#lanes.push(lane);
+    return lane;
+  }
+
+  /** The lane with the fewest tasks. */
+  #openLane() {
+    const open = this.#lanes.filter(({ hasRoom }) => hasRoom);
+    return this.#idleLane() ?? open.sort((one, other) => one.held - other.held)[0];
+  }
+
+  /**
+   * @param {Lane} lane
+   * @param {Job[]} jobs
+   * @param {WorkerEnd} error
+   */
+  #onEnd(lane, jobs, error) {
+    this.#lanes = this.#lanes.filter((each) => each !== lane);
+    if (!lane.isReady) {
+      this.#broken = new Error(error.message);
+      jobs.splice(0).forEach(({ reject }) => reject(this.#broken));
+    }
+    for (const job of jobs) {
+      if (job.isSuspect) {
+        job.reject(error);
+      } else {
+        job.isSuspect = true;
+        this.#suspects.push(job);
+      }
+    }
+    this.#deal();
+  }
+}
+
+/** One worker and the tasks that it holds. */
+class Lane {
+  isReady = false;
+  /** @type {Map<number, Job>} */
+  #jobs = new Map();
+  /** Tasks that are not sent yet. @type {{ id: number, task: unknown }[]} */
+  #outgoing = [];
+  #worker;
+  #onRoom;
+  #onEnd;
+  #last = 0;
+  #isClosing = false;
+  /** @type {any} */
+  #error;
+
+  /**
+   * @param {Worker} worker
+   * @param {() => void} onRoom
+   * @param {(jobs: Job[], error: WorkerEnd) => void} onEnd
+   */
+  constructor(worker, onRoom, onEnd) {
+    this.#worker = worker;
+    this.#onRoom = onRoom;
+    this.#onEnd = onEnd;
+    worker.on("message", (results) => this.#receive(results));
+    worker.on("error", (error) => (this.#error = error));
+    worker.on("exit", () => this.#end());
+  }
+
+  get held() {
+    return this.#jobs.size;
+  }
+
+  get hasRoom() {
+    const [first] = this.#jobs.values();
+    return this.held < HELD && !first?.isSuspect;
+  }
+
+  /** @param {Job} job */
+  take(job) {
+    this.#last++;
+    this.#jobs.set(this.#last, job);
+    this.#outgoing.push({ id: this.#last, task: job.task });
+  }
+
+  send() {
+    if (this.#outgoing.length > 0) {
+      this.#worker.postMessage(this.#outgoing);
+      this.#outgoing = [];
+    }
+  }
+
+  async close() {
+    this.#isClosing = true;
+    if (this.held > 0) {
+      await this.#worker.terminate();
+      return;
+    }
+    const exit = once(this.#worker, "exit");
+    this.#worker.postMessage([]);
+    await exit;
+  }
+
+  /** @param {{ id: number, result: unknown }[]} results none where the worker is ready */
+  #receive(results) {
+    this.isReady = true;
+    for (const { id, result } of results) {
+      this.#jobs.get(id).resolve(result);
+      this.#jobs.delete(id);
+    }
+    this.#onRoom();
+  }
+
+  #end() {
+    if (!this.#isClosing) {
+      const { message = "the worker ended", code } = this.#error ?? {};
+      this.#onEnd([...this.#jobs.values()], new WorkerEnd(message, code));
+    }
+  }
+}
+
+/**
+ * The results of tasks in the order of the tasks, of which some run at once.
+ * @template Task, Result
+ * @param {AsyncIterable<Task>} tasks
+ * @param {number} most how many run, or wait for the result of an earlier one, at most
+ * @param {(task: Task) => Promise<Result>} run
+ * @returns {AsyncGenerator<Result, void>}
+ */
+export async function* inOrder(tasks, most, run) {
+  const iterator = tasks[Symbol.asyncIterator]();
+  const next = () => handledLater(iterator.next().then((item) => ({ item })));
+  /** @type {Promise<{ result: Result }>[]} */
+  const results = [];
+  let coming = next();
+  while (coming || results.length > 0) {
+    const { item, result } = await Promise.race([
+      ...results.slice(0, 1),
+      ...(coming && results.length < most ? [coming] : []),
+    ]);
+    if (!item) {
+      results.shift();
+      yield result;
+    } else if (item.done) {
+      coming = undefined;
+    } else {
+      results.push(handledLater(run(item.value).then((value) => ({ result: value }))));
+      coming = next();
+    }
+  }
+}
+
+/**
+ * A promise whose error is handled where it is waited for, which may be later.
+ * @template T
+ * @param {Promise<T>} promise
+ * @returns {Promise<T>}
+ */
+function handledLater(promise) {
+  promise.catch(() => {});
+  return promise;
+}

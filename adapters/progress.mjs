@@ -1,0 +1,63 @@
+/** What is said on the error output while files are read. */
+
+/** How long a line of progress stays as it is at least, in milliseconds. */
+const STEP = 100;
+const CLEAR = "\r\x1b[K";
+
+export class Progress {
+  #stream;
+  #isShown;
+  #drawn = -Infinity;
+  #found = 0;
+  #done = 0;
+  #faults = 0;
+
+  /**
+   * @param {{ write(text: string): unknown, isTTY?: boolean }} stream
+   * @param {boolean} isShown whether the stream, where it is a terminal, gets a line of progress
+   */
+  constructor(stream, isShown) {
+    this.#stream = stream;
+    this.#isShown = Boolean(isShown && stream.isTTY);
+  }
+
+  /** One more file was found. */
+  find() {
+    this.#found++;
+  }
+
+  /**
+   * One more file is done.
+   * @param {boolean} hasFault
+   */
+  pass(hasFault) {
+    this.#done++;
+    this.#faults += hasFault ? 1 : 0;
+    if (this.#isShown && performance.now() - this.#drawn >= STEP) {
+      this.#draw();
+    }
+  }
+
+  /**
+   * Writes a line that stays.
+   * @param {string} line without a line feed
+   */
+  say(line) {
+    this.clear();
+    this.#stream.write(`${line}\n`);
+  }
+
+  /** Takes the line of progress away. */
+  clear() {
+    if (this.#drawn > 0) {
+      this.#stream.write(CLEAR);
+      this.#drawn = -Infinity;
+    }
+  }
+
+  #draw() {
+    const faults = `${this.#faults} ${this.#faults === 1 ? "fault" : "faults"}`;
+    this.#stream.write(`${CLEAR}${this.#done} of ${this.#found} files, ${faults}`);
+    this.#drawn = performance.now();
+  }
+}

@@ -1,0 +1,54 @@
+/** From a file to the JSON of its document. */
+
+import { readFileSync } from "node:fs";
+import { pathToFileURL } from "node:url";
+
+import { FileFault } from "./faults.mjs";
+import { mediaTypeOf } from "./media_types.mjs";
+
+/**
+ * @typedef {import("./document.mjs").Warning} Warning
+ * @typedef {(text: string, options: object) => object} ToDocument
+ */
+
+const decoder = new TextDecoder("utf-8", { fatal: true, ignoreBOM: true });
+
+/**
+ * The document of a file, by its name.
+ * @param {ToDocument} toDocument
+ * @param {string} path
+ * @param {string[]} mediaTypes those that are read
+ * @returns {{ json: string, warnings: Warning[] }} the JSON is one line, without a line feed
+ */
+export function documentOfFile(toDocument, path, mediaTypes) {
+  const mediaType = mediaTypeOf(path);
+  if (!mediaTypes.includes(mediaType)) {
+    throw new FileFault("MediaType", "the name doesn't end as that of a file which is read");
+  }
+  const specifier = pathToFileURL(path).href;
+  return documentOf(toDocument, decode(readFileSync(path)), { specifier, mediaType });
+}
+
+/**
+ * @param {ToDocument} toDocument
+ * @param {string} text
+ * @param {{ specifier: string, mediaType: string }} options
+ * @returns {{ json: string, warnings: Warning[] }}
+ */
+export function documentOf(toDocument, text, options) {
+  const warnings = [];
+  const document = toDocument(text, { ...options, warn: (warning) => warnings.push(warning) });
+  return { json: JSON.stringify(document), warnings };
+}
+
+/**
+ * @param {Uint8Array} bytes
+ * @returns {string} a byte order mark stays in it
+ */
+export function decode(bytes) {
+  try {
+    return decoder.decode(bytes);
+  } catch {
+    throw new FileFault("Input", "the file is not UTF-8");
+  }
+}

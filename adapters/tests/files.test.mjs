@@ -1,0 +1,295 @@
+/** From files and folders to answers, as a user would. */
+
+import assert from "node:assert/strict";
+import { spawn, spawnSync } from "node:child_process";
+import { once } from "node:events";
+import { chmodSync, existsSync, symlinkSync, writeFileSync } from "node:fs";
+import { join } from "node:path";
+import { createInterface } from "node:readline";
+import { test } from "node:test";
+import { pathToFileURL } from "node:url";
+
+import { MODINFO, STAND_IN, folderOf, linesOf, programOf, run, shell } from "./running.mjs";
+import { fault, readSchema } from "./schema.mjs";
+
+const NAME = "adapters/files.mjs";
+
+/** A project: `src/main.ts` reaches two modules, and one only through JSDoc. */
+const PROJECT = {
+  "src/main.ts": `import { b } from "./b.ts";\nimport("./c.js");\nimport(name);\n`,
+  "src/b.ts": `import "../lib/d";\nexport const b = 1;\n`,
+  "src/c.js": `/** @type {import("./only_types.ts").T} */\nexport const c = 1;\n`,
+  "src/only_types.ts": "export type T = 1;\n",
+  "src/lonely.js": `require("./c.js");\n`,
+  "src/wrong.ts": "let a = 1;\nlet b = ;\n",
+  "src/node_modules/e/index.js": "",
+  "lib/d.js": `require("./f");\n`,
+  "lib/d.d.ts": "export {};\n",
+  "lib/f.js": "",
+};
+
+function project() {
+  return folderOf(PROJECT);
+}
+
+/** The lines of files.mjs in a folder; its error output and status have to be these. */
+function answers(words, cwd, { stderr = "", status = 0, ...options } = {}) {
+  const result = run("files.mjs", words, { cwd, ...options });
+  assert.deepEqual([result.stderr, result.status], [stderr, status]);
+  return linesOf(result.stdout);
+}
+
+const urlOf = (folder, path) => pathToFileURL(join(folder, path)).href;
+const wrongLine = (path) => `${NAME}: ${path}:2:9: Expression expected.\n`;
+
+test("each file's answer, in the order of the files, a fault among them", () => {
+  const folder = project();
+  const found = answers(["src"], folder, { stderr: wrongLine("src/wrong.ts"), status: 1 });
+  const names = ["b.ts", "c.js", "lonely.js", "main.ts", "only_types.ts", "wrong.ts"];
+  assert.deepEqual(
+    found.map(({ specifier }) => specifier),
+    names.map((name) => urlOf(folder, `src/${name}`)),
+  );
+  assert.deepEqual(found[5], {
+    specifier: urlOf(folder, "src/wrong.ts"),
+    fault: "Syntax", message: "Expression expected.", line: 2, column: 9,
+  });
+  assert.deepEqual(found[3].info.dependencies.map((each) => each.specifier ?? each.argument), [
+    "./b.ts", "./c.js", undefined,
+  ]);
+  const schema = readSchema("module-info");
+  assert.deepEqual(found.slice(0, 5).map(({ info }) => fault(info, schema)), Array(5).fill(undefined));
+});
+
+test("the output is the same for any number of threads", () => {
+  const files = Array.from({ length: 300 }, (_, at) => [
+    `${String(at).padStart(3, "0")}.js`, `import "./${at}.js";\n${"a;\n".repeat((at * 37) % 500)}`,
+  ]);
+  const folder = folderOf(Object.fromEntries(files));
+  const outputs = ["1", "2", "5"].map((jobs) => run("files.mjs", ["--jobs", jobs, folder]).stdout);
+  const specifiers = linesOf(outputs[0]).map(({ info }) => info.dependencies[0].specifier);
+  assert.deepEqual(specifiers, files.map((_, at) => `./${at}.js`));
+  assert.deepEqual(outputs, Array(3).fill(outputs[0]));
+});
+
+test("what has no answer is a fault, and the others go on", () => {
+  const folder = folderOf({
+    "bytes.js": Buffer.of(0xff), "text.txt": "", "good.js": "", "deep.js": "(".repeat(100_000),
+  });
+  const files = ["none.js", "bytes.js", "text.txt", "deep.js", "good.js"];
+  const messages = {
+    "none.js": ["Input", "ENOENT: no such file or directory"],
+    "bytes.js": ["Input", "the file is not UTF-8"],
+    "text.txt": ["MediaType", "the name doesn't end as that of a file which is read"],
+    "deep.js": ["Depth", "the text nests too deep for the parser"],
+  };
+  const said = Object.entries(messages).map(([file, [, text]]) => `${NAME}: ${file}: ${text}\n`);
+  const found = answers(files, folder, { stderr: said.join(""), status: 1 });
+  const expected = files.map((file) => {
+    const [name, message] = messages[file] ?? [];
+    const specifier = urlOf(folder, file);
+    return name ? { specifier, fault: name, message } : { specifier, info: { script: true } };
+  });
+  assert.deepEqual(found, expected);
+});
+
+test("warnings are said, and the file has its answer", () => {
+  const folder = folderOf({ "a.js": `require("a" +${" b +".repeat(60)} require("c"));\n` });
+  const warning = "warning: a sum of more than 59 operands is left as unknown";
+  const [{ info }] = answers(["a.js"], folder, { stderr: `${NAME}: a.js:1:9: ${warning}\n` });
+  assert.deepEqual(info.dependencies.map(({ argument }) => argument), ["c", undefined]);
+});
+
+test("paths come from the standard input", () => {
+  const folder = folderOf({ "a.js": "", "b c.js": "", "d\ne.js": "", "f.js": "" });
+  const specifiers = (words, input) => answers(words, folder, { input })
+    .map(({ specifier }) => decodeURIComponent(specifier.slice(pathToFileURL(folder).href.length + 1)));
+  assert.deepEqual(specifiers(["-"], "a.js\nb c.js\n"), ["a.js", "b c.js"]);
+  assert.deepEqual(specifiers(["f.js", "-", "a.js"], "b c.js"), ["f.js", "b c.js", "a.js"]);
+  assert.deepEqual(specifiers(["-0", "-"], "d\ne.js\0a.js\0"), ["d\ne.js", "a.js"]);
+  assert.deepEqual(specifiers(["-"], ""), []);
+  assert.deepEqual(specifiers(["--", "a.js"], ""), ["a.js"]);
+});
+
+test("a partner that waits for each answer gets it", async () => {
+  const folder = folderOf({ "a.js": "", "b.js": "" });
+  const env = { ...process.env, MODINFO: STAND_IN };
+  const child = spawn(process.execPath, [programOf("files.mjs"), "-"], { cwd: folder, env });
+  const lines = createInterface({ input: child.stdout })[Symbol.asyncIterator]();
+  for (const name of ["a.js", "b.js", "a.js"]) {
+    child.stdin.write(`${name}\n`);
+    assert.equal(JSON.parse((await lines.next()).value).specifier, urlOf(folder, name));
+  }
+  child.stdin.end();
+  assert.deepEqual(await once(child, "close"), [0, null]);
+});
+
+test("--all goes into node_modules", () => {
+  const folder = project();
+  const options = { stderr: wrongLine("src/wrong.ts"), status: 1 };
+  const found = answers(["--all", "src"], folder, options).map(({ specifier }) => specifier);
+  assert.ok(found.includes(urlOf(folder, "src/node_modules/e/index.js")));
+  assert.equal(found.length, 7);
+});
+
+test("--resolve gives each dependency its file", () => {
+  const folder = project();
+  const found = answers(["--resolve", "src/main.ts", "src/b.ts", "src/only_types.ts"], folder);
+  const resolved = found.map(({ info }) => info.dependencies?.map((each) => each.resolved));
+  assert.deepEqual(resolved, [
+    [urlOf(folder, "src/b.ts"), urlOf(folder, "src/c.js"), null],
+    [urlOf(folder, "lib/d.d.ts")],
+    undefined,
+  ]);
+  const inCommonJs = folderOf({ "a.cts": `import b = require("./b");`, "b/index.ts": "" });
+  const [{ info }] = answers(["--resolve", "a.cts"], inCommonJs);
+  assert.equal(info.dependencies[0].resolved, urlOf(inCommonJs, "b/index.ts"));
+});
+
+test("what is wrong with a configuration is said once", () => {
+  const folder = folderOf({ "tsconfig.json": "{", "a.ts": "", "b.ts": "", "c.ts": "" });
+  const { stderr, status } = run("files.mjs", ["--resolve", "--jobs", "3", "."], { cwd: folder });
+  assert.equal(stderr, `${NAME}: warning: ${folder}/tsconfig.json: '}' expected.\n`);
+  assert.equal(status, 0);
+});
+
+/** The files that files.mjs writes. */
+function reached(words, cwd, separator = "\n") {
+  const { stdout, stderr, status } = run("files.mjs", words, { cwd });
+  assert.ok(stdout === "" || stdout.endsWith(separator));
+  return { files: stdout.split(separator).slice(0, -1), stderr, status };
+}
+
+test("--reach writes the files that the entries reach, --unreached the others", () => {
+  const folder = folderOf({ ...PROJECT, "src/b.ts": `import "../lib/d.js";\n` });
+  const expected = { stderr: wrongLine("src/wrong.ts"), status: 1 };
+  const words = ["--reach", "src/main.ts", ".", "--jobs", "2"];
+  assert.deepEqual(reached(words, folder), {
+    files: ["lib/d.d.ts", "lib/d.js", "lib/f.js", "src/b.ts", "src/c.js", "src/main.ts"], ...expected,
+  });
+  assert.deepEqual(reached([...words, "--unreached"], folder), {
+    files: ["src/lonely.js", "src/only_types.ts", "src/wrong.ts"], ...expected,
+  });
+  assert.deepEqual(reached([...words, "--unreached", "-0"], folder, "\0").files, [
+    "src/lonely.js", "src/only_types.ts", "src/wrong.ts",
+  ]);
+  const two = ["--reach", "src/lonely.js", "--reach", "src/wrong.ts", "."];
+  assert.deepEqual(reached(two, folder).files, ["src/c.js", "src/lonely.js", "src/wrong.ts"]);
+});
+
+test("an entry need not be among the paths", () => {
+  const folder = project();
+  const words = ["--reach", "src/lonely.js", "src/c.js", "lib"];
+  assert.deepEqual(reached(words, folder).files, ["src/c.js", "src/lonely.js"]);
+  assert.deepEqual(reached([...words, "--unreached"], folder).files, [
+    "lib/d.d.ts", "lib/d.js", "lib/f.js",
+  ]);
+  const missing = reached(["--reach", "none.js", "lib"], folder);
+  assert.deepEqual([missing.files, missing.status], [[], 1]);
+  assert.equal(missing.stderr, `${NAME}: none.js: ENOENT: no such file or directory\n`);
+});
+
+test("--reach follows links", () => {
+  const folder = folderOf({
+    "packages/a/index.ts": `import "b";`,
+    "packages/b/index.ts": "", "packages/b/package.json": `{"main":"index.ts"}`,
+    "tsconfig.json": `{"compilerOptions":{"module":"commonjs","moduleResolution":"node"}}`,
+    "node_modules/x": "",
+  });
+  symlinkSync("../packages/b", join(folder, "node_modules/b"));
+  symlinkSync("packages", join(folder, "link"));
+  assert.deepEqual(reached(["--reach", "link/a/index.ts", "packages"], folder).files, [
+    "packages/a/index.ts", "packages/b/index.ts",
+  ]);
+});
+
+test("other words are answered by the usage", () => {
+  const folder = folderOf({ "a.js": "" });
+  for (const words of [
+    [], ["--none", "a.js"], ["--unreached", "a.js"], ["--jobs", "0", "a.js"], ["--jobs", "a", "a.js"],
+    ["--reach", "a.js"], ["--reach", ".", "a.js"], ["--jobs"], ["-x", "a.js"],
+  ]) {
+    const { stdout, stderr, status } = run("files.mjs", words, { cwd: folder });
+    assert.deepEqual([stdout, status], ["", 2], words.join(" "));
+    assert.match(stderr, new RegExp(`^${NAME}: .+`));
+  }
+});
+
+test("--help and --version", () => {
+  const help = run("files.mjs", ["--help"]);
+  assert.deepEqual([help.stderr, help.status], ["", 0]);
+  assert.match(help.stdout, /^usage: node adapters\/files\.mjs /);
+  const { stdout, status } = run("files.mjs", ["--version"]);
+  assert.equal(status, 0);
+  assert.match(stdout, /^adapters\/files\.mjs \d+\.\d+\.\d+, typescript \d+\.\d+\.\d+\n$/);
+});
+
+test("a full disk is an error, a reader that ends isn't", () => {
+  const folder = folderOf({ "a.js": "", "b.js": "" });
+  for (const words of [".", "--reach a.js ."]) {
+    const full = shell(`$node $adapters/files.mjs ${words} > /dev/full`, folder);
+    const message = "the standard output: ENOSPC: no space left on device";
+    assert.deepEqual([full.stderr, full.status], [`${NAME}: ${message}\n`, 1]);
+    const ended = shell(`{ $node $adapters/files.mjs ${words} || echo $? >&2; } | true`, folder);
+    assert.deepEqual([ended.stderr, ended.status], ["", 0]);
+  }
+});
+
+test("a program that doesn't answer lines is named", () => {
+  const folder = folderOf({ "a.js": "", old: "#!/bin/sh\necho usage >&2\nexit 2\n" });
+  const old = join(folder, "old");
+  chmodSync(old, 0o755);
+  for (const [modinfo, message] of [
+    [old, `usage\n${NAME}: ${old} doesn't run with analyze --lines: status 2\n`],
+    ["/none", `${NAME}: /none doesn't run with analyze --lines: spawn /none ENOENT\n`],
+  ]) {
+    const result = run("files.mjs", ["a.js"], { cwd: folder, modinfo });
+    assert.deepEqual(result, { stdout: "", stderr: message, status: 1 });
+  }
+});
+
+test("where modinfo ends over a document, that file alone has no answer", () => {
+  const folder = folderOf({ "a.js": "", "b.js": "kill", "c.js": "" });
+  const modinfo = join(folder, "modinfo");
+  writeFileSync(modinfo, `#!/bin/sh
+while read -r line; do
+  case $line in *'"kill"'*) exit 3 ;; esac
+  echo '{"answer":{}}'
+done
+`);
+  chmodSync(modinfo, 0o755);
+  const found = answers(["."], folder, {
+    modinfo, status: 1, stderr: `${NAME}: b.js: ${modinfo} ended with status 3\n`,
+  });
+  assert.deepEqual(found.map(({ info, fault: name }) => info ?? name), [{}, "Program", {}]);
+});
+
+/** Whether the program is built, and answers lines. */
+function hasLines() {
+  return existsSync(MODINFO) && spawnSync(MODINFO, ["analyze", "--lines"]).status === 0;
+}
+
+test("through modinfo itself", { skip: !hasLines() && "build/modinfo isn't made, or has no --lines" }, () => {
+  const folder = folderOf({ ...PROJECT, "src/b.ts": `import "../lib/d.js";\n` });
+  const answersBy = (modinfo, words) => run("files.mjs", words, { cwd: folder, modinfo });
+  const own = answersBy(MODINFO, ["."]);
+  const withoutJsdoc = linesOf(own.stdout).map(({ info, ...others }) => {
+    const { jsdocImports, ...rest } = info ?? {};
+    return { ...others, ...(info && { info: rest }) };
+  });
+  assert.deepEqual(withoutJsdoc, linesOf(answersBy(STAND_IN, ["."]).stdout));
+  const [{ info }] = linesOf(answersBy(MODINFO, ["src/c.js"]).stdout);
+  assert.deepEqual(info.jsdocImports.map(({ text }) => text), ["./only_types.ts"]);
+  for (const words of [["--resolve", "lib"], ["--reach", "src/main.ts", "."]]) {
+    const { stdout, status } = answersBy(STAND_IN, words);
+    assert.deepEqual(
+      [answersBy(MODINFO, words).status, normal(answersBy(MODINFO, words).stdout)],
+      [status, normal(stdout)],
+    );
+  }
+});
+
+/** Lines of JSON whatever the order of their members, other lines as they are. */
+function normal(text) {
+  return text.startsWith("{") ? linesOf(text) : text;
+}

@@ -1,0 +1,131 @@
+/** Runs TypeScript's parser. */
+
+import { isAtLeast } from "../parsers.mjs";
+
+/**
+ * @typedef {import("../source.mjs").Source} Source
+ * @typedef {any} Node a node of TypeScript's; its members differ from version to version
+ * @typedef {any} Compiler the module `typescript`
+ */
+
+/** The file that each media type is parsed as: a name decides what is a declaration file. */
+const FILES = {
+  JavaScript: ["module.js", "JS"],
+  Jsx: ["module.jsx", "JSX"],
+  Mjs: ["module.mjs", "JS"],
+  Cjs: ["module.cjs", "JS"],
+  TypeScript: ["module.ts", "TS"],
+  Mts: ["module.mts", "TS"],
+  Cts: ["module.cts", "TS"],
+  Dts: ["module.d.ts", "TS"],
+  Dmts: ["module.d.mts", "TS"],
+  Dcts: ["module.d.cts", "TS"],
+  Tsx: ["module.tsx", "TSX"],
+};
+
+/** The media types that TypeScript's parser reads. */
+export const TYPESCRIPT_MEDIA_TYPES = Object.keys(FILES);
+
+/**
+ * What the parser says of comments that begin with `///`: an invalid reference, a resolution mode
+ * that is none, a second name of an AMD module.
+ */
+const OF_COMMENTS = new Set([1084, 1453, 2458]);
+
+/**
+ * @param {Compiler} compiler
+ * @param {Source} source
+ * @param {string} mediaType
+ * @returns {Node} the `SourceFile`
+ */
+export function parseWithTypeScript(compiler, source, mediaType) {
+  const text = source.withoutShebang;
+  const file = parseText(compiler, text, mediaType);
+  if (isSound(file) || isAtLeast(compiler, 5, 3)) {
+    return file;
+  }
+  const older = withOlderKeyword(text, syntaxErrors(file));
+  return older === text ? file : parseText(compiler, older, mediaType);
+}
+
+/**
+ * @param {Compiler} compiler
+ * @param {Node} file
+ * @param {Source} source
+ * @throws {import("../source.mjs").SourceFault} the first syntax error
+ */
+export function refuseErrors(compiler, file, source) {
+  const [first] = syntaxErrors(file);
+  if (first) {
+    throw source.fault(first.start, compiler.flattenDiagnosticMessageText(first.messageText, " "));
+  }
+}
+
+/**
+ * As a module, in which `await` is a keyword; where that doesn't parse and a script may, as one.
+ * @param {Compiler} compiler
+ * @param {string} text
+ * @param {string} mediaType
+ * @returns {Node}
+ */
+function parseText(compiler, text, mediaType) {
+  const asModule = parseAs(compiler, text, mediaType, true);
+  if (isSound(asModule) || mediaType === "Mjs" || mediaType === "Mts") {
+    return asModule;
+  }
+  const asFound = parseAs(compiler, text, mediaType, false);
+  return isSound(asFound) ? asFound : asModule;
+}
+
+/**
+ * @param {Compiler} compiler
+ * @param {string} text
+ * @param {string} mediaType
+ * @param {boolean} asModule
+ * @returns {Node}
+ */
+function parseAs(compiler, text, mediaType, asModule) {
+  const [name, scriptKind] = FILES[mediaType];
+  const options = {
+    languageVersion: compiler.ScriptTarget.Latest,
+    jsDocParsingMode: compiler.JSDocParsingMode?.ParseNone,
+    ...(asModule && { setExternalModuleIndicator: markAsModule }),
+  };
+  return compiler.createSourceFile(name, text, options, false, compiler.ScriptKind[scriptKind]);
+}
+
+/** @param {Node} file */
+function markAsModule(file) {
+  file.externalModuleIndicator = true;
+}
+
+/** @param {Node} file */
+function isSound(file) {
+  return syntaxErrors(file).length === 0;
+}
+
+/**
+ * @param {Node} file
+ * @returns {{ code: number, start: number, messageText: unknown }[]}
+ */
+function syntaxErrors({ parseDiagnostics = [] }) {
+  return parseDiagnostics.filter(({ code }) => !OF_COMMENTS.has(code));
+}
+
+/**
+ * The text with `assert` for each `with` that is an error, in as many characters: TypeScript before
+ * 5.3 knows clauses of attributes by that keyword alone. Where no blanks stand round `with`, there
+ * is no room.
+ * @param {string} text
+ * @param {{ start: number }[]} errors
+ */
+function withOlderKeyword(text, errors) {
+  let older = text;
+  for (const { start } of errors) {
+    const [room, colon] = /^[ \t]with(:?)[ \t]/.exec(text.slice(start - 1, start + 6)) ?? [];
+    if (room) {
+      older = `${older.slice(0, start - 1)}assert${colon}${older.slice(start - 1 + room.length)}`;
+    }
+  }
+  return older;
+}

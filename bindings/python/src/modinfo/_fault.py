@@ -1,0 +1,25 @@
+from typing import Literal
+
+FaultName = Literal[
+    "Input",
+    "Json",
+    "Tree",
+    "Specifier",
+    "RangeReversed",
+    "RangeOutside",
+    "RangeOffBoundary",
+    "CommentText",
+    "CommentsOverlap",
+    "Shape",
+    "Float",
+    "ColumnOverflow",
+    "OutOfMemory",
+]
+
+
+class Fault(Exception):
+    """A document was refused. `name` says why; the repository's README.md lists the names."""
+
+    def __init__(self, name: FaultName) -> None:
+        super().__init__(name)
+        self.name: FaultName = name

@@ -1,0 +1,29 @@
+"""What the tests take from the repository."""
+
+import sys
+from collections.abc import Iterator
+from pathlib import Path
+
+ROOT = Path(__file__).resolve().parents[3]
+EXAMPLES = ROOT / "examples"
+ROWS = ROOT / "crates/test_replay/data"
+
+sys.path.append(str(EXAMPLES / "embedding"))
+
+from rows import blocks, program_rows  # noqa: E402
+
+__all__ = ["EXAMPLES", "ROOT", "ROWS", "blocks", "examples", "program_rows"]
+
+# Each command's documents and what has to come out.
+ENDINGS = {
+    "analyze": (".json", ".out.json"),
+    "convert": (".convert.json", ".converted.json"),
+    "reach": (".reach.json", ".reached.json"),
+}
+
+
+def examples() -> Iterator[tuple[str, Path, Path]]:
+    """Each example's command, document and expected answer."""
+    for command, (document, answer) in ENDINGS.items():
+        for expected in sorted(EXAMPLES.glob(f"*{answer}")):
+            yield command, EXAMPLES / (expected.name.removesuffix(answer) + document), expected

@@ -1,0 +1,36 @@
+"""The rows of docs/ROWS.md that run the program on one command, through the package."""
+
+import json
+from typing import get_args
+
+import pytest
+from repository import ROWS, blocks, program_rows
+
+import modinfo
+
+ANSWERED, FAULT = 0, 1
+ALL = list(program_rows(ROWS))
+REFUSED = [row for row in ALL if row[3] == FAULT]
+ANSWERS = [row for row in ALL if row[3] == ANSWERED]
+
+
+@pytest.mark.parametrize("name, command, document, status, fault", REFUSED, ids=lambda part: str(part)[:60])
+def test_a_row_that_is_refused(name: str, command: str, document: bytes, status: int, fault: bytes) -> None:
+    with pytest.raises(modinfo.Fault) as refused:
+        getattr(modinfo, command)(document)
+    assert refused.value.name == str(refused.value) == fault.decode()
+
+
+@pytest.mark.parametrize("name, command, document, status, answer", ANSWERS, ids=lambda part: str(part)[:60])
+def test_a_row_that_is_answered(name: str, command: str, document: bytes, status: int, answer: bytes) -> None:
+    assert getattr(modinfo, command)(document) == json.loads(answer)
+
+
+def test_that_rows_have_each_fault_but_that_of_memory() -> None:
+    assert {row[4].decode() for row in REFUSED} | {"OutOfMemory"} == set(get_args(modinfo.FaultName))
+
+
+def test_that_the_version_is_the_program_s() -> None:
+    rows = [dict(row) for row in blocks((ROWS / "program.rows").read_text())]
+    printed = [row["output"] for row in rows if row["call"] == "serve --version"]
+    assert printed == [f"modinfo {modinfo.__version__}"]

@@ -1,0 +1,124 @@
+//! The examples and the rows, one by one and in many threads at once.
+
+mod repository;
+
+use modinfo::{analyze, Fault};
+use repository::{blocks, examples, field, root, rows};
+use std::collections::BTreeSet;
+use std::sync::Barrier;
+use std::{fs, thread};
+
+#[test]
+fn each_example_has_its_answer() {
+    let examples = examples();
+    for command in ["analyze", "convert", "reach"] {
+        assert!(
+            examples.iter().any(|example| example.command == command),
+            "{command}"
+        );
+    }
+    examples.iter().for_each(|example| example.check());
+}
+
+#[test]
+fn each_row_has_its_answer() {
+    rows().iter().for_each(|row| row.check());
+}
+
+#[test]
+fn the_rows_have_each_fault_but_that_of_memory() {
+    let faults: BTreeSet<String> = rows()
+        .iter()
+        .filter_map(|row| row.answer().err())
+        .inspect(|fault| assert!(!matches!(fault, Fault::Unknown(_)), "{fault}"))
+        .map(|fault| fault.to_string())
+        .collect();
+    let source = include_str!("../src/fault.rs");
+    let (_, listed) = source.split_once("faults! {").expect("the list");
+    let (listed, _) = listed.split_once('}').expect("its end");
+    let listed = listed
+        .lines()
+        .filter_map(|line| line.trim().strip_suffix(','));
+    let names = listed.filter(|name| name.bytes().all(|byte| byte.is_ascii_alphabetic()));
+    assert_eq!(
+        faults,
+        names
+            .filter(|name| *name != "OutOfMemory")
+            .map(str::to_owned)
+            .collect()
+    );
+}
+
+#[test]
+fn eight_threads_at_once() {
+    let calls: Vec<_> = examples().into_iter().chain(rows()).collect();
+    let together = Barrier::new(8);
+    thread::scope(|scope| {
+        for number in 0..8 {
+            let (calls, together) = (&calls, &together);
+            scope.spawn(move || {
+                together.wait();
+                let (ahead, first) = calls.split_at(number * 37);
+                first.iter().chain(ahead).for_each(|call| call.check());
+            });
+        }
+    });
+}
+
+#[test]
+fn an_answer_longer_than_its_document() {
+    let types = format!("./{}.d.ts", "t".repeat(2000));
+    let comment = format!(" @ts-types='{types}'");
+    let start = comment.len() + 3;
+    let import = format!(
+        r#"{{"kind":"ImportDecl","range":[{start},{start}],"src":{{"value":"a","range":[{start},{start}]}}}}"#
+    );
+    let imports = vec![import; 200].join(",");
+    let document = format!(
+        r#"{{"specifier":"file:///a.ts","mediaType":"TypeScript","source":"//{comment}\n",
+        "program":{{"range":[{start},{start}],"body":[{imports}]}},
+        "leading":[{{"pos":{start},"comments":[{{"kind":"line","range":[0,{}],"text":"{comment}"}}]}}]}}"#,
+        start - 1
+    );
+    let answer = analyze(document.as_bytes()).expect("an answer");
+    assert_eq!(answer.matches(&types).count(), 200);
+    assert!(answer.len() > 10 * document.len());
+    assert!(answer.ends_with('}'));
+}
+
+#[test]
+fn an_empty_document_is_no_json() {
+    assert_eq!(analyze(b""), Err(Fault::Json));
+}
+
+#[test]
+fn bytes_that_are_no_utf_8() {
+    for document in [
+        &b"\xff"[..],
+        b"{\"source\":\"\xff\"}",
+        b"{\"source\":\"\xed\xa0\x80\"}",
+    ] {
+        assert_eq!(analyze(document), Err(Fault::Input));
+    }
+}
+
+#[test]
+fn the_version_is_the_program_s() {
+    let text =
+        fs::read_to_string(root().join("crates/test_replay/data/program.rows")).expect("the rows");
+    let rows = blocks(&text);
+    let row = rows
+        .iter()
+        .find(|row| field(row, "call").as_deref() == Some("serve --version"));
+    let printed = row.and_then(|row| field(row, "output"));
+    assert_eq!(
+        printed,
+        Some(format!("modinfo {}", env!("CARGO_PKG_VERSION")))
+    );
+}
+
+#[test]
+fn a_fault_is_an_error() {
+    let fault: Box<dyn std::error::Error + Send + Sync> = Box::new(Fault::Tree);
+    assert_eq!(fault.to_string(), "Tree");
+}

@@ -1,8 +1,0 @@
-//! Tests of the analysis for what has no text: dependencies by their parts, and a walk step by step.
-//! What has a text is a row of `crates/replay`.
-#![tactic(auto)]
-
-#[cfg(test)]
-mod descriptors;
-#[cfg(test)]
-mod steps;

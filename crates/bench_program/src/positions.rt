@@ -1,0 +1,75 @@
+//! Looks up positions in a text, the input.
+//!
+//!     bench_program positions read COUNT          takes the text alone
+//!     bench_program positions new COUNT           and makes what finds positions in it
+//!     bench_program positions boundaries COUNT    and takes so many boundaries of the text
+//!     bench_program positions find COUNT          and looks up their positions
+//!     bench_program positions back COUNT          and finds each of them again by its position
+
+ghost use Rattle.std.specs.Str.{IsCharBoundary};
+
+use crate::words::number;
+use anyhow::{Context, Result};
+use deno_graph_source::text::{Position, SourceTextInfo};
+use std::rc::RcStr;
+use std::str;
+
+/// How many bytes lie between one look-up and the next. A prime, so that they fall everywhere.
+const STEP: usize = 7919;
+
+pub fn run<R: AllocGlobal + Print>(rt: &R, words: &[&str], input: &[u8]) -> Result<()> {
+    let alloc = rt.alloc();
+    let mode = words
+        .first()
+        .context("read, new, boundaries, find or back?")?;
+    let count = number(words, 1)?;
+    let text = RcStr::from_str(alloc, str::from_utf8(input)?)?;
+    let sum = match *mode {
+        "read" => text.as_str().len(),
+        "new" => SourceTextInfo::new(alloc, text)?.text().len(),
+        "boundaries" => boundaries(&SourceTextInfo::new(alloc, text)?, count),
+        "find" => found(&SourceTextInfo::new(alloc, text)?, count),
+        _ => found_again(&SourceTextInfo::new(alloc, text)?, count),
+    };
+    println!(rt; "{sum}")?;
+    Ok(())
+}
+
+/// The sum of so many boundaries.
+fn boundaries(info: &SourceTextInfo, count: usize) -> usize {
+    let mut sum = 0_usize;
+    for i in 0..count {
+        sum = sum.wrapping_add(boundary(info, i));
+    }
+    sum
+}
+
+/// The sum of the lines and characters of so many boundaries.
+fn found(info: &SourceTextInfo, count: usize) -> usize {
+    let mut sum = 0_usize;
+    for i in 0..count {
+        let position = Position::from_source_pos(boundary(info, i), info);
+        sum = sum
+            .wrapping_add(position.line)
+            .wrapping_add(position.character);
+    }
+    sum
+}
+
+/// The sum of so many boundaries, each found by its position.
+fn found_again(info: &SourceTextInfo, count: usize) -> usize {
+    let mut sum = 0_usize;
+    for i in 0..count {
+        let position = Position::from_source_pos(boundary(info, i), info);
+        sum = sum.wrapping_add(position.as_source_pos(info).unwrap_or(0));
+    }
+    sum
+}
+
+/// A character boundary of the text.
+fn boundary(info: &SourceTextInfo, i: usize) -> usize
+    ensures { IsCharBoundary info.now result }
+{
+    let text = info.text();
+    text.floor_char_boundary(i.wrapping_mul(STEP) % text.len().saturating_add(1))
+}

@@ -1,0 +1,86 @@
+//! Makes a module of imports in code, as a caller with a parser does, and analyzes it.
+//!
+//!     bench_program sources tree COUNT      makes the text and the tree of so many imports
+//!     bench_program sources source COUNT    and the parsed source
+//!     bench_program sources info COUNT      and prints how many dependencies it states
+
+use crate::imports::{import, program};
+use crate::words::number;
+use anyhow::{Context, Result};
+use deno_graph_analysis::ast::module_info;
+use deno_graph_source::text::SourceRange;
+use deno_graph_source::tree::{Comments, MediaType, Node, ParsedSource, Program};
+use deno_graph_source::values::Items;
+use std::alloc::{AllocError, Global};
+use std::rc::RcStr;
+use url::Url;
+
+/// An import on a line of its own, and what it imports.
+const LINE: &str = "import { é } from \"./日本語.ts\";\n";
+
+const SPECIFIER: &str = "./日本語.ts";
+
+/// How many bytes the line has, where its quoted specifier is, and where its statement ends.
+const LINE_BYTES: usize = 37;
+
+const QUOTED: SourceRange = SourceRange { start: 19, end: 35 };
+
+const STATEMENT_BYTES: usize = 36;
+
+pub fn run<R: AllocGlobal + Print>(rt: &R, words: &[&str]) -> Result<()> {
+    let alloc = rt.alloc();
+    let mode = *words.first().context("tree, source or info?")?;
+    let count = number(words, 1)?;
+    let text = lines(alloc, count)?;
+    let program = imports(alloc, count)?;
+    if mode == "tree" {
+        return Ok(());
+    }
+    let source = source(alloc, text, program)?;
+    if mode == "source" {
+        return Ok(());
+    }
+    let info = module_info(alloc, &source)?;
+    println!(rt; "{} dependencies", info.dependencies.len())?;
+    Ok(())
+}
+
+/// The line, so many times.
+fn lines(alloc: Global, count: usize) -> Result<RcStr, AllocError> {
+    let mut text = String::new(alloc);
+    for _ in 0..count {
+        text.push_str(LINE)?;
+    }
+    RcStr::from_str(alloc, text.as_str())
+}
+
+/// The tree of so many lines.
+fn imports(alloc: Global, count: usize) -> Result<Program, AllocError> {
+    let mut body = Items::with_capacity(alloc, count)?;
+    for i in 0..count {
+        body.push(import_at(alloc, i.saturating_mul(LINE_BYTES))?)?;
+    }
+    Ok(program(count.saturating_mul(LINE_BYTES), body))
+}
+
+/// The import of the line that begins at the byte `start`.
+fn import_at(alloc: Global, start: usize) -> Result<Node, AllocError> {
+    let range = SourceRange::new(start, start.saturating_add(STATEMENT_BYTES));
+    let quoted = SourceRange::new(
+        start.saturating_add(QUOTED.start),
+        start.saturating_add(QUOTED.end),
+    );
+    import(alloc, range, SPECIFIER, quoted)
+}
+
+fn source(alloc: Global, text: RcStr, program: Program) -> Result<ParsedSource> {
+    Ok(ParsedSource::new(
+        alloc,
+        Url::parse(alloc, "file:///a.ts")?,
+        text,
+        MediaType::TypeScript,
+        program,
+        Comments::new(alloc),
+        false,
+    )?)
+}

@@ -1,6 +1,0 @@
--- Each step takes one path of those to come.
-use Rattle.std.proofs.Common.{length}
-use Rattle.bench_walk.proofs.walked.Given as goal
-
-abbrev pub decreases-nodes : goal.decreases-nodes
-decreases-nodes l = length l.walk.to_come

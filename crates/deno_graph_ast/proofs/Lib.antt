@@ -1,0 +1,11 @@
+pub mod Chosen
+pub mod Collected
+pub mod Gathered
+pub mod InSource
+pub mod InfoLemmas
+pub mod ItemComments
+pub mod JsDocComments
+pub mod Named
+pub mod Places
+pub mod ReferenceLists
+pub mod Scripts

@@ -1,0 +1,103 @@
+-- The first and the last of a list with a property, and what their pragmas name.
+use Rattle.std.proofs.Common.{◌≡◌, ℕ, ◌+◌, ◌<◌, List, [], ◌∷◌, ◌++◌, length, take, drop, get_or, length-append, refl, sym, ap, subst, ◌∙◌, All, arith, add-one, drop-cons, IsTrue, Bool, true, false, Some}
+use Rattle.std.proofs.lemmas.List.{take-append-drop, get_or_append_left}
+use Rattle.std.proofs.lemmas.List.Elements.{All-nil, All-cons}
+use Rattle.deno_graph_source.specs.declared.tree.comments.CommentKind.TheVariants.{Block}
+use Rattle.deno_graph_source.specs.declared.tree.comments.DependencyComment.{DependencyComment}
+use Rattle.deno_graph_dependency.specs.declared.specifier_with_range.SpecifierWithRange.{SpecifierWithRange}
+use Rattle.deno_graph_pragmas.specs.Finders as finder
+use Rattle.deno_graph_pragmas.specs.Split.{TextPart, HasSplit, IsCaptured}
+use Rattle.deno_graph_ast.specs.Pragma.{Pragma, HasPragma, Names, NamesByFirst, IsFirstWith, dependency_types_pragmas, quoted, quoteless, specifier_of_part}
+use Rattle.deno_graph_ast.specs.FoundPragma.{IsFound}
+
+-- a list at one of its places
+cut_at : {X : Type 0} (xs : List X) (i : ℕ) (x : X) → i < length xs → x ≡ get_or xs i x
+    → xs ≡ take i xs ++ x ∷ drop (i + 1) xs
+cut_at xs i x below is =
+    let here : drop i xs ≡ get_or xs i x ∷ drop (i + 1) xs = rw add-one (drop-cons xs i x below) in
+    sym (take-append-drop i xs) ∙ ap (λ t. take i xs ++ t) (here ∙ ap (λ y. y ∷ drop (i + 1) xs) (sym is))
+
+pub first_at : {X : Type 0} (P : X → Type 0) (xs : List X) (i : ℕ) (x : X) → i < length xs → x ≡ get_or xs i x
+    → All (λ y. ¬ P y) (take i xs) → P x → IsFirstWith P xs x
+first_at P xs i x below is none has = record {
+  before = take i xs;
+  after = drop (i + 1) xs;
+  whole = cut_at xs i x below is;
+  none_before = none;
+  has = has;
+}
+
+pub found_pragma : (pragma : Pragma) (comment : DependencyComment) (part : TextPart) → IsFound pragma comment part
+    → HasPragma pragma comment
+found_pragma pragma comment part found = record { kind = found.kind; split = found.is_captured.split }
+
+pub found_names : (source : List ℕ) (pragma : Pragma) (comment : DependencyComment) (part : TextPart)
+    (specifier : SpecifierWithRange) → IsFound pragma comment part
+    → specifier ≡ specifier_of_part source comment part pragma.is_quoteless
+    → Names source pragma comment specifier
+found_names source pragma comment part specifier found is =
+    record { part = part; is_captured = found.is_captured; is_specifier = is }
+
+-- ---- the types of a dependency
+
+no_blocks : (comment : DependencyComment) → IsTrue false → comment.kind ≡ Block
+no_blocks comment is = cc
+
+pub ts_types_named : (source : List ℕ) (comment : DependencyComment) (part : TextPart)
+    (specifier : SpecifierWithRange) → IsCaptured finder.ts_types_pattern comment.text part
+    → specifier ≡ specifier_of_part source comment part false
+    → NamesByFirst source dependency_types_pragmas comment (Some specifier)
+ts_types_named source comment part specifier captured is = (
+  quoted finder.ts_types_pattern,
+  record {
+    before = [];
+    after = quoted finder.deno_types_pattern ∷ quoteless finder.quoteless_deno_types_pattern ∷ [];
+    whole = refl;
+    none_before = All-nil (λ p. ¬ HasPragma p comment);
+    has = record { kind = no_blocks comment; split = captured.split };
+  },
+  record { part = part; is_captured = captured; is_specifier = is },
+)
+
+pub deno_types_named : (source : List ℕ) (comment : DependencyComment) (part : TextPart) (is_quoteless : Bool)
+    (specifier : SpecifierWithRange)
+    → ¬ HasSplit finder.ts_types_pattern comment.text
+    → (is_quoteless ≡ false → IsCaptured finder.deno_types_pattern comment.text part)
+    → (is_quoteless ≡ true → ¬ HasSplit finder.deno_types_pattern comment.text
+    × IsCaptured finder.quoteless_deno_types_pattern comment.text part)
+    → specifier ≡ specifier_of_part source comment part is_quoteless
+    → NamesByFirst source dependency_types_pragmas comment (Some specifier)
+deno_types_named source comment part false specifier no_ts_types captured_quoted captured_quoteless is =
+    let captured = captured_quoted refl in (
+      quoted finder.deno_types_pattern,
+      record {
+        before = quoted finder.ts_types_pattern ∷ [];
+        after = quoteless finder.quoteless_deno_types_pattern ∷ [];
+        whole = refl;
+        none_before = All-cons (λ p. ¬ HasPragma p comment) (quoted finder.ts_types_pattern) []
+            (λ has. no_ts_types has.split) (All-nil (λ p. ¬ HasPragma p comment));
+        has = record { kind = no_blocks comment; split = captured.split };
+      },
+      record { part = part; is_captured = captured; is_specifier = is },
+    )
+deno_types_named source comment part true specifier no_ts_types captured_quoted captured_quoteless is =
+    let captured = captured_quoteless refl in (
+      quoteless finder.quoteless_deno_types_pattern,
+      record {
+        before = quoted finder.ts_types_pattern ∷ quoted finder.deno_types_pattern ∷ [];
+        after = [];
+        whole = refl;
+        none_before = All-cons (λ p. ¬ HasPragma p comment) (quoted finder.ts_types_pattern)
+            (quoted finder.deno_types_pattern ∷ []) (λ has. no_ts_types has.split)
+            (All-cons (λ p. ¬ HasPragma p comment) (quoted finder.deno_types_pattern) [] (λ has. captured.0 has.split)
+            (All-nil (λ p. ¬ HasPragma p comment)));
+        has = record { kind = no_blocks comment; split = captured.1.split };
+      },
+      record { part = part; is_captured = captured.1; is_specifier = is },
+    )
+
+-- ---- lists in parts
+
+pub All-front : {X : Type 0} (P : X → Type 0) (xs ys : List X) → All P (xs ++ ys) → All P xs
+All-front P xs ys all k d below =
+    subst P (get_or_append_left xs ys d k below) (all k d (omega (arith, below, length-append xs ys)))

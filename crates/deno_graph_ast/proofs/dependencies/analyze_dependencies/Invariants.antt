@@ -1,0 +1,16 @@
+-- The dependencies so far are those of the items so far, and the others are still to come.
+use Rattle.std.proofs.Common.{◌≡◌, ◌++◌, List, map, All}
+use Rattle.std.specs.List.{AllZip}
+use Rattle.deno_graph_dep.specs.Item.{Item, item_of}
+use Rattle.deno_graph_ast.specs.ModuleInfo.{CoversTypes, Describes, FitsText}
+use Rattle.deno_graph_ast.proofs.dependencies.analyze_dependencies.Given as goal
+
+abbrev pub invariant-loop-descriptor : goal.invariant-loop-descriptor
+invariant-loop-descriptor l = record {
+  done : List Item;
+  whole : map item_of l.initial.descriptor-iterator.rest.items ≡ done
+      ++ map item_of l.descriptor-iterator.rest.items;
+  described : AllZip (Describes l.text_info) done l.dependencies;
+  cover : All (CoversTypes l.text_info) l.dependencies;
+  fits : All (FitsText l.text_info) (map item_of l.descriptor-iterator.rest.items);
+}

@@ -1,0 +1,11 @@
+pub mod CommentImportSteps
+pub mod CommentImports
+pub mod FoundPragma
+pub mod HeadTail
+pub mod JsDocInfo
+pub mod ModuleInfo
+pub mod Pragma
+pub mod References
+pub mod Script
+pub mod ScriptSteps
+pub mod Spelled

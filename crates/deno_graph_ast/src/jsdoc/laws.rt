@@ -1,0 +1,23 @@
+//! Laws of the imports that comments state.
+
+ghost use Rattle.std.specs.Prelude.{◌≡◌, ℕ, List};
+ghost use Rattle.std.specs.List.{All};
+ghost use Rattle.std.specs.Str.{IsUtf8};
+ghost use Rattle.deno_graph_jsdoc.specs.JsDocImport.{Import};
+ghost use Rattle.deno_graph_ast.specs.CommentImports.{AreApart, AreImports};
+ghost use Rattle.deno_graph_source.specs.Source.{IsSpelled};
+ghost use Rattle.deno_graph_source.specs.declared.tree.comments.DependencyComment.{DependencyComment};
+
+/// Comments that are written in a source, of which unequal ones share no byte, have a list of all
+/// their imports.
+pub fn a_list_of_imports()
+    ensures { (text : List ℕ) (comments : List DependencyComment)
+        → All (IsSpelled text) comments → AreApart comments → All (λ comment. IsUtf8 comment.text) comments
+        → (imports : List Import) × AreImports comments imports }
+{}
+
+/// Comments have at most one list of all their imports.
+pub fn one_list_of_imports()
+    ensures { (comments : List DependencyComment) (imports others : List Import)
+        → AreImports comments imports → AreImports comments others → imports ≡ others }
+{}

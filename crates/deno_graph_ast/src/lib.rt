@@ -1,0 +1,17 @@
+//! The analysis of a parsed module: what it depends on, and what else its `ModuleInfo` says.
+#![tactic(auto)]
+
+mod dependencies;
+mod head_pragmas;
+mod head_tail;
+mod info;
+pub mod jsdoc;
+mod references;
+mod script;
+mod source_map;
+mod specifier;
+mod spelled;
+mod types;
+
+pub use info::{module_info, module_info_from_program};
+pub use types::analyze_ts_or_deno_types;

@@ -1,4 +1,0 @@
-pub mod Conversions
-pub mod MembersLemmas
-pub mod OneOutcome
-pub mod Outcomes

@@ -1,9 +1,0 @@
--- Why a part of a value isn't converted.
-use Rattle.deno_graph_conversion.specs.declared.fault.ConvertFault.{ConvertFault}
-use Rattle.deno_graph_conversion.specs.declared.fault.ConvertFault.TheVariants.{ColumnOverflow, Float, OutOfMemory}
-
--- the fault is ColumnOverflow, and it stands; or memory was refused
-abbrev pub IsColumnFault : Type 0 → ConvertFault → Type 0
-IsColumnFault Overflows ColumnOverflow = Overflows
-IsColumnFault Overflows Float = ⊥
-IsColumnFault Overflows OutOfMemory = Unit {0}

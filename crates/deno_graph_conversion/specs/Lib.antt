@@ -1,4 +1,0 @@
-pub mod Comment
-pub mod Conversion
-pub mod Fault
-pub mod Types

@@ -1,0 +1,97 @@
+-- What entering a node and leaving one do to a stack, and what that says of the nodes that were entered.
+use Rattle.std.proofs.Common.{◌≡◌, ◌+◌, ◌-◌, ◌^◌, ◌<◌, min, List, [], ◌∷◌, ◌++◌, sym, ap, ◌∙◌, subst, arith}
+use Rattle.std.specs.Borrow.{Bor}
+use Rattle.deno_graph_source.specs.declared.tree.node.Node.{Node}
+use Rattle.deno_graph_dep.specs.DependencyRules.{children_to_visit}
+use Rattle.deno_graph_dep.specs.Listing.{Rules}
+use Rattle.deno_graph_dep.specs.NodePath.{NodePath}
+use Rattle.deno_graph_dep.specs.Stack.{frame_of, is_before, is_after, once, next_path, StandsIn, to_come}
+use Rattle.deno_graph_dep.specs.declared.stack.Frame.{Frame}
+use Rattle.deno_graph_dep.specs.declared.stack.Stack.{Stack}
+use Rattle.deno_graph_dep.proofs.Rounds.{rounds, rounds_of, rounds_of-push, to_enter, to_enter-first}
+use Rattle.deno_graph_dep.proofs.Stacks.{ClosesAsVisited, paths_to_come-enter, paths_to_come-leave, StandsIn-enter, StandsIn-leave, StandsIn-left}
+
+pub record Enters (old new : Stack) (node : Bor Node) (siblings : Bor (List Node)) : Type 0 where
+  pub first : old.nodes.now ≡ node.now ∷ siblings.now
+  pub frames : new.frames.items ≡ old.frames.items ++ frame_of node siblings ∷ []
+  pub nodes : new.nodes.now ≡ children_to_visit node.now
+  pub entered : new.entered ≡ min (old.entered + 1) (2 ^ 64 - 1)
+
+pub record Left (old new : Stack) (node : Bor Node) (siblings : Bor (List Node)) : Type 0 where
+  pub none : old.nodes.now ≡ []
+  pub frames : old.frames.items ≡ new.frames.items ++ frame_of node siblings ∷ []
+  pub nodes : new.nodes.now ≡ siblings.now
+  pub entered : new.entered ≡ old.entered
+
+-- the path of the node that a frame is of, where the frames before it are these
+abbrev pub path_of : List Node → List Frame → Bor Node → Bor (List Node) → NodePath
+path_of body frames node siblings = next_path body frames (node.now ∷ siblings.now)
+
+pub to_come-enter : (rules : Rules) → ClosesAsVisited rules
+    → (body : List Node) (old new : Stack) (node : Bor Node) (siblings : Bor (List Node)) →
+    Enters old new node siblings →
+    to_come rules body old ≡ once (is_before rules node.now) (path_of body old.frames.items node siblings)
+    ++ to_come rules body new
+to_come-enter rules closes body old new node siblings step =
+    rw (step.first, step.frames, step.nodes)
+    (paths_to_come-enter rules closes body old.frames.items node siblings)
+
+pub to_come-leave : (rules : Rules) (body : List Node) (old new : Stack) (node : Bor Node)
+    (siblings : Bor (List Node)) →
+    Left old new node siblings → StandsIn body old.frames.items old.nodes.now →
+    to_come rules body old ≡ once (is_after rules node.now) (path_of body new.frames.items node siblings)
+    ++ to_come rules body new
+to_come-leave rules body old new node siblings step stands =
+    let P : List Frame → Type 0 = λ fs. StandsIn body fs old.nodes.now in
+    let Q : List Node → Type 0 = λ ns. StandsIn body (new.frames.items ++ frame_of node siblings ∷ []) ns in
+    let there = subst Q step.none (subst P step.frames stands) in
+    rw (step.none, step.frames, step.nodes)
+    (paths_to_come-leave rules body new.frames.items node siblings there)
+
+pub stands-first : (body : List Node) (old new : Stack) (node : Bor Node) (siblings : Bor (List Node))
+    → Enters old new node siblings →
+    StandsIn body old.frames.items old.nodes.now → StandsIn body old.frames.items (node.now ∷ siblings.now)
+stands-first body old new node siblings step stands =
+    let Q : List Node → Type 0 = λ ns. StandsIn body old.frames.items ns in subst Q step.first stands
+
+pub stands-left : (body : List Node) (old new : Stack) (node : Bor Node) (siblings : Bor (List Node))
+    → Left old new node siblings →
+    StandsIn body old.frames.items old.nodes.now → StandsIn body new.frames.items (node.now ∷ siblings.now)
+stands-left body old new node siblings step stands =
+    let P : List Frame → Type 0 = λ fs. StandsIn body fs old.nodes.now in
+    StandsIn-left body new.frames.items node siblings old.nodes.now (subst P step.frames stands)
+
+pub stands-enter : (body : List Node) (old new : Stack) (node : Bor Node) (siblings : Bor (List Node))
+    → Enters old new node siblings →
+    StandsIn body old.frames.items old.nodes.now → StandsIn body new.frames.items new.nodes.now
+stands-enter body old new node siblings step stands =
+    let there = StandsIn-enter body old.frames.items node siblings
+    (stands-first body old new node siblings step stands) in
+    let P : List Frame → Type 0 = λ fs. StandsIn body fs new.nodes.now in
+    let Q : List Node → Type 0 = λ ns. StandsIn body (old.frames.items ++ frame_of node siblings ∷ []) ns in
+    subst P (sym step.frames) (subst Q (sym step.nodes) there)
+
+pub stands-leave : (body : List Node) (old new : Stack) (node : Bor Node) (siblings : Bor (List Node))
+    → Left old new node siblings →
+    StandsIn body old.frames.items old.nodes.now → StandsIn body new.frames.items new.nodes.now
+stands-leave body old new node siblings step stands =
+    let P : List Frame → Type 0 = λ fs. StandsIn body fs old.nodes.now in
+    let Q : List Node → Type 0 = λ ns. StandsIn body new.frames.items ns in
+    subst Q (sym step.nodes)
+    (StandsIn-leave body new.frames.items node siblings old.nodes.now (subst P step.frames stands))
+
+-- each round is one less
+pub rounds-enter : (old new : Stack) (node : Bor Node) (siblings : Bor (List Node))
+    → Enters old new node siblings → rounds new < rounds old
+rounds-enter old new node siblings step =
+    let pushed = ap rounds_of step.frames ∙ rounds_of-push old.frames.items (frame_of node siblings) in
+    let inner = ap to_enter step.nodes in
+    let outer = ap to_enter step.first ∙ to_enter-first node siblings in
+    omega arith
+
+pub rounds-leave : (old new : Stack) (node : Bor Node) (siblings : Bor (List Node))
+    → Left old new node siblings → rounds new < rounds old
+rounds-leave old new node siblings step =
+    let popped = ap rounds_of step.frames ∙ rounds_of-push new.frames.items (frame_of node siblings) in
+    let inner = ap to_enter step.nodes in
+    omega arith

@@ -1,0 +1,88 @@
+-- A walk from its start, and from one step to the next.
+use Rattle.std.proofs.Common.{◌≡◌, ℕ, ◌+◌, List, [], ◌∷◌, ◌++◌, map, Option, Some, None, Result, Ok, Err, IfOk, OnErr, sym, ap, ◌∙◌, refl, subst, arith, append_assoc}
+use Rattle.std.specs.Borrow.{Bor}
+use Rattle.deno_graph_source.specs.declared.tree.node.Node.{Node}
+use Rattle.deno_graph_dep.specs.DependencyRules.{dependency_rules}
+use Rattle.deno_graph_dep.specs.Stack.{entry_rules, index_of, paths_to_come, to_come, StandsIn, IsStackOf}
+use Rattle.deno_graph_dep.specs.ListedPaths.{listed_paths, paths_at}
+use Rattle.deno_graph_dep.specs.Listing.{Rules, IsListing}
+use Rattle.deno_graph_dep.specs.NodePath.{NodePath}
+use Rattle.deno_graph_dep.specs.Walk.{Gives}
+use Rattle.deno_graph_dep.specs.WalkSteps.{IsWalkOf, state_of}
+use Rattle.deno_graph_dep.specs.declared.stack.Frame.{Frame}
+use Rattle.deno_graph_dep.specs.declared.stack.Stack.{Stack}
+use Rattle.deno_graph_dep.proofs.Ascending.{Member-from_Contains}
+use Rattle.deno_graph_dep.proofs.Listings.{IsListing-listed_paths}
+use Rattle.deno_graph_dep.proofs.Stacks.{under-same}
+
+-- at the start all paths are still to come
+starts : (rules : Rules) (body : List Node) → listed_paths rules body ≡ paths_to_come rules body [] body
+unfolding listed_paths
+starts rules body = under-same (λ n. n) (λ n. n + index_of body body) (λ n. first n)
+    (map (paths_at rules) body)
+  where
+    first : (n : ℕ) → n ≡ n + index_of body body
+    first n = omega arith
+
+pub to_come-new : (rules : Rules) (body : List Node) (stack : Stack) → stack.frames.items ≡ []
+    → stack.nodes.now ≡ body
+    → listed_paths rules body ≡ to_come rules body stack
+to_come-new rules body stack frames nodes = rw (frames, nodes) (starts rules body)
+
+pub IsWalkOf-new : (body : List Node) (stack : Stack) → stack.frames.items ≡ [] → stack.nodes.now ≡ body
+    → stack.entered ≡ 0
+    → IsWalkOf body stack
+IsWalkOf-new body stack frames nodes entered = record {
+  is_stack = record {
+    stands =
+        let P : List Frame → Type 0 = λ fs. StandsIn body fs stack.nodes.now in
+        let Q : List Node → Type 0 = λ ns. StandsIn body [] ns in
+        let at_start : StandsIn body [] body = ([], refl) in
+        subst P (sym frames) (subst Q (sym nodes) at_start);
+    passed = [];
+    follow = to_come-new (entry_rules dependency_rules) body stack frames nodes;
+    all_passed = λ path m. absurd (Member-from_Contains [] path m);
+    counted = entered;
+  };
+  given = [];
+  rest = to_come-new dependency_rules body stack frames nodes;
+}
+
+pub listing-new : (body : List Node) (stack : Stack) → stack.frames.items ≡ [] → stack.nodes.now ≡ body
+    → IsListing dependency_rules body (to_come dependency_rules body stack)
+listing-new body stack frames nodes =
+    let P : List NodePath → Type 0 = λ ps. IsListing dependency_rules body ps in
+    subst P (to_come-new dependency_rules body stack frames nodes)
+    (IsListing-listed_paths dependency_rules body)
+
+-- what was given until now, and what is still to come after a step
+given_by : {E : Type 0} (body : List Node) (old new : Stack) (answer : Result (Option (Bor Node)) E)
+    → IfOk answer (Gives (state_of body old) (state_of body new))
+    → OnErr answer (to_come dependency_rules body new ≡ to_come dependency_rules body old)
+    → (given : List NodePath)
+    → listed_paths dependency_rules body ≡ given ++ to_come dependency_rules body old
+    → (again : List NodePath)
+    × (listed_paths dependency_rules body ≡ again ++ to_come dependency_rules body new)
+given_by body old new (Ok None) gives refused given rest =
+    (given, rest ∙ ap (λ ps. given ++ ps) (gives.before ∙ sym gives.after))
+given_by body old new (Ok (Some node)) gives refused given rest = (
+  given ++ gives.path ∷ [],
+  rest ∙ ap (λ ps. given ++ ps) gives.first
+      ∙ sym (append_assoc given (gives.path ∷ []) (to_come dependency_rules body new)),
+)
+given_by body old new (Err error) gives refused given rest =
+    (given, rest ∙ ap (λ ps. given ++ ps) (sym refused))
+
+pub IsWalkOf-step : {E : Type 0} (body : List Node) (old new : Stack) (answer : Result (Option (Bor Node)) E)
+    → IfOk answer (Gives (state_of body old) (state_of body new))
+    → OnErr answer (to_come dependency_rules body new ≡ to_come dependency_rules body old)
+    → IsStackOf body new → IsWalkOf body old → IsWalkOf body new
+IsWalkOf-step body old new answer gives refused stack walk =
+    let then = given_by body old new answer gives refused walk.given walk.rest in
+    record { is_stack = stack; given = then.0; rest = then.1 }
+
+pub listing-of_walk : (body : List Node) (stack : Stack) → IsWalkOf body stack
+    → (given : List NodePath) × IsListing dependency_rules body (given ++ to_come dependency_rules body stack)
+listing-of_walk body stack walk =
+    let P : List NodePath → Type 0 = λ ps. IsListing dependency_rules body ps in
+    (walk.given, subst P walk.rest (IsListing-listed_paths dependency_rules body))

@@ -1,0 +1,107 @@
+-- The stack of a walk: the entered nodes that are not left yet, and what is still to come.
+use Rattle.std.specs.Prelude.{◌≡◌, ◌⊎◌, ℕ, suc, ◌+◌, ◌-◌, ◌^◌, min, Contains, List, [], ◌∷◌, ◌++◌, length, map, Bool, not, ◌&&◌, cond, Option, Some, None, true, false}
+use Rattle.std.specs.Borrow.{Bor}
+use Rattle.deno_graph_source.specs.declared.tree.node.Node.{Node}
+use Rattle.deno_graph_dep.specs.DependencyRules.{children_to_visit, dependency_rules}
+use Rattle.deno_graph_dep.specs.ListedPaths.{under, paths_at, listed_paths}
+use Rattle.deno_graph_dep.specs.Listing.{Rules}
+use Rattle.deno_graph_dep.specs.NodePath.{NodePath, IsStrictPrefix, PartsBelow}
+use Rattle.deno_graph_dep.specs.declared.stack.Frame.{Frame}
+use Rattle.deno_graph_dep.specs.declared.stack.Stack.{Stack}
+
+-- the rules of a walk that gives every node that it enters, before what is inside it
+abbrev pub entry_rules : Rules → Rules
+entry_rules rules = record {
+  is_closed = rules.is_closed;
+  is_listed = λ node. true;
+  is_after_inside = λ node. false;
+}
+
+abbrev pub frame_of : Bor Node → Bor (List Node) → Frame
+frame_of node siblings = record { node = node; siblings = siblings }
+
+-- the innermost node is left, and the siblings after it come next
+abbrev pub Leaves : Stack → Stack → Option (Bor Node) → Type 0
+Leaves old new None =
+    (old.frames.items ≡ []) × (new.frames.items ≡ []) × (new.nodes.now ≡ old.nodes.now)
+Leaves old new (Some node) =
+    (siblings : Bor (List Node))
+    × (old.frames.items ≡ new.frames.items ++ frame_of node siblings ∷ [])
+    × (new.nodes.now ≡ siblings.now)
+
+-- a listed node that is given before what is inside it, and one that is given after that
+abbrev pub is_before : Rules → Node → Bool
+is_before rules node = not (rules.is_after_inside node) && rules.is_listed node
+
+abbrev pub is_after : Rules → Node → Bool
+is_after rules node = rules.is_after_inside node && rules.is_listed node
+
+-- a path, if the test holds
+abbrev pub once : Bool → NodePath → List NodePath
+once b path = cond b (path ∷ []) []
+
+-- where the last nodes of a level begin
+abbrev pub index_of : List Node → List Node → ℕ
+index_of level nodes = length level - length nodes
+
+-- the index of the node that was entered in a level
+abbrev pub frame_index : List Node → Frame → ℕ
+frame_index level frame = index_of level (frame.node.now ∷ frame.siblings.now)
+
+-- the path of the node to enter next, from this level in
+abbrev pub next_path : List Node → List Frame → List Node → NodePath
+next_path level [] nodes = index_of level nodes ∷ []
+next_path level (frame ∷ frames) nodes =
+    frame_index level frame ∷ next_path (children_to_visit frame.node.now) frames nodes
+
+-- The paths that are still to come from this level in: those of the nodes to enter next, and from
+-- the innermost frame out the path of a node that comes after its inside, and those of the
+-- siblings.
+abbrev pub paths_to_come : Rules → List Node → List Frame → List Node → List NodePath
+paths_to_come rules level [] nodes =
+    under (λ n. n + index_of level nodes) (map (paths_at rules) nodes)
+paths_to_come rules level (frame ∷ frames) nodes =
+    let node = frame.node.now in
+    let index = frame_index level frame in
+    let inside = paths_to_come rules (children_to_visit node) frames nodes in
+    map (λ path. index ∷ path) (inside ++ once (is_after rules node) [])
+    ++ under (λ n. n + suc index) (map (paths_at rules) frame.siblings.now)
+
+-- the nodes are the last ones of a level
+abbrev pub AreLastOf : List Node → List Node → Type 0
+AreLastOf level nodes = (before : List Node) × (level ≡ before ++ nodes)
+
+-- each entered node stands in the level inside the one before it, with its siblings after it
+abbrev pub StandsIn : List Node → List Frame → List Node → Type 0
+StandsIn level [] nodes = AreLastOf level nodes
+StandsIn level (frame ∷ frames) nodes =
+    AreLastOf level (frame.node.now ∷ frame.siblings.now)
+    × StandsIn (children_to_visit frame.node.now) frames nodes
+
+-- the paths that are still to come
+abbrev pub to_come : Rules → List Node → Stack → List NodePath
+to_come rules body stack = paths_to_come rules body stack.frames.items stack.nodes.now
+
+-- the paths of all nodes that are entered in the end, and of those still to be entered
+abbrev pub entry_paths : List Node → List NodePath
+entry_paths body = listed_paths (entry_rules dependency_rules) body
+
+abbrev pub entries_to_come : List Node → Stack → List NodePath
+entries_to_come body stack = to_come (entry_rules dependency_rules) body stack
+
+-- the path of the node to enter next
+abbrev pub next_of : List Node → Stack → NodePath
+next_of body stack = next_path body stack.frames.items stack.nodes.now
+
+-- a path is passed where it parts from the next one at a smaller index, or is a prefix of it
+abbrev pub IsPassed : NodePath → NodePath → Type 0
+IsPassed next path = PartsBelow path next ⊎ IsStrictPrefix path next
+
+-- The stack stands in a body: it leads down from there, and what it counts are the paths that were
+-- entered, which all are passed and which those still to come follow.
+pub record IsStackOf (body : List Node) (stack : Stack) : Type 0 where
+  pub stands : StandsIn body stack.frames.items stack.nodes.now
+  pub passed : List NodePath
+  pub follow : entry_paths body ≡ passed ++ entries_to_come body stack
+  pub all_passed : (path : NodePath) → Contains passed path → IsPassed (next_of body stack) path
+  pub counted : stack.entered ≡ min (length passed) (2 ^ 64 - 1)

@@ -1,0 +1,23 @@
+-- What the stack of a walk says of it.
+use Rattle.std.specs.Prelude.{◌≡◌, List, ◌++◌}
+use Rattle.deno_graph_source.specs.declared.tree.node.Node.{Node}
+use Rattle.deno_graph_dep.specs.DependencyRules.{dependency_rules}
+use Rattle.deno_graph_dep.specs.ListedPaths.{listed_paths}
+use Rattle.deno_graph_dep.specs.NodePath.{NodePath}
+use Rattle.deno_graph_dep.specs.Stack.{IsStackOf, to_come}
+use Rattle.deno_graph_dep.specs.declared.stack.Stack.{Stack}
+use Rattle.deno_graph_dep.specs.Walk.{WalkState}
+
+-- what a stack says of the body that it stands in
+abbrev pub state_of : List Node → Stack → WalkState
+state_of body stack = record {
+  body = body;
+  to_come = to_come dependency_rules body stack;
+  entered = stack.entered;
+}
+
+-- the stack stands in the body, and what is still to come ends the body's listing
+pub record IsWalkOf (body : List Node) (stack : Stack) : Type 0 where
+  pub is_stack : IsStackOf body stack
+  pub given : List NodePath
+  pub rest : listed_paths dependency_rules body ≡ given ++ to_come dependency_rules body stack

@@ -1,0 +1,84 @@
+//! Which nodes are listed, and where: by the node alone, whatever stands round it.
+#![tactic(auto, unfolding(deno_graph_source::specs::Node::kind_of, deno_graph_source::specs::Node::children_of, crate::specs::DependencyRules::is_listed))]
+
+ghost use Rattle.std.specs.Prelude.{◌≡◌, Some};
+ghost use Rattle.deno_graph_source.specs.Node.{kind_of, children_of};
+ghost use Rattle.deno_graph_dep.specs.DependencyRules.{is_closed, is_listed, is_listed_after_inside, is_module_call, is_relative, is_require, may_name_module};
+
+use deno_graph_source::tree::{Callee, Kind, Node};
+
+/// Whether a node is a dependency, whatever stands round it.
+pub fn is_listed(node: &Node) -> bool
+    ensures { result ≡ is_listed node.now }
+{
+    match &node.kind {
+        Kind::ImportDecl { .. } | Kind::ExportAll { .. } | Kind::ImportType { .. } => true,
+        Kind::NamedExport { src, .. } => src.is_some(),
+        Kind::ImportEquals { external, .. } => external.is_some(),
+        Kind::ModuleDecl { name: Some(name) } => may_name_module(name.value.to_str_lossy()),
+        Kind::Call { callee, args } => {
+            is_module_call(*callee, node.children.as_slice()) && args.get(0).is_some()
+        }
+        _ => false,
+    }
+}
+
+/// Whether a module declaration of this name may add to a module: a name with `*` is a pattern,
+/// unless it is a relative path.
+pub fn may_name_module(name: &str) -> bool
+    ensures { result ≡ may_name_module name.now }
+{
+    !name.as_bytes().contains(&b'*') || is_relative(name)
+}
+
+/// Whether a name is a relative path.
+fn is_relative(name: &str) -> bool
+    ensures { result ≡ is_relative name.now }
+{
+    let bytes = name.as_bytes();
+    bytes.starts_with(b"./") || bytes.starts_with(b"../") || bytes.starts_with(b"/")
+}
+
+/// Whether a call with this callee is one of `import` or `require`.
+fn is_module_call(callee: Callee, children: &[Node]) -> bool
+    ensures { result ≡ is_module_call callee children.now }
+{
+    match callee {
+        Callee::Import(_) => true,
+        Callee::Expr => match children.first() {
+            Some(function) => is_require(function),
+            None => false,
+        },
+        Callee::Super => false,
+    }
+}
+
+/// Whether a node is the identifier `require`.
+pub fn is_require(node: &Node) -> bool
+    ensures { result ≡ is_require (Some (kind_of node.now)) }
+{
+    match &node.kind {
+        Kind::Ident(name) => name.as_str() == "require",
+        _ => false,
+    }
+}
+
+/// Whether what is inside a node is left unread.
+pub fn is_closed(kind: &Kind) -> bool
+    ensures { result ≡ is_closed kind.now }
+{
+    matches!(
+        kind,
+        Kind::ImportDecl { .. }
+            | Kind::NamedExport { .. }
+            | Kind::ExportAll { .. }
+            | Kind::ImportEquals { .. }
+    )
+}
+
+/// Whether a node is listed after what is inside it.
+pub fn is_listed_after_inside(kind: &Kind) -> bool
+    ensures { result ≡ is_listed_after_inside kind.now }
+{
+    matches!(kind, Kind::Call { .. })
+}

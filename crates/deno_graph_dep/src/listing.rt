@@ -1,0 +1,33 @@
+//! The laws of listings, and of the tree order that they stand in.
+
+ghost use Rattle.std.specs.Prelude.{◌≡◌, ◌≢◌, ◌⊎◌, ◌↔◌, ◌++◌, List};
+ghost use Rattle.deno_graph_source.specs.declared.tree.node.Node.{Node};
+ghost use Rattle.deno_graph_dep.specs.ListedNodes.{listed_below, listed_in, own_after, own_before};
+ghost use Rattle.deno_graph_dep.specs.DependencyRules.{children_to_visit};
+ghost use Rattle.deno_graph_dep.specs.Listing.{IsListing, Precedes, Rules};
+ghost use Rattle.deno_graph_dep.specs.NodePath.{NodePath};
+
+/// A body has exactly one listing.
+pub fn one_listing()
+    ensures some { (rules : Rules) (body : List Node)
+        → (paths : List NodePath) × IsListing rules body paths }
+    ensures only { (rules : Rules) (body : List Node) (paths others : List NodePath)
+        → IsListing rules body paths → IsListing rules body others → paths ≡ others }
+{}
+
+/// The tree order is a strict total order: of two different paths exactly one precedes the other.
+pub fn tree_order()
+    ensures one { (rules : Rules) (body : List Node) (p q : NodePath)
+        → p ≢ q → Precedes rules body p q ⊎ Precedes rules body q p }
+    ensures not_both { (rules : Rules) (body : List Node) (p q : NodePath)
+        → Precedes rules body p q → ¬ Precedes rules body q p }
+    ensures transitive { (rules : Rules) (body : List Node) (p q r : NodePath)
+        → Precedes rules body p q → Precedes rules body q r → Precedes rules body p r }
+{}
+
+/// A node that is listed stands before the listed ones inside it, or after them.
+pub fn own_nodes_and_inside()
+    ensures { (node : Node)
+        → listed_in node
+        ≡ own_before node ++ listed_below (children_to_visit node) ++ own_after node }
+{}

@@ -1,0 +1,125 @@
+//! The nodes that a walk has entered and not left yet.
+#![tactic(auto, unfolding(deno_graph_source::specs::Node::kind_of, deno_graph_source::specs::Node::children_of, crate::specs::DependencyRules::children_to_visit))]
+
+ghost use Rattle.std.specs.Prelude.{◌≡◌, ◌+◌, ◌-◌, ◌^◌, ◌≤◌, ◌++◌, ◌∷◌, [], min, IfOk, OnOk, OnErr, MatchOption, List};
+ghost use Rattle.deno_graph_source.specs.declared.tree.node.Node.{Node};
+ghost use Rattle.deno_graph_dep.specs.DependencyRules.{children_to_visit, dependency_rules};
+ghost use Rattle.deno_graph_dep.specs.Walk.{Gives};
+ghost use Rattle.deno_graph_dep.specs.WalkSteps.{state_of};
+ghost use Rattle.deno_graph_dep.specs.Stack.{frame_of, Leaves, IsStackOf, is_after, is_before, to_come};
+
+use crate::listed::{is_closed, is_listed, is_listed_after_inside};
+use deno_graph_source::tree::Node;
+use std::alloc::{AllocError, Global};
+
+/// An entered node, and the siblings after it.
+#[derive(Clone, Copy)]
+pub(crate) struct Frame<'a> {
+    pub(crate) node: &'a Node,
+    pub(crate) siblings: &'a [Node],
+}
+
+/// The entered nodes that are not left yet, from the outermost in, and the nodes to enter next.
+#[derive(Drop)]
+pub(crate) struct Stack<'a> {
+    pub(crate) frames: Vec<Frame<'a>>,
+    pub(crate) nodes: &'a [Node],
+    /// How many nodes were entered, up to the largest `u64`.
+    pub(crate) entered: u64,
+}
+
+impl<'a> Stack<'a> {
+    pub(crate) fn new(alloc: Global, body: &'a [Node]) -> Stack<'a>
+        ensures frames { result.frames.items ≡ [] }
+        ensures nodes { result.nodes.now ≡ body.now }
+        ensures entered { result.entered ≡ 0 }
+    {
+        Stack {
+            frames: Vec::new(alloc),
+            nodes: body,
+            entered: 0,
+        }
+    }
+
+    /// Enters a node, so that what is inside it comes next. A refusal leaves all as it was.
+    pub(crate) fn enter(&mut self, node: &'a Node, siblings: &'a [Node]) -> Result<(), AllocError>
+        ensures frames { OnOk result (self.new.frames.items
+            ≡ self.old.frames.items ++ frame_of node.entry siblings.entry ∷ []) }
+        ensures nodes { OnOk result (self.new.nodes.now ≡ children_to_visit node.now) }
+        ensures entered { OnOk result
+            (self.new.entered ≡ min (self.old.entered + 1) (2 ^ 64 - 1)) }
+        ensures refused_frames { OnErr result (self.new.frames.items ≡ self.old.frames.items) }
+        ensures refused_nodes { OnErr result (self.new.nodes.now ≡ self.old.nodes.now) }
+        ensures refused_entered { OnErr result (self.new.entered ≡ self.old.entered) }
+    {
+        self.frames.push(Frame { node, siblings })?;
+        self.entered = self.entered.saturating_add(1);
+        self.nodes = inside(node);
+        Ok(())
+    }
+
+    /// Leaves the innermost node, so that the siblings after it come next. `None` where no node
+    /// is left to leave.
+    pub(crate) fn leave(&mut self) -> Option<&'a Node>
+        ensures leaves { Leaves self.old self.new result }
+        ensures entered { self.new.entered ≡ self.old.entered }
+    {
+        let Frame { node, siblings } = self.frames.pop()?;
+        self.nodes = siblings;
+        Some(node)
+    }
+
+    /// The next listed node, each before what is inside it or after that as the listing wants.
+    /// `None` at the end. A refusal leaves what is still to come as it was.
+    pub(crate) fn next_listed(&mut self) -> Result<Option<&'a Node>, AllocError>
+        ensures stays { (body : List Node) → IsStackOf body self.old → IsStackOf body self.new }
+        ensures gives { (body : List Node) → IsStackOf body self.old
+            → IfOk result (Gives (state_of body self.old) (state_of body self.new)) }
+        ensures refused { (body : List Node) → IsStackOf body self.old
+            → OnErr result (to_come dependency_rules body self.new
+            ≡ to_come dependency_rules body self.old) }
+        ensures rises { (body : List Node) → IsStackOf body self.old
+            → self.old.entered ≤ self.new.entered }
+    {
+        'nodes: loop {
+            if let Some((node, siblings)) = self.nodes.split_first() {
+                self.enter(node, siblings)?;
+                if is_given_before_inside(node) {
+                    return Ok(Some(node));
+                }
+            } else {
+                let Some(node) = self.leave() else {
+                    return Ok(None);
+                };
+                if is_given_after_inside(node) {
+                    return Ok(Some(node));
+                }
+            }
+        }
+    }
+}
+
+/// The nodes directly inside a node, unless these are left unread.
+fn inside(node: &Node) -> &[Node]
+    ensures { result.now ≡ children_to_visit node.now }
+{
+    if is_closed(&node.kind) {
+        &[]
+    } else {
+        node.children.as_slice()
+    }
+}
+
+/// Whether a node is listed, and before what is inside it.
+fn is_given_before_inside(node: &Node) -> bool
+    ensures { result ≡ is_before dependency_rules node.now }
+{
+    !is_listed_after_inside(&node.kind) && is_listed(node)
+}
+
+/// Whether a node is listed, and after what is inside it.
+fn is_given_after_inside(node: &Node) -> bool
+    ensures { result ≡ is_after dependency_rules node.now }
+{
+    is_listed_after_inside(&node.kind) && is_listed(node)
+}

@@ -1,7 +1,0 @@
-use Rattle.deno_graph_json.proofs.Reading.{exits_shape}
-use Rattle.deno_graph_dependency.specs.Json.Read.DynamicDependency.{reads_dynamic_kind}
-use Rattle.deno_graph_dependency.proofs.read.dynamic_dependency.DynamicDependencyKindFromJson.from_json.Goals as goal
-
-pub returns-in_err-name : goal.returns-in_err-name
-unfolding reads_dynamic_kind
-returns-in_err-name c = exits_shape _ _ _ _ c.from_residual.ensures.1 c.in_err-name.ensures

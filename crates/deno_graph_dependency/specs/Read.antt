@@ -1,0 +1,3 @@
+-- What every reader does.
+pub mod Answer
+pub mod Partial

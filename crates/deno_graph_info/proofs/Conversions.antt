@@ -1,0 +1,148 @@
+-- Dependencies that are converted one by one, and what conversion leaves when it is done again.
+use Rattle.std.proofs.Common.{◌≡◌, ℕ, zero, suc, ◌+◌, ◌<◌, codes, List, [], ◌∷◌, ◌++◌, map, length, get_or, take, Option, Some, None, option_map, IsSome, Result, Ok, Err, OnOk, OnErr, String, Vec, Global, string_bytes, string_cmp, true≢false, arith, inl, inr, refl, sym, ap, subst, ◌∙◌}
+use Rattle.std.proofs.lemmas.List.{map-append, take_more}
+use Rattle.std.specs.BTreeMap.{insert_entry}
+use Rattle.std.specs.Map.{lookup}
+use Rattle.serde_json.proofs.Views.{get_member-put, members_view-insert_entry, view-Array, view-lookup}
+use Rattle.serde_json.specs.Data.{Data, null, boolean, number, string, array, object, Items, no_items, item, put}
+use Rattle.serde_json.specs.Find.{as_array, get_member}
+use Rattle.serde_json.specs.View.{view, items_of, items_view, members_view}
+use Rattle.serde_json.specs.declared.value.Value.{Value, Array}
+use Rattle.deno_graph_dependency.specs.Read.Partial.{◌>>=◌, member_at, reads_array}
+use Rattle.deno_graph_dependency.specs.declared.specifier_with_range.SpecifierWithRange.{SpecifierWithRange}
+use Rattle.deno_graph_info.proofs.MembersLemmas.{TextEntry, has_key, get_member-without, put_again}
+use Rattle.deno_graph_info.specs.Comment.{reads_comment}
+use Rattle.deno_graph_info.specs.Conversion.{with_member, without_member, with_types, comments_in, dependencies_in, IsConvertedDependency, DependencyOverflows, AreConverted, IsConverted, AnyOverflows}
+use Rattle.deno_graph_info.specs.Types.{AreTypes}
+use Rattle.deno_graph_info.specs.declared.conversion.comment.Comment.{Comment}
+
+-- ---- one by one
+
+AreConverted-push : (ds es : List Data) (d e : Data) → AreConverted (items_of ds) (items_of es)
+    → IsConvertedDependency d e → AreConverted (items_of (ds ++ d ∷ [])) (items_of (es ++ e ∷ []))
+AreConverted-push [] [] d e so_far h = (h, tt)
+AreConverted-push [] (x ∷ es) d e so_far h = absurd so_far
+AreConverted-push (x ∷ ds) [] d e so_far h = absurd so_far
+AreConverted-push (x ∷ ds) (y ∷ es) d e so_far h = (so_far.0, AreConverted-push ds es d e so_far.1 h)
+
+-- one dependency more is converted
+pub converted_more : (all new newer : List Value) (i : ℕ) (v w : Value) → i < length all → v ≡ get_or all i v
+    → AreConverted (items_of (map view (take i all))) (items_of (map view new))
+    → IsConvertedDependency (view v) (view w) → newer ≡ new ++ w ∷ []
+    → AreConverted (items_of (map view (take (i + 1) all))) (items_of (map view newer))
+converted_more all new newer i v w below is so_far h pushed =
+    let old : map view (take (i + 1) all) ≡ map view (take i all) ++ view v ∷ [] =
+    ap (map view) (take_more all i v below ∙ ap (λ x. take i all ++ x ∷ []) (sym is))
+    ∙ map-append view (take i all) (v ∷ []) in
+    let made : map view newer ≡ map view new ++ view w ∷ [] =
+    ap (map view) pushed ∙ map-append view new (w ∷ []) in
+    rw (old, made) (AreConverted-push (map view (take i all)) (map view new) (view v) (view w) so_far h)
+
+-- a dependency that overflows is among them
+pub overflow_at : (all : List Value) (i : ℕ) (v : Value) → i < length all → v ≡ get_or all i v
+    → DependencyOverflows (view v) → AnyOverflows (items_view all)
+overflow_at [] i v below is h = absurd (omega (arith, below))
+overflow_at (x ∷ all) zero v below is h = inl (subst (λ w. DependencyOverflows (view w)) is h)
+overflow_at (x ∷ all) (suc i) v below is h = inr (overflow_at all i v (omega (arith, below)) is h)
+
+-- ---- in the place of the old ones
+
+absent_key : (key : List ℕ) (es : List TextEntry) → lookup (has_key key) es ≡ None
+    → get_member key (members_view es) ≡ None
+absent_key key es none = sym (view-lookup key es) ∙ ap (option_map view) none
+
+-- an object that has dependencies has a value at their key
+not_there_at : (found : Option Data) → found ≡ None → IsSome (found >>= as_array) → ⊥
+not_there_at None none present = true≢false (sym present)
+not_there_at (Some d) none present = absurd (cc)
+
+not_there : (es : List TextEntry) → IsSome (dependencies_in (object (members_view es)))
+    → get_member (codes "dependencies") (members_view es) ≡ None → ⊥
+unfolding dependencies_in member_at
+not_there es present none = not_there_at (get_member (codes "dependencies") (members_view es)) none present
+
+-- an insertion at a key that is there doesn't fail
+pub dependencies_stay : {A E : Type 0} (answer : Result A E) (old new : List TextEntry) (key : String Global)
+    (items : Vec Value Global) → string_bytes key ≡ codes "dependencies"
+    → IsSome (dependencies_in (object (members_view old)))
+    → OnOk answer (new ≡ insert_entry string_cmp old key (Array items))
+    → OnErr answer (lookup (has_key (string_bytes key)) old ≡ None)
+    → object (members_view new) ≡ with_member (codes "dependencies") (array (items_view items.items))
+    (object (members_view old))
+dependencies_stay (Ok x) old new key items named present made absent =
+    ap (λ es. object (members_view es)) made ∙ ap object (members_view-insert_entry old key (Array items))
+    ∙ (λ i. object (put (named i) (view-Array items i) (members_view old)))
+dependencies_stay (Err e) old new key items named present made absent =
+    absurd (not_there old present (absent_key (codes "dependencies") old
+    (subst (λ k. lookup (has_key k) old ≡ None) named absent)))
+
+-- ---- again
+
+without_comments : (d : Data) → comments_in (without_member (codes "leadingComments") d) ≡ None
+unfolding comments_in member_at
+without_comments null = refl
+without_comments (boolean b) = refl
+without_comments (number n) = refl
+without_comments (string s) = refl
+without_comments (array ds) = refl
+without_comments (object ms) =
+    ap (λ o. o >>= reads_array reads_comment) (get_member-without (codes "leadingComments") ms)
+
+dependency_again_at : (d after : Data) (found : Option (List Comment)) → comments_in d ≡ found
+    → IsConvertedDependency d after → IsConvertedDependency after after
+dependency_again_at d after None is h =
+    let same : after ≡ d = rw is at h in
+    rw (ap comments_in same ∙ is) refl
+dependency_again_at d after (Some comments) is h =
+    let changed : (types : Option SpecifierWithRange) × AreTypes comments types
+    × (after ≡ without_member (codes "leadingComments") (with_types types d)) = rw is at h in
+    rw (ap comments_in changed.2 ∙ without_comments (with_types changed.0 d)) refl
+
+dependency_again : (d after : Data) → IsConvertedDependency d after → IsConvertedDependency after after
+dependency_again d after h = dependency_again_at d after (comments_in d) refl h
+
+all_again : (ds es : Items) → AreConverted ds es → AreConverted es es
+all_again no_items no_items h = tt
+all_again no_items (item e es) h = absurd h
+all_again (item d ds) no_items h = absurd h
+all_again (item d ds) (item e es) h = (dependency_again d e h.0, all_again ds es h.1)
+
+-- dependencies that were put are found, and put again change nothing
+put_found : (v : Data) (old new : Items) → dependencies_in v ≡ Some old
+    → dependencies_in (with_member (codes "dependencies") (array new) v) ≡ Some new
+unfolding dependencies_in member_at
+put_found null old new is = absurd (cc)
+put_found (boolean b) old new is = absurd (cc)
+put_found (number n) old new is = absurd (cc)
+put_found (string s) old new is = absurd (cc)
+put_found (array ds) old new is = absurd (cc)
+put_found (object ms) old new is =
+    ap (λ o. o >>= as_array) (get_member-put (codes "dependencies") (array new) ms)
+
+with_member_again : (key : List ℕ) (d : Data) (v : Data)
+    → with_member key d (with_member key d v) ≡ with_member key d v
+with_member_again key d null = refl
+with_member_again key d (boolean b) = refl
+with_member_again key d (number n) = refl
+with_member_again key d (string s) = refl
+with_member_again key d (array ds) = refl
+with_member_again key d (object ms) = ap object (put_again key d d ms)
+
+again_at : (v after : Data) (found : Option Items) → dependencies_in v ≡ found → IsConverted v after
+    → IsConverted after after
+again_at v after None is h =
+    let same : after ≡ v = rw is at h in
+    rw (ap dependencies_in same ∙ is) refl
+again_at v after (Some old) is h =
+    let changed : (new : Items) × AreConverted old new
+    × (after ≡ with_member (codes "dependencies") (array new) v) = rw is at h in
+    let found : dependencies_in after ≡ Some changed.0 =
+    ap dependencies_in changed.2 ∙ put_found v old changed.0 is in
+    let kept : after ≡ with_member (codes "dependencies") (array changed.0) after =
+    changed.2 ∙ sym (with_member_again (codes "dependencies") (array changed.0) v)
+    ∙ ap (with_member (codes "dependencies") (array changed.0)) (sym changed.2) in
+    rw found (changed.0, all_again old changed.0 changed.1, kept)
+
+-- conversion of what is converted changes nothing
+pub converted_again : (v after : Data) → IsConverted v after → IsConverted after after
+converted_again v after h = again_at v after (dependencies_in v) refl h

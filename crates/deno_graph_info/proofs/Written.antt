@@ -1,0 +1,4 @@
+-- What is written is read back, a file for each type.
+pub mod JsDocImportInfo
+pub mod ModuleInfo
+pub mod TypeScriptReference

@@ -1,0 +1,12 @@
+use Rattle.deno_graph_info.proofs.OneOutcome.{converted_once, converted_or_overflows}
+use Rattle.deno_graph_info.proofs.conversion.laws.conversion_has_one_outcome.Goals as goal
+
+pub returns-clause-one : goal.returns-clause-one
+returns-clause-one c =
+    let parts = c.captures_are_unique.ensures.parts.1.1.1.1.1.1.1.1 in
+    converted_once parts.0 parts.1.0
+
+pub returns-clause-none : goal.returns-clause-none
+returns-clause-none c =
+    let parts = c.captures_are_unique.ensures.parts.1.1.1.1.1.1.1.1 in
+    converted_or_overflows parts.0 parts.1.0

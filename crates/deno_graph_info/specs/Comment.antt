@@ -1,0 +1,15 @@
+-- The comments that version 1 keeps with a dependency.
+use Rattle.std.specs.Prelude.{codes, Option, Some}
+use Rattle.serde_json.specs.Data.{Data}
+use Rattle.serde_json.specs.Find.{as_object, as_str}
+use Rattle.deno_graph_dependency.specs.Read.Partial.{◌>>=◌, member_at}
+use Rattle.deno_graph_dependency.specs.Json.Position.{reads_range}
+use Rattle.deno_graph_info.specs.declared.conversion.comment.Comment.{Comment}
+
+-- a readable comment: an object with the text `text` and the range `range`; other members say nothing
+unfoldable pub reads_comment : Data → Option Comment
+reads_comment d = do
+  ms ← as_object d
+  text ← member_at as_str (codes "text") ms
+  range ← member_at reads_range (codes "range") ms
+  Some (record { text = text; range = range })

@@ -1,0 +1,98 @@
+-- The conversion from version 1 to version 2, as a relation of a value and what comes of it.
+use Rattle.std.specs.Prelude.{◌≡◌, ◌⊎◌, ℕ, List, bytes_eq, codes, Option, Some, None, true, false, MatchOption, if◌then◌else◌}
+use Rattle.serde_json.specs.Data.{Data, null, boolean, number, string, array, object, Items, no_items, item, Members, no_members, member, put}
+use Rattle.serde_json.specs.Find.{as_array, as_object}
+use Rattle.serde_json.specs.Written.{has_float}
+use Rattle.deno_graph_dependency.specs.Read.Partial.{◌>>=◌, member_at, reads_array}
+use Rattle.deno_graph_dependency.specs.Json.SpecifierWithRange.{json_of_specifier}
+use Rattle.deno_graph_dependency.specs.declared.specifier_with_range.SpecifierWithRange.{SpecifierWithRange}
+use Rattle.deno_graph_info.specs.Comment.{reads_comment}
+use Rattle.deno_graph_info.specs.Types.{AreTypes, HasNoColumn}
+use Rattle.deno_graph_info.specs.declared.conversion.comment.Comment.{Comment}
+use Rattle.deno_graph_info.specs.declared.conversion.fault.ConvertFault.{ConvertFault}
+use Rattle.deno_graph_info.specs.declared.conversion.fault.ConvertFault.TheVariants.{ColumnOverflow, Float, OutOfMemory}
+
+-- ---- members of an object
+
+-- an object with d at the key
+abbrev pub with_member : List ℕ → Data → Data → Data
+with_member key d null = null
+with_member key d (boolean b) = boolean b
+with_member key d (number n) = number n
+with_member key d (string s) = string s
+with_member key d (array ds) = array ds
+with_member key d (object ms) = object (put key d ms)
+
+-- the members but those with the key
+abbrev pub without : List ℕ → Members → Members
+without key no_members = no_members
+without key (member k d ms) = if bytes_eq key k then without key ms else member k d (without key ms)
+
+-- an object with nothing at the key
+abbrev pub without_member : List ℕ → Data → Data
+without_member key null = null
+without_member key (boolean b) = boolean b
+without_member key (number n) = number n
+without_member key (string s) = string s
+without_member key (array ds) = array ds
+without_member key (object ms) = object (without key ms)
+
+-- ---- a dependency
+
+-- its leading comments, where it is an object that has them as an array of readable comments
+unfoldable pub comments_in : Data → Option (List Comment)
+comments_in d = do
+  ms ← as_object d
+  member_at (reads_array reads_comment) (codes "leadingComments") ms
+
+-- with the types, if there are any
+abbrev pub with_types : Option SpecifierWithRange → Data → Data
+with_types None d = d
+with_types (Some types) d = with_member (codes "typesSpecifier") (json_of_specifier types) d
+
+-- one that has such comments has the types that they name, and no comments; any other stays as it is
+abbrev pub IsConvertedDependency : Data → Data → Type 0
+IsConvertedDependency d after =
+    MatchOption (comments_in d) (after ≡ d)
+    (λ comments. (types : Option SpecifierWithRange) × AreTypes comments types
+    × (after ≡ without_member (codes "leadingComments") (with_types types d)))
+
+-- its last comment names types whose end has no column
+abbrev pub DependencyOverflows : Data → Type 0
+DependencyOverflows d = MatchOption (comments_in d) ⊥ HasNoColumn
+
+-- ---- the whole
+
+-- the array `dependencies` of an object
+unfoldable pub dependencies_in : Data → Option Items
+dependencies_in d = do
+  ms ← as_object d
+  member_at as_array (codes "dependencies") ms
+
+-- each dependency
+abbrev pub AreConverted : Items → Items → Type 0
+AreConverted no_items no_items = Unit {0}
+AreConverted no_items (item e es) = ⊥
+AreConverted (item d ds) no_items = ⊥
+AreConverted (item d ds) (item e es) = IsConvertedDependency d e × AreConverted ds es
+
+-- an object that has dependencies has each of them converted; any other value stays as it is
+abbrev pub IsConverted : Data → Data → Type 0
+IsConverted v after =
+    MatchOption (dependencies_in v) (after ≡ v)
+    (λ old. (new : Items) × AreConverted old new × (after ≡ with_member (codes "dependencies") (array new) v))
+
+-- some dependency
+abbrev pub AnyOverflows : Items → Type 0
+AnyOverflows no_items = ⊥
+AnyOverflows (item d ds) = DependencyOverflows d ⊎ AnyOverflows ds
+
+abbrev pub Overflows : Data → Type 0
+Overflows v = MatchOption (dependencies_in v) ⊥ AnyOverflows
+
+-- why nothing is converted: there is a float; there is none, and a column overflows; or there is
+-- none, and memory was refused
+abbrev pub IsConvertFault : Data → ConvertFault → Type 0
+IsConvertFault d ColumnOverflow = (has_float d ≡ false) × Overflows d
+IsConvertFault d Float = has_float d ≡ true
+IsConvertFault d OutOfMemory = has_float d ≡ false

@@ -1,0 +1,10 @@
+//! The conversion of one module's stored information from version 1 to version 2.
+
+pub mod comment;
+pub mod convert;
+pub mod fault;
+pub mod laws;
+mod types;
+
+pub use convert::module_graph_1_to_2;
+pub use fault::ConvertFault;

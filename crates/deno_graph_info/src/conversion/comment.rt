@@ -1,0 +1,30 @@
+//! The comments that version 1 keeps with a dependency.
+
+ghost use Rattle.deno_graph_info.specs.Comment.{reads_comment};
+
+use deno_graph_dependency::json::{FromJson, ObjectReader, ReadFault};
+use deno_graph_text::text::PositionRange;
+use deno_graph_text::values::Text;
+use serde_json::Value;
+use std::alloc::Global;
+
+/// A comment that stands before a dependency.
+#[derive(Debug, PartialEq, Eq, Drop)]
+pub struct Comment {
+    /// What follows the two bytes that mark the comment.
+    pub text: Text,
+    /// Where the comment stands: lines and characters from zero.
+    pub range: PositionRange,
+}
+
+impl FromJson for Comment {
+    ghost reads = { reads_comment };
+
+    #[tactic(auto, unfolding(crate::specs::Comment::reads_comment))]
+    fn from_json(alloc: Global, value: &Value) -> Result<Comment, ReadFault> {
+        let object = ObjectReader::new(alloc, value)?;
+        let text = object.read("text")?;
+        let range = object.read("range")?;
+        Ok(Comment { text, range })
+    }
+}

@@ -1,0 +1,182 @@
+ghost use Rattle.std.specs.Prelude.{◌≡◌, codes, false, OnOk, OnErr, IfOk, IfErr, IsSome, option_map};
+ghost use Rattle.std.specs.String.{string_bytes};
+ghost use Rattle.serde_json.specs.Data.{array, object};
+ghost use Rattle.serde_json.specs.View.{view, items_view, members_view};
+ghost use Rattle.serde_json.specs.Written.{has_float as float_stands};
+ghost use Rattle.deno_graph_info.specs.Conversion.{AnyOverflows, AreConverted, DependencyOverflows, IsConverted, IsConvertedDependency, IsConvertFault, comments_in, dependencies_in, with_member, with_types, without_member};
+ghost use Rattle.deno_graph_info.specs.ConvertFault.{IsColumnFault};
+
+use crate::conversion::comment::Comment;
+use crate::conversion::fault::ConvertFault;
+use crate::conversion::types::types_named;
+use deno_graph_dependency::SpecifierWithRange;
+use deno_graph_dependency::json::object_reader::find_member;
+use deno_graph_dependency::json::{ObjectReader, ReadFault, ToJson, has_float};
+use deno_graph_text::values::Items;
+use serde_json::{Map, Value, put};
+use std::alloc::{AllocError, Global};
+
+/// Converts the information of one module, as JSON, from version 1, whose dependencies keep the
+/// comments before them, to version 2, where they have the types that `@deno-types` in the last of
+/// these names.
+///
+/// A dependency of the array `dependencies` whose `leadingComments` are an array of readable
+/// comments loses them; where the last names types, they are put at `typesSpecifier`. All else
+/// stays. A readable comment has a string `text` and a `range` of positions.
+///
+/// `Float` where a number that isn't held as a whole number is anywhere in the value, and else
+/// `ColumnOverflow` where a column would be above the largest `usize`. On an error the value stays
+/// as it was.
+pub fn module_graph_1_to_2(alloc: Global, value: &mut Value) -> Result<(), ConvertFault>
+    ensures no_float { OnOk result (float_stands (view value.old) ≡ false) }
+    ensures ok { OnOk result (IsConverted (view value.old) (view value.new)) }
+    ensures err { IfErr result (IsConvertFault (view value.old)) }
+    ensures unchanged { OnErr result (value.new ≡ value.old) }
+{
+    if has_float(value) {
+        return Err(ConvertFault::Float);
+    }
+    let Some(dependencies) = find_dependencies(value) else {
+        return Ok(());
+    };
+    let converted = convert_all(alloc, dependencies)?;
+    let key = String::from_str(alloc, "dependencies")?;
+    set_dependencies(value, key, converted);
+    Ok(())
+}
+
+/// The array `dependencies` of an object.
+#[tactic(auto, unfolding(crate::specs::Conversion::dependencies_in, deno_graph_dependency::specs::Read::Partial::member_at))]
+fn find_dependencies(value: &Value) -> Option<&Vec<Value>>
+    ensures { option_map (λ items. items_view items.now.items) result
+        ≡ dependencies_in (view value.now) }
+{
+    find_member(value.as_object()?, "dependencies")?.as_array()
+}
+
+/// Each dependency, converted.
+fn convert_all(alloc: Global, dependencies: &Vec<Value>) -> Result<Vec<Value>, ConvertFault>
+    ensures ok { IfOk result
+        (λ new. AreConverted (items_view dependencies.now.items) (items_view new.items)) }
+    ensures err { IfErr result
+        (IsColumnFault (AnyOverflows (items_view dependencies.now.items))) }
+{
+    let mut converted = Vec::with_capacity(alloc, dependencies.len())?;
+    for dependency in dependencies {
+        let item = convert_dependency(alloc, dependency)?;
+        converted.push(item)?;
+    }
+    Ok(converted)
+}
+
+/// The dependency, converted.
+fn convert_dependency(alloc: Global, dependency: &Value) -> Result<Value, ConvertFault>
+    ensures ok { IfOk result
+        (λ converted. IsConvertedDependency (view dependency.now) (view converted)) }
+    ensures err { IfErr result (IsColumnFault (DependencyOverflows (view dependency.now))) }
+{
+    match read_comments(alloc, dependency)? {
+        Some(comments) => {
+            let types = types_named(alloc, &comments)?;
+            let replaced = replace_comments(alloc, dependency.clone()?, types)?;
+            Ok(replaced)
+        }
+        None => Ok(dependency.clone()?),
+    }
+}
+
+/// The leading comments of a dependency, where they are an array of readable comments.
+#[tactic(auto, unfolding(crate::specs::Conversion::comments_in))]
+fn read_comments(alloc: Global, dependency: &Value) -> Result<Option<Items<Comment>>, AllocError>
+    ensures { IfOk result (λ comments. comments ≡ comments_in (view dependency.now)) }
+{
+    let Some(members) = dependency.as_object() else {
+        return Ok(None);
+    };
+    match ObjectReader::of_members(alloc, members).read("leadingComments") {
+        Ok(comments) => Ok(Some(comments)),
+        Err(ReadFault::Shape) => Ok(None),
+        Err(ReadFault::OutOfMemory) => Err(AllocError),
+    }
+}
+
+/// A dependency with the types, if there are any, and without comments.
+fn replace_comments(
+    alloc: Global,
+    dependency: Value,
+    types: Option<SpecifierWithRange>,
+) -> Result<Value, AllocError>
+    ensures { IfOk result (λ replaced. view replaced
+        ≡ without_member (codes "leadingComments") (with_types types (view dependency))) }
+{
+    match dependency {
+        Value::Object(members) => {
+            let replaced = replace_members(alloc, members, types)?;
+            Ok(Value::Object(replaced))
+        }
+        other => Ok(other),
+    }
+}
+
+/// The same of the members of a dependency.
+fn replace_members(
+    alloc: Global,
+    members: Map<String, Value>,
+    types: Option<SpecifierWithRange>,
+) -> Result<Map<String, Value>, AllocError>
+    ensures { IfOk result (λ replaced. object (members_view replaced.entries)
+        ≡ without_member (codes "leadingComments")
+        (with_types types (object (members_view members.entries)))) }
+{
+    let mut replaced = put_types(alloc, members, types)?;
+    drop(replaced.remove("leadingComments"));
+    Ok(replaced)
+}
+
+/// The members with the types, if there are any.
+fn put_types(
+    alloc: Global,
+    members: Map<String, Value>,
+    types: Option<SpecifierWithRange>,
+) -> Result<Map<String, Value>, AllocError>
+    ensures { IfOk result (λ typed. object (members_view typed.entries)
+        ≡ with_types types (object (members_view members.entries))) }
+{
+    let mut typed = members;
+    if let Some(types) = types {
+        let form = types.to_json(alloc)?;
+        put(&mut typed, alloc, "typesSpecifier", form)?;
+    }
+    Ok(typed)
+}
+
+/// Puts the array at `dependencies`, where the object has one.
+fn set_dependencies(value: &mut Value, key: String, items: Vec<Value>)
+    requires key { string_bytes key ≡ codes "dependencies" }
+    requires present { IsSome (dependencies_in (view value.old)) }
+    ensures { view value.new
+        ≡ with_member (codes "dependencies") (array (items_view items.items)) (view value.old) }
+{
+    match value.take() {
+        Value::Object(members) => *value = Value::Object(put_dependencies(members, key, items)),
+        other => *value = other,
+    }
+}
+
+/// The members with the array at `dependencies`, where there is a member already.
+fn put_dependencies(
+    members: Map<String, Value>,
+    key: String,
+    items: Vec<Value>,
+) -> Map<String, Value>
+    requires key { string_bytes key ≡ codes "dependencies" }
+    requires present { IsSome (dependencies_in (object (members_view members.entries))) }
+    ensures { object (members_view result.entries)
+        ≡ with_member (codes "dependencies") (array (items_view items.items))
+        (object (members_view members.entries)) }
+{
+    let mut replaced = members;
+    // The key is there, so that no memory is asked for.
+    drop(replaced.insert(key, Value::Array(items)));
+    replaced
+}

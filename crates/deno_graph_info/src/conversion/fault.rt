@@ -1,0 +1,37 @@
+use std::alloc::{AllocError, AllocFailed};
+use thiserror::Error;
+
+/// Why a value wasn't converted.
+#[derive(Debug, PartialEq, Eq, Drop, Error)]
+pub enum ConvertFault {
+    /// A column of a types specifier is above the largest `usize`.
+    #[error("ColumnOverflow")]
+    ColumnOverflow,
+    /// A number that isn't held as a whole number stands in the value.
+    #[error("Float")]
+    Float,
+    #[error("OutOfMemory")]
+    OutOfMemory,
+}
+
+impl From<AllocError> for ConvertFault {
+    ghost use Rattle.std.specs.Prelude.{◌≡◌};
+    ghost use Rattle.deno_graph_info.specs.declared.conversion.fault.ConvertFault.TheVariants.{OutOfMemory};
+
+    ghost from_gives = { λ error fault. fault ≡ OutOfMemory };
+
+    fn from(_error: AllocError) -> ConvertFault {
+        ConvertFault::OutOfMemory
+    }
+}
+
+impl<T: Drop> From<AllocFailed<T>> for ConvertFault {
+    ghost use Rattle.std.specs.Prelude.{◌≡◌};
+    ghost use Rattle.deno_graph_info.specs.declared.conversion.fault.ConvertFault.TheVariants.{OutOfMemory};
+
+    ghost from_gives = { λ error fault. fault ≡ OutOfMemory };
+
+    fn from(_error: AllocFailed<T>) -> ConvertFault {
+        ConvertFault::OutOfMemory
+    }
+}

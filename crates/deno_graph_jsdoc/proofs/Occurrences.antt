@@ -1,0 +1,18 @@
+-- How often a word begins in a text, and in what is behind one of its occurrences.
+use Rattle.std.proofs.Common.{◌≡◌, ℕ, ◌+◌, ◌≤◌, List, [], ◌∷◌, ◌++◌, ap, arith, codes}
+use Rattle.deno_graph_jsdoc.specs.JsDocHits.{occurrences}
+use Rattle.deno_graph_jsdoc.proofs.Sites.{word}
+
+occurrences-append : (front back : List ℕ) → occurrences word back ≤ occurrences word (front ++ back)
+occurrences-append [] back = omega arith
+occurrences-append (c ∷ front) back =
+    let more = occurrences-append front back in omega (arith, more)
+
+occurrences-word : (back : List ℕ) → 1 + occurrences word back ≤ occurrences word (word ++ back)
+occurrences-word back = omega arith
+
+pub occurrences-behind : (text before behind : List ℕ) → text ≡ before ++ (word ++ behind)
+    → 1 + occurrences word behind ≤ occurrences word text
+occurrences-behind text before behind is =
+    omega
+    (arith, ap (occurrences word) is, occurrences-append before (word ++ behind), occurrences-word behind)

@@ -1,5 +1,0 @@
-pub mod Gathered
-pub mod InfoLemmas
-pub mod Places
-pub mod Chosen
-pub mod Collected

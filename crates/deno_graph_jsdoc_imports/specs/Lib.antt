@@ -1,2 +1,0 @@
-pub mod JsDocInfo
-pub mod JsDocList

@@ -1,6 +1,0 @@
-pub mod Floats
-pub mod NoFloats
-pub mod Objects
-pub mod ReadBack
-pub mod ReadMaps
-pub mod Reading

@@ -1,7 +1,0 @@
--- No comment so far has the pragma.
-use Rattle.std.proofs.Common.{take, All}
-use Rattle.deno_graph_module_info.specs.Pragma.{HasPragma, head_pragma}
-use Rattle.deno_graph_module_info.proofs.ast.head_pragmas.first_specifier.Given as goal
-
-abbrev pub invariant-loop-comment : goal.invariant-loop-comment
-invariant-loop-comment l = All (λ comment. ¬ HasPragma (head_pragma l.pragma) comment) (take l.comment-index l.comments)

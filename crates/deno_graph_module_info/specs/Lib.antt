@@ -1,6 +1,0 @@
-pub mod HeadTail
-pub mod ModuleInfo
-pub mod Pragma
-pub mod References
-pub mod Script
-pub mod Spelled

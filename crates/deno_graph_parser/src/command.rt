@@ -1,0 +1,57 @@
+ghost use Rattle.std.specs.Prelude.{◌≡◌, IfOk};
+
+use crate::ParseDiagnostic;
+use deno_graph_info::analysis::ModuleInfo;
+use deno_graph_source::tree::{MediaType, ParsedSource};
+use deno_graph_text::values::TryClone;
+use std::alloc::{AllocError, Global};
+use std::rc::RcStr;
+use url::Url;
+
+/// What a capturing analyzer is told to do.
+#[derive(Clone, Debug, PartialEq, Eq, Drop)]
+pub enum Command {
+    /// Analyze a text.
+    Analyze {
+        specifier: Url,
+        source: RcStr,
+        media_type: MediaType,
+    },
+    /// Parse a text, and analyze its scopes too where `scope_analysis` says so.
+    Parse {
+        specifier: Url,
+        source: RcStr,
+        media_type: MediaType,
+        scope_analysis: bool,
+    },
+    /// Take the source under a specifier out of the store.
+    Remove {
+        specifier: Url,
+    },
+}
+
+/// What it answers: to each command the answer of its name.
+#[derive(Debug, PartialEq, Eq, Drop)]
+pub enum Answer {
+    Analyzed(Result<ModuleInfo, ParseDiagnostic>),
+    Parsed(Result<ParsedSource, ParseDiagnostic>),
+    /// The source that was there, if there was one.
+    Removed(Option<ParsedSource>),
+}
+
+impl TryClone for Answer {
+    fn try_clone(&self, alloc: Global) -> Result<Answer, AllocError> {
+        match self {
+            Answer::Analyzed(Ok(info)) => Ok(Answer::Analyzed(Ok(info.try_clone(alloc)?))),
+            Answer::Analyzed(Err(diagnostic)) => {
+                Ok(Answer::Analyzed(Err(diagnostic.try_clone(alloc)?)))
+            }
+            Answer::Parsed(Ok(source)) => Ok(Answer::Parsed(Ok(source.try_clone(alloc)?))),
+            Answer::Parsed(Err(diagnostic)) => {
+                Ok(Answer::Parsed(Err(diagnostic.try_clone(alloc)?)))
+            }
+            Answer::Removed(Some(source)) => Ok(Answer::Removed(Some(source.try_clone(alloc)?))),
+            Answer::Removed(None) => Ok(Answer::Removed(None)),
+        }
+    }
+}

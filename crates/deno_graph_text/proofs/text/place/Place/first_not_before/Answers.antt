@@ -1,0 +1,52 @@
+use Rattle.std.proofs.Common.{◌≡◌, inl, inr, ◌++◌, drop, arith, ap, ◌∙◌, subst, refl}
+use Rattle.std.proofs.lemmas.Bool.{cases_lt}
+use Rattle.std.proofs.lemmas.Str.{IsUtf8-drop, IsCharBoundary-past_char, drop_past_char}
+use Rattle.std.specs.Str.Iter.{chars_rest}
+use lib.Utf8.{encode}
+use Rattle.deno_graph_text.specs.Position.{IsBefore, position_at}
+use Rattle.deno_graph_text.proofs.PlaceLemmas.{line_le_pos, character_le_pos, IsPlace-past, past_char_le}
+use Rattle.deno_graph_text.proofs.text.place.Place.first_not_before.Goals as goal
+
+pub past-place-requires-clause-line : goal.past-place-requires-clause-line
+past-place-requires-clause-line c =
+    let text = c.args.text.now in
+    let is = c.loop-c.invariant.place in
+    let here : drop c.loop-c.place.pos text ≡ encode c.in-Some.c ++ chars_rest c.next.new.self =
+    c.loop-c.invariant.rest ∙ c.in-Some.ensures.steps.0 in
+    let next = IsCharBoundary-past_char text _ _ _ is.boundary.0 (IsUtf8-drop text _ c.utf8.text is.boundary)
+    here in
+    omega (arith, line_le_pos text _ c.utf8.text is, next.0)
+
+pub past-place-requires-clause-character : goal.past-place-requires-clause-character
+past-place-requires-clause-character c =
+    let text = c.args.text.now in
+    let is = c.loop-c.invariant.place in
+    let here : drop c.loop-c.place.pos text ≡ encode c.in-Some.c ++ chars_rest c.next.new.self =
+    c.loop-c.invariant.rest ∙ c.in-Some.ensures.steps.0 in
+    let next = IsCharBoundary-past_char text _ _ _ is.boundary.0 (IsUtf8-drop text _ c.utf8.text is.boundary)
+    here in
+    omega (arith, character_le_pos text _ c.utf8.text is, next.0)
+
+pub loop-c-preserved : goal.loop-c-preserved
+loop-c-preserved c =
+    let text = c.args.text.now in
+    let is = c.loop-c.invariant.place in
+    let here : drop c.loop-c.place.pos text ≡ encode c.in-Some.c ++ chars_rest c.next.new.self =
+    c.loop-c.invariant.rest ∙ c.in-Some.ensures.steps.0 in
+    record {
+      place = IsPlace-past text _ c.loop-c.place c.past-place.result _ c.utf8.text is here
+          c.past-place.ensures.pos c.past-place.ensures.position;
+      rest = ap (λ n. drop n text) c.past-place.ensures.pos ∙ drop_past_char text _ _ _ here;
+      before = λ pos from below boundary. elim (cases_lt pos c.loop-c.place.pos) [
+        | inl under ↦ c.loop-c.invariant.before pos from under boundary
+        | inr over ↦ elim (cases_lt c.loop-c.place.pos pos) [
+          | inl beyond ↦
+              let inside = past_char_le text _ _ _ pos c.utf8.text is.boundary here boundary beyond in
+              absurd (omega (arith, inside, c.past-place.ensures.pos))
+          | inr same ↦
+              let is_it : c.loop-c.place.pos ≡ pos = omega arith in
+              subst (λ p. IsBefore p c.args.wanted) (is.position ∙ ap (position_at text) is_it)
+              (c.if-not-is_before.ensures.fact.0 refl)
+        ]
+      ];
+    }

@@ -1,3 +1,0 @@
-pub mod ResolutionMode
-pub mod TextMap
-pub mod formers

@@ -1,5 +1,0 @@
-use Rattle.deno_graph_walk.proofs.Walks.{listing-of_walk}
-use Rattle.deno_graph_walk.proofs.walk.Walk.goes_on_with_the_rest.Goals as goal
-
-pub returns : goal.returns
-returns c = rw (← c.self.view_is) (listing-of_walk c.self.inside.program.now.body c.self.inside.stack c.self.invariant)

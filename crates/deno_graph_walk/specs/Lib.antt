@@ -1,9 +1,0 @@
-pub mod Dependency
-pub mod Entered
-pub mod ListedNodes
-pub mod ListedPaths
-pub mod Listing
-pub mod NodePath
-pub mod Recursion
-pub mod Stack
-pub mod Walk

@@ -1,5 +1,0 @@
-use Rattle.modinfo_tape.specs.Tape.{left_of}
-use Rattle.modinfo.proofs.notation.literal.read_strings.Given as goal
-
-abbrev pub decreases-loop-value : goal.decreases-loop-value
-decreases-loop-value l = left_of l.values

@@ -1,0 +1,95 @@
+//! What the program can be asked for, each from a text to the JSON value that is printed.
+
+use crate::fault::Fault;
+use crate::input::{parse_json, parse_source, read_to_end};
+use deno_graph_ast::module_info;
+use deno_graph_info::analysis::{InfoFault, ModuleInfo, module_graph_1_to_2};
+use deno_graph_info::reach::reach;
+use serde_json::Value;
+use std::alloc::Global;
+use std::collections::BTreeMap;
+use std::io::Read;
+
+/// What the program is asked for.
+#[derive(Debug, Clone, Copy, PartialEq, Eq)]
+pub enum Subcommand {
+    /// From a document in the notation to the module's information.
+    Analyze,
+    /// From the information of one module, as version 1 stored it, to that of version 2.
+    Convert,
+    /// From a root and the information of many modules to the keys that the root reaches.
+    Reach,
+}
+
+impl Subcommand {
+    /// The subcommand of this name, if it is one.
+    pub fn from_name(name: &str) -> Option<Subcommand> {
+        match name {
+            "analyze" => Some(Subcommand::Analyze),
+            "convert" => Some(Subcommand::Convert),
+            "reach" => Some(Subcommand::Reach),
+            _ => None,
+        }
+    }
+
+    /// Reads the input to its end, and gives the line that answers it: compact JSON and a line feed.
+    pub fn answer<R: Read>(self, alloc: Global, input: &mut R) -> Result<String, Fault> {
+        let bytes = read_to_end(alloc, input)?;
+        let mut line = self.answer_bytes(alloc, bytes)?;
+        line.push('\n')?;
+        Ok(line)
+    }
+
+    /// The answer to a whole input: compact JSON, without a line feed.
+    pub fn answer_bytes(self, alloc: Global, input: Vec<u8>) -> Result<String, Fault> {
+        let value = match self {
+            Subcommand::Analyze => analyze(alloc, input)?,
+            Subcommand::Convert => convert(alloc, input)?,
+            Subcommand::Reach => reach_of(alloc, input)?,
+        };
+        Ok(value.to_string(alloc)?)
+    }
+}
+
+fn analyze(alloc: Global, input: Vec<u8>) -> Result<Value, Fault> {
+    Ok(info_of(alloc, input)?.to_value(alloc)?)
+}
+
+// The tree is gone before what was found is written.
+fn info_of(alloc: Global, input: Vec<u8>) -> Result<ModuleInfo, Fault> {
+    let source = parse_source(alloc, input)?;
+    Ok(module_info(alloc, &source)?)
+}
+
+fn convert(alloc: Global, input: Vec<u8>) -> Result<Value, Fault> {
+    let mut value = parse_json(alloc, input)?;
+    module_graph_1_to_2(alloc, &mut value)?;
+    Ok(value)
+}
+
+// `modules` is looked for before `root`, and both before any information is read.
+fn reach_of(alloc: Global, input: Vec<u8>) -> Result<Value, Fault> {
+    let value = parse_json(alloc, input)?;
+    let modules = value.get("modules").and_then(|modules| modules.as_object());
+    let modules = modules.ok_or(Fault::Info(InfoFault::Shape))?;
+    let root = value.get("root").and_then(|root| root.as_str());
+    let root = root.ok_or(Fault::Info(InfoFault::Shape))?;
+    let infos = read_infos(alloc, modules)?;
+    let mut keys = Vec::new(alloc);
+    for key in reach(alloc, &infos, root)? {
+        keys.push(Value::String(key))?;
+    }
+    Ok(Value::Array(keys))
+}
+
+fn read_infos(
+    alloc: Global,
+    modules: &BTreeMap<String, Value>,
+) -> Result<BTreeMap<String, ModuleInfo>, Fault> {
+    let mut infos = BTreeMap::new(alloc);
+    for (key, value) in modules {
+        let info = ModuleInfo::from_value(alloc, value)?;
+        drop(infos.insert(key.clone()?, info)?);
+    }
+    Ok(infos)
+}

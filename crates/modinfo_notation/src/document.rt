@@ -1,0 +1,66 @@
+use crate::comments::read_comments;
+use crate::fault::NotationFault;
+use crate::media_type::read_media_type;
+use crate::member::{members_of, required, text};
+use crate::node::read_program;
+use deno_graph_source::tree::{Comments, MediaType, ParsedSource, Program};
+use deno_graph_source::values::Text;
+use flat_json::{Element, Tape};
+use json::Scratch;
+use std::alloc::Global;
+use std::rc::RcStr;
+use url::Url;
+
+/// A module as a parser hands it over. Whether the specifier is a URL, and whether the tree fits
+/// the source, hasn't been looked at.
+#[derive(Debug, Drop)]
+pub struct Document {
+    pub specifier: Text,
+    pub media_type: MediaType,
+    pub source: RcStr,
+    pub program: Program,
+    pub comments: Comments,
+}
+
+/// Reads a document. `NotInNotation` where the value isn't in the notation.
+pub fn read_document(alloc: Global, value: Element<'_, '_>) -> Result<Document, NotationFault> {
+    let members = members_of(value)?;
+    let specifier = Text::from_str(alloc, text(members, "specifier")?)?;
+    let media_type = read_media_type(text(members, "mediaType")?)?;
+    let source = RcStr::from_str(alloc, text(members, "source")?)?;
+    let comments = read_comments(alloc, members)?;
+    let program = read_program(alloc, required(members, "program")?)?;
+    Ok(Document {
+        specifier,
+        media_type,
+        source,
+        program,
+        comments,
+    })
+}
+
+/// Reads a document. `Json` where the text is no JSON, nests deeper than 127 or has a number too
+/// large for a float, and `NotInNotation` where it isn't in the notation.
+pub fn parse_document(alloc: Global, text: &str) -> Result<Document, NotationFault> {
+    let mut scratch = Scratch::new(alloc);
+    let tape = Tape::read(alloc, text, &mut scratch)?;
+    read_document(alloc, tape.root())
+}
+
+impl Document {
+    /// The source, without scope analysis. `Specifier` where the specifier is no URL, and else a
+    /// fault of the source where the tree or the comments don't fit it.
+    pub fn into_source(self, alloc: Global) -> Result<ParsedSource, NotationFault> {
+        let Document {
+            specifier,
+            media_type,
+            source,
+            program,
+            comments,
+        } = self;
+        let specifier = Url::parse(alloc, specifier.as_str())?;
+        Ok(ParsedSource::new(
+            alloc, specifier, source, media_type, program, comments, false,
+        )?)
+    }
+}

@@ -1,0 +1,41 @@
+//! What a node is: the members of each kind. Those of a kind are read where its group is: imports,
+//! exports and modules in `declaration`, calls in `call`, other expressions in `expression`, and
+//! properties in `property`.
+
+use crate::call::read_call;
+use crate::declaration::{
+    read_export_all, read_import_decl, read_import_equals, read_import_type, read_module_decl,
+    read_named_export,
+};
+use crate::expression::{read_binary, read_ident, read_str, read_template};
+use crate::fault::NotationFault;
+use crate::member::text;
+use crate::property::read_key_value;
+use deno_graph_source::tree::Kind;
+use flat_json::Members;
+use std::alloc::Global;
+
+/// The kind that the member `kind` names, with what stands beside it.
+pub fn read_kind(alloc: Global, members: Members<'_, '_>) -> Result<Kind, NotationFault> {
+    match text(members, "kind")? {
+        "ImportDecl" => read_import_decl(alloc, members),
+        "NamedExport" => read_named_export(alloc, members),
+        "ExportAll" => read_export_all(alloc, members),
+        "ExportOther" => Ok(Kind::ExportOther),
+        "ImportEquals" => read_import_equals(alloc, members),
+        "ImportType" => read_import_type(alloc, members),
+        "ModuleDecl" => read_module_decl(alloc, members),
+        "Call" => read_call(alloc, members),
+        "Str" => read_str(alloc, members),
+        "Template" => read_template(alloc, members),
+        "Binary" => read_binary(members),
+        "Ident" => read_ident(alloc, members),
+        "Object" => Ok(Kind::Object),
+        "KeyValue" => read_key_value(alloc, members),
+        "Await" => Ok(Kind::Await),
+        "Function" => Ok(Kind::Function),
+        "ImportMeta" => Ok(Kind::ImportMeta),
+        "Other" => Ok(Kind::Other),
+        _ => Err(NotationFault::NotInNotation),
+    }
+}

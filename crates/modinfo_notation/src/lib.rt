@@ -1,0 +1,19 @@
+//! The notation in which a module comes to the program: its specifier, source, syntax tree and
+//! comments, as one JSON text. docs/FORMATS.md describes it.
+#![tactic(auto)]
+
+pub mod call;
+pub mod comments;
+pub mod declaration;
+pub mod document;
+pub mod expression;
+pub mod fault;
+pub mod kind;
+pub mod literal;
+pub mod media_type;
+pub mod member;
+pub mod node;
+pub mod property;
+
+pub use document::{Document, parse_document, read_document};
+pub use fault::NotationFault;

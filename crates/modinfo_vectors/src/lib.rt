@@ -1,6 +1,0 @@
-//! Tests of the program for what has no text: readers and writers that fail at each of their calls.
-//! What has a text is a row of `crates/replay`.
-#![tactic(auto)]
-
-#[cfg(test)]
-mod streams;

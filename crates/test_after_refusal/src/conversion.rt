@@ -1,0 +1,31 @@
+//! The conversion of a module's stored information.
+
+use crate::fault::Fault;
+use crate::outcome::{Outcome, check};
+use deno_graph_info::analysis::{ConvertFault, module_graph_1_to_2};
+use serde_json::Value;
+use std::alloc::Global;
+
+const STORED: &str =
+    r#"{"dependencies":[{"leadingComments":[{"range":[[0,0],[0,25]],"text":" @deno-types=\"./a.d.ts\""}],"specifier":"./a.js"},{"leadingComments":[],"specifier":"./b.js"},{"leadingComments":[{"range":[[2,4],[2,25]],"text":" @deno-types=./c.d.ts"}],"specifier":"./c.js"}]}"#;
+
+const CONVERTED: &str =
+    r#"{"dependencies":[{"specifier":"./a.js","typesSpecifier":{"range":[[0,15],[0,25]],"text":"./a.d.ts"}},{"specifier":"./b.js"},{"specifier":"./c.js","typesSpecifier":{"range":[[2,18],[2,28]],"text":"./c.d.ts"}}]}"#;
+
+/// The value is converted, or unchanged.
+pub fn convert(alloc: Global) -> Result<Outcome, Fault> {
+    let stored = Value::from_str(alloc, STORED)?;
+    let converted = Value::from_str(alloc, CONVERTED)?;
+    let mut value = stored.clone()?;
+    match module_graph_1_to_2(alloc, &mut value) {
+        Ok(()) => {
+            check(value == converted, "the value isn't converted")?;
+            Ok(Outcome::Answered)
+        }
+        Err(ConvertFault::OutOfMemory) => {
+            check(value == stored, "a refused conversion changed the value")?;
+            Ok(Outcome::Refused)
+        }
+        Err(_) => Err(Fault::State("the value isn't read")),
+    }
+}

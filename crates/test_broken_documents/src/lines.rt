@@ -1,0 +1,71 @@
+//! All documents in one run, one a line.
+
+use crate::breaking::broken_by;
+use std::alloc::Global;
+use std::io::{Read, Result};
+
+/// Reads as the documents of the seeds, each with a line feed. Those that have one are left out.
+#[derive(Drop)]
+pub struct Documents<'a> {
+    alloc: Global,
+    whole: &'a [&'a str],
+    seed: u64,
+    count: u64,
+    /// The document that is being read, and how much of it was.
+    line: Vec<u8>,
+    read: usize,
+}
+
+impl<'a> Documents<'a> {
+    pub fn new(alloc: Global, whole: &'a [&'a str], count: u64) -> Documents<'a> {
+        Documents {
+            alloc,
+            whole,
+            seed: 0,
+            count,
+            line: Vec::new(alloc),
+            read: 0,
+        }
+    }
+
+    fn rest(&self) -> &[u8] {
+        self.line.get(self.read..).unwrap_or(&[])
+    }
+
+    /// Goes on to the next document that is a line, if there is one.
+    fn advance(&mut self) -> Result<()> {
+        self.line.clear();
+        self.read = 0;
+        for seed in self.seed..self.count {
+            self.seed = seed.saturating_add(1);
+            let mut line = broken_by(self.alloc, seed, self.whole)?;
+            if !line.contains(&b'\n') {
+                line.push(b'\n')?;
+                self.line = line;
+                return Ok(());
+            }
+        }
+        Ok(())
+    }
+}
+
+impl Read for Documents<'_> {
+    fn read(&mut self, buf: &mut [u8]) -> Result<usize> {
+        if self.rest().is_empty() {
+            self.advance()?;
+        }
+        let mut rest = self.rest();
+        let count = rest.read(buf)?;
+        self.read = self.read.saturating_add(count);
+        Ok(count)
+    }
+}
+
+/// What one run over all of them prints, where it ends with status 0 and complains of nothing.
+pub fn printed(alloc: Global, documents: Documents<'_>) -> Option<Vec<u8>> {
+    let mut output = Vec::new(alloc);
+    let mut errors = Vec::new(alloc);
+    let words = ["analyze", "--lines"];
+    let status = modinfo::serve(alloc, &words, documents, &mut output, &mut errors);
+    (status == 0 && errors.is_empty()).then_some(output)
+}

@@ -1,0 +1,66 @@
+//! What the program answers.
+
+use std::alloc::{AllocError, Global};
+
+/// What a run may come to: a result, or a fault with this name.
+pub const OUTCOMES: [&str; 11] = [
+    "a result",
+    "Input",
+    "Json",
+    "Tree",
+    "Specifier",
+    "RangeReversed",
+    "RangeOutside",
+    "RangeOffBoundary",
+    "CommentText",
+    "CommentsOverlap",
+    "Shape",
+];
+
+/// What a run on one document printed, and its outcome.
+#[derive(Drop)]
+pub struct Outcome {
+    at: usize,
+    output: Vec<u8>,
+}
+
+impl Outcome {
+    /// The outcome of the analysis of a document, and none where it is no such one.
+    pub fn of(alloc: Global, document: &[u8]) -> Result<Option<Outcome>, AllocError> {
+        let mut output = Vec::new(alloc);
+        let mut errors = Vec::new(alloc);
+        let status = modinfo::serve(alloc, &["analyze"], document, &mut output, &mut errors);
+        let is_result = status == 0 && errors.is_empty() && is_line(output.as_slice());
+        let is_fault = status == 1 && output.is_empty();
+        for (at, name) in OUTCOMES.iter().enumerate() {
+            let line = format!(in alloc; "modinfo: {name}\n")?;
+            if at == 0 && is_result || is_fault && errors.as_slice() == line.as_bytes() {
+                return Ok(Some(Outcome { at, output }));
+            }
+        }
+        Ok(None)
+    }
+
+    /// Its place among the outcomes.
+    pub fn at(&self) -> usize {
+        self.at
+    }
+
+    /// Adds the line that answers the document among others.
+    pub fn push_line(&self, lines: &mut Vec<u8>) -> Result<(), AllocError> {
+        if self.at == 0 {
+            lines.extend_from_slice(b"{\"answer\":")?;
+            lines.extend_from_slice(self.output.as_slice().trim_ascii_end())?;
+        } else {
+            lines.extend_from_slice(b"{\"fault\":\"")?;
+            lines.extend_from_slice(OUTCOMES.get(self.at).copied().unwrap_or("").as_bytes())?;
+            lines.push(b'"')?;
+        }
+        lines.extend_from_slice(b"}\n")
+    }
+}
+
+/// Whether it is an object in one line.
+fn is_line(output: &[u8]) -> bool {
+    output.starts_with(b"{") && output.ends_with(b"}\n")
+}

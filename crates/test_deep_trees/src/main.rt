@@ -1,0 +1,133 @@
+//! Builds modules that are deeper, wider or longer than documents are, and analyzes them.
+//!
+//!     test_deep_trees                      one of each
+//!     test_deep_trees NAME COUNT           one: nested, calls, operands, types, braces or filings
+//!     test_deep_trees NAME COUNT build     builds it, and no more
+//!
+//! It prints what is known of the dependencies, equal ones in a row once with their number, and what
+//! JSDoc imports there are.
+#![tactic(auto)]
+
+mod comments;
+mod found;
+mod trees;
+
+use crate::comments::{braces, filed};
+use crate::found::found;
+use crate::trees::{calls, nested, operands, types};
+use anyhow::{Context, Result, bail};
+use deno_graph_analysis::ast::module_info;
+use deno_graph_analysis::jsdoc::scan;
+use deno_graph_source::text::SourceRange;
+use deno_graph_source::tree::{Comments, MediaType, Node, ParsedSource, Program};
+use deno_graph_source::values::Items;
+use std::alloc::Global;
+use std::env;
+use std::rc::RcStr;
+use url::Url;
+
+const MODULES: [(&str, usize); 6] = [
+    ("nested", 2000),
+    ("calls", 2000),
+    ("operands", 2000),
+    ("types", 2000),
+    ("filings", 1000),
+    ("braces", 1_000_000),
+];
+
+fn main(rt: HostRuntime) -> Result<()> {
+    let words: Vec<String> = env::args(&rt)?.skip(1).collect(rt.alloc())?;
+    let Some(name) = words.get(0) else {
+        for (name, count) in MODULES {
+            print_found(&rt, name, count)?;
+        }
+        return Ok(());
+    };
+    let count = words.get(1).context("how many?")?.parse::<usize>()?;
+    if words.get(2).is_some() {
+        drop(source(rt.alloc(), name.as_str(), count)?);
+        return Ok(());
+    }
+    print_found(&rt, name.as_str(), count)
+}
+
+fn print_found<R: AllocGlobal + Print>(rt: &R, name: &str, count: usize) -> Result<()> {
+    let source = source(rt.alloc(), name, count)?;
+    let info = module_info(rt.alloc(), &source)?;
+    let text = found(rt.alloc(), &info)?;
+    println!(rt; "{name} {count}: {text}")?;
+    if name == "braces" {
+        print_starts(rt, count)?;
+    }
+    Ok(())
+}
+
+/// How often the parsers of JSDoc imports are started in a comment of braces, and where they find one.
+fn print_starts<R: AllocGlobal + Print>(rt: &R, count: usize) -> Result<()> {
+    let text = braces(rt.alloc(), count)?;
+    let found = scan(rt.alloc(), text.as_str())?;
+    for import in found.imports.iter() {
+        let (start, end) = (import.specifier_range.start, import.specifier_range.end);
+        println!(rt; "braces {count}: {:?} at {start}..{end}", import.specifier)?;
+    }
+    let (dynamic, declarations) = (found.dynamic_starts, found.decl_starts);
+    println!(rt; "braces {count}: {dynamic} dynamic starts, {declarations} of declarations")?;
+    Ok(())
+}
+
+fn source(alloc: Global, name: &str, count: usize) -> Result<ParsedSource> {
+    match name {
+        "braces" => {
+            let text = braces(alloc, count)?;
+            commented(alloc, text.as_str(), 1)
+        }
+        "filings" => commented(alloc, "* {import('a')} ", count),
+        name => {
+            let body = body(alloc, name, count)?;
+            parsed(alloc, "", MediaType::TypeScript, body, Comments::new(alloc))
+        }
+    }
+}
+
+/// A module that is one comment, filed so often before the module and behind it.
+fn commented(alloc: Global, text: &str, count: usize) -> Result<ParsedSource> {
+    let source = format!(in alloc; "/*{text}*/")?;
+    let comments = filed(alloc, text, source.len(), count)?;
+    parsed(
+        alloc,
+        source.as_str(),
+        MediaType::JavaScript,
+        Items::new(alloc),
+        comments,
+    )
+}
+
+fn parsed(
+    alloc: Global,
+    text: &str,
+    media_type: MediaType,
+    body: Items<Node>,
+    comments: Comments,
+) -> Result<ParsedSource> {
+    let program = Program {
+        range: SourceRange {
+            start: 0,
+            end: text.len(),
+        },
+        body,
+        has_shebang: false,
+    };
+    let specifier = Url::parse(alloc, "file:///a.ts")?;
+    let text = RcStr::from_str(alloc, text)?;
+    Ok(ParsedSource::new(alloc, specifier, text, media_type, program, comments, false)?)
+}
+
+fn body(alloc: Global, tree: &str, count: usize) -> Result<Items<Node>> {
+    match tree {
+        "nested" => Ok(nested(alloc, count)?),
+        "calls" => Ok(calls(alloc, count)?),
+        "operands" => Ok(operands(alloc, count)?),
+        "types" => Ok(types(alloc, count)?),
+        _ => bail!("no module has this name"),
+    }
+}

@@ -1,0 +1,8 @@
+//! Tests of the program for what has no text: readers and writers that fail at each of their calls.
+//! What has a text is a row of `crates/test_replay`.
+#![tactic(auto)]
+
+#[cfg(test)]
+mod lines;
+#[cfg(test)]
+mod streams;

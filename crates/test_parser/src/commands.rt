@@ -1,0 +1,115 @@
+use crate::sources::{analyze, analyze_as, parse, parsed, parser, remove, source_with};
+use deno_graph_parser::{
+    Answer, CapturingModuleAnalyzer, DefaultParsedSourceStore, ParsedSourceStore, run,
+};
+use deno_graph_source::tree::MediaType;
+use deno_graph_source::values::Items;
+use std::alloc::{AllocError, Global};
+use std::cell::Cell;
+use std::rc::Rc;
+use std::test::Fail;
+use url::Url;
+
+/// Each answer in a letter: a module, a script, a diagnostic, a source taken away, or none.
+fn letters(alloc: Global, answers: &[Answer]) -> Result<String, AllocError> {
+    let mut letters = String::new(alloc);
+    for answer in answers {
+        letters.push_str(match answer {
+            Answer::Analyzed(Ok(info)) => { if info.is_script { "s" } else { "m" } }
+            Answer::Analyzed(Err(_)) | Answer::Parsed(Err(_)) => "d",
+            Answer::Parsed(Ok(_)) => "p",
+            Answer::Removed(Some(_)) => "r",
+            Answer::Removed(None) => "n",
+        })?;
+    }
+    Ok(letters)
+}
+
+#[test]
+fn runs_from_an_empty_store(rt: HostRuntime) -> Result<(), Fail> {
+    let alloc = rt.alloc();
+    let calls = Rc::new(alloc, Cell::new(0))?;
+    let u = "file:///u.js";
+    let v = "file:///v.js";
+    let mut analyzer = CapturingModuleAnalyzer::new(
+        parser(alloc, &calls)?,
+        DefaultParsedSourceStore::new(alloc),
+    );
+    let mut commands = Vec::new(alloc);
+    commands.push(analyze(alloc, u, "a")?)?;
+    commands.push(analyze(alloc, u, "a")?)?;
+    commands.push(analyze(alloc, u, "b")?)?;
+    commands.push(remove(alloc, u)?)?;
+    commands.push(analyze(alloc, u, "b")?)?;
+    let answers = run(alloc, &mut analyzer, &commands)?;
+    assert_eq!(rt; letters(alloc, &answers)?.as_str(), "mmmrm");
+    assert_eq!(rt; calls.get(), 3);
+    if let [_, _, _, Answer::Removed(Some(source)), _] = answers.as_slice() {
+        assert!(rt; *source == parsed(alloc, u, "b")?);
+    } else {
+        assert!(rt; false);
+    }
+
+    // Another media type is parsed anew. A diagnostic stops nothing and is not kept.
+    let mut commands = Vec::new(alloc);
+    commands.push(analyze(alloc, v, "a")?)?;
+    commands.push(analyze_as(alloc, v, "a", MediaType::TypeScript)?)?;
+    commands.push(analyze(alloc, v, "x")?)?;
+    commands.push(analyze_as(alloc, v, "a", MediaType::TypeScript)?)?;
+    commands.push(remove(alloc, "file:///w.js")?)?;
+    let answers = run(alloc, &mut analyzer, &commands)?;
+    assert_eq!(rt; letters(alloc, &answers)?.as_str(), "mmdmn");
+    assert_eq!(rt; calls.get(), 6);
+    Ok(())
+}
+
+#[test]
+fn a_run_parses_with_scopes_or_without(rt: HostRuntime) -> Result<(), Fail> {
+    let alloc = rt.alloc();
+    let calls = Rc::new(alloc, Cell::new(0))?;
+    let u = "file:///u.js";
+    let mut analyzer = CapturingModuleAnalyzer::new(
+        parser(alloc, &calls)?,
+        DefaultParsedSourceStore::new(alloc),
+    );
+    let mut commands = Vec::new(alloc);
+    commands.push(parse(alloc, u, "a", false)?)?;
+    commands.push(parse(alloc, u, "x", true)?)?;
+    commands.push(parse(alloc, u, "a", false)?)?;
+    let answers = run(alloc, &mut analyzer, &commands)?;
+    assert_eq!(rt; calls.get(), 2);
+    let a = parsed(alloc, u, "a")?;
+    let marked = parsed(alloc, u, "a")?.into_with_scope_analysis();
+    if let [
+        Answer::Parsed(Ok(first)),
+        Answer::Parsed(Err(_)),
+        Answer::Parsed(Ok(last)),
+    ] = answers.as_slice()
+    {
+        assert!(rt; *first == a && *last == marked);
+    } else {
+        assert!(rt; false);
+    }
+    Ok(())
+}
+
+#[test]
+fn a_source_of_the_callers_own_is_answered_until_the_text_changes(
+    rt: HostRuntime,
+) -> Result<(), Fail> {
+    let alloc = rt.alloc();
+    let calls = Rc::new(alloc, Cell::new(0))?;
+    let u = "file:///u.js";
+    let mut store = DefaultParsedSourceStore::new(alloc);
+    let empty = source_with(alloc, u, "a", Items::new(alloc))?;
+    drop(store.set_parsed_source(alloc, Url::parse(alloc, u)?, empty)?);
+    let mut analyzer = CapturingModuleAnalyzer::new(parser(alloc, &calls)?, store);
+    let mut commands = Vec::new(alloc);
+    commands.push(analyze(alloc, u, "a")?)?;
+    commands.push(analyze(alloc, u, "b")?)?;
+    commands.push(analyze(alloc, u, "a")?)?;
+    let answers = run(alloc, &mut analyzer, &commands)?;
+    assert_eq!(rt; letters(alloc, &answers)?.as_str(), "smm");
+    assert_eq!(rt; calls.get(), 2);
+    Ok(())
+}

@@ -1,0 +1,18 @@
+//! Tests of parsers, stores and capturing analyzers: rows of commands, and each call with ample
+//! memory. What is there after a refusal is looked at by `crates/test_after_refusal`.
+#![tactic(auto)]
+
+#[cfg(test)]
+mod boxed;
+#[cfg(test)]
+mod capturing;
+#[cfg(test)]
+mod commands;
+#[cfg(test)]
+mod copies;
+#[cfg(test)]
+mod failing;
+#[cfg(test)]
+mod refusals;
+#[cfg(test)]
+mod sources;

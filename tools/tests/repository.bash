@@ -1,0 +1,128 @@
+# shellcheck shell=bash
+# shellcheck disable=SC2016 # what the stand-ins are to do
+# A repository of seven small crates and a stand-in for rt, below $ROOM. For tests that set `test`, their
+# name, and `tests`, the folder of this file.
+: "${test:?}" "${tests:?}"
+
+tools=$(dirname "$tests")
+ROOM=$(mktemp -d)
+export ROOM
+trap 'rm -rf "$ROOM"' EXIT
+repository=$ROOM/repository
+notice="modinfo: this answer comes from a trial without proofs, which takes about a minute; \
+./modinfo --prove makes the proved program, in about N minutes on four cores"
+passed=0
+
+make_tools() {
+    mkdir -p "$ROOM/bin" "$ROOM/asked"
+    cp "$tests/rt_stand_in" "$ROOM/bin/rt"
+    printf '#!/bin/sh\necho "$PROCESSORS"\n' > "$ROOM/bin/nproc"
+    printf '#!/bin/sh\nsed -n "s/^CREATE //p" | xargs -d "\\n" touch\n' > "$ROOM/bin/ar"
+    printf '#!/bin/sh\ntouch "$3"\n' > "$ROOM/bin/cc"
+    printf '#!/bin/sh\necho "proved: $*"\ncat\necho "modinfo: Tree" >&2\nexit 7\n' > "$ROOM/program"
+    chmod +x "$ROOM"/bin/* "$ROOM/program"
+    PATH=$ROOM/bin:$PATH
+    # Of crates that run side by side none can say which was first.
+    export PROCESSORS=1
+}
+
+make_repository() {
+    local crate
+    rm -rf "$repository" "$ROOM/asked"
+    mkdir -p "$repository/tools" "$ROOM/asked"
+    cd "$repository" || exit
+    cp "$tools/../modinfo" .
+    cp "$tools"/{build_crates.bash,build_library,prove_modinfo,try_modinfo} tools
+    cat > crates.txt << 'LINES'
+# The program needs all but one.
+modinfo_cli: modinfo
+modinfo_c staticlib: modinfo
+modinfo: short long apart of_the_kit
+short: lowest
+long: lowest
+lowest:    # (below all but one)
+apart: of_the_kit
+LINES
+    for crate in modinfo_cli modinfo modinfo_c short long lowest apart; do
+        mkdir -p "crates/$crate/src"
+        echo "// $crate" > "crates/$crate/src/lib.rt"
+    done
+    mv crates/modinfo_cli/src/{lib,main}.rt
+    echo "an input" > crates/modinfo_cli/stdin
+    echo "// and more" >> crates/short/src/lib.rt
+    mkdir -p crates/long/specs/inner
+    head -c 300000 /dev/zero | tr '\0' '-' > crates/long/specs/inner/Long.antt
+}
+
+# Runs a command, and compares its status, its output and its error lines with what has to come.
+expect() {
+    local name=$1 status=$2 output=$3 errors=$4 came=0
+    shift 4
+    timeout 60 "$@" > "$ROOM/output" 2> "$ROOM/errors" || came=$?
+    if ! diff <(echo "status $status") <(echo "status $came") ||
+        ! diff <(printf '%b' "$output") "$ROOM/output" ||
+        ! diff <(printf '%b' "$errors") <(sed 's/ in about [0-9]* minutes/ in about N minutes/' "$ROOM/errors"); then
+        fail "$name"
+    fi
+    passed=$((passed + 1))
+}
+
+# Runs a command that has to end with this status, print nothing and say something.
+expect_refusal() {
+    local name=$1 status=$2 came=0
+    shift 2
+    timeout 60 "$@" > "$ROOM/output" 2> "$ROOM/errors" || came=$?
+    check "$name: status $came" [ "$came" -eq "$status" ]
+    check "$name: no output" [ ! -s "$ROOM/output" ]
+    check "$name: an error line" [ -s "$ROOM/errors" ]
+}
+
+check() {
+    local name=$1
+    shift
+    "$@" || fail "$name"
+    passed=$((passed + 1))
+}
+
+fail() {
+    cat "$ROOM/errors" >&2
+    echo "$test: failed: $1" >&2
+    exit 1
+}
+
+# The lines that a script says while it builds crates in this order.
+steps() {
+    local said=$1 crate number=0
+    for crate in "${@:2}"; do
+        number=$((number + 1))
+        printf '%s' "$said: building crate $number of 6, $crate\n"
+    done
+}
+
+prove() {
+    timeout 60 ./modinfo --prove 2> "$ROOM/errors" || fail "$1: --prove"
+}
+
+expect_proved() {
+    echo "some text" > "$ROOM/text"
+    : > "$ROOM/runs"
+    expect "$1" 7 'proved: analyze\nsome text\n' 'modinfo: Tree\n' ./modinfo analyze < "$ROOM/text"
+    check "$1: no run of rt" [ ! -s "$ROOM/runs" ]
+}
+
+expect_trial() {
+    printf '%s\n' 'echo tried' 'tried 0' > "$ROOM/asked/try"
+    expect "$1" 0 'tried\n' "$notice\n" ./modinfo analyze < /dev/null
+}
+
+# Whether the process that the stand-in has noted ends.
+has_ended() {
+    local process i
+    process=$(< "$ROOM/process")
+    rm "$ROOM/process"
+    for ((i = 0; i < 50; i++)); do
+        grep -qs '^State:.[^Z]' "/proc/$process/status" || return 0
+        sleep 0.1
+    done
+    return 1
+}
