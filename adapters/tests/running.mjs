@@ -11,7 +11,7 @@ import { fileURLToPath } from "node:url";
 export const STAND_IN = fileURLToPath(new URL("./stand_in.mjs", import.meta.url));
 
 /** The program itself, where it is made. */
-export const MODINFO = fileURLToPath(new URL("../../build/modinfo", import.meta.url));
+export const MODINFO = process.env.MODINFO ?? fileURLToPath(new URL("../../build/modinfo", import.meta.url));
 
 /**
  * A folder that is gone after the tests.
