@@ -103,7 +103,8 @@ has_newer() {
 
 # Builds the crates. Ends the script with status 1 where one fails, and says what its build said.
 build_crates() {
-    local limit
+    local processors limit
+    processors=$(nproc)
     limit=$(at_once)
     lock_crates
     sort_crates
@@ -123,8 +124,7 @@ build_crates() {
 
 # At most a crate for each processor, and for each four gigabytes of memory.
 at_once() {
-    local processors gigabytes
-    processors=$(nproc)
+    local gigabytes
     gigabytes=$(awk '/^MemTotal/ { print int($2 / 4000000) }' /proc/meminfo)
     echo $((gigabytes < 1 ? 1 : gigabytes < processors ? gigabytes : processors))
 }
@@ -145,18 +145,29 @@ lock_crates() {
 
 # The more crates with more left to build run already, the fewer processors a crate takes from them.
 start_crates() {
-    local crate ahead=0
+    local crate ahead=0 jobs
+    jobs=$(jobs_of_each)
     for crate in "${crates[@]}"; do
         if [[ ${state[$crate]-} == running ]]; then
             ahead=$((ahead + 1))
         elif [[ -z ${state[$crate]-} ]] && ((${#running[@]} < limit)) && is_ready "$crate"; then
             state[$crate]=running
             echo "$script: building crate ${#state[@]} of ${#crates[@]}, $crate" >&2
-            build_crate "$crate" $((5 * ahead)) > "$stage/$crate.log" 2>&1 &
+            build_crate "$crate" $((5 * ahead)) "$jobs" > "$stage/$crate.log" 2>&1 &
             running[$!]=$crate
             ahead=$((ahead + 1))
         fi
     done
+}
+
+# Two jobs of a crate take a third more processor time than one. So it has two where the other crates
+# leave that many processors.
+jobs_of_each() {
+    local crate busy=${#running[@]}
+    for crate in "${crates[@]}"; do
+        [[ -n ${state[$crate]-} ]] || ! is_ready "$crate" || busy=$((busy + 1))
+    done
+    echo $((processors < 2 * busy ? 1 : 2))
 }
 
 is_ready() {
@@ -171,9 +182,9 @@ build_crate() {
     stage_crate "$1"
     cd "$stage/$1/crates/$1" || exit
     if [[ -e src/main.rt ]]; then
-        exec nice -n "$2" rt run -- analyze < "$root/crates/$1/stdin"
+        exec nice -n "$2" rt run --jobs "$3" -- analyze < "$root/crates/$1/stdin"
     else
-        exec nice -n "$2" rt lib
+        exec nice -n "$2" rt lib --jobs "$3"
     fi
 }
 
