@@ -95,7 +95,7 @@ HoldsLast-nil gives = record {
 }
 
 -- a property that gives nothing is skipped
-HoldsLast-skip : (gives : Giving) (xs : List Node) (y : Node) (entries : Entries) → gives y ≡ None
+pub HoldsLast-skip : (gives : Giving) (xs : List Node) (y : Node) (entries : Entries) → gives y ≡ None
     → HoldsLast gives xs entries → HoldsLast gives (xs ++ y ∷ []) entries
 HoldsLast-skip gives xs y entries is held = record {
   ascending = held.ascending;
@@ -108,7 +108,7 @@ HoldsLast-skip gives xs y entries is held = record {
 }
 
 -- a property that gives a value puts it at its key
-HoldsLast-put : (gives : Giving) (xs : List Node) (y : Node) (old new : Entries) (name : List ℕ)
+pub HoldsLast-put : (gives : Giving) (xs : List Node) (y : Node) (old new : Entries) (name : List ℕ)
     (value : ImportAttribute)
     → gives y ≡ Some (name, value) → Puts old new name value → HoldsLast gives xs old
     → HoldsLast gives (xs ++ y ∷ []) new

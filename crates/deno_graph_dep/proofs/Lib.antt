@@ -5,6 +5,7 @@ pub mod DependencyRanges
 pub mod Depth
 pub mod Entries
 pub mod Given
+pub mod Inserted
 pub mod Items
 pub mod LastClause
 pub mod LastGiven
@@ -15,6 +16,8 @@ pub mod Nodes
 pub mod Passed
 pub mod Progress
 pub mod Rounds
+pub mod SomeAttributes
+pub mod SomeItem
 pub mod Spelling
 pub mod Spine
 pub mod Stacks

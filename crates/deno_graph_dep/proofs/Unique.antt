@@ -18,9 +18,11 @@ use Rattle.deno_graph_dependency.specs.declared.static_dependency.StaticDependen
 use Rattle.deno_graph_dependency.specs.declared.static_dependency.StaticDependencyKind.TheVariants as static_kind
 use Rattle.deno_graph_dependency.specs.declared.dynamic_dependency.DynamicDependencyKind.{DynamicDependencyKind}
 use Rattle.deno_graph_dep.specs.Argument.{Form, HasForm, HasFormAt, LeftSpine, Step, expression, is_binary, sum_form}
+use Rattle.deno_graph_dep.specs.Dependencies.{AreDependencies}
 use Rattle.deno_graph_dep.specs.DependencyKind.{import_kind, export_kind, import_equals_kind}
 use Rattle.deno_graph_dep.specs.Item.{Item, dynamic_item, static_item}
-use Rattle.deno_graph_dep.specs.Stated.{ArgumentHasForm, NoneGiven, States, StatesAt, StatesCall, StatesSpecifier, clause_of, leading_at, second_argument, specified_item}
+use Rattle.deno_graph_dep.specs.Stated.{AllStated, ArgumentHasForm, NoneGiven, States, StatesAt, StatesCall, StatesSpecifier, clause_of, leading_at, second_argument, specified_item}
+use Rattle.deno_graph_dep.proofs.Items.{AreListed-unique}
 use Rattle.deno_graph_dep.proofs.UniqueAttributes.{IsUnique, unique_equal, unique_by, DeclarationGives-unique, TypeGives-unique, CallGives-unique}
 
 -- The form of an argument
@@ -142,3 +144,22 @@ pub States-unique : (comments : FiledComments) (node : Node) (a b : Item) → St
     → States comments node b → a ≡ b
 unfolding States
 States-unique comments node a b is also = StatesAt-unique comments node (kind_of node) a b is also
+
+AllStated-unique : (comments : FiledComments) (nodes : List Node) (items others : List Item)
+    → AllStated comments nodes items → AllStated comments nodes others → items ≡ others
+AllStated-unique comments [] [] [] a b = refl
+AllStated-unique comments [] [] (other ∷ others) a b = absurd b
+AllStated-unique comments [] (item ∷ items) others a b = absurd a
+AllStated-unique comments (node ∷ nodes) [] others a b = absurd a
+AllStated-unique comments (node ∷ nodes) (item ∷ items) [] a b = absurd b
+AllStated-unique comments (node ∷ nodes) (item ∷ items) (other ∷ others) a b =
+    ap (λ i. i ∷ items) (States-unique comments node item other a.0 b.0)
+    ∙ ap (λ is. other ∷ is) (AllStated-unique comments nodes items others a.1 b.1)
+
+-- a body has one list of dependencies
+pub AreDependencies-unique : (comments : FiledComments) (body : List Node) (items others : List Item)
+    → AreDependencies comments body items → AreDependencies comments body others → items ≡ others
+AreDependencies-unique comments body items others a b =
+    let same = AreListed-unique body a.nodes b.nodes a.are_listed b.are_listed in
+    AllStated-unique comments b.nodes items others
+    (subst (λ nodes. AllStated comments nodes items) same a.stated) b.stated
