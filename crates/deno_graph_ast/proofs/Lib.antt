@@ -9,3 +9,7 @@ pub mod Named
 pub mod Places
 pub mod ReferenceLists
 pub mod Scripts
+pub mod SomeInfo
+pub mod SomeNamed
+pub mod SomeScript
+pub mod SomeSplit

@@ -141,7 +141,7 @@ await_in_function inside node (k ∷ path) await not_made =
         )
 
 -- what an item leads to, the body leads to
-in_body : (P : Node → Type 0) (body : List Node) (k : ℕ) (item : Node) (path : NodePath)
+pub in_body : (P : Node → Type 0) (body : List Node) (k : ℕ) (item : Node) (path : NodePath)
     → slice_get body k ≡ Some item
     → LeadsBelow P item path → LeadsTo P body (k ∷ path)
 in_body P body k item path at leads = subst (λ o. IsSomeAnd (node_below o path) P) (sym at) leads
@@ -186,6 +186,17 @@ IsScript-made body items none = record {
         let item = of_item IsImportMeta body k path (slice_get body k) refl leads in
         none k item.0 item.1 (path, inl item.2)
 
+-- no function contains a bare await
+pub no_function_round : (body : List Node) (k : ℕ) (item : Node) (path front : NodePath)
+    → slice_get body k ≡ Some item → IsBareAwait item path → IsStrictPrefix front (k ∷ path)
+    → LeadsTo IsFunction body front → ⊥
+no_function_round body k item path [] at bare goes leads = leads
+no_function_round body k item path (j ∷ front) at bare goes leads =
+    let same : k ≡ j = let e = goes.joined in cc in
+    let rest : path ≡ front ++ (goes.index ∷ goes.rest) = let e = goes.joined in cc in
+    bare.bare front (record { index = goes.index; rest = goes.rest; joined = rest })
+    (subst (λ o. IsSomeAnd (node_below o front) IsFunction) (ap (slice_get body) (sym same) ∙ at) leads)
+
 -- no item of a script makes a module
 pub IsScript-makes_none : (body : List Node) (k : ℕ) (item : Node) → slice_get body k ≡ Some item
     → IsScript body → ¬ MakesModule false item
@@ -193,12 +204,4 @@ IsScript-makes_none body k item at script (path, inl meta) =
     script.no_import_meta (k ∷ path) (in_body IsImportMeta body k item path at meta)
 IsScript-makes_none body k item at script (path, inr (outside, bare)) =
     let found = script.awaits_in_functions (k ∷ path) (in_body IsAwait body k item path at bare.await) in
-    here found.0 found.1 found.2
-  where
-    here : (front : NodePath) → IsStrictPrefix front (k ∷ path) → LeadsTo IsFunction body front → ⊥
-    here [] goes leads = leads
-    here (j ∷ front) goes leads =
-        let same : k ≡ j = let e = goes.joined in cc in
-        let rest : path ≡ front ++ (goes.index ∷ goes.rest) = let e = goes.joined in cc in
-        bare.bare front (record { index = goes.index; rest = goes.rest; joined = rest })
-        (subst (λ o. IsSomeAnd (node_below o front) IsFunction) (ap (slice_get body) (sym same) ∙ at) leads)
+    no_function_round body k item path found.0 at bare found.1 found.2

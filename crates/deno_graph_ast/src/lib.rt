@@ -6,6 +6,7 @@ mod head_pragmas;
 mod head_tail;
 mod info;
 pub mod jsdoc;
+pub mod laws;
 mod references;
 mod script;
 mod source_map;

@@ -1,0 +1,19 @@
+//! Laws of what is said of a module.
+
+ghost use Rattle.std.specs.Prelude.{All, List, ℕ};
+ghost use Rattle.std.specs.Str.{IsUtf8};
+ghost use Rattle.deno_graph_ast.specs.ModuleInfo.{IsModuleInfo};
+ghost use Rattle.deno_graph_info.specs.declared.analysis.module_info.ModuleInfo.{ModuleInfo};
+ghost use Rattle.deno_graph_source.specs.Comments.{FiledComments, comments_of};
+ghost use Rattle.deno_graph_source.specs.Source.{IsValid};
+ghost use Rattle.deno_graph_source.specs.declared.tree.media_type.MediaType.{MediaType};
+ghost use Rattle.deno_graph_source.specs.declared.tree.node.Program.{Program};
+
+/// Each valid source has a `ModuleInfo`, whatever its media type. The texts of its comments are
+/// UTF-8, as each `Text` is.
+pub fn each_source_has_info()
+    ensures { (text : List ℕ) (media_type : MediaType) (program : Program) (comments : FiledComments)
+        → IsValid text program comments
+        → All (λ comment. IsUtf8 comment.text) (comments_of comments)
+        → (info : ModuleInfo) × IsModuleInfo text media_type program comments info }
+{}
