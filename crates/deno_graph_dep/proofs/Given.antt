@@ -22,20 +22,20 @@ use Rattle.deno_graph_dep.proofs.Items.{AreListed-listed_below, AreListed-unique
 -- The paths that were given and those to come are those of the listing; and each item is what the node at
 -- the path in its place states.
 pub record AreGiven (comments : FiledComments) (first walk : WalkState) (items : List Item) : Type 0 where
-  pub same_body : walk.body ≡ first.body
-  pub is_listing : IsListing dependency_rules first.body first.to_come
+  pub same_program : walk.program ≡ first.program
+  pub is_listing : IsListing dependency_rules first.program.body first.to_come
   pub given : List NodePath
   pub rest : first.to_come ≡ given ++ walk.to_come
   pub nodes : List Node
-  pub at_paths : map Some nodes ≡ map (listed_at first.body) given
+  pub at_paths : map Some nodes ≡ map (listed_at first.program.body) given
   pub stated : AllStated comments nodes items
 
 pub AreGiven-none : (comments : FiledComments) (walk : WalkState)
-    → IsListing dependency_rules walk.body walk.to_come
+    → IsListing dependency_rules walk.program.body walk.to_come
     → AreGiven comments walk walk []
 AreGiven-none comments walk is =
     record {
-      same_body = refl;
+      same_program = refl;
       is_listing = is;
       given = [];
       rest = refl;
@@ -47,12 +47,13 @@ AreGiven-none comments walk is =
 -- the node that comes next is listed
 listed_next : (comments : FiledComments) (first walk : WalkState) (items : List Item) (path : NodePath)
     (rest : List NodePath) (node : Node)
-    → AreGiven comments first walk items → walk.to_come ≡ path ∷ rest → node_at first.body path ≡ Some node
+    → AreGiven comments first walk items → walk.to_come ≡ path ∷ rest
+    → node_at first.program.body path ≡ Some node
     → is_listed node ≡ true
 listed_next comments first walk items path rest node so_far next at =
     let all : first.to_come ≡ so_far.given ++ path ∷ rest = so_far.rest
     ∙ ap (λ ps. so_far.given ++ ps) next in
-    let P : List NodePath → Type 0 = λ ps. IsListing dependency_rules first.body ps in
+    let P : List NodePath → Type 0 = λ ps. IsListing dependency_rules first.program.body ps in
     let is = subst P all so_far.is_listing in
     let member = Contains-from_Member (so_far.given ++ path ∷ rest) path
     (Member-right so_far.given (path ∷ rest) path (inl refl)) in
@@ -61,10 +62,10 @@ listed_next comments first walk items path rest node so_far next at =
 
 at_first : (comments : FiledComments) (first walk : WalkState) (items : List Item) (path : NodePath)
     (node : Node)
-    → AreGiven comments first walk items → node_at walk.body path ≡ Some node
-    → node_at first.body path ≡ Some node
-at_first comments first walk items path node so_far at = ap (λ body. node_at body path) (sym so_far.same_body)
-    ∙ at
+    → AreGiven comments first walk items → node_at walk.program.body path ≡ Some node
+    → node_at first.program.body path ≡ Some node
+at_first comments first walk items path node so_far at =
+    ap (λ (program : Program). node_at program.body path) (sym so_far.same_program) ∙ at
 
 pub gives-listed : (comments : FiledComments) (first old new : WalkState) (items : List Item)
     (node : Bor Node)
@@ -75,12 +76,12 @@ gives-listed comments first old new items node so_far gives =
 
 pub gives-shaped : (comments : FiledComments) (program : Program) (first old new : WalkState)
     (items : List Item) (node : Bor Node)
-    → first.body ≡ program.body → All IsShaped (nodes_of program) → AreGiven comments first old items
+    → first.program ≡ program → All IsShaped (nodes_of program) → AreGiven comments first old items
     → Gives old new (Some node)
     → All IsShaped (nodes_in node.now)
 gives-shaped comments program first old new items node is shaped so_far gives =
     shaped_node program gives.path node.now shaped
-    (ap (λ body. node_at body gives.path) (sym is)
+    (ap (λ (p : Program). node_at p.body gives.path) (sym is)
     ∙ at_first comments first old items gives.path node.now so_far gives.at_path)
 
 listed_node-is : (node : Node) → is_listed node ≡ true → listed_node node ≡ Some node
@@ -90,16 +91,16 @@ listed_node-is node is = ap (λ b. cond b (Some node) None) is
 -- and what it states comes next
 pub AreGiven-more : (comments : FiledComments) (first old new : WalkState) (items : List Item)
     (node : Bor Node) (item : Item)
-    → AreGiven comments first old items → new.body ≡ old.body → Gives old new (Some node)
+    → AreGiven comments first old items → new.program ≡ old.program → Gives old new (Some node)
     → States comments node.now item → AreGiven comments first new (items ++ item ∷ [])
 AreGiven-more comments first old new items node item so_far same gives states =
     let path = gives.path in
-    let here : listed_at first.body path ≡ Some node.now =
+    let here : listed_at first.program.body path ≡ Some node.now =
     ap (λ o. option_and_then listed_node o)
     (at_first comments first old items path node.now so_far gives.at_path)
     ∙ listed_node-is node.now (gives-listed comments first old new items node so_far gives) in
     record {
-      same_body = same ∙ so_far.same_body;
+      same_program = same ∙ so_far.same_program;
       is_listing = so_far.is_listing;
       given = so_far.given ++ path ∷ [];
       rest = so_far.rest ∙ ap (λ ps. so_far.given ++ ps) gives.first
@@ -108,26 +109,27 @@ AreGiven-more comments first old new items node item so_far same gives states =
       at_paths =
           map-append Some so_far.nodes (node.now ∷ [])
           ∙ ap (λ os. os ++ Some node.now ∷ []) so_far.at_paths
-          ∙ ap (λ o. map (listed_at first.body) so_far.given ++ o ∷ []) (sym here)
-          ∙ sym (map-append (listed_at first.body) so_far.given (path ∷ []));
+          ∙ ap (λ o. map (listed_at first.program.body) so_far.given ++ o ∷ []) (sym here)
+          ∙ sym (map-append (listed_at first.program.body) so_far.given (path ∷ []));
       stated = AllStated-more comments so_far.nodes items node.now item so_far.stated states;
     }
 
 -- at the end they are all of the listing
 AreListed-given : (comments : FiledComments) (first walk : WalkState) (items : List Item)
-    → (so_far : AreGiven comments first walk items) → walk.to_come ≡ [] → AreListed first.body so_far.nodes
+    → (so_far : AreGiven comments first walk items) → walk.to_come ≡ []
+    → AreListed first.program.body so_far.nodes
 AreListed-given comments first walk items so_far none =
-    let P : List NodePath → Type 0 = λ ps. IsListing dependency_rules first.body ps in
+    let P : List NodePath → Type 0 = λ ps. IsListing dependency_rules first.program.body ps in
     let all : first.to_come ≡ so_far.given = so_far.rest ∙ ap (λ ps. so_far.given ++ ps) none
     ∙ append-nil so_far.given in
     record { paths = so_far.given; is_listing = subst P all so_far.is_listing; at_paths = so_far.at_paths }
 
 pub AreDependencies-given : (comments : FiledComments) (first walk : WalkState) (items : List Item)
-    (body : List Node)
-    → AreGiven comments first walk items → walk.to_come ≡ [] → first.body ≡ body
-    → AreDependencies comments body items
-AreDependencies-given comments first walk items body so_far none is =
-    let P : List Node → Type 0 = λ b. AreDependencies comments b items in
+    (program : Program)
+    → AreGiven comments first walk items → walk.to_come ≡ [] → first.program ≡ program
+    → AreDependencies comments program.body items
+AreDependencies-given comments first walk items program so_far none is =
+    let P : Program → Type 0 = λ p. AreDependencies comments p.body items in
     subst P is (record {
       nodes = so_far.nodes;
       are_listed = AreListed-given comments first walk items so_far none;
@@ -135,13 +137,13 @@ AreDependencies-given comments first walk items body so_far none is =
     })
 
 pub AllStated-given : (comments : FiledComments) (first walk : WalkState) (items : List Item)
-    (body : List Node)
-    → AreGiven comments first walk items → walk.to_come ≡ [] → first.body ≡ body
-    → AllStated comments (listed_below body) items
-AllStated-given comments first walk items body so_far none is =
+    (program : Program)
+    → AreGiven comments first walk items → walk.to_come ≡ [] → first.program ≡ program
+    → AllStated comments (listed_below program.body) items
+AllStated-given comments first walk items program so_far none is =
     let same =
-    AreListed-unique first.body so_far.nodes (listed_below first.body)
-    (AreListed-given comments first walk items so_far none) (AreListed-listed_below first.body) in
+    AreListed-unique first.program.body so_far.nodes (listed_below first.program.body)
+    (AreListed-given comments first walk items so_far none) (AreListed-listed_below first.program.body) in
     let P : List Node → Type 0 = λ nodes. AllStated comments nodes items in
-    let Q : List Node → Type 0 = λ b. AllStated comments (listed_below b) items in
+    let Q : Program → Type 0 = λ p. AllStated comments (listed_below p.body) items in
     subst Q is (subst P same so_far.stated)

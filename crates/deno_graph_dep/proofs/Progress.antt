@@ -2,6 +2,7 @@
 use Rattle.std.proofs.Common.{◌≡◌, ℕ, ◌+◌, ◌-◌, ◌^◌, ◌≤◌, min, List, [], ◌++◌, true, false, Some, None, sym, ap, ◌∙◌, refl, arith}
 use Rattle.std.specs.Borrow.{Bor}
 use Rattle.deno_graph_source.specs.declared.tree.node.Node.{Node}
+use Rattle.deno_graph_source.specs.declared.tree.node.Program.{Program}
 use Rattle.deno_graph_dep.specs.DependencyRules.{dependency_rules}
 use Rattle.deno_graph_dep.specs.Stack.{is_before, is_after, once, IsStackOf, to_come}
 use Rattle.deno_graph_dep.specs.Walk.{Gives}
@@ -70,11 +71,12 @@ Progress-leave body first old new node siblings step passed p = record {
 }
 
 -- a node that is given
-pub gives-enter : (body : List Node) (first old new : Stack) (node : Bor Node) (siblings : Bor (List Node))
+pub gives-enter : (program : Program) (first old new : Stack) (node : Bor Node) (siblings : Bor (List Node))
     → Enters old new node siblings
-    → is_before dependency_rules node.now ≡ true → Progress body first old
-    → Gives (state_of body first) (state_of body new) (Some node)
-gives-enter body first old new node siblings step given p =
+    → is_before dependency_rules node.now ≡ true → Progress program.body first old
+    → Gives (state_of program first) (state_of program new) (Some node)
+gives-enter program first old new node siblings step given p =
+    let body = program.body in
     let path = path_of body old.frames.items node siblings in
     let at = node_at-next_path body old.frames.items node.now siblings.now
     (stands-first body old new node siblings step p.stack.stands) in
@@ -87,11 +89,12 @@ gives-enter body first old new node siblings step given p =
           (IsStackOf-enter body old new node siblings step p.stack) at given;
     }
 
-pub gives-leave : (body : List Node) (first old new : Stack) (node : Bor Node) (siblings : Bor (List Node))
+pub gives-leave : (program : Program) (first old new : Stack) (node : Bor Node) (siblings : Bor (List Node))
     → Left old new node siblings
-    → is_after dependency_rules node.now ≡ true → Progress body first old
-    → Gives (state_of body first) (state_of body new) (Some node)
-gives-leave body first old new node siblings step given p =
+    → is_after dependency_rules node.now ≡ true → Progress program.body first old
+    → Gives (state_of program first) (state_of program new) (Some node)
+gives-leave program first old new node siblings step given p =
+    let body = program.body in
     let path = path_of body new.frames.items node siblings in
     let at = node_at-next_path body new.frames.items node.now siblings.now
     (stands-left body old new node siblings step p.stack.stands) in
@@ -129,9 +132,10 @@ pub to_come-same : (body : List Node) (old new : Stack) → new.frames.items ≡
     → to_come dependency_rules body new ≡ to_come dependency_rules body old
 to_come-same body old new frames nodes = rw (frames, nodes) refl
 
-pub gives-end : (body : List Node) (first old new : Stack) → Ends old new → Progress body first old
-    → Gives (state_of body first) (state_of body new) None
-gives-end body first old new end p =
+pub gives-end : (program : Program) (first old new : Stack) → Ends old new → Progress program.body first old
+    → Gives (state_of program first) (state_of program new) None
+gives-end program first old new end p =
+    let body = program.body in
     let none : to_come dependency_rules body old ≡ [] = rw (end.no_frames, end.no_nodes) refl in
     let s = IsStackOf-same body old new end.frames end.nodes end.entered p.stack in
     record {

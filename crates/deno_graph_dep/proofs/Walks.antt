@@ -2,6 +2,7 @@
 use Rattle.std.proofs.Common.{◌≡◌, ℕ, ◌+◌, List, [], ◌∷◌, ◌++◌, map, Option, Some, None, Result, Ok, Err, IfOk, OnErr, sym, ap, ◌∙◌, refl, subst, arith, append_assoc}
 use Rattle.std.specs.Borrow.{Bor}
 use Rattle.deno_graph_source.specs.declared.tree.node.Node.{Node}
+use Rattle.deno_graph_source.specs.declared.tree.node.Program.{Program}
 use Rattle.deno_graph_dep.specs.DependencyRules.{dependency_rules}
 use Rattle.deno_graph_dep.specs.Stack.{entry_rules, index_of, paths_to_come, to_come, StandsIn, IsStackOf}
 use Rattle.deno_graph_dep.specs.ListedPaths.{listed_paths, paths_at}
@@ -56,29 +57,29 @@ listing-new body stack frames nodes =
     (IsListing-listed_paths dependency_rules body)
 
 -- what was given until now, and what is still to come after a step
-given_by : {E : Type 0} (body : List Node) (old new : Stack) (answer : Result (Option (Bor Node)) E)
-    → IfOk answer (Gives (state_of body old) (state_of body new))
-    → OnErr answer (to_come dependency_rules body new ≡ to_come dependency_rules body old)
+given_by : {E : Type 0} (program : Program) (old new : Stack) (answer : Result (Option (Bor Node)) E)
+    → IfOk answer (Gives (state_of program old) (state_of program new))
+    → OnErr answer (to_come dependency_rules program.body new ≡ to_come dependency_rules program.body old)
     → (given : List NodePath)
-    → listed_paths dependency_rules body ≡ given ++ to_come dependency_rules body old
+    → listed_paths dependency_rules program.body ≡ given ++ to_come dependency_rules program.body old
     → (again : List NodePath)
-    × (listed_paths dependency_rules body ≡ again ++ to_come dependency_rules body new)
-given_by body old new (Ok None) gives refused given rest =
+    × (listed_paths dependency_rules program.body ≡ again ++ to_come dependency_rules program.body new)
+given_by program old new (Ok None) gives refused given rest =
     (given, rest ∙ ap (λ ps. given ++ ps) (gives.before ∙ sym gives.after))
-given_by body old new (Ok (Some node)) gives refused given rest = (
+given_by program old new (Ok (Some node)) gives refused given rest = (
   given ++ gives.path ∷ [],
   rest ∙ ap (λ ps. given ++ ps) gives.first
-      ∙ sym (append_assoc given (gives.path ∷ []) (to_come dependency_rules body new)),
+      ∙ sym (append_assoc given (gives.path ∷ []) (to_come dependency_rules program.body new)),
 )
-given_by body old new (Err error) gives refused given rest =
+given_by program old new (Err error) gives refused given rest =
     (given, rest ∙ ap (λ ps. given ++ ps) (sym refused))
 
-pub IsWalkOf-step : {E : Type 0} (body : List Node) (old new : Stack) (answer : Result (Option (Bor Node)) E)
-    → IfOk answer (Gives (state_of body old) (state_of body new))
-    → OnErr answer (to_come dependency_rules body new ≡ to_come dependency_rules body old)
-    → IsStackOf body new → IsWalkOf body old → IsWalkOf body new
-IsWalkOf-step body old new answer gives refused stack walk =
-    let then = given_by body old new answer gives refused walk.given walk.rest in
+pub IsWalkOf-step : {E : Type 0} (program : Program) (old new : Stack) (answer : Result (Option (Bor Node)) E)
+    → IfOk answer (Gives (state_of program old) (state_of program new))
+    → OnErr answer (to_come dependency_rules program.body new ≡ to_come dependency_rules program.body old)
+    → IsStackOf program.body new → IsWalkOf program.body old → IsWalkOf program.body new
+IsWalkOf-step program old new answer gives refused stack walk =
+    let then = given_by program old new answer gives refused walk.given walk.rest in
     record { is_stack = stack; given = then.0; rest = then.1 }
 
 pub listing-of_walk : (body : List Node) (stack : Stack) → IsWalkOf body stack

@@ -1,6 +1,7 @@
 -- What the stack of a walk says of it.
 use Rattle.std.specs.Prelude.{◌≡◌, List, ◌++◌}
 use Rattle.deno_graph_source.specs.declared.tree.node.Node.{Node}
+use Rattle.deno_graph_source.specs.declared.tree.node.Program.{Program}
 use Rattle.deno_graph_dep.specs.DependencyRules.{dependency_rules}
 use Rattle.deno_graph_dep.specs.ListedPaths.{listed_paths}
 use Rattle.deno_graph_dep.specs.NodePath.{NodePath}
@@ -8,11 +9,11 @@ use Rattle.deno_graph_dep.specs.Stack.{IsStackOf, to_come}
 use Rattle.deno_graph_dep.specs.declared.stack.Stack.{Stack}
 use Rattle.deno_graph_dep.specs.Walk.{WalkState}
 
--- what a stack says of the body that it stands in
-abbrev pub state_of : List Node → Stack → WalkState
-state_of body stack = record {
-  body = body;
-  to_come = to_come dependency_rules body stack;
+-- what a stack says of the program in whose body it stands
+abbrev pub state_of : Program → Stack → WalkState
+state_of program stack = record {
+  program = program;
+  to_come = to_come dependency_rules program.body stack;
   entered = stack.entered;
 }
 

@@ -3,6 +3,7 @@
 
 ghost use Rattle.std.specs.Prelude.{◌≡◌, ◌+◌, ◌-◌, ◌^◌, ◌≤◌, ◌++◌, ◌∷◌, [], min, IfOk, OnOk, OnErr, MatchOption, List};
 ghost use Rattle.deno_graph_source.specs.declared.tree.node.Node.{Node};
+ghost use Rattle.deno_graph_source.specs.declared.tree.node.Program.{Program};
 ghost use Rattle.deno_graph_dep.specs.DependencyRules.{children_to_visit, dependency_rules};
 ghost use Rattle.deno_graph_dep.specs.Walk.{Gives};
 ghost use Rattle.deno_graph_dep.specs.WalkSteps.{state_of};
@@ -73,8 +74,8 @@ impl<'a> Stack<'a> {
     /// `None` at the end. A refusal leaves what is still to come as it was.
     pub(crate) fn next_listed(&mut self) -> Result<Option<&'a Node>, AllocError>
         ensures stays { (body : List Node) → IsStackOf body self.old → IsStackOf body self.new }
-        ensures gives { (body : List Node) → IsStackOf body self.old
-            → IfOk result (Gives (state_of body self.old) (state_of body self.new)) }
+        ensures gives { (program : Program) → IsStackOf program.body self.old
+            → IfOk result (Gives (state_of program self.old) (state_of program self.new)) }
         ensures refused { (body : List Node) → IsStackOf body self.old
             → OnErr result (to_come dependency_rules body self.new
             ≡ to_come dependency_rules body self.old) }

@@ -29,7 +29,7 @@ impl<'a> Model for Walk<'a> {
 
     ghost Value = { WalkState };
 
-    ghost view = { λ walk. state_of walk.program.now.body walk.stack };
+    ghost view = { λ walk. state_of walk.program.now walk.stack };
 
     ghost coded = { Prim.hlevel (codes, node.the_row.coded) };
 
@@ -39,7 +39,7 @@ impl<'a> Model for Walk<'a> {
 impl<'a> Walk<'a> {
     /// A walk that has everything still to come. It takes no memory.
     pub fn new(alloc: Global, program: &'a Program) -> Walk<'a>
-        ensures body { result.body ≡ program.now.body }
+        ensures program { result.program ≡ program.now }
         ensures to_come { IsListing dependency_rules program.now.body result.to_come }
         ensures entered { result.entered ≡ 0 }
     {
@@ -53,7 +53,7 @@ impl<'a> Walk<'a> {
     /// them, or `None` at the end and from then on. The only error is that memory was refused,
     /// and then the same nodes are still to come.
     pub fn step(&mut self) -> Result<Option<&'a Node>, AllocError>
-        ensures body { self.new.body ≡ self.old.body }
+        ensures program { self.new.program ≡ self.old.program }
         ensures gives { IfOk result (Gives self.old self.new) }
         ensures refused { OnErr result (self.new.to_come ≡ self.old.to_come) }
         ensures rises { self.old.entered ≤ self.new.entered }
@@ -71,7 +71,7 @@ impl<'a> Walk<'a> {
 
     /// The program that is walked.
     pub fn program(&self) -> &'a Program
-        ensures { result.now.body ≡ self.now.body }
+        ensures { result.now ≡ self.now.program }
     {
         self.program
     }
@@ -80,7 +80,7 @@ impl<'a> Walk<'a> {
     /// given until then is its beginning, and the walk goes on with the rest.
     pub fn goes_on_with_the_rest(&self)
         ensures { (given : List NodePath)
-            × IsListing dependency_rules self.now.body (given ++ self.now.to_come) }
+            × IsListing dependency_rules self.now.program.body (given ++ self.now.to_come) }
     {
         let _ = &self.program;
     }

@@ -22,7 +22,7 @@ describe-requires c =
       listed = gives-listed comments first c.nodes.walk new so_far node c.nodes.invariant gives;
       shaped =
           gives-shaped comments c.args.program.now first c.nodes.walk new so_far node
-          c.new-walk.ensures.body c.requires c.nodes.invariant gives;
+          c.new-walk.ensures.program c.requires c.nodes.invariant gives;
     }
 
 -- what it states comes next
@@ -39,7 +39,7 @@ nodes-preserved c =
     let P : List Item → Type 0 = λ items. AreGiven comments c.new-walk.result new items in
     subst P (sym pushed)
     (AreGiven-more comments c.new-walk.result c.nodes.walk new (map item_of found) c.in-Some.node
-    (item_of descriptor) c.nodes.invariant c.in_ok-node.ensures.body gives c.in_ok-describe.ensures)
+    (item_of descriptor) c.nodes.invariant c.in_ok-node.ensures.program gives c.in_ok-describe.ensures)
 
 pub returns-clause-listing : goal.returns-clause-listing
 returns-clause-listing c =
@@ -47,8 +47,8 @@ returns-clause-listing c =
     subst (λ (o : Option (Bor Node)). Gives c.nodes.walk c.step.new.self o) c.in_default.is
     c.in_ok-node.ensures.gives in
     AreDependencies-given c.args.comments.now c.new-walk.result c.nodes.walk
-    (map item_of c.nodes.found.items) c.args.program.now.body
-    c.nodes.invariant gives.before c.new-walk.ensures.body
+    (map item_of c.nodes.found.items) c.args.program.now
+    c.nodes.invariant gives.before c.new-walk.ensures.program
 
 pub returns-clause-recursive : goal.returns-clause-recursive
 returns-clause-recursive c =
@@ -56,5 +56,5 @@ returns-clause-recursive c =
     subst (λ (o : Option (Bor Node)). Gives c.nodes.walk c.step.new.self o) c.in_default.is
     c.in_ok-node.ensures.gives in
     AllStated-given c.args.comments.now c.new-walk.result c.nodes.walk
-    (map item_of c.nodes.found.items) c.args.program.now.body
-    c.nodes.invariant gives.before c.new-walk.ensures.body
+    (map item_of c.nodes.found.items) c.args.program.now
+    c.nodes.invariant gives.before c.new-walk.ensures.program

@@ -44,8 +44,8 @@ returns-then-is_given_before_inside-clause-stays c body s =
 
 pub returns-then-is_given_before_inside-clause-gives :
     goal.returns-then-is_given_before_inside-clause-gives
-returns-then-is_given_before_inside-clause-gives c body s =
-    gives-enter body c.args.self.now c.nodes.self c.enter.new.self c.in-Some.node c.in-Some.siblings
+returns-then-is_given_before_inside-clause-gives c program s =
+    gives-enter program c.args.self.now c.nodes.self c.enter.new.self c.in-Some.node c.in-Some.siblings
     (record {
       first = c.in-Some.ensures.cases.0;
       frames = c.in_ok-enter.ensures.frames;
@@ -53,7 +53,7 @@ returns-then-is_given_before_inside-clause-gives c body s =
       entered = c.in_ok-enter.ensures.entered;
     })
     (sym c.is_given_before_inside.ensures ∙ c.if-is_given_before_inside.true)
-    (c.nodes.invariant body s)
+    (c.nodes.invariant program.body s)
 
 pub returns-then-is_given_before_inside-clause-rises :
     goal.returns-then-is_given_before_inside-clause-rises
@@ -97,8 +97,8 @@ returns-in_default-leave-clause-stays c body s =
     (c.nodes.invariant body s).stack
 
 pub returns-in_default-leave-clause-gives : goal.returns-in_default-leave-clause-gives
-returns-in_default-leave-clause-gives c body s =
-    gives-end body c.args.self.now c.nodes.self c.leave.new.self
+returns-in_default-leave-clause-gives c program s =
+    gives-end program c.args.self.now c.nodes.self c.leave.new.self
     (record {
       no_nodes = nil_from_length c.nodes.self.nodes.now c.in_default.ensures.cases;
       no_frames = c.in_default-leave.ensures.leaves.0;
@@ -106,7 +106,7 @@ returns-in_default-leave-clause-gives c body s =
       nodes = c.in_default-leave.ensures.leaves.2;
       entered = c.in_default-leave.ensures.entered;
     })
-    (c.nodes.invariant body s)
+    (c.nodes.invariant program.body s)
 
 pub returns-in_default-leave-clause-rises : goal.returns-in_default-leave-clause-rises
 returns-in_default-leave-clause-rises c body s =
@@ -127,8 +127,8 @@ returns-then-is_given_after_inside-clause-stays c body s =
 
 pub returns-then-is_given_after_inside-clause-gives :
     goal.returns-then-is_given_after_inside-clause-gives
-returns-then-is_given_after_inside-clause-gives c body s =
-    gives-leave body c.args.self.now c.nodes.self c.leave.new.self c.in-Some-leave.node
+returns-then-is_given_after_inside-clause-gives c program s =
+    gives-leave program c.args.self.now c.nodes.self c.leave.new.self c.in-Some-leave.node
     c.in-Some-leave.ensures.leaves.0
     (record {
       none = nil_from_length c.nodes.self.nodes.now c.in_default.ensures.cases;
@@ -138,7 +138,7 @@ returns-then-is_given_after_inside-clause-gives c body s =
           c.in-Some-leave.ensures.entered;
     })
     (sym c.is_given_after_inside.ensures ∙ c.if-is_given_after_inside.true)
-    (c.nodes.invariant body s)
+    (c.nodes.invariant program.body s)
 
 pub returns-then-is_given_after_inside-clause-rises :
     goal.returns-then-is_given_after_inside-clause-rises
