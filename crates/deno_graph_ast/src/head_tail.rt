@@ -1,7 +1,7 @@
 ghost use Rattle.std.specs.Prelude.{◌≡◌};
 ghost use Rattle.deno_graph_ast.specs.HeadTail.{head_comments, tail_comments};
-ghost use Rattle.deno_graph_dep.specs.Stated.{leading_at};
 
+use deno_graph_dep::leading_comments;
 use deno_graph_source::tree::{Comments, DependencyComment, Program};
 
 /// The comments before the first item. Where there is no item, those behind a shebang, or else
@@ -32,11 +32,4 @@ pub(crate) fn tail_comments<'a>(
     ensures { result.now ≡ tail_comments program.now comments.now }
 {
     comments.get_trailing(program.range.end).unwrap_or(&[])
-}
-
-/// The comments that are filed as leading at a position, in bytes.
-fn leading_comments(comments: &Comments, pos: usize) -> &[DependencyComment]
-    ensures { result.now ≡ leading_at comments.now pos }
-{
-    comments.get_leading(pos).unwrap_or(&[])
 }

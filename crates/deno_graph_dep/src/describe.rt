@@ -297,7 +297,7 @@ fn import_equals_kind(type_only: bool, is_export: bool) -> StaticDependencyKind
 }
 
 /// The comments that are filed as leading at a position, in bytes.
-fn leading_comments(comments: &Comments, pos: usize) -> &[DependencyComment]
+pub fn leading_comments(comments: &Comments, pos: usize) -> &[DependencyComment]
     ensures { result.now ≡ leading_at comments.now pos }
 {
     comments.get_leading(pos).unwrap_or(&[])
