@@ -1,26 +1,56 @@
 /* modinfo in a process of your own: what one JavaScript or TypeScript module depends on.
  *
- * Each function reads one JSON document from memory and writes one line into memory that you lend.
- * docs/FORMATS.md has both formats. Nothing is kept between calls, and nothing is printed.
+ * Link with `pkg-config --cflags --libs modinfo`, and with --static for the archive. docs/FORMATS.md
+ * of the repository describes the documents and the answers.
  *
- * What each answers:
+ * modinfo_analyze, modinfo_convert and modinfo_reach each read one JSON document from memory, and
+ * write one line into memory that you lend. Nothing is kept between calls, and nothing is printed.
  *
- *   MODINFO_ANSWERED   the answer, one line of JSON with its line feed, is at the front of
- *                      `answer`.
- *   MODINFO_FAULT      the document was refused: the fault's name is at the front of `answer`
- *                      (Json, Tree, Specifier, Shape ..; README.md lists them). OutOfMemory is among
- *                      them, and no other fault of the machine is.
- *   MODINFO_TOO_SMALL  `room` is too small for what would be written. Nothing is written to
- *                      `answer`: call again with room for `*length` bytes.
+ *     document         the document, in UTF-8
+ *     document_length  its length in bytes; no zero byte is needed behind it
+ *     answer           room for what is written
+ *     room             the length of that room in bytes
+ *     length           gets how many bytes were written or, with MODINFO_TOO_SMALL, would have been
  *
- * `*length` is always how many bytes were written or, with MODINFO_TOO_SMALL, would have been. Bytes
- * of `answer` behind them are left as they were. There is no zero byte at the end.
+ * They answer one of these:
+ *
+ *     MODINFO_ANSWERED   the answer is at the front of `answer`: one line of JSON in UTF-8, with its
+ *                        line feed.
+ *     MODINFO_FAULT      the document was refused. The fault's name is at the front of `answer`, in
+ *                        ASCII and without a line feed.
+ *     MODINFO_TOO_SMALL  `room` is too small for what would be written, the answer or the name.
+ *                        Nothing is written to `answer`: call again with room for `*length` bytes.
+ *
+ * Bytes of `answer` behind the first `*length` are left as they were, and there is no zero byte at the
+ * end. Most answers are shorter than their documents, so room for as many bytes as the document has
+ * makes one call the rule. No bound is promised.
+ *
+ * The faults are looked for in this order, but for OutOfMemory, which may come at any point:
+ *
+ *     Input             the document isn't UTF-8
+ *     Json              it is no JSON, nests deeper than 127, or has a number too large for a float
+ *     Tree              analyze: the JSON isn't in the notation
+ *     Specifier         analyze: the specifier is no URL
+ *     RangeReversed     analyze: a range has its start above its end
+ *     RangeOutside      analyze: a range has an end above the length of the source
+ *     RangeOffBoundary  analyze: a range has an end inside a character
+ *     CommentText       analyze: the source doesn't have the comment, as it is written, at its range
+ *     CommentsOverlap   analyze: two comments are unequal and share a byte
+ *     Shape             analyze: a node doesn't have the children that its kind needs; reach: the
+ *                       document, or a module's part of it, doesn't have the form that is read
+ *     Float             convert, and reach for a module: a number isn't held as a whole number
+ *     ColumnOverflow    convert: a column is above 2^64 - 1
+ *     OutOfMemory       memory was refused
+ *
+ * Of those from RangeReversed to Shape any one is named where analyze meets several.
  *
  * What you owe: `document` and `answer` point to `document_length` and `room` bytes, also where these
- * are zero (then to any byte): a null pointer isn't tested for. The three don't overlap, and no other
- * thread writes to them during the call. Calls may run side by side in many threads. `malloc`,
- * `realloc` and `free` are the program's. Trees use the stack: 192 KiB were enough for the deepest
- * documents, whose JSON nests 127 deep.
+ * are zero (then to any byte): a null pointer isn't tested for. The document, the room and `*length`
+ * don't overlap, and no other thread writes to them during the call. Calls may run side by side in
+ * many threads, but not in a signal handler, nor in the forked child of a process with threads.
+ * Memory comes from the process's `malloc`, `realloc` and `free`, and is given back before the call
+ * returns. Trees use the stack: 192 KiB were enough for the deepest documents, whose JSON nests 127
+ * deep. The processor has to have x86-64-v2 (SSE4.2 and POPCNT).
  */
 #ifndef MODINFO_H
 #define MODINFO_H
@@ -28,25 +58,38 @@
 #include <stddef.h>
 #include <stdint.h>
 
+/* The version that this header belongs to, as a text and as one number. */
+#define MODINFO_VERSION_MAJOR 0
+#define MODINFO_VERSION_MINOR 1
+#define MODINFO_VERSION_PATCH 0
+#define MODINFO_VERSION_STRING "0.1.0"
+#define MODINFO_VERSION \
+    (MODINFO_VERSION_MAJOR * 10000 + MODINFO_VERSION_MINOR * 100 + MODINFO_VERSION_PATCH)
+
 #ifdef __cplusplus
 extern "C" {
 #endif
 
+/* What a call answers. */
 enum {
     MODINFO_ANSWERED = 0,
     MODINFO_FAULT = 1,
     MODINFO_TOO_SMALL = 2,
 };
 
-/* A document with a module's source, tree and comments, to its ModuleInfo. */
+/* The version of the library that is loaded, as MODINFO_VERSION is that of the header:
+ * major * 10000 + minor * 100 + patch. */
+uint32_t modinfo_version(void);
+
+/* From a module's source, tree and comments to its ModuleInfo. */
 uint8_t modinfo_analyze(const uint8_t *document, size_t document_length,
                         uint8_t *answer, size_t room, size_t *length);
 
-/* The information of one module, as version 1 stored it, to that of version 2. */
+/* From the information of one module, as version 1 stored it, to that of version 2. */
 uint8_t modinfo_convert(const uint8_t *document, size_t document_length,
                         uint8_t *answer, size_t room, size_t *length);
 
-/* A root and the ModuleInfo of many modules, to the keys that the root reaches. */
+/* From a root and the ModuleInfo of many modules to the keys that the root reaches, ascending. */
 uint8_t modinfo_reach(const uint8_t *document, size_t document_length,
                       uint8_t *answer, size_t room, size_t *length);
 

@@ -17,8 +17,10 @@ make_tools() {
     mkdir -p "$ROOM/bin" "$ROOM/asked"
     cp "$tests/rt_stand_in" "$ROOM/bin/rt"
     printf '#!/bin/sh\necho "$PROCESSORS"\n' > "$ROOM/bin/nproc"
-    printf '#!/bin/sh\nsed -n "s/^CREATE //p" | xargs -d "\\n" touch\n' > "$ROOM/bin/ar"
+    printf '#!/bin/sh\ntouch "$2"\n' > "$ROOM/bin/ar"
     printf '#!/bin/sh\ntouch "$3"\n' > "$ROOM/bin/cc"
+    cp "$ROOM/bin/cc" "$ROOM/bin/ld"
+    printf '#!/bin/sh\n' > "$ROOM/bin/objcopy"
     printf '#!/bin/sh\necho "proved: $*"\ncat\necho "modinfo: Tree" >&2\nexit 7\n' > "$ROOM/program"
     chmod +x "$ROOM"/bin/* "$ROOM/program"
     PATH=$ROOM/bin:$PATH

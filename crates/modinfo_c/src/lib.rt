@@ -2,7 +2,7 @@
 //! whatever else calls functions of C. `include/modinfo.h` declares what it exports.
 #![tactic(auto)]
 
-ghost use Rattle.std.specs.Prelude.{◌<◌};
+ghost use Rattle.std.specs.Prelude.{◌≡◌, ◌<◌};
 ghost use Rattle.modinfo_c.specs.Call.{IsAnswered};
 
 use modinfo::{Fault, Subcommand};
@@ -16,6 +16,17 @@ const FAULT: u8 = 1;
 
 /// The caller's room is too small for the answer or the fault's name.
 const TOO_SMALL: u8 = 2;
+
+/// The version in whole numbers, `MAJOR * 10000 + MINOR * 100 + PATCH`: that of `modinfo --version`.
+const VERSION: u32 = 100;
+
+/// The version, as `MODINFO_VERSION` of the header that belongs to this library.
+#[unsafe(no_mangle)]
+pub extern "C" fn modinfo_version() -> u32
+    ensures { result ≡ 100 }
+{
+    VERSION
+}
 
 /// `modinfo analyze`, from one piece of memory into another. Answers the status, and leaves in
 /// `length` how many bytes were, or with status 2 would be, written.
