@@ -1,7 +1,7 @@
 /* modinfo in a process of your own: what one JavaScript or TypeScript module depends on.
  *
- * Link with `pkg-config --cflags --libs modinfo`, and with --static for the archive. docs/FORMATS.md
- * of the repository describes the documents and the answers.
+ * `pkg-config --cflags --libs modinfo` says what to compile and link with. FORMATS.md, in docs/ of the
+ * repository and below share/doc/modinfo where it is installed, describes documents and answers.
  *
  * modinfo_analyze, modinfo_convert and modinfo_reach each read one JSON document from memory, and
  * write one line into memory that you lend. Nothing is kept between calls, and nothing is printed.
