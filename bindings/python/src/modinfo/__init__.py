@@ -1,10 +1,11 @@
 """What one JavaScript or TypeScript module depends on, found in its syntax tree.
 
-Each function reads one document: a dict, or its JSON as a str or as bytes in UTF-8. docs/FORMATS.md of
-the repository has all formats. Nothing is kept between calls, and calls may run in many threads at once.
+A document is a dict, or its JSON as a str or as bytes in UTF-8. docs/FORMATS.md of the repository has all
+formats. Nothing is kept between calls, and calls may run in many threads at once.
 """
 
 import json
+from collections.abc import Iterable, Iterator
 from typing import Any
 
 from . import _library
@@ -12,7 +13,7 @@ from ._fault import Fault, FaultName
 from .information import ModuleInfo
 
 __version__ = "0.1.0"
-__all__ = ["Document", "Fault", "FaultName", "ModuleInfo", "analyze", "convert", "reach"]
+__all__ = ["Document", "Fault", "FaultName", "ModuleInfo", "analyze", "analyze_lines", "convert", "reach"]
 
 Document = dict[str, Any] | str | bytes
 
@@ -24,6 +25,19 @@ def analyze(document: Document) -> ModuleInfo:
     """
     information: ModuleInfo = _answer(_library.ANALYZE, document)
     return information
+
+
+def analyze_lines(lines: Iterable[bytes]) -> Iterator[bytes]:
+    """Each line's answer, in the bytes that `modinfo analyze --lines` prints for it, with a line feed.
+
+    A line is the JSON of one document, with or without a line feed behind it. A refused one is answered
+    by `{"fault":NAME}`, and the next line is read all the same.
+    """
+    for line in lines:
+        try:
+            yield b'{"answer":%b}\n' % _library.call(_library.ANALYZE, line).removesuffix(b"\n")
+        except Fault as fault:
+            yield b'{"fault":"%b"}\n' % fault.name.encode()
 
 
 def convert(document: Document) -> Any:

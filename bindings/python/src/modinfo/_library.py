@@ -35,8 +35,8 @@ REACH = _function("modinfo_reach")
 _Beginning = ctypes.c_char * 0
 
 
-def call(function: Function, document: bytes) -> str:
-    """The answer's line; a Fault where the document is refused.
+def call(function: Function, document: bytes) -> bytes:
+    """The answer's line, with its line feed; a Fault where the document is refused.
 
     Nearly every answer is no longer than its document, but for the line feed.
     """
@@ -46,7 +46,7 @@ def call(function: Function, document: bytes) -> str:
         room = bytearray(length.value)
         beginning = _Beginning.from_buffer(room)
         status = function(document, len(document), beginning, len(room), ctypes.byref(length))
-    text = room[: length.value].decode()
+    written = bytes(memoryview(room)[: length.value])
     if status == FAULT:
-        raise Fault(cast(FaultName, text))
-    return text
+        raise Fault(cast(FaultName, written.decode()))
+    return written

@@ -1,0 +1,34 @@
+"""How far the work is, on a terminal."""
+
+import time
+from typing import TextIO
+
+INTERVAL = 0.2
+CLEAR = "\r\x1b[K"
+
+
+class Progress:
+    """One line on the error output that is written again and again; nothing where that is no terminal."""
+
+    def __init__(self, stream: TextIO) -> None:
+        self._stream = stream
+        self._is_shown = stream.isatty()
+        self._began = self._written = time.monotonic()
+        self._lines = self._bytes = 0
+
+    def add(self, lines: int, size: int, workers: int) -> None:
+        """So many more lines are answered, of so many bytes, and so many workers are there."""
+        self._lines += lines
+        self._bytes += size
+        now = time.monotonic()
+        if self._is_shown and now - self._written >= INTERVAL:
+            self._written = now
+            rate = self._lines / (now - self._began)
+            amount = f"{self._lines:,} lines, {self._bytes / 1e6:,.1f} MB, {rate:,.0f} lines a second"
+            self._stream.write(f"{CLEAR}{amount}, {workers} workers")
+            self._stream.flush()
+
+    def clear(self) -> None:
+        if self._is_shown:
+            self._stream.write(CLEAR)
+            self._stream.flush()

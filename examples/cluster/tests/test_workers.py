@@ -1,0 +1,80 @@
+"""The same bytes as one process writes, whatever becomes of the workers."""
+
+import os
+import signal
+import subprocess
+import threading
+import time
+from pathlib import Path
+from typing import IO
+
+import pytest
+from distributed import Client
+from local import Local, local_cluster
+from running import command, run
+
+# Small, so that there are many partitions for few files.
+SMALL = ("--partition-bytes", "30000")
+
+
+@pytest.mark.parametrize("workers", [1, 2, 4])
+def test_one_two_and_four_workers(workers: int, documents: Path, answers: bytes, tmp_path: Path) -> None:
+    with local_cluster(tmp_path, workers) as cluster:
+        with Client(scheduler_file=str(cluster.scheduler_file)) as client:
+            client.wait_for_workers(workers)
+        done = run(cluster, *SMALL, documents)
+    assert (done.returncode, done.stderr) == (0, b"")
+    assert done.stdout == answers
+
+
+def test_a_worker_that_is_killed_with_work_in_its_hands(documents: Path, answers: bytes, tmp_path: Path) -> None:
+    """One of two workers is stopped when the first answers are there. Once it was given partitions, which it now
+    doesn't answer, it is killed."""
+    lines = documents.read_bytes().splitlines(keepends=True)
+    beginning, rest = lines[: len(lines) // 3], lines[len(lines) // 3 :]
+    with local_cluster(tmp_path, 2) as cluster, Client(scheduler_file=str(cluster.scheduler_file)) as client:
+        client.wait_for_workers(2)
+        program = subprocess.Popen(command(cluster, *SMALL, "-"), stdin=subprocess.PIPE, stdout=subprocess.PIPE)
+        assert program.stdin is not None and program.stdout is not None
+        feed(program.stdin, beginning)
+        first = program.stdout.readline()
+        os.kill(cluster.workers[0].pid, signal.SIGSTOP)
+        feeder = threading.Thread(target=lambda: feed(program.stdin, rest, close=True))
+        feeder.start()
+        wait_until_held(client, cluster, program)
+        os.kill(cluster.workers[0].pid, signal.SIGKILL)
+        written = first + program.stdout.read()
+        feeder.join()
+        assert program.wait() == 0
+        assert len(client.nthreads()) == 1
+    assert written == answers
+
+
+def feed(stream: IO[bytes], lines: list[bytes], close: bool = False) -> None:
+    stream.writelines(lines)
+    stream.flush()
+    if close:
+        stream.close()
+
+
+def wait_until_held(client: Client, cluster: Local, program: subprocess.Popen[bytes]) -> None:
+    """Waits until the first worker was given a partition."""
+    [address] = [
+        address for address, worker in client.scheduler_info()["workers"].items() if worker["name"] == cluster.names[0]
+    ]
+    while not client.processing()[address]:
+        assert program.poll() is None
+        time.sleep(0.01)
+
+
+def test_a_worker_that_comes_in_the_midst(documents: Path, answers: bytes, tmp_path: Path) -> None:
+    """The only worker is killed when the first answers are there, and another comes."""
+    with local_cluster(tmp_path, 1) as cluster:
+        program = subprocess.Popen(command(cluster, *SMALL, documents), stdout=subprocess.PIPE)
+        assert program.stdout is not None
+        first = program.stdout.readline()
+        cluster.workers[0].kill()
+        cluster.add_worker()
+        written = first + program.stdout.read()
+        assert program.wait() == 0
+    assert written == answers
