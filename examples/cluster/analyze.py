@@ -2,7 +2,6 @@
 """Analyzes documents by workers of Dask, and writes what one `modinfo analyze --lines` would."""
 
 import argparse
-import functools
 import os
 import sys
 import warnings
@@ -81,9 +80,9 @@ def positive(word: str) -> int:
 
 def work_for(client: Client, command: str | None) -> Work:
     """What the workers do with a partition. They are sent it, also those that come later."""
-    module = piping if command else work
-    client.register_worker_plugin(UploadFile(str(Path(module.__file__))))
-    return functools.partial(piping.pipe_partition, command) if command else work.answer_partition
+    module = "work.py" if command is None else "piping.py"
+    client.register_worker_plugin(UploadFile(str(Path(__file__).with_name(module))))
+    return work.answer_partition if command is None else piping.through(command)
 
 
 def run(client: Client, words: argparse.Namespace) -> None:

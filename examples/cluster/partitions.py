@@ -2,11 +2,12 @@
 
 import sys
 from collections.abc import Iterable, Iterator
+from dataclasses import dataclass
 from pathlib import Path
-from typing import NamedTuple
 
 
-class Partition(NamedTuple):
+@dataclass(frozen=True)
+class Partition:
     """Lines that are handed to a worker together, each with its line feed."""
 
     lines: bytes

@@ -1,6 +1,12 @@
 """What a worker does with a partition that goes through a command. This file is sent to each of them."""
 
+import functools
 import subprocess
+from collections.abc import Callable
+
+
+def through(command: str) -> Callable[[bytes], bytes]:
+    return functools.partial(pipe_partition, command)
 
 
 def pipe_partition(command: str, lines: bytes) -> bytes:

@@ -3,6 +3,7 @@
 import time
 from typing import TextIO
 
+# Between two times that it is written, in seconds.
 INTERVAL = 0.2
 CLEAR = "\r\x1b[K"
 
@@ -10,8 +11,9 @@ CLEAR = "\r\x1b[K"
 class Progress:
     """One line on the error output that is written again and again; nothing where that is no terminal."""
 
-    def __init__(self, stream: TextIO) -> None:
+    def __init__(self, stream: TextIO, interval: float = INTERVAL) -> None:
         self._stream = stream
+        self._interval = interval
         self._is_shown = stream.isatty()
         self._began = self._written = time.monotonic()
         self._lines = self._bytes = 0
@@ -21,9 +23,9 @@ class Progress:
         self._lines += lines
         self._bytes += size
         now = time.monotonic()
-        if self._is_shown and now - self._written >= INTERVAL:
+        if self._is_shown and now - self._written >= self._interval:
             self._written = now
-            rate = self._lines / (now - self._began)
+            rate = self._lines / max(now - self._began, 0.001)
             amount = f"{self._lines:,} lines, {self._bytes / 1e6:,.1f} MB, {rate:,.0f} lines a second"
             self._stream.write(f"{CLEAR}{amount}, {workers} workers")
             self._stream.flush()
