@@ -12,4 +12,3 @@ pub mod Scripts
 pub mod SomeInfo
 pub mod SomeNamed
 pub mod SomeScript
-pub mod SomeSplit

@@ -16,7 +16,7 @@ use Rattle.deno_graph_pragmas.specs.Finders as finder
 use Rattle.deno_graph_pragmas.specs.Split.{HasSplit}
 use Rattle.deno_graph_ast.specs.Pragma.{HasPragma, IsFirstWith, IsLastWith, Names, NamesByFirst, NamesDependencyTypes, NamesDependencyTypesIn, NamesFirst, NamesLast, Pragma, dependency_types_pragmas, specifier_of_part}
 use Rattle.deno_graph_ast.specs.References.{AreReferences, IsReferenceOf, IsTripleSlashReference, RefersTo, StatesMode, path_reference_pragma, types_reference_pragma}
-use Rattle.deno_graph_ast.proofs.SomeSplit.{Decided, decide_split, some_part}
+use Rattle.deno_graph_pragmas.proofs.SomeSplit.{Decided, decide_split, some_part}
 
 -- The first and the last of a list
 

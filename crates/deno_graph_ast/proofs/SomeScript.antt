@@ -11,7 +11,7 @@ use Rattle.deno_graph_dep.proofs.Listings.{IsListing-listed_paths}
 use Rattle.deno_graph_ast.specs.Script.{is_await, is_function, is_import_meta, is_module_item, IsAwait, IsImportMeta, IsScript}
 use Rattle.deno_graph_ast.specs.ScriptSteps.{MakesModule}
 use Rattle.deno_graph_ast.proofs.Scripts.{in_body, no_function_round, IsScript-made}
-use Rattle.deno_graph_ast.proofs.SomeSplit.{Decided}
+use Rattle.deno_graph_pragmas.proofs.SomeSplit.{Decided}
 
 -- every `import.meta`, and every await in no function, by its path
 abbrev metas : Rules

@@ -4,3 +4,4 @@ pub mod MembersLemmas
 pub mod OneOutcome
 pub mod Outcomes
 pub mod Reaching
+pub mod SomeConverted

@@ -7,5 +7,6 @@ mod Lines
 mod ReadPieces
 mod References
 mod Runs
+pub mod SomeSplit
 mod Splits
 mod TextSteps

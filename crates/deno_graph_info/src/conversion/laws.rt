@@ -1,7 +1,7 @@
 //! Laws of the conversion. These calls do nothing: what they ensure holds of every value, and a
 //! caller learns it by the call.
 
-ghost use Rattle.std.specs.Prelude.{◌≡◌};
+ghost use Rattle.std.specs.Prelude.{◌≡◌, ◌⊎◌};
 ghost use Rattle.serde_json.specs.Data.{Data};
 ghost use Rattle.deno_graph_info.specs.Conversion.{IsConverted, Overflows};
 
@@ -12,8 +12,9 @@ pub fn conversion_is_done_once()
     ensures { (value after : Data) → IsConverted value after → IsConverted after after }
 {}
 
-/// A value is converted to one value at most, and to none where a column overflows.
+/// A value is converted to one value, or to none, exactly where a column overflows.
 pub fn conversion_has_one_outcome()
+    ensures some { (value : Data) → ((after : Data) × IsConverted value after) ⊎ Overflows value }
     ensures one { (value after other : Data)
         → IsConverted value after → IsConverted value other → after ≡ other }
     ensures none { (value after : Data) → IsConverted value after → ¬ Overflows value }

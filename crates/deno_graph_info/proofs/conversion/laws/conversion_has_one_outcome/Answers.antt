@@ -1,5 +1,9 @@
 use Rattle.deno_graph_info.proofs.OneOutcome.{converted_once, converted_or_overflows}
+use Rattle.deno_graph_info.proofs.SomeConverted.{some_converted}
 use Rattle.deno_graph_info.proofs.conversion.laws.conversion_has_one_outcome.Goals as goal
+
+pub returns-clause-some : goal.returns-clause-some
+returns-clause-some c = some_converted
 
 pub returns-clause-one : goal.returns-clause-one
 returns-clause-one c =

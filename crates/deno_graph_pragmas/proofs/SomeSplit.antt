@@ -1,10 +1,11 @@
 -- Whether a text has a split by a pattern, and what the first one captures.
-use Rattle.std.proofs.Common.{◌≡◌, ℕ, ◌≤◌, Bool, true, false, ◌⊎◌, inl, inr, ⊎_elim, List, [], ◌∷◌, ◌++◌, length, IsTrue, refl, sym, ap, subst, ◌∙◌, arith, zero-le}
+use Rattle.std.proofs.Common.{◌≡◌, ℕ, ◌≤◌, Bool, true, false, ◌⊎◌, inl, inr, ⊎_elim, List, [], ◌∷◌, ◌++◌, length, map, IsTrue, refl, sym, ap, subst, ◌∙◌, arith, zero-le}
 use Rattle.std.specs.Prelude.{encode_utf8_all}
 use Rattle.std.specs.List.{list_all}
 use Rattle.std.specs.Str.{bytes_eq, chars}
 use Rattle.std.proofs.lemmas.Bool.{cases_Bool, false≢true}
 use Rattle.std.proofs.lemmas.Slice.Eq.{bytes_eq-Decides}
+use Rattle.unicode.specs.CaseFolding.{simple_fold}
 use Rattle.deno_graph_pragmas.specs.Piece.{Piece, one, any, some, run, exactly, keyword, IsPiece, IsStopped}
 use Rattle.deno_graph_pragmas.specs.Split.{Pattern, ArePieces, Split, HasSplit, TextPart, IsCaptured, byte_count}
 
@@ -66,7 +67,7 @@ decide_piece (run test) (c ∷ text) after =
     by (inl passes) = inl ((λ e. cc), passes.0, passes.1)
     by (inr fails) = inr (λ is. fails (is.1, is.2))
 decide_piece (exactly word) text after = decide_texts text word
-decide_piece (keyword word) text after = decide_texts _ _
+decide_piece (keyword word) text after = decide_texts (map simple_fold text) (map simple_fold word)
 
 -- A text in two
 
