@@ -12,3 +12,4 @@ pub mod Scripts
 pub mod SomeInfo
 pub mod SomeNamed
 pub mod SomeScript
+pub mod SpelledDependencies

@@ -9,3 +9,4 @@ pub mod References
 pub mod Script
 pub mod ScriptSteps
 pub mod Spelled
+pub mod SpelledDependencies

@@ -1,6 +1,7 @@
 ghost use Rattle.std.specs.Prelude.{IfOk};
 ghost use Rattle.deno_graph_source.specs.Source.{IsValid};
 ghost use Rattle.deno_graph_ast.specs.ModuleInfo.{HasExactRanges, IsModuleInfo};
+ghost use Rattle.deno_graph_ast.specs.SpelledDependencies.{SpellDependencies};
 
 use crate::dependencies::analyze_dependencies;
 use crate::head_pragmas::{
@@ -24,6 +25,10 @@ pub fn module_info(alloc: Global, source: &ParsedSource) -> Result<ModuleInfo, A
 
     // Each range covers exactly the specifier that it is of, as the source spells it.
     ensures ranges { IfOk result (HasExactRanges source.now.text) }
+
+    // Whatever texts the unknown parts have, each argument spells the text of its expression.
+    ensures spells { IfOk result
+        (λ info. SpellDependencies source.now.program.body info.dependencies) }
 {
     module_info_from_program(
         alloc,
@@ -49,6 +54,9 @@ pub fn module_info_from_program(
 
     // Each range covers exactly the specifier that it is of, as the source spells it.
     ensures ranges { IfOk result (HasExactRanges text_info.now) }
+
+    // Whatever texts the unknown parts have, each argument spells the text of its expression.
+    ensures spells { IfOk result (λ info. SpellDependencies program.now.body info.dependencies) }
 {
     let head = SpelledComments {
         text_info,

@@ -18,6 +18,7 @@ pub mod Progress
 pub mod Rounds
 pub mod SomeAttributes
 pub mod SomeItem
+pub mod SpelledItems
 pub mod Spelling
 pub mod Spine
 pub mod Stacks

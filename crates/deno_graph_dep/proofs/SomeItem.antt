@@ -26,13 +26,11 @@ use Rattle.deno_graph_dep.specs.DependencyRules.{is_dependency, is_listed, is_mo
 use Rattle.deno_graph_dep.specs.Item.{Item, dynamic_item, static_item}
 use Rattle.deno_graph_dep.specs.ListedNodes.{listed_below}
 use Rattle.deno_graph_dep.specs.Stated.{AllStated, NoneGiven, States, StatesAt, StatesCall, StatesSpecifier, clause_of, leading_at, second_argument, specified_item}
-use Rattle.deno_graph_dep.specs.Value.{SpellsItsText}
 use Rattle.deno_graph_dep.proofs.Calls.{argument_shaped, first_argument_within}
 use Rattle.deno_graph_dep.proofs.DependencyRanges.{listed_one, shaped_node}
 use Rattle.deno_graph_dep.proofs.Items.{AreListed-listed_below}
 use Rattle.deno_graph_dep.proofs.SomeAttributes.{some_call, some_declared, some_type}
-use Rattle.deno_graph_dep.proofs.Spelling.{spells}
-use Rattle.deno_graph_dep.proofs.Spine.{AllShaped, has_spine, keeps_here}
+use Rattle.deno_graph_dep.proofs.Spine.{AllShaped, has_spine}
 
 -- The form of a first argument
 
@@ -44,17 +42,10 @@ form_at (Binary op) node shaped =
     (sum_form spine.0 spine.1, (spine.0, spine.1, spine.2, refl))
 form_at _ node shaped = (expression, refl)
 
--- the form is that of a first argument, and it spells its text
-abbrev IsFormOf : Bool → Node → Form → Type 0
-IsFormOf spread argument form =
-    MatchBool spread (form ≡ expression) (HasForm argument form) × SpellsItsText argument form
-
 some_form : (spread : Bool) (argument : Node) → AllShaped argument
-    → (form : Form) × IsFormOf spread argument form
-some_form true argument shaped = (expression, (refl, λ given readable. tt))
-some_form false argument shaped =
-    let form = form_at (kind_of argument) argument shaped in
-    (form.0, (form.1, spells argument form.0 (keeps_here argument shaped) form.1))
+    → (form : Form) × MatchBool spread (form ≡ expression) (HasForm argument form)
+some_form true argument shaped = (expression, refl)
+some_form false argument shaped = form_at (kind_of argument) argument shaped
 
 -- What is stated
 
@@ -107,8 +98,7 @@ some_stated_call comments node callee arg others is called shaped =
         argument = argument.0;
         is_argument = argument.1;
         form = form.0;
-        has_form = form.1.0;
-        spells = form.1.1;
+        has_form = form.1;
         given = gives.0;
         gives = gives.1;
         says = refl;

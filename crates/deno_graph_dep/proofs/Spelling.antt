@@ -1,6 +1,6 @@
 -- A form spells its node's text.
 use Rattle.std.proofs.Common.{◌≡◌, ℕ, ◌+◌, List, [], ◌∷◌, ◌++◌, map, length, All, Some, Bool, true, false, ◌&&◌, if◌then◌else◌, arith, ap, sym, refl, ◌∙◌, subst, append_assoc}
-use Rattle.std.specs.List.{list_all}
+use Rattle.std.specs.List.{flat_map, list_all}
 use Rattle.std.proofs.lemmas.List.{append-nil, map-append, length-append, length-map}
 use Rattle.std.proofs.lemmas.List.Elements.{All-head, All-pop}
 use Rattle.deno_graph_source.specs.declared.tree.node.Kind.{Kind}
@@ -12,7 +12,7 @@ use Rattle.deno_graph_text.specs.JsString.{lossy_text, IsReadable}
 use Rattle.deno_graph_source.specs.Node.{kind_of, children_of, HasCountOfKind}
 use Rattle.deno_graph_dep.specs.NodePath.{NodePath}
 use Rattle.deno_graph_dep.specs.Argument.{Form, parts, expression, ArgumentPart, known, unknown, quasi_part, template_parts, template_form, is_string, is_add, Step, LeftSpine, operands_of, part_of, HasFormAt, HasForm}
-use Rattle.deno_graph_dep.specs.Value.{Assignment, template_text, ContributesAt, HasText, of_string, of_template, of_sum, joined, child_paths, unknown_path, unknown_operands, AreUnknownsAt, IsReadableAt, HasReadableLiteralsAt, Spells, SpellsItsText}
+use Rattle.deno_graph_dep.specs.Value.{Assignment, template_text, ContributesAt, HasText, of_string, of_template, of_sum, joined, child_paths, unknown_path, unknown_operands, AreUnknownsAt, IsReadableAt, HasReadableLiteralsAt, Spells, SpellsItsText, unknown_count}
 
 joined-quasi : (quasi : List ℕ) (ps : List ArgumentPart) (texts : List (List ℕ))
     → joined (quasi_part quasi ++ ps) texts ≡ lossy_text quasi ++ joined ps texts
@@ -31,12 +31,6 @@ joined-template given n first (next ∷ rest) (child ∷ children) same =
     let below = joined-template given (n + 1) next rest children (omega (arith, same)) in
     joined-quasi first (unknown ∷ template_parts (next ∷ rest)) (map given (child_paths n (child ∷ children)))
     ∙ ap (λ t. lossy_text first ++ (given (n ∷ []) ++ t)) below
-
--- how many of the parts are unknown
-unknown_count : List ArgumentPart → ℕ
-unknown_count [] = 0
-unknown_count (known t ∷ ps) = unknown_count ps
-unknown_count (unknown ∷ ps) = unknown_count ps + 1
 
 joined-append : (ps qs : List ArgumentPart) (texts more : List (List ℕ)) → unknown_count ps ≡ length texts
     → joined (ps ++ qs) (texts ++ more) ≡ joined ps texts ++ joined qs more
@@ -155,8 +149,36 @@ spells_sum given node op steps first true false is spine string all_sums readabl
 spells_sum given node op steps first true true is spine string all_sums readable = (
   unknown_operands [] steps first,
   subst (λ k. AreUnknownsAt k node (unknown_operands [] steps first)) (sym is) (steps, first, spine, refl),
+  count_paths [] steps first,
   sum_text given [] node steps first spine string all_sums (readable steps first spine),
 )
+
+-- a template has as many unknown parts as children
+count_quasi : (quasi : List ℕ) (ps : List ArgumentPart)
+    → unknown_count (quasi_part quasi ++ ps) ≡ unknown_count ps
+unfolding unknown_count
+count_quasi [] ps = refl
+count_quasi (c ∷ points) ps = refl
+
+count_rest : (rest : List (List ℕ))
+    → unknown_count (flat_map (λ quasi. unknown ∷ quasi_part quasi) rest) ≡ length rest
+unfolding unknown_count
+count_rest [] = refl
+count_rest (quasi ∷ rest) =
+    omega (
+      arith,
+      count_quasi quasi (flat_map (λ q. unknown ∷ quasi_part q) rest),
+      count_rest rest,
+    )
+
+count_template : (first : List ℕ) (rest : List (List ℕ))
+    → unknown_count (template_parts (first ∷ rest)) ≡ length rest
+count_template first rest =
+    count_quasi first (flat_map (λ quasi. unknown ∷ quasi_part quasi) rest) ∙ count_rest rest
+
+length-child_paths : (n : ℕ) (children : List Node) → length (child_paths n children) ≡ length children
+length-child_paths n [] = refl
+length-child_paths n (child ∷ children) = omega (arith, length-child_paths (n + 1) children)
 
 spells_template : (given : Assignment) (node : Node) (quasis : List (List ℕ)) → kind_of node ≡ Template quasis
     → length quasis ≡ length (children_of node) + 1 → All IsReadable quasis
@@ -167,6 +189,12 @@ spells_template given node (first ∷ next ∷ rest) is shape readable =
     let same = joined-template given 0 first (next ∷ rest) (children_of node) (omega (arith, shape)) in (
       child_paths 0 (children_of node),
       subst (λ k. AreUnknownsAt k node (child_paths 0 (children_of node))) (sym is) refl,
+      omega (
+        arith,
+        shape,
+        count_template first (next ∷ rest),
+        length-child_paths 0 (children_of node),
+      ),
       subst (HasText given [] node) (sym same) (of_template [] node (first ∷ next ∷ rest) is readable),
     )
 

@@ -11,6 +11,7 @@ pub mod ListedPaths
 pub mod Listing
 pub mod NodePath
 pub mod Recursion
+pub mod SpelledItems
 pub mod Stack
 pub mod Stated
 pub mod Value

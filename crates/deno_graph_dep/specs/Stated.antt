@@ -21,7 +21,6 @@ use Rattle.deno_graph_dep.specs.Argument.{Form, HasForm, expression}
 use Rattle.deno_graph_dep.specs.Attributes.{DeclarationGives, ObjectGives, CallGives}
 use Rattle.deno_graph_dep.specs.DependencyKind.{import_kind, export_kind, import_equals_kind, call_kind}
 use Rattle.deno_graph_dep.specs.Item.{Item, StaticItem, static_item, dynamic_item}
-use Rattle.deno_graph_dep.specs.Value.{SpellsItsText}
 use Rattle.deno_graph_dep.specs.DependencyRules.{may_name_module}
 
 -- the comments that are filed as leading at a position
@@ -78,9 +77,8 @@ second_argument callee args children =
 abbrev pub ArgumentHasForm : Arg → Node → Form → Type 0
 ArgumentHasForm arg argument form = MatchBool arg.spread (form ≡ expression) (HasForm argument form)
 
--- The item is that of a call of this kind: what is known of its first argument, this argument's
--- range, and the attributes that its second argument gives. Whatever texts its unknown parts are
--- given, an argument whose literals are readable spells the text that its expression has.
+-- the item is that of a call of this kind: what is known of its first argument, this argument's
+-- range, and the attributes that its second argument gives
 pub record StatesCall (comments : FiledComments) (node : Node)
     (callee : Callee) (args : List Arg) (item : Item) : Type 0 where
   pub kind : DynamicDependencyKind
@@ -91,7 +89,6 @@ pub record StatesCall (comments : FiledComments) (node : Node)
   pub is_argument : argument_node callee (children_of node) 0 ≡ Some argument
   pub form : Form
   pub has_form : ArgumentHasForm arg argument form
-  pub spells : SpellsItsText argument form
   pub given : ImportAttributes
   pub gives : CallGives (second_argument callee args (children_of node)) given
   pub says : item ≡ dynamic_item (record {

@@ -1,6 +1,6 @@
 -- The text that an expression evaluates to, as far as the language says: of string literals,
 -- templates, and sums that begin with a string, given the texts that the other operands contribute.
-use Rattle.std.specs.Prelude.{◌≡◌, ℕ, ◌+◌, if◌then◌else◌, List, [], ◌∷◌, ◌++◌, map, All}
+use Rattle.std.specs.Prelude.{◌≡◌, ℕ, ◌+◌, if◌then◌else◌, List, [], ◌∷◌, ◌++◌, length, map, All}
 use Rattle.deno_graph_source.specs.declared.tree.node.Kind.{Kind}
 use Rattle.deno_graph_source.specs.declared.tree.node.Kind.TheVariants.{Str, Template, Binary}
 use Rattle.deno_graph_source.specs.declared.tree.node.BinaryOp.TheVariants.{Add}
@@ -96,11 +96,17 @@ HasReadableLiteralsAt _ node = Unit {0}
 abbrev pub HasReadableLiterals : Node → Type 0
 HasReadableLiterals node = HasReadableLiteralsAt (kind_of node) node
 
--- under an assignment, a form spells a text of the node
+-- how many of the parts are unknown
+unfoldable pub unknown_count : List ArgumentPart → ℕ
+unknown_count [] = 0
+unknown_count (known known_text ∷ ps) = unknown_count ps
+unknown_count (unknown ∷ ps) = unknown_count ps + 1
+
+-- Under an assignment, a form spells a text of the node. Parts have as many unknowns as the node has.
 abbrev pub Spells : Assignment → Node → Form → Type 0
 Spells given node (text known_text) = HasText given [] node known_text
 Spells given node (parts ps) =
-    (unknowns : List NodePath) × (AreUnknowns node unknowns)
+    (unknowns : List NodePath) × (AreUnknowns node unknowns) × (unknown_count ps ≡ length unknowns)
     × (HasText given [] node (joined ps (map given unknowns)))
 Spells given node expression = Unit {0}
 

@@ -3,6 +3,7 @@ ghost use Rattle.deno_graph_source.specs.Node.{nodes_of, IsShaped};
 ghost use Rattle.deno_graph_dep.specs.Dependencies.{AreDependencies};
 ghost use Rattle.deno_graph_dep.specs.ListedNodes.{listed_below};
 ghost use Rattle.deno_graph_dep.specs.Item.{item_of};
+ghost use Rattle.deno_graph_dep.specs.SpelledItems.{SpellArguments};
 ghost use Rattle.deno_graph_dep.specs.Stated.{AllStated};
 
 use crate::Walk;
@@ -28,6 +29,10 @@ pub fn analyze_program_dependencies<'a>(
     // These nodes are those that plain recursion lists.
     ensures recursive { IfOk result (λ found.
         AllStated comments.now (listed_below program.now.body) (map item_of found.items)) }
+
+    // Whatever texts the unknown parts have, each argument spells the text of its expression.
+    ensures spells { IfOk result (λ found.
+        SpellArguments program.now.body (map item_of found.items)) }
 {
     let mut walk = Walk::new(alloc, program);
     let mut found = Vec::new(alloc);

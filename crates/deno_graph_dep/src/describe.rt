@@ -10,7 +10,6 @@ ghost use Rattle.deno_graph_dep.specs.DependencyKind.{call_kind, export_kind, im
 ghost use Rattle.deno_graph_dep.specs.DependencyRules.{is_listed, is_module_call};
 ghost use Rattle.deno_graph_dep.specs.Argument.{form_seen};
 ghost use Rattle.deno_graph_dep.specs.Item.{dynamic_item, dynamic_item_of, item_of, static_item, static_item_of};
-ghost use Rattle.deno_graph_dep.specs.Value.{SpellsItsText};
 ghost use Rattle.deno_graph_dep.specs.Stated.{clause_of, leading_at, second_argument, specified_item, ArgumentHasForm, States, StatesCall, TypeGives};
 
 use crate::argument::{DynamicArgument, argument_of};
@@ -186,8 +185,7 @@ fn first_argument<'a>(
     argument: &'a Node,
 ) -> Result<DynamicArgument<'a>, AllocError>
     requires { All IsShaped (nodes_in argument.now) }
-    ensures form { IfOk result (λ known. ArgumentHasForm arg.now argument.now (form_seen known)) }
-    ensures spells { IfOk result (λ known. SpellsItsText argument.now (form_seen known)) }
+    ensures { IfOk result (λ known. ArgumentHasForm arg.now argument.now (form_seen known)) }
 {
     if arg.spread {
         Ok(DynamicArgument::Expr)

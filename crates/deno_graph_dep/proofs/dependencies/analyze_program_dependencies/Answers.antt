@@ -5,6 +5,7 @@ use Rattle.std.proofs.lemmas.List.{map-append}
 use Rattle.deno_graph_source.specs.declared.tree.node.Node.{Node}
 use Rattle.deno_graph_dep.specs.Item.{Item, item_of}
 use Rattle.deno_graph_dep.proofs.Given.{AreGiven, AreGiven-more, AreDependencies-given, AllStated-given, gives-listed, gives-shaped}
+use Rattle.deno_graph_dep.proofs.SpelledItems.{dependencies_spell}
 use Rattle.deno_graph_dep.specs.Walk.{Gives}
 use Rattle.deno_graph_dep.proofs.dependencies.analyze_program_dependencies.Goals as goal
 
@@ -58,3 +59,13 @@ returns-clause-recursive c =
     AllStated-given c.args.comments.now c.new-walk.result c.nodes.walk
     (map item_of c.nodes.found.items) c.args.program.now
     c.nodes.invariant gives.before c.new-walk.ensures.program
+
+pub returns-clause-spells : goal.returns-clause-spells
+returns-clause-spells c =
+    let gives =
+    subst (λ (o : Option (Bor Node)). Gives c.nodes.walk c.step.new.self o) c.in_default.is
+    c.in_ok-node.ensures.gives in
+    dependencies_spell c.args.comments.now c.args.program.now (map item_of c.nodes.found.items) c.requires
+    (AreDependencies-given c.args.comments.now c.new-walk.result c.nodes.walk
+    (map item_of c.nodes.found.items) c.args.program.now
+    c.nodes.invariant gives.before c.new-walk.ensures.program)

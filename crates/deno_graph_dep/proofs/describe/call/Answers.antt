@@ -59,8 +59,7 @@ returns c =
           c.index-children-callee_count.result c.as_slice-children.ensures c.callee_count.ensures.count below
           c.index-children-callee_count.is;
       form = form_seen c.in_ok-first_argument.field-0;
-      has_form = c.in_ok-first_argument.ensures.form;
-      spells = c.in_ok-first_argument.ensures.spells;
+      has_form = c.in_ok-first_argument.ensures;
       given = given;
       gives =
           subst (λ second. CallGives second given)
