@@ -60,7 +60,7 @@ impl<'a> Tape<'a> {
     }
 
     /// The value of the whole text.
-    pub fn root(&self) -> Element<'_, 'a> {
+    pub fn root(&self) -> Element<'_> {
         Element {
             nodes: self.nodes.as_slice(),
         }
@@ -69,12 +69,12 @@ impl<'a> Tape<'a> {
 
 /// A value of a tape.
 #[derive(Clone, Copy)]
-pub struct Element<'t, 'a> {
+pub struct Element<'a> {
     /// The value's node, and those of what stands in it.
-    nodes: &'t [Node<'a>],
+    nodes: &'a [Node<'a>],
 }
 
-impl<'t, 'a> Element<'t, 'a> {
+impl<'a> Element<'a> {
     /// Whether it is null.
     pub fn is_null(self) -> bool {
         matches!(self.nodes.first(), Some(Node::Null))
@@ -115,7 +115,7 @@ impl<'t, 'a> Element<'t, 'a> {
     }
 
     /// The elements, where it is an array.
-    pub fn elements(self) -> Option<Elements<'t, 'a>>
+    pub fn elements(self) -> Option<Elements<'a>>
         ensures { IfSome result (λ found. left_of found < nodes_of self.entry) }
     {
         match self.nodes.first() {
@@ -129,7 +129,7 @@ impl<'t, 'a> Element<'t, 'a> {
     }
 
     /// The members, where it is an object.
-    pub fn members(self) -> Option<Members<'t, 'a>>
+    pub fn members(self) -> Option<Members<'a>>
         ensures { IfSome result (λ found. nodes_of_members found ≤ nodes_of self.entry) }
     {
         match self.nodes.first() {
@@ -141,16 +141,16 @@ impl<'t, 'a> Element<'t, 'a> {
 
 /// The elements of an array from one of them on.
 #[derive(Drop)]
-pub struct Elements<'t, 'a> {
+pub struct Elements<'a> {
     count: usize,
     /// The nodes of the array, and the place of the next element.
-    nodes: &'t [Node<'a>],
+    nodes: &'a [Node<'a>],
     at: usize,
 }
 
-impl<'t, 'a> Elements<'t, 'a> {
+impl<'a> Elements<'a> {
     /// Those of an array that has none.
-    pub fn none() -> Elements<'t, 'a> {
+    pub fn none() -> Elements<'a> {
         Elements {
             count: 0,
             nodes: &[],
@@ -164,7 +164,7 @@ impl<'t, 'a> Elements<'t, 'a> {
     }
 
     /// The next element.
-    pub fn next(&mut self) -> Option<Element<'t, 'a>>
+    pub fn next(&mut self) -> Option<Element<'a>>
         ensures within { IfSome result (λ element. nodes_of element ≤ left_of self.old) }
         ensures shorter { IfSome result (λ _. left_of self.new < left_of self.old) }
     {
@@ -176,13 +176,13 @@ impl<'t, 'a> Elements<'t, 'a> {
 
 /// The members of an object.
 #[derive(Clone, Copy)]
-pub struct Members<'t, 'a> {
-    nodes: &'t [Node<'a>],
+pub struct Members<'a> {
+    nodes: &'a [Node<'a>],
 }
 
-impl<'t, 'a> Members<'t, 'a> {
+impl<'a> Members<'a> {
     /// The value of the last member of this name. It looks at the name of each member.
-    pub fn get(self, name: &str) -> Option<Element<'t, 'a>>
+    pub fn get(self, name: &str) -> Option<Element<'a>>
         ensures { IfSome result (λ value. nodes_of value < nodes_of_members self.entry) }
     {
         let mut found = None;
@@ -201,7 +201,7 @@ impl<'t, 'a> Members<'t, 'a> {
 }
 
 /// The value that begins at a place of a list, and the place behind it.
-fn value_at<'t, 'a>(nodes: &'t [Node<'a>], at: usize) -> Option<(Element<'t, 'a>, usize)>
+fn value_at<'a>(nodes: &'a [Node<'a>], at: usize) -> Option<(Element<'a>, usize)>
     ensures { IfSome result (λ found. (at < found.1) × (found.1 ≤ length nodes.now)
         × (nodes_of found.0 ≤ length nodes.now - at)) }
 {

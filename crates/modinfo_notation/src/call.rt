@@ -8,7 +8,7 @@ use flat_json::{Element, Members};
 use std::alloc::Global;
 
 /// A call.
-pub fn read_call(alloc: Global, members: Members<'_, '_>) -> Result<Kind, NotationFault> {
+pub fn read_call(alloc: Global, members: Members<'_>) -> Result<Kind, NotationFault> {
     let callee = read_callee(text(members, "callee")?)?;
     let args = read_args(alloc, required(members, "args")?)?;
     Ok(Kind::Call { callee, args })
@@ -27,7 +27,7 @@ fn read_callee(name: &str) -> Result<Callee, NotationFault> {
 }
 
 /// Arguments, `[{"range":[START,END],"spread":BOOL} ..]`.
-fn read_args(alloc: Global, value: Element<'_, '_>) -> Result<Items<Arg>, NotationFault> {
+fn read_args(alloc: Global, value: Element<'_>) -> Result<Items<Arg>, NotationFault> {
     let mut values = elements_of(value)?;
     let mut args = Items::with_capacity(alloc, values.count())?;
     while let Some(value) = values.next() {
@@ -36,7 +36,7 @@ fn read_args(alloc: Global, value: Element<'_, '_>) -> Result<Items<Arg>, Notati
     Ok(args)
 }
 
-fn read_arg(value: Element<'_, '_>) -> Result<Arg, NotationFault> {
+fn read_arg(value: Element<'_>) -> Result<Arg, NotationFault> {
     let members = members_of(value)?;
     let range = range(members)?;
     let spread = flag(members, "spread")?;

@@ -5,37 +5,58 @@ use deno_graph_source::values::Text;
 use flat_json::{Element, Elements, Members};
 use std::alloc::Global;
 
+/// Where a comment is filed: before its position, or behind it.
+#[derive(Clone, Copy)]
+enum Side {
+    Leading,
+    Trailing,
+}
+
 /// The comments of a document: its members `leading` and `trailing`, which are arrays of
 /// `{"pos":POSITION,"comments":[COMMENT ..]}`. They are filed in the order in which they stand.
-pub fn read_comments(alloc: Global, members: Members<'_, '_>) -> Result<Comments, NotationFault> {
+pub fn read_comments(alloc: Global, members: Members<'_>) -> Result<Comments, NotationFault> {
     let mut comments = Comments::new(alloc);
-    let mut leading = array(members, "leading")?;
-    while let Some(entry) = leading.next() {
-        let (pos, mut values) = read_entry(entry)?;
-        while let Some(value) = values.next() {
-            comments.add_leading(pos, read_comment(alloc, value)?)?;
-        }
-    }
-    let mut trailing = array(members, "trailing")?;
-    while let Some(entry) = trailing.next() {
-        let (pos, mut values) = read_entry(entry)?;
-        while let Some(value) = values.next() {
-            comments.add_trailing(pos, read_comment(alloc, value)?)?;
-        }
-    }
+    let leading = array(members, "leading")?;
+    read_entries(alloc, leading, Side::Leading, &mut comments)?;
+    let trailing = array(members, "trailing")?;
+    read_entries(alloc, trailing, Side::Trailing, &mut comments)?;
     Ok(comments)
 }
 
-/// The position of an entry, in bytes, and the comments that are filed there.
-fn read_entry<'t, 'a>(value: Element<'t, 'a>) -> Result<(usize, Elements<'t, 'a>), NotationFault> {
-    let members = members_of(value)?;
+fn read_entries(
+    alloc: Global,
+    mut entries: Elements<'_>,
+    side: Side,
+    comments: &mut Comments,
+) -> Result<(), NotationFault> {
+    while let Some(entry) = entries.next() {
+        read_entry(alloc, entry, side, comments)?;
+    }
+    Ok(())
+}
+
+/// Files the comments of an entry at its position, in bytes.
+fn read_entry(
+    alloc: Global,
+    entry: Element<'_>,
+    side: Side,
+    comments: &mut Comments,
+) -> Result<(), NotationFault> {
+    let members = members_of(entry)?;
     let pos = offset(required(members, "pos")?)?;
-    let values = elements_of(required(members, "comments")?)?;
-    Ok((pos, values))
+    let mut values = elements_of(required(members, "comments")?)?;
+    while let Some(value) = values.next() {
+        let comment = read_comment(alloc, value)?;
+        match side {
+            Side::Leading => comments.add_leading(pos, comment)?,
+            Side::Trailing => comments.add_trailing(pos, comment)?,
+        }
+    }
+    Ok(())
 }
 
 /// A comment, `{"kind":"line","range":[START,END],"text":TEXT}` or one of the kind `block`.
-fn read_comment(alloc: Global, value: Element<'_, '_>) -> Result<DependencyComment, NotationFault> {
+fn read_comment(alloc: Global, value: Element<'_>) -> Result<DependencyComment, NotationFault> {
     let members = members_of(value)?;
     let kind = comment_kind(text(members, "kind")?)?;
     let range = range(members)?;

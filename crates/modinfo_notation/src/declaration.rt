@@ -8,7 +8,7 @@ use flat_json::Members;
 use std::alloc::Global;
 
 /// An import declaration.
-pub fn read_import_decl(alloc: Global, members: Members<'_, '_>) -> Result<Kind, NotationFault> {
+pub fn read_import_decl(alloc: Global, members: Members<'_>) -> Result<Kind, NotationFault> {
     let type_only = flag(members, "typeOnly")?;
     let phase = import_phase(members)?;
     let has_specifiers = flag(members, "hasSpecifiers")?;
@@ -23,7 +23,7 @@ pub fn read_import_decl(alloc: Global, members: Members<'_, '_>) -> Result<Kind,
     })
 }
 
-fn import_phase(members: Members<'_, '_>) -> Result<ImportPhase, NotationFault> {
+fn import_phase(members: Members<'_>) -> Result<ImportPhase, NotationFault> {
     if members.get("phase").is_none() {
         return Ok(ImportPhase::Evaluation);
     }
@@ -36,7 +36,7 @@ fn import_phase(members: Members<'_, '_>) -> Result<ImportPhase, NotationFault> 
 }
 
 /// An export of names, with or without a source.
-pub fn read_named_export(alloc: Global, members: Members<'_, '_>) -> Result<Kind, NotationFault> {
+pub fn read_named_export(alloc: Global, members: Members<'_>) -> Result<Kind, NotationFault> {
     let type_only = flag(members, "typeOnly")?;
     let has_with = flag(members, "hasWith")?;
     let src = optional_literal(alloc, members, "src")?;
@@ -48,7 +48,7 @@ pub fn read_named_export(alloc: Global, members: Members<'_, '_>) -> Result<Kind
 }
 
 /// An export of all names of another module.
-pub fn read_export_all(alloc: Global, members: Members<'_, '_>) -> Result<Kind, NotationFault> {
+pub fn read_export_all(alloc: Global, members: Members<'_>) -> Result<Kind, NotationFault> {
     let type_only = flag(members, "typeOnly")?;
     let has_with = flag(members, "hasWith")?;
     let src = read_literal(alloc, required(members, "src")?)?;
@@ -60,7 +60,7 @@ pub fn read_export_all(alloc: Global, members: Members<'_, '_>) -> Result<Kind, 
 }
 
 /// An import-equals declaration.
-pub fn read_import_equals(alloc: Global, members: Members<'_, '_>) -> Result<Kind, NotationFault> {
+pub fn read_import_equals(alloc: Global, members: Members<'_>) -> Result<Kind, NotationFault> {
     let type_only = flag(members, "typeOnly")?;
     let is_export = flag(members, "isExport")?;
     let external = optional_literal(alloc, members, "external")?;
@@ -72,14 +72,14 @@ pub fn read_import_equals(alloc: Global, members: Members<'_, '_>) -> Result<Kin
 }
 
 /// An import type.
-pub fn read_import_type(alloc: Global, members: Members<'_, '_>) -> Result<Kind, NotationFault> {
+pub fn read_import_type(alloc: Global, members: Members<'_>) -> Result<Kind, NotationFault> {
     let has_with = flag(members, "hasWith")?;
     let arg = read_literal(alloc, required(members, "arg")?)?;
     Ok(Kind::ImportType { arg, has_with })
 }
 
 /// A module or namespace, with or without a name that is a string.
-pub fn read_module_decl(alloc: Global, members: Members<'_, '_>) -> Result<Kind, NotationFault> {
+pub fn read_module_decl(alloc: Global, members: Members<'_>) -> Result<Kind, NotationFault> {
     let name = optional_literal(alloc, members, "name")?;
     Ok(Kind::ModuleDecl { name })
 }

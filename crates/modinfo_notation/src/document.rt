@@ -23,7 +23,7 @@ pub struct Document {
 }
 
 /// Reads a document. `NotInNotation` where the value isn't in the notation.
-pub fn read_document(alloc: Global, value: Element<'_, '_>) -> Result<Document, NotationFault> {
+pub fn read_document(alloc: Global, value: Element<'_>) -> Result<Document, NotationFault> {
     let members = members_of(value)?;
     let specifier = Text::from_str(alloc, text(members, "specifier")?)?;
     let media_type = read_media_type(text(members, "mediaType")?)?;

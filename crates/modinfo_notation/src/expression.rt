@@ -9,18 +9,18 @@ use flat_json::Members;
 use std::alloc::Global;
 
 /// A string literal.
-pub fn read_str(alloc: Global, members: Members<'_, '_>) -> Result<Kind, NotationFault> {
+pub fn read_str(alloc: Global, members: Members<'_>) -> Result<Kind, NotationFault> {
     Ok(Kind::Str(read_string(alloc, required(members, "value")?)?))
 }
 
 /// A template without a tag, by its quasis.
-pub fn read_template(alloc: Global, members: Members<'_, '_>) -> Result<Kind, NotationFault> {
+pub fn read_template(alloc: Global, members: Members<'_>) -> Result<Kind, NotationFault> {
     let quasis = read_strings(alloc, required(members, "quasis")?)?;
     Ok(Kind::Template(quasis))
 }
 
 /// A binary expression.
-pub fn read_binary(members: Members<'_, '_>) -> Result<Kind, NotationFault> {
+pub fn read_binary(members: Members<'_>) -> Result<Kind, NotationFault> {
     match text(members, "op")? {
         "add" => Ok(Kind::Binary(BinaryOp::Add)),
         "other" => Ok(Kind::Binary(BinaryOp::Other)),
@@ -29,7 +29,7 @@ pub fn read_binary(members: Members<'_, '_>) -> Result<Kind, NotationFault> {
 }
 
 /// An identifier.
-pub fn read_ident(alloc: Global, members: Members<'_, '_>) -> Result<Kind, NotationFault> {
+pub fn read_ident(alloc: Global, members: Members<'_>) -> Result<Kind, NotationFault> {
     let name = Text::from_str(alloc, text(members, "value")?)?;
     Ok(Kind::Ident(name))
 }

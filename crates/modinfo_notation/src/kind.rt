@@ -16,7 +16,7 @@ use flat_json::Members;
 use std::alloc::Global;
 
 /// The kind that the member `kind` names, with what stands beside it.
-pub fn read_kind(alloc: Global, members: Members<'_, '_>) -> Result<Kind, NotationFault> {
+pub fn read_kind(alloc: Global, members: Members<'_>) -> Result<Kind, NotationFault> {
     match text(members, "kind")? {
         "ImportDecl" => read_import_decl(alloc, members),
         "NamedExport" => read_named_export(alloc, members),

@@ -9,7 +9,7 @@ use std::alloc::Global;
 /// The string literal at the member `name`, or none where that is missing or null.
 pub fn optional_literal(
     alloc: Global,
-    members: Members<'_, '_>,
+    members: Members<'_>,
     name: &str,
 ) -> Result<Option<StrLit>, NotationFault> {
     match optional(members, name) {
@@ -19,7 +19,7 @@ pub fn optional_literal(
 }
 
 /// A string literal, `{"value":STRING,"range":[START,END]}`.
-pub fn read_literal(alloc: Global, value: Element<'_, '_>) -> Result<StrLit, NotationFault> {
+pub fn read_literal(alloc: Global, value: Element<'_>) -> Result<StrLit, NotationFault> {
     let members = members_of(value)?;
     let range = range(members)?;
     let value = read_string(alloc, required(members, "value")?)?;
@@ -27,10 +27,7 @@ pub fn read_literal(alloc: Global, value: Element<'_, '_>) -> Result<StrLit, Not
 }
 
 /// An array of strings.
-pub fn read_strings(
-    alloc: Global,
-    value: Element<'_, '_>,
-) -> Result<Items<JsString>, NotationFault> {
+pub fn read_strings(alloc: Global, value: Element<'_>) -> Result<Items<JsString>, NotationFault> {
     let mut values = elements_of(value)?;
     let mut strings = Items::with_capacity(alloc, values.count())?;
     while let Some(value) = values.next() {
@@ -40,14 +37,14 @@ pub fn read_strings(
 }
 
 /// A string of the source: a text, or an array of units of UTF-16.
-pub fn read_string(alloc: Global, value: Element<'_, '_>) -> Result<JsString, NotationFault> {
+pub fn read_string(alloc: Global, value: Element<'_>) -> Result<JsString, NotationFault> {
     match value.as_str() {
         Some(text) => Ok(JsString::from_str(alloc, text)?),
         None => read_units(alloc, elements_of(value)?),
     }
 }
 
-fn read_units(alloc: Global, mut values: Elements<'_, '_>) -> Result<JsString, NotationFault> {
+fn read_units(alloc: Global, mut values: Elements<'_>) -> Result<JsString, NotationFault> {
     let mut units = Vec::with_capacity(alloc, values.count())?;
     while let Some(value) = values.next() {
         units.push(read_unit(value)?)?;
@@ -55,7 +52,7 @@ fn read_units(alloc: Global, mut values: Elements<'_, '_>) -> Result<JsString, N
     Ok(JsString::from_units(alloc, units.as_slice())?)
 }
 
-fn read_unit(value: Element<'_, '_>) -> Result<u16, NotationFault> {
+fn read_unit(value: Element<'_>) -> Result<u16, NotationFault> {
     match value.as_u64() {
         Some(unit) if unit < 65536 => Ok(unit as u16),
         _ => Err(NotationFault::NotInNotation),

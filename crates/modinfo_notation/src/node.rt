@@ -9,7 +9,7 @@ use flat_json::Element;
 use std::alloc::Global;
 
 /// A program, `{"range":[START,END],"body":[NODE ..],"shebang":BOOL}`.
-pub fn read_program(alloc: Global, value: Element<'_, '_>) -> Result<Program, NotationFault> {
+pub fn read_program(alloc: Global, value: Element<'_>) -> Result<Program, NotationFault> {
     let members = members_of(value)?;
     let range = range(members)?;
     let has_shebang = flag(members, "shebang")?;
@@ -22,7 +22,7 @@ pub fn read_program(alloc: Global, value: Element<'_, '_>) -> Result<Program, No
 }
 
 #[cycle(read)]
-fn read_nodes(alloc: Global, value: Element<'_, '_>) -> Result<Items<Node>, NotationFault> {
+fn read_nodes(alloc: Global, value: Element<'_>) -> Result<Items<Node>, NotationFault> {
     let mut values = elements_of(value)?;
     let mut nodes = Vec::with_capacity(alloc, values.count())?;
     while let Some(value) = values.next() {
@@ -33,7 +33,7 @@ fn read_nodes(alloc: Global, value: Element<'_, '_>) -> Result<Items<Node>, Nota
 
 /// A node, with all nodes below it.
 #[cycle(read)]
-pub fn read_node(alloc: Global, value: Element<'_, '_>) -> Result<Node, NotationFault> {
+pub fn read_node(alloc: Global, value: Element<'_>) -> Result<Node, NotationFault> {
     let members = members_of(value)?;
     let range = range(members)?;
     let kind = read_kind(alloc, members)?;
