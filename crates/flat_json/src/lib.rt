@@ -159,15 +159,22 @@ impl<'a> Elements<'a> {
     }
 
     /// How many elements the array has.
-    pub fn count(&self) -> usize {
+    pub fn array_len(&self) -> usize {
         self.count
     }
+}
 
-    /// The next element.
-    pub fn next(&mut self) -> Option<Element<'a>>
-        ensures within { IfSome result (λ element. nodes_of element ≤ left_of self.old) }
-        ensures shorter { IfSome result (λ _. left_of self.new < left_of self.old) }
-    {
+impl<'a> Iterator for Elements<'a> {
+    ghost use Rattle.std.specs.Iterator.{at_most};
+
+    type Item = Element<'a>;
+
+    ghost next_gives = { λ old found new.
+        IfSome found (λ element. (nodes_of element ≤ left_of old) × (left_of new < left_of old)) };
+
+    ghost remaining = { λ elements. at_most (left_of elements) };
+
+    fn next(&mut self) -> Option<Element<'a>> {
         let (element, end) = value_at(self.nodes, self.at)?;
         self.at = end;
         Some(element)

@@ -28,9 +28,9 @@ fn read_callee(name: &str) -> Result<Callee, NotationFault> {
 
 /// Arguments, `[{"range":[START,END],"spread":BOOL} ..]`.
 fn read_args(alloc: Global, value: Element<'_>) -> Result<Items<Arg>, NotationFault> {
-    let mut values = elements_of(value)?;
-    let mut args = Items::with_capacity(alloc, values.count())?;
-    while let Some(value) = values.next() {
+    let values = elements_of(value)?;
+    let mut args = Items::with_capacity(alloc, values.array_len())?;
+    for value in values {
         args.push(read_arg(value)?)?;
     }
     Ok(args)

@@ -25,11 +25,11 @@ pub fn read_comments(alloc: Global, members: Members<'_>) -> Result<Comments, No
 
 fn read_entries(
     alloc: Global,
-    mut entries: Elements<'_>,
+    entries: Elements<'_>,
     side: Side,
     comments: &mut Comments,
 ) -> Result<(), NotationFault> {
-    while let Some(entry) = entries.next() {
+    for entry in entries {
         read_entry(alloc, entry, side, comments)?;
     }
     Ok(())
@@ -44,8 +44,7 @@ fn read_entry(
 ) -> Result<(), NotationFault> {
     let members = members_of(entry)?;
     let pos = offset(required(members, "pos")?)?;
-    let mut values = elements_of(required(members, "comments")?)?;
-    while let Some(value) = values.next() {
+    for value in elements_of(required(members, "comments")?)? {
         let comment = read_comment(alloc, value)?;
         match side {
             Side::Leading => comments.add_leading(pos, comment)?,

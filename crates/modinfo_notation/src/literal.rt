@@ -28,9 +28,9 @@ pub fn read_literal(alloc: Global, value: Element<'_>) -> Result<StrLit, Notatio
 
 /// An array of strings.
 pub fn read_strings(alloc: Global, value: Element<'_>) -> Result<Items<JsString>, NotationFault> {
-    let mut values = elements_of(value)?;
-    let mut strings = Items::with_capacity(alloc, values.count())?;
-    while let Some(value) = values.next() {
+    let values = elements_of(value)?;
+    let mut strings = Items::with_capacity(alloc, values.array_len())?;
+    for value in values {
         strings.push(read_string(alloc, value)?)?;
     }
     Ok(strings)
@@ -44,9 +44,9 @@ pub fn read_string(alloc: Global, value: Element<'_>) -> Result<JsString, Notati
     }
 }
 
-fn read_units(alloc: Global, mut values: Elements<'_>) -> Result<JsString, NotationFault> {
-    let mut units = Vec::with_capacity(alloc, values.count())?;
-    while let Some(value) = values.next() {
+fn read_units(alloc: Global, values: Elements<'_>) -> Result<JsString, NotationFault> {
+    let mut units = Vec::with_capacity(alloc, values.array_len())?;
+    for value in values {
         units.push(read_unit(value)?)?;
     }
     Ok(JsString::from_units(alloc, units.as_slice())?)

@@ -23,9 +23,9 @@ pub fn read_program(alloc: Global, value: Element<'_>) -> Result<Program, Notati
 
 #[cycle(read)]
 fn read_nodes(alloc: Global, value: Element<'_>) -> Result<Items<Node>, NotationFault> {
-    let mut values = elements_of(value)?;
-    let mut nodes = Vec::with_capacity(alloc, values.count())?;
-    while let Some(value) = values.next() {
+    let values = elements_of(value)?;
+    let mut nodes = Vec::with_capacity(alloc, values.array_len())?;
+    for value in values {
         nodes.push(read_node(alloc, value)?)?;
     }
     Ok(Items::from_vec(nodes))

@@ -9,7 +9,6 @@ abbrev pub decreases-read_nodes : goal.decreases-read_nodes
 decreases-read_nodes l = nodes_of l.value
 
 abbrev pub invariant-read_nodes-loop-value : goal.invariant-read_nodes-loop-value
-invariant-read_nodes-loop-value l = left_of l.values < nodes_of l.initial.value
-
-abbrev pub decreases-read_nodes-loop-value : goal.decreases-read_nodes-loop-value
-decreases-read_nodes-loop-value l = left_of l.values
+invariant-read_nodes-loop-value l = (goal.iterator-read_nodes-loop-value).can_next l.value-iterator
+    × (goal.iterator-read_nodes-loop-value).is_finite l.value-iterator
+    × (left_of l.value-iterator < nodes_of l.initial.value)

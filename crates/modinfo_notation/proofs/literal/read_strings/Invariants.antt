@@ -1,5 +1,0 @@
-use Rattle.flat_json.specs.Tape.{left_of}
-use Rattle.modinfo_notation.proofs.literal.read_strings.Given as goal
-
-abbrev pub decreases-loop-value : goal.decreases-loop-value
-decreases-loop-value l = left_of l.values
