@@ -1,4 +1,5 @@
 import json
+import sys
 import threading
 import time
 from concurrent.futures import ThreadPoolExecutor
@@ -9,6 +10,7 @@ from repository import ROWS, examples, program_rows
 import modinfo
 
 THREADS = 8
+CALLS = 1000
 
 
 def outcome(command: str, document: bytes) -> Any:
@@ -34,24 +36,29 @@ def test_eight_threads_at_once() -> None:
 
 
 def test_that_python_s_lock_is_free_during_a_call() -> None:
-    document = b'{"members":[' + b'{"a":[1,2,3]},' * 200_000 + b"0]}"
-    ended = threading.Event()
-    took = 0.0
+    """No thread is made to give the lock away here, so another one runs in a call only where the call does."""
+    document = b'{"members":[' + b'{"a":[1,2,3]},' * 20_000 + b"0]}"
+    inside = False
+    seen = False
 
-    def call() -> None:
-        nonlocal took
-        before = time.perf_counter()
-        modinfo._library.call(modinfo._library.CONVERT, document)
-        took = time.perf_counter() - before
-        ended.set()
+    def call(function: Any) -> None:
+        nonlocal inside
+        for _ in range(CALLS):
+            inside = True
+            modinfo._library.call(function, document)
+            inside = False
+            if seen:
+                return
 
-    longest, last = 0.0, time.perf_counter()
-    thread = threading.Thread(target=call)
-    thread.start()
-    while not ended.is_set():
-        now = time.perf_counter()
-        longest, last = max(longest, now - last), now
-    longest = max(longest, time.perf_counter() - last)
-    thread.join()
-    assert took > 0.05
-    assert longest < took / 2
+    interval = sys.getswitchinterval()
+    sys.setswitchinterval(1_000_000)
+    try:
+        thread = threading.Thread(target=call, args=[modinfo._library.CONVERT])
+        thread.start()
+        while thread.is_alive() and not seen:
+            seen = inside
+            time.sleep(0)
+        thread.join()
+    finally:
+        sys.setswitchinterval(interval)
+    assert seen
