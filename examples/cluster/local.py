@@ -18,6 +18,8 @@ class Local:
         self.scheduler_file = folder / "scheduler.json"
         self.workers: list[subprocess.Popen[bytes]] = []
         self.names: list[str] = []
+        # The scheduler and the workers.
+        self.processes: list[subprocess.Popen[bytes]] = []
         self._folder = folder
         self._stack = stack
         self._start("dask_scheduler", "--host", "127.0.0.1", "--port", "0", "--scheduler-file", str(self.scheduler_file))
@@ -43,6 +45,7 @@ class Local:
         process = subprocess.Popen(command, stdout=log, stderr=log)
         self._stack.callback(process.wait)
         self._stack.callback(process.kill)
+        self.processes.append(process)
         return process
 
 
