@@ -1,0 +1,132 @@
+#!/usr/bin/env python3
+"""Analyzes the files whose answers aren't stored yet, stores them, and writes the answers of all."""
+
+import argparse
+import hashlib
+import os
+import re
+import sqlite3
+import subprocess
+import sys
+import tempfile
+from collections.abc import Iterator, Sequence
+from contextlib import closing
+from pathlib import Path
+from urllib.parse import quote
+
+# The media types by the ends of names, the longer ones first, as in adapters/media_types.mjs.
+MEDIA_TYPES = {
+    ".d.ts": "Dts", ".d.mts": "Dmts", ".d.cts": "Dcts",
+    ".ts": "TypeScript", ".mts": "Mts", ".cts": "Cts", ".tsx": "Tsx",
+    ".js": "JavaScript", ".jsx": "Jsx", ".mjs": "Mjs", ".cjs": "Cjs",
+}
+# An answer of adapters/files.mjs. What is behind the specifier doesn't depend on the file's name.
+ANSWER = re.compile(rb'\{"specifier":"(?:[^"\\]|\\.)*",("info":.*\n)')
+# The characters of a path that a URL has as they are, beside letters, digits and `-._`.
+PLAIN = "/!$&'()*+,:;=@"
+# Answers that are written to the store together.
+TOGETHER = 1000
+
+DESCRIPTION = """\
+Reads paths of files from the standard input, one a line, and writes a line for each, in their order, as
+adapters/files.mjs does. Only the files without a stored answer go through COMMAND, which reads their
+paths and writes a line for each. An answer is stored under a hash of the file's bytes, its media type
+and VERSION, so a file with another name has it too. A fault isn't stored.
+
+Status 0; 1 where COMMAND doesn't write a line for each path, or the store or the output can't be
+written: what was stored until then is kept."""
+
+
+class Store:
+    """Answers by their keys, in a file of SQLite."""
+
+    def __init__(self, path: str) -> None:
+        self._connection = sqlite3.connect(path)
+        self._connection.execute("CREATE TABLE IF NOT EXISTS answers (key BLOB PRIMARY KEY, answer BLOB)")
+
+    def answer(self, key: bytes | None) -> bytes | None:
+        row = self._connection.execute("SELECT answer FROM answers WHERE key = ?", (key,)).fetchone()
+        return row and bytes(row[0])
+
+    def keep(self, key: bytes, answer: bytes) -> None:
+        self._connection.execute("INSERT OR REPLACE INTO answers VALUES (?, ?)", (key, answer))
+
+    def commit(self) -> None:
+        self._connection.commit()
+
+    def close(self) -> None:
+        self._connection.commit()
+        self._connection.close()
+
+
+def key_of(path: str, version: str) -> bytes | None:
+    """None for a file that can't be read, or whose name says no media type."""
+    name = path.lower()
+    media_type = next((known for ending, known in MEDIA_TYPES.items() if name.endswith(ending)), None)
+    if media_type is None:
+        return None
+    try:
+        source = Path(path).read_bytes()
+    except OSError:
+        return None
+    return hashlib.sha256(f"{version}\0{media_type}\0".encode() + source).digest()
+
+
+def lines_of(command: str, paths: list[str]) -> Iterator[bytes]:
+    """The line that the command writes for each path."""
+    with tempfile.TemporaryFile() as asked:
+        asked.writelines(os.fsencode(f"{path}\n") for path in paths)
+        asked.seek(0)
+        count = 0
+        with subprocess.Popen(command, shell=True, stdin=asked, stdout=subprocess.PIPE) as process:
+            assert process.stdout is not None
+            for count, line in enumerate(process.stdout, 1):
+                if count <= len(paths):
+                    yield line
+    if count != len(paths):
+        raise RuntimeError(f"{command} read {len(paths)} lines and wrote {count}, status {process.returncode}")
+
+
+def answered(store: Store, version: str, command: str, paths: list[str]) -> Iterator[bytes]:
+    """A line for each path."""
+    keys = {path: key_of(path, version) for path in paths}
+    missing = [path for path in paths if store.answer(keys[path]) is None]
+    faults = {}
+    for number, (path, line) in enumerate(zip(missing, lines_of(command, missing), strict=True) if missing else [], 1):
+        answer, key = ANSWER.fullmatch(line), keys[path]
+        # The file may have been changed meanwhile.
+        if answer and key and key == key_of(path, version):
+            store.keep(key, answer[1])
+        else:
+            faults[path] = line
+        if number % TOGETHER == 0:
+            store.commit()
+    for path in paths:
+        yield faults.get(path) or b'{"specifier":"%b",%b' % (url_of(path).encode(), store.answer(keys[path]) or b"")
+
+
+def url_of(path: str) -> str:
+    """As pathToFileURL of node 20 has it. Python's quote leaves each tilde."""
+    return "file://" + quote(str(Path(path).absolute()), safe=PLAIN).replace("~", "%7E")
+
+
+def main(arguments: Sequence[str] | None = None) -> int:
+    words = argparse.ArgumentParser(description=DESCRIPTION, formatter_class=argparse.RawDescriptionHelpFormatter)
+    words.add_argument("--version", metavar="VERSION", required=True, help="of the program, the adapter and its parser")
+    words.add_argument("store", metavar="STORE", help="a file, which is made where it isn't there")
+    words.add_argument("command", metavar="COMMAND", help="run by a shell, as 'node adapters/files.mjs -'")
+    options = words.parse_args(arguments)
+    paths = [os.fsdecode(path) for path in sys.stdin.buffer.read().split(b"\n") if path]
+    try:
+        with closing(Store(options.store)) as store:
+            for line in answered(store, options.version, options.command, paths):
+                sys.stdout.buffer.write(line)
+            sys.stdout.buffer.flush()
+    except (OSError, RuntimeError, sqlite3.Error) as error:
+        print(f"stored.py: {error}", file=sys.stderr)
+        return 1
+    return 0
+
+
+if __name__ == "__main__":
+    sys.exit(main())
