@@ -116,14 +116,14 @@ def costs_of(modules: list[Module], sample: int) -> Costs:
     chosen = spread(modules, sample)
     data = b"".join(module.document for module in chosen)
     answers = subprocess.run(ANALYZE, input=data, stdout=subprocess.PIPE, check=True).stdout
-    count = len(chosen)
+    count, counted = len(chosen), instructions(data) - instructions(b"")
     return Costs(
         modules=len(modules),
         source=sum(module.source for module in modules) / len(modules),
         document=sum(len(module.document) for module in modules) / len(modules),
         answer=len(answers) / count,
-        instructions=(instructions(data) - instructions(b"")) / count,
-        instructions_per_byte=(instructions(data) - instructions(b"")) / len(data),
+        instructions=counted / count,
+        instructions_per_byte=counted / len(data),
         analysis_ms=min(processor_seconds(ANALYZE, data) for _ in range(5)) * 1000 / count,
         megabytes=megabytes(ANALYZE, data),
         parser_ms=parser_milliseconds(chosen),
