@@ -40,8 +40,8 @@ export function run(adapter) {
 
 /** @param {Adapter} adapter */
 function helpOf({ name, mediaTypes, standard }) {
-  return `usage: node ${name} [--specifier URL] [--media-type NAME] FILE
-       node ${name} --lines [--jobs N] [--all] [-0] PATH ..
+  return `usage: ${name} [--specifier URL] [--media-type NAME] FILE
+       ${name} --lines [--jobs N] [--all] [-0] PATH ..
 
 Writes the document of a file, which \`modinfo analyze\` reads; with --lines those of all files, one
 a line, which \`modinfo analyze --lines\` reads.

@@ -13,10 +13,12 @@ import { run } from "./command.mjs";
 import { Trivia, fileComments, readComments } from "./comments.mjs";
 import { writeDocument } from "./document.mjs";
 import { isKept } from "./kept.mjs";
-import { MEDIA_TYPES, checkOptions } from "./media_types.mjs";
+import { MEDIA_TYPES, readOptions } from "./media_types.mjs";
 import { isAttributesKey } from "./nodes.mjs";
 import { isMain } from "./program.mjs";
-import { Source } from "./source.mjs";
+import { Source, SourceFault } from "./source.mjs";
+
+export { SourceFault };
 
 /**
  * @typedef {import("./document.mjs").Description} Description
@@ -36,18 +38,19 @@ const OTHER = Object.freeze({ kind: "Other" });
  * @param {string} text the module's text, as it was handed to the parser
  * @param {object} options
  * @param {string} options.specifier an absolute URL
- * @param {string} options.mediaType a name of `MediaType`
+ * @param {string} [options.mediaType] a name of `MediaType`; else by the end of the specifier
  * @param {Node} [options.tree] the parser's `Program` or `File`; without it acorn parses the text
  * @param {Node[]} [options.comments] the comments; else those that the tree holds
  * @param {(warning: import("./document.mjs").Warning) => void} [options.warn] is called for each
  *   argument of which the document says less than the text
  * @returns {object} the document
- * @throws {import("./source.mjs").SourceFault} a syntax error, or a lone surrogate
+ * @throws {SourceFault} a syntax error, or a lone surrogate
  * @throws {TypeError} a text or an option that isn't what it has to be
  */
 export function toDocument(text, options) {
-  const { specifier, mediaType, tree, comments, warn } = options;
-  checkOptions(text, options, tree ? MEDIA_TYPES : ACORN_MEDIA_TYPES);
+  const { tree, comments, warn } = options ?? {};
+  const mediaTypes = tree ? MEDIA_TYPES : ACORN_MEDIA_TYPES;
+  const { specifier, mediaType } = readOptions(text, options, mediaTypes);
   const source = new Source(text);
   const given = tree && { tree, comments: comments ?? tree.comments };
   const parsed = given ?? parseWithAcorn(source, mediaType);
@@ -476,7 +479,7 @@ function operandEnds(tree) {
 
 if (isMain(import.meta.url)) {
   run({
-    name: "adapters/estree.mjs",
+    name: "modinfo-estree",
     url: import.meta.url,
     parser: "acorn",
     mediaTypes: ACORN_MEDIA_TYPES,

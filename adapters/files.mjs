@@ -9,10 +9,11 @@ import { spawn } from "node:child_process";
 import { once } from "node:events";
 import { existsSync } from "node:fs";
 import { resolve as absolute } from "node:path";
-import { fileURLToPath, pathToFileURL } from "node:url";
+import { pathToFileURL } from "node:url";
 
 import { isFolder } from "./finding.mjs";
 import { LINE_OPTIONS, runLines } from "./lines.mjs";
+import { modinfoPath } from "./modinfo_path.mjs";
 import { writeOutput } from "./output.mjs";
 import { UsageFault, isMain, runProgram, usageOf } from "./program.mjs";
 import { canonicalUrl, reach } from "./reach.mjs";
@@ -23,12 +24,10 @@ import { TYPESCRIPT_MEDIA_TYPES } from "./typescript/parse.mjs";
  * @typedef {import("./program.mjs").Words} Words
  */
 
-const NAME = "adapters/files.mjs";
-/** The proved program: a trial by ./modinfo answers nothing before its input ends. */
-const MODINFO = fileURLToPath(new URL("../build/modinfo", import.meta.url));
+const NAME = "modinfo-files";
 
-const HELP = `usage: node ${NAME} [--resolve] [--jobs N] [--all] [-0] PATH ..
-       node ${NAME} --reach ENTRY [--unreached] [--jobs N] [--all] [-0] PATH ..
+const HELP = `usage: ${NAME} [--resolve] [--jobs N] [--all] [-0] PATH ..
+       ${NAME} --reach ENTRY [--unreached] [--jobs N] [--all] [-0] PATH ..
 
 Writes for each file what \`modinfo analyze\` answers, one a line and in order:
 
@@ -47,8 +46,8 @@ The second is for a file without an answer; the place is there for a syntax erro
   --help, --version  writes this, or the versions
 
 Status 0; 1 where a file has no answer, with a line on the error output for each; 2 for words that
-aren't the usage. The environment variable MODINFO names the program; else it is build/modinfo,
-which \`./modinfo --prove\` makes.
+aren't the usage. The environment variable MODINFO names the program \`modinfo\`; else it is the one
+that \`./modinfo --prove\` has made in the repository, or the one on the PATH.
 `;
 
 /**
@@ -66,7 +65,7 @@ async function main({ values, positionals }) {
   if (folder) {
     throw new UsageFault(`an ENTRY is to be a file, and ${folder} is a folder`);
   }
-  const program = process.env.MODINFO ?? MODINFO;
+  const program = modinfoPath();
   const work = {
     adapter: new URL("./typescript.mjs", import.meta.url).href,
     mediaTypes: TYPESCRIPT_MEDIA_TYPES,
@@ -84,14 +83,12 @@ async function main({ values, positionals }) {
  * @param {string} program
  */
 async function checkProgram(program) {
-  if (program === MODINFO && !existsSync(program)) {
-    throw new Error("build/modinfo isn't made yet: ./modinfo --prove makes it");
-  }
   const child = spawn(program, ["analyze", "--lines"], { stdio: ["ignore", "ignore", "inherit"] });
   const end = once(child, "close").then(([status, signal]) => signal ?? `status ${status}`);
   const how = await end.catch(({ message }) => message);
   if (how !== "status 0") {
-    throw new Error(`${program} doesn't run with analyze --lines: ${how}`);
+    const hint = "./modinfo --prove makes it in the repository, MODINFO names another";
+    throw new Error(`${program} doesn't run with analyze --lines: ${how} (${hint})`);
   }
 }
 

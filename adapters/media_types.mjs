@@ -15,12 +15,15 @@ const ENDINGS = [
 
 /**
  * The media type by a file's name, or a URL's.
- * @param {string | undefined} name
- * @returns {string | undefined} nothing where the name has none of the endings
+ * @param {unknown} name
+ * @returns {string | undefined} nothing where it is no text, or has none of the endings
  */
 export function mediaTypeOf(name) {
-  const path = name?.replace(/^([a-z][a-z0-9+.-]*:[^?#]*).*$/is, "$1").toLowerCase();
-  return ENDINGS.find(([ending]) => path?.endsWith(ending))?.[1];
+  if (typeof name !== "string") {
+    return undefined;
+  }
+  const path = name.replace(/^([a-z][a-z0-9+.-]*:[^?#]*).*$/is, "$1").toLowerCase();
+  return ENDINGS.find(([ending]) => path.endsWith(ending))?.[1];
 }
 
 /**
@@ -43,13 +46,16 @@ export function isAbsoluteUrl(text) {
 }
 
 /**
- * Checks what is handed to `toDocument`.
+ * The options that say what a text is.
  * @param {unknown} text
- * @param {{ specifier?: unknown, mediaType?: unknown }} options
+ * @param {{ specifier?: unknown, mediaType?: unknown } | undefined} options
  * @param {string[]} mediaTypes those that are read
+ * @returns {{ specifier: string, mediaType: string }} the media type by the end of the specifier,
+ *   where none is named
  * @throws {TypeError} with what is wrong
  */
-export function checkOptions(text, { specifier, mediaType }, mediaTypes) {
+export function readOptions(text, options, mediaTypes) {
+  const { specifier, mediaType = mediaTypeOf(specifier) } = options ?? {};
   if (typeof text !== "string") {
     throw new TypeError(`the text is to be a string, and is ${shown(text)}`);
   }
@@ -60,6 +66,7 @@ export function checkOptions(text, { specifier, mediaType }, mediaTypes) {
     const names = mediaTypes.join(", ");
     throw new TypeError(`mediaType is to be one of ${names}, and is ${shown(mediaType)}`);
   }
+  return { specifier, mediaType };
 }
 
 /** @param {unknown} value */

@@ -8,11 +8,11 @@ import { Queue } from "./queue.mjs";
 /** How many tasks a worker holds at most, so that the next ones are at hand when some are done. */
 const HELD = 8;
 
-/** A worker ended before it had the result of a task. */
+/** A worker ended, or the pool was closed, before there was the result of a task. */
 export class WorkerEnd extends Error {
   /**
    * @param {string} message
-   * @param {string | undefined} code node's, as `ERR_WORKER_OUT_OF_MEMORY`
+   * @param {string} [code] node's, as `ERR_WORKER_OUT_OF_MEMORY`
    */
   constructor(message, code) {
     super(message);
@@ -43,7 +43,7 @@ export class Pool {
   #waiting = new Queue();
   /** @type {Queue<Job>} */
   #suspects = new Queue();
-  /** Why no worker can be started. @type {Error | undefined} */
+  /** Why no worker is started any more. @type {Error | undefined} */
   #broken;
 
   /**
@@ -72,9 +72,12 @@ export class Pool {
 
   /**
    * Ends the workers: those that hold tasks at once, others when they have closed what they use.
+   * Tasks without a result are rejected.
    * @returns {Promise<void>}
    */
   async close() {
+    this.#broken ??= new WorkerEnd("the pool is closed");
+    this.#deal();
     await Promise.all(this.#lanes.map((lane) => lane.close()));
   }
 
@@ -120,12 +123,11 @@ export class Pool {
   #onEnd(lane, jobs, error) {
     this.#lanes = this.#lanes.filter((each) => each !== lane);
     if (!lane.isReady) {
-      this.#broken = new Error(error.message);
-      jobs.splice(0).forEach(({ reject }) => reject(this.#broken));
+      this.#broken ??= new Error(error.message);
     }
     for (const job of jobs) {
-      if (job.isSuspect) {
-        job.reject(error);
+      if (this.#broken || job.isSuspect) {
+        job.reject(this.#broken ?? error);
       } else {
         job.isSuspect = true;
         this.#suspects.push(job);
@@ -135,7 +137,7 @@ export class Pool {
   }
 }
 
-/** One worker and the tasks that it holds. */
+/** One worker and the tasks that it holds; while there are none, it doesn't keep node from ending. */
 class Lane {
   isReady = false;
   /** @type {Map<number, Job>} */
@@ -146,7 +148,6 @@ class Lane {
   #onRoom;
   #onEnd;
   #last = 0;
-  #isClosing = false;
   /** @type {any} */
   #error;
 
@@ -175,6 +176,7 @@ class Lane {
 
   /** @param {Job} job */
   take(job) {
+    this.#worker.ref();
     this.#last++;
     this.#jobs.set(this.#last, job);
     this.#outgoing.push({ id: this.#last, task: job.task });
@@ -188,7 +190,7 @@ class Lane {
   }
 
   async close() {
-    this.#isClosing = true;
+    this.#worker.ref();
     if (this.held > 0) {
       await this.#worker.terminate();
       return;
@@ -206,13 +208,14 @@ class Lane {
       this.#jobs.delete(id);
     }
     this.#onRoom();
+    if (this.held === 0) {
+      this.#worker.unref();
+    }
   }
 
   #end() {
-    if (!this.#isClosing) {
-      const { message = "the worker ended", code } = this.#error ?? {};
-      this.#onEnd([...this.#jobs.values()], new WorkerEnd(message, code));
-    }
+    const { message = "the worker ended", code } = this.#error ?? {};
+    this.#onEnd([...this.#jobs.values()], new WorkerEnd(message, code));
   }
 }
 

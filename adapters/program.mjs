@@ -14,7 +14,7 @@ export class UsageFault extends Error {}
 
 /**
  * @typedef {object} Program
- * @property {string} name as it is called from the top of the repository
+ * @property {string} name as the package has it
  * @property {string} parser the module that it parses with
  * @property {string} help
  * @property {object} options those of node's `parseArgs`, but for `help` and `version`

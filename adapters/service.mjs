@@ -4,7 +4,6 @@
  */
 
 import { spawn } from "node:child_process";
-import { once } from "node:events";
 
 import { Queue } from "./queue.mjs";
 
@@ -13,16 +12,24 @@ const ROOM = 1 << 20;
 /** How much of what the program says on its error output is kept, in characters. */
 const KEPT_ERRORS = 2000;
 const LINE_FEED = 0x0a;
-const SPACE = 0x20;
+const CARRIAGE_RETURN = 0x0d;
 const ANSWER = Buffer.from('{"answer":');
 
-/** The fault that the program answers to a document. */
+/** A document, or the text of a module, is refused. */
 export class ModinfoFault extends Error {
-  /** @param {string} fault its name, as `Tree` */
-  constructor(fault) {
-    super(fault);
+  /**
+   * @param {string} fault its name, as `Tree`
+   * @param {string} [message]
+   * @param {{ line?: number, column?: number }} [place] of a syntax error, both counted from one
+   */
+  constructor(fault, message = fault, { line, column } = {}) {
+    super(message);
     this.name = "ModinfoFault";
     this.fault = fault;
+    if (line) {
+      this.line = line;
+      this.column = column;
+    }
   }
 }
 
@@ -56,11 +63,16 @@ export class Service {
   /** The beginning of a line of the output. @type {Buffer[]} */
   #begun = [];
   #errors = "";
-  #isClosed = false;
+  /** Whether the process keeps node from ending. */
+  #isHeld = false;
+  /** What `close` has answered. @type {Promise<void> | undefined} */
+  #closed;
+  #onClosed = () => {};
 
   /**
    * The process is started with the first document, and again with the next one when it has ended.
-   * @param {string} program the path of `modinfo`
+   * While no answer is waited for, it doesn't keep node from ending.
+   * @param {string} program the path of `modinfo`, or its name on the PATH
    * @param {"analyze" | "convert" | "reach"} [command]
    */
   constructor(program, command = "analyze") {
@@ -76,12 +88,12 @@ export class Service {
    *   with a `ProgramEnd` where the process ends before it has answered
    */
   answer(document) {
-    if (this.#isClosed) {
+    if (this.#closed) {
       return Promise.reject(new ProgramEnd("the service is closed"));
     }
     return new Promise((resolve, reject) => {
-      this.#waiting.push({ document: withoutLineFeeds(document), resolve, reject });
-      this.#write();
+      this.#waiting.push({ document: oneLine(document), resolve, reject });
+      this.#proceed();
     });
   }
 
@@ -89,29 +101,39 @@ export class Service {
    * Waits for all answers, and ends the process.
    * @returns {Promise<void>}
    */
-  async close() {
-    this.#isClosed = true;
-    while (this.#process) {
-      this.#write();
-      await once(this.#process, "close");
+  close() {
+    this.#closed ??= new Promise((resolve) => {
+      this.#onClosed = resolve;
+    });
+    this.#proceed();
+    return this.#closed;
+  }
+
+  /** Does what can be done now: writes documents, or ends. */
+  #proceed() {
+    this.#write();
+    if (this.#closed && this.#waiting.length === 0) {
+      this.#process?.stdin?.end();
     }
+    if (this.#closed && !this.#process) {
+      this.#onClosed();
+    }
+    this.#hold();
   }
 
   #write() {
     while (this.#waiting.length > 0) {
       this.#process ??= this.#start();
-      const { stdin } = this.#process;
-      if (stdin.writableLength >= ROOM) {
+      // Where it couldn't be started, its error is on the way.
+      if (!this.#process?.pid || this.#process.stdin.writableLength >= ROOM) {
         break;
       }
+      const { stdin } = this.#process;
       const request = this.#waiting.shift();
       this.#asked.push(request);
-      this.#hold(stdin);
+      this.#gather(stdin);
       stdin.write(request.document);
       stdin.write("\n");
-    }
-    if (this.#isClosed && this.#waiting.length === 0) {
-      this.#process?.stdin.end();
     }
   }
 
@@ -119,18 +141,44 @@ export class Service {
    * What is written in one turn goes into the pipe at once.
    * @param {import("node:stream").Writable} stdin
    */
-  #hold(stdin) {
+  #gather(stdin) {
     if (stdin.writableCorked === 0) {
       stdin.cork();
       setImmediate(() => stdin.uncork());
     }
   }
 
+  /** Keeps node from ending as long as something is waited for. */
+  #hold() {
+    const isNeeded = this.#closed !== undefined || this.#asked.length + this.#waiting.length > 0;
+    if (this.#process?.pid && isNeeded !== this.#isHeld) {
+      this.#isHeld = isNeeded;
+      const { stdin, stdout, stderr } = this.#process;
+      for (const each of [this.#process, stdin, stdout, stderr]) {
+        isNeeded ? each.ref() : each.unref();
+      }
+    }
+  }
+
+  /** @returns {ChildProcess | undefined} */
   #start() {
-    const process = spawn(this.#program, [this.#command, "--lines"]);
-    process.on("error", (error) => this.#fail(process, error));
-    process.once("close", (status, signal) => this.#end(process, status, signal));
-    process.stdin.on("drain", () => this.#write());
+    try {
+      const process = spawn(this.#program, [this.#command, "--lines"]);
+      process.on("error", (error) => this.#fail(process, error));
+      if (process.pid) {
+        this.#listen(process);
+      }
+      return process;
+    } catch (error) {
+      this.#refuse(error);
+    }
+  }
+
+  /** @param {ChildProcess} process */
+  #listen(process) {
+    this.#isHeld = true;
+    process.once("close", (status, signal) => this.#end(status, signal));
+    process.stdin.on("drain", () => this.#proceed());
     // What a write fails with says less than how the process ends.
     process.stdin.on("error", () => {});
     process.stdout.on("data", (bytes) => this.#read(bytes));
@@ -138,7 +186,6 @@ export class Service {
     process.stderr.on("data", (text) => {
       this.#errors = (this.#errors + text).slice(-KEPT_ERRORS);
     });
-    return process;
   }
 
   /** @param {Buffer} bytes */
@@ -153,6 +200,7 @@ export class Service {
     if (from < bytes.length) {
       this.#begun.push(bytes.subarray(from));
     }
+    this.#hold();
   }
 
   /** @param {Buffer} line */
@@ -170,67 +218,58 @@ export class Service {
   }
 
   /**
-   * Where a process couldn't be started, another can't either.
    * @param {ChildProcess} process
    * @param {Error} error
    */
-  #fail(process, { message }) {
-    if (process.pid === undefined) {
-      this.#forget(process);
-      const end = new ProgramEnd(`${this.#program}: ${message}`);
-      this.#reject([...this.#asked.takeAll(), ...this.#waiting.takeAll()], end);
+  #fail(process, error) {
+    if (!process.pid) {
+      this.#process = undefined;
+      this.#refuse(error);
+      this.#proceed();
     }
   }
 
   /**
-   * A process has ended, and all that it wrote is read.
-   * @param {ChildProcess} process
+   * Where a process couldn't be started, another can't either.
+   * @param {Error} error
+   */
+  #refuse({ message }) {
+    const hint = "the option program or the environment variable MODINFO names another";
+    const end = new ProgramEnd(`${this.#program} can't be started: ${message} (${hint})`);
+    this.#waiting.takeAll().forEach(({ reject }) => reject(end));
+  }
+
+  /**
+   * The process has ended, and all that it wrote is read.
    * @param {number | null} status
    * @param {string | null} signal
    */
-  #end(process, status, signal) {
-    if (process !== this.#process) {
-      return;
-    }
+  #end(status, signal) {
     const how = signal ? `by ${signal}` : `with status ${status}`;
     const said = this.#errors.trim();
-    this.#forget(process);
+    this.#process = undefined;
+    this.#begun = [];
+    this.#errors = "";
     const end = new ProgramEnd(`${this.#program} ended ${how}${said && `: ${said}`}`);
-    this.#reject(this.#asked.takeAll(), end);
-    this.#write();
-  }
-
-  /** @param {ChildProcess} process */
-  #forget(process) {
-    if (process === this.#process) {
-      this.#process = undefined;
-      this.#begun = [];
-      this.#errors = "";
-    }
-  }
-
-  /**
-   * @param {Request[]} requests
-   * @param {Error} error
-   */
-  #reject(requests, error) {
-    for (const { reject } of requests) {
-      reject(error);
-    }
+    this.#asked.takeAll().forEach(({ reject }) => reject(end));
+    this.#proceed();
   }
 }
 
 /**
- * A line feed in JSON can only be white space.
- * @template {string | Uint8Array} T
- * @param {T} document
- * @returns {T}
+ * A document without line feeds. In JSON they can only be white space, as carriage returns can.
+ * @param {string | Uint8Array} document
+ * @returns {string | Uint8Array} no bytes that the caller may change
  */
-function withoutLineFeeds(document) {
+function oneLine(document) {
   if (typeof document === "string") {
-    return document.includes("\n") ? document.replaceAll("\n", " ") : document;
+    return document.includes("\n") ? document.replaceAll("\n", "\r") : document;
   }
-  return document.map((byte) => (byte === LINE_FEED ? SPACE : byte));
+  const line = Buffer.from(document);
+  for (let at = line.indexOf(LINE_FEED); at >= 0; at = line.indexOf(LINE_FEED, at + 1)) {
+    line[at] = CARRIAGE_RETURN;
+  }
+  return line;
 }
 
 /**

@@ -75,8 +75,12 @@ export class Source {
   }
 }
 
-/** @param {string} text */
-function isWellFormed(text) {
+/**
+ * Whether a text has no lone surrogate.
+ * @param {string} text
+ * @returns {boolean}
+ */
+export function isWellFormed(text) {
   return text.isWellFormed ? text.isWellFormed() : !LONE_SURROGATE.test(text);
 }
 

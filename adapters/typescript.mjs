@@ -8,14 +8,16 @@
 import { run } from "./command.mjs";
 import { Trivia, fileComments } from "./comments.mjs";
 import { writeDocument } from "./document.mjs";
-import { MEDIA_TYPES, checkOptions } from "./media_types.mjs";
+import { MEDIA_TYPES, readOptions } from "./media_types.mjs";
 import { loadParser } from "./parsers.mjs";
 import { isMain } from "./program.mjs";
-import { Source } from "./source.mjs";
+import { Source, SourceFault } from "./source.mjs";
 import { commentOpenings, findComments } from "./typescript/comments.mjs";
 import { TYPESCRIPT_MEDIA_TYPES, parseWithTypeScript, refuseErrors } from "./typescript/parse.mjs";
 import { operandEnds, survey } from "./typescript/survey.mjs";
 import { TypeScriptView } from "./typescript/view.mjs";
+
+export { SourceFault };
 
 /**
  * @typedef {import("./typescript/parse.mjs").Node} Node
@@ -26,18 +28,19 @@ import { TypeScriptView } from "./typescript/view.mjs";
  * @param {string} text the module's text
  * @param {object} options
  * @param {string} options.specifier an absolute URL
- * @param {string} options.mediaType a name of `MediaType`
+ * @param {string} [options.mediaType] a name of `MediaType`; else by the end of the specifier
  * @param {Compiler} [options.typescript] the module `typescript`; else the one that is installed
  * @param {Node} [options.tree] the `SourceFile` that this module made of the text
  * @param {(warning: import("./document.mjs").Warning) => void} [options.warn] is called for each
  *   argument of which the document says less than the text
  * @returns {object} the document
- * @throws {import("./source.mjs").SourceFault} a syntax error, or a lone surrogate
+ * @throws {SourceFault} a syntax error, or a lone surrogate
  * @throws {TypeError} a text or an option that isn't what it has to be
  */
 export function toDocument(text, options) {
-  const { specifier, mediaType, typescript, tree, warn } = options;
-  checkOptions(text, options, tree ? MEDIA_TYPES : TYPESCRIPT_MEDIA_TYPES);
+  const { typescript, tree, warn } = options ?? {};
+  const mediaTypes = tree ? MEDIA_TYPES : TYPESCRIPT_MEDIA_TYPES;
+  const { specifier, mediaType } = readOptions(text, options, mediaTypes);
   const compiler = typescript ?? loadParser("typescript");
   const source = new Source(text);
   const file = tree ?? parseWithTypeScript(compiler, source, mediaType);
@@ -61,7 +64,7 @@ export function toDocument(text, options) {
 
 if (isMain(import.meta.url)) {
   run({
-    name: "adapters/typescript.mjs",
+    name: "modinfo-typescript",
     url: import.meta.url,
     parser: "typescript",
     mediaTypes: TYPESCRIPT_MEDIA_TYPES,

@@ -23,7 +23,7 @@ const FOLDER = folderOf({
 
 for (const adapter of ["estree", "typescript"]) {
   const program = `${adapter}.mjs`;
-  const name = `adapters/${program}`;
+  const name = `modinfo-${adapter}`;
   const runIn = (words, input) => run(program, words, { cwd: FOLDER, input });
 
   test(`${adapter} reads a file`, () => {
@@ -79,14 +79,14 @@ for (const adapter of ["estree", "typescript"]) {
     ]) {
       const { stdout, stderr, status } = runIn(words);
       assert.deepEqual([stdout, status], ["", 2], words.join(" "));
-      assert.match(stderr, new RegExp(`^${name}: .*(?:usage: node ${name} |--[a-z-]+ is )`, "s"));
+      assert.match(stderr, new RegExp(`^${name}: .*(?:usage: ${name} |--[a-z-]+ is )`, "s"));
     }
   });
 
   test(`${adapter} answers --help and --version`, () => {
     const help = runIn(["--help", "a.js"]);
     assert.deepEqual([help.stderr, help.status], ["", 0]);
-    assert.match(help.stdout, new RegExp(`^usage: node ${name} .*\n$`, "s"));
+    assert.match(help.stdout, new RegExp(`^usage: ${name} .*\n$`, "s"));
     const version = runIn(["--version"]);
     assert.deepEqual([version.stderr, version.status], ["", 0]);
     assert.match(version.stdout, new RegExp(`^${name} \\d+\\.\\d+\\.\\d+, \\w+ \\d+\\.\\d+\\.\\d+\n$`));

@@ -12,7 +12,7 @@ import { pathToFileURL } from "node:url";
 import { MODINFO, STAND_IN, folderOf, linesOf, programOf, run, shell } from "./running.mjs";
 import { fault, readSchema } from "./schema.mjs";
 
-const NAME = "adapters/files.mjs";
+const NAME = "modinfo-files";
 
 /** A project: `src/main.ts` reaches two modules, and one only through JSDoc. */
 const PROJECT = {
@@ -218,10 +218,10 @@ test("other words are answered by the usage", () => {
 test("--help and --version", () => {
   const help = run("files.mjs", ["--help"]);
   assert.deepEqual([help.stderr, help.status], ["", 0]);
-  assert.match(help.stdout, /^usage: node adapters\/files\.mjs /);
+  assert.match(help.stdout, /^usage: modinfo-files /);
   const { stdout, status } = run("files.mjs", ["--version"]);
   assert.equal(status, 0);
-  assert.match(stdout, /^adapters\/files\.mjs \d+\.\d+\.\d+, typescript \d+\.\d+\.\d+\n$/);
+  assert.match(stdout, /^modinfo-files \d+\.\d+\.\d+, typescript \d+\.\d+\.\d+\n$/);
 });
 
 test("a full disk is an error, a reader that ends isn't", () => {
@@ -239,9 +239,10 @@ test("a program that doesn't answer lines is named", () => {
   const folder = folderOf({ "a.js": "", old: "#!/bin/sh\necho usage >&2\nexit 2\n" });
   const old = join(folder, "old");
   chmodSync(old, 0o755);
+  const hint = "(./modinfo --prove makes it in the repository, MODINFO names another)";
   for (const [modinfo, message] of [
-    [old, `usage\n${NAME}: ${old} doesn't run with analyze --lines: status 2\n`],
-    ["/none", `${NAME}: /none doesn't run with analyze --lines: spawn /none ENOENT\n`],
+    [old, `usage\n${NAME}: ${old} doesn't run with analyze --lines: status 2 ${hint}\n`],
+    ["/none", `${NAME}: /none doesn't run with analyze --lines: spawn /none ENOENT ${hint}\n`],
   ]) {
     const result = run("files.mjs", ["a.js"], { cwd: folder, modinfo });
     assert.deepEqual(result, { stdout: "", stderr: message, status: 1 });

@@ -239,9 +239,12 @@ test("the options are checked", () => {
     refuse("", { specifier: "./a.js" }, 'specifier is to be an absolute URL, and is "./a.js"');
     refuse("", { specifier: undefined }, "specifier is to be an absolute URL, and is undefined");
     refuse("", { mediaType: "javascript" }, /^mediaType is to be one of JavaScript, .*, and is "javascript"$/);
-    refuse("", { mediaType: undefined }, /^mediaType is to be one of .*, and is undefined$/);
+    const unnamed = { specifier: "file:///a", mediaType: undefined };
+    refuse("", unnamed, /^mediaType is to be one of .*, and is undefined$/);
     refuse("", { mediaType: "Json" }, /^mediaType is to be one of .*, and is "Json"$/);
     refuse("", { mediaType: "toString" }, /^mediaType is to be one of .*, and is "toString"$/);
+    assert.throws(() => adapter(""), { name: "TypeError", message: /^specifier is to be .* undefined$/ });
+    assert.equal(adapter("", { specifier: "file:///a.mjs?b.cjs" }).mediaType, "Mjs");
   }
 });
 

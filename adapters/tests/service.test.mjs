@@ -1,6 +1,7 @@
 /** The program behind its pipe. */
 
 import assert from "node:assert/strict";
+import { spawnSync } from "node:child_process";
 import { chmodSync, existsSync, readFileSync, writeFileSync } from "node:fs";
 import { join } from "node:path";
 import { test } from "node:test";
@@ -50,7 +51,7 @@ ${body}`,
 /** What became of some promises: answers, or the names of their errors. */
 async function outcomes(promises) {
   const settled = await Promise.allSettled(promises);
-  return settled.map(({ value, reason }) => (value ? value.toString() : reason.name));
+  return settled.map(({ value, reason }) => (reason ? reason.name : String(value)));
 }
 
 test("each of many documents gets its answer", async () => {
@@ -189,8 +190,31 @@ test("a program that can't be started is an error of each document", async () =>
   const service = new Service("/none/modinfo");
   const documents = [service.answer("1"), service.answer("2")];
   assert.deepEqual(await outcomes(documents), ["ProgramEnd", "ProgramEnd"]);
-  await assert.rejects(service.answer("3"), /\/none\/modinfo: spawn .*ENOENT/);
+  await assert.rejects(service.answer("3"), /^ProgramEnd: \/none\/modinfo can't be started: spawn .*ENOENT/);
+  const last = service.answer("4");
+  const closed = service.close();
+  assert.deepEqual(await outcomes([last, closed]), ["ProgramEnd", "undefined"]);
+});
+
+test("a name that no program can have is an error of each document", async () => {
+  const service = new Service("a\0b");
+  assert.deepEqual(await outcomes([service.answer("1"), service.answer("2")]), ["ProgramEnd", "ProgramEnd"]);
   await service.close();
+});
+
+test("where no more files can be opened, each document is rejected", () => {
+  const script = `
+    import { openSync } from "node:fs";
+    import { Service } from ${JSON.stringify(new URL("../service.mjs", import.meta.url).href)};
+    try { for (;;) openSync("/dev/null"); } catch {}
+    const service = new Service("cat");
+    const settled = await Promise.allSettled([service.answer("1"), service.answer("2")]);
+    await service.close();
+    settled.forEach(({ reason }) => process.stdout.write(reason + "\\n"));`;
+  const line = 'ulimit -n 60; exec "$0" --input-type=module';
+  const { stdout, stderr, status } = spawnSync("bash", ["-c", line, process.execPath], { input: script });
+  assert.match(String(stdout), /^(ProgramEnd: cat can't be started: spawn cat EMFILE .*\n){2}$/);
+  assert.deepEqual([String(stderr), status], ["", 0]);
 });
 
 test("what is no answer is an error", async () => {

@@ -1,33 +1,46 @@
 #!/usr/bin/env node
 /**
- * A second `modinfo` for tests, by the small reading of the rules in analysis.mjs: `analyze` and
- * `analyze --lines`, without the JSDoc imports, and `reach`.
+ * A second `modinfo` for tests, by the small reading of the rules in analysis.mjs: `analyze`, without
+ * the JSDoc imports, and `reach`, both also with `--lines`.
  */
 
-import { createInterface } from "node:readline";
 import { text } from "node:stream/consumers";
 
 import { analyze } from "./analysis.mjs";
 
-const [command, ...others] = process.argv.slice(2);
+const COMMANDS = { analyze, reach };
 
-if (command === "analyze" && others.join(" ") === "--lines") {
-  for await (const line of createInterface({ input: process.stdin, crlfDelay: Infinity })) {
+const [command, ...others] = process.argv.slice(2);
+const run = COMMANDS[command];
+
+if (run && others.join(" ") === "--lines") {
+  for await (const line of linesOf(process.stdin)) {
     process.stdout.write(`${JSON.stringify(answer(line))}\n`);
   }
-} else if (command === "analyze" && others.length === 0) {
-  process.stdout.write(`${JSON.stringify(analyze(JSON.parse(await text(process.stdin))))}\n`);
-} else if (command === "reach" && others.length === 0) {
-  process.stdout.write(`${JSON.stringify(reach(JSON.parse(await text(process.stdin))))}\n`);
+} else if (run && others.length === 0) {
+  process.stdout.write(`${JSON.stringify(run(JSON.parse(await text(process.stdin))))}\n`);
 } else {
   process.stderr.write("modinfo: usage: modinfo analyze, modinfo convert or modinfo reach\n");
   process.exitCode = 2;
 }
 
+/** The lines of some bytes; line feeds alone end them. */
+async function* linesOf(input) {
+  let begun = "";
+  for await (const piece of input.setEncoding("utf8")) {
+    const lines = (begun + piece).split("\n");
+    begun = lines.pop();
+    yield* lines;
+  }
+  if (begun !== "") {
+    yield begun;
+  }
+}
+
 /** @param {string} line */
 function answer(line) {
   try {
-    return { answer: analyze(JSON.parse(line)) };
+    return { answer: run(JSON.parse(line)) };
   } catch (error) {
     return { fault: error instanceof SyntaxError ? "Json" : "Tree" };
   }

@@ -1,0 +1,116 @@
+import type { ModuleInfo } from "./information.mjs";
+import type { MediaType, ModuleDocument } from "./notation.mjs";
+
+export * from "./information.mjs";
+export * from "./notation.mjs";
+
+export interface ModinfoOptions {
+  /**
+   * The path of `modinfo`, or its name on the PATH. Else what the environment variable MODINFO
+   * names, else the one that is built in the repository, else the one on the PATH.
+   */
+  program?: string;
+  /** How many threads parse for `moduleInfo`. With 1, the default, it is the caller's thread. */
+  jobs?: number;
+}
+
+/** A process of `modinfo` for each command, started with its first document. */
+export class Modinfo {
+  constructor(options?: ModinfoOptions);
+
+  /**
+   * What a module depends on, from its source, tree and comments.
+   * @param document also as JSON, the bytes in UTF-8
+   * @throws {ModinfoFault} the document is refused
+   * @throws {ProgramEnd} the process ended before it had answered
+   * @throws {TypeError} what is handed over is neither an object nor JSON
+   */
+  analyze(document: ModuleDocument | string | Uint8Array): Promise<ModuleInfo>;
+
+  /**
+   * The information of one module, as version 1 stored it, in version 2. JSON that is no such
+   * information is answered as it is.
+   * @param information also as JSON, the bytes in UTF-8
+   * @throws as `analyze` does
+   */
+  convert(information: object | string | Uint8Array): Promise<ModuleInfo>;
+
+  /**
+   * The keys that a root reaches among modules, ascending. A dependency names the key that its
+   * specifier is, or its argument where that is a string; nothing is resolved.
+   * @param graph also as JSON, the bytes in UTF-8
+   * @throws as `analyze` does
+   */
+  reach(graph: ModuleGraph | string | Uint8Array): Promise<string[]>;
+
+  /**
+   * What a module depends on, from its text, which TypeScript's parser parses.
+   * @throws {ModinfoFault} also `Syntax`, `Depth`, `OutOfMemory` or `Parser`
+   * @throws {ProgramEnd} the process ended before it had answered
+   * @throws {TypeError} a text or an option isn't what it has to be
+   */
+  moduleInfo(text: string, options: ModuleInfoOptions): Promise<ModuleInfo>;
+
+  /** Waits for all answers, and ends the processes and threads. No document is taken any more. */
+  close(): Promise<void>;
+
+  [Symbol.asyncDispose](): Promise<void>;
+}
+
+export interface ModuleInfoOptions {
+  /** An absolute URL. */
+  specifier: string;
+  /** Else by the end of the specifier. */
+  mediaType?: ParsedMediaType;
+}
+
+/** What TypeScript's parser reads. */
+export type ParsedMediaType = Exclude<MediaType, "Json" | "Other">;
+
+export interface ModuleGraph {
+  root: string;
+  modules: Record<string, ModuleInfo>;
+}
+
+/** Why a document or a text is refused; README.md of the repository says when each comes. */
+export type FaultName =
+  | "Input"
+  | "Json"
+  | "Tree"
+  | "Specifier"
+  | "RangeReversed"
+  | "RangeOutside"
+  | "RangeOffBoundary"
+  | "CommentText"
+  | "CommentsOverlap"
+  | "Shape"
+  | "Float"
+  | "ColumnOverflow"
+  | "OutOfMemory"
+  | "Syntax"
+  | "Depth"
+  | "Parser";
+
+/** A document, or the text of a module, is refused. */
+export class ModinfoFault extends Error {
+  private constructor();
+  readonly name: "ModinfoFault";
+  readonly fault: FaultName;
+  /** Of `Syntax`, from one. */
+  readonly line?: number;
+  /** Of `Syntax`, from one, in Unicode code points. */
+  readonly column?: number;
+}
+
+/** The program ended, or couldn't be started, before it answered; or it was closed before. */
+export class ProgramEnd extends Error {
+  private constructor();
+  readonly name: "ProgramEnd";
+}
+
+declare global {
+  // TypeScript has it since 5.2, in a library that not every configuration takes in.
+  interface SymbolConstructor {
+    readonly asyncDispose: unique symbol;
+  }
+}
