@@ -56,7 +56,8 @@ export class Pool {
   constructor(module, { jobs, data: workerData, resourceLimits }) {
     this.#module = module;
     this.#most = jobs;
-    this.#options = { workerData, resourceLimits };
+    // Words of node's command line, as --input-type, may be for the main thread alone.
+    this.#options = { workerData, resourceLimits, execArgv: [] };
   }
 
   /**
