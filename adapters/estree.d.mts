@@ -18,6 +18,7 @@ export interface EstreeNode {
 /** The text is parsed by acorn. */
 export interface TextOptions extends ModuleOptions<AcornMediaType> {
   tree?: undefined;
+  comments?: undefined;
 }
 
 /** The text is parsed already. */

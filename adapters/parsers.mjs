@@ -44,7 +44,7 @@ function load(name, file) {
       }
     }
   }
-  throw new Error(`${name} is not installed: run adapters/setup, or npm install in adapters/`);
+  throw new Error(`${name} is not installed: npm install ${name}, or Debian's node-${name}`);
 }
 
 /**

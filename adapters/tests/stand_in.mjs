@@ -15,13 +15,21 @@ const run = COMMANDS[command];
 
 if (run && others.join(" ") === "--lines") {
   for await (const line of linesOf(process.stdin)) {
-    process.stdout.write(`${JSON.stringify(answer(line))}\n`);
+    process.stdout.write(`${compact(answer(line))}\n`);
   }
 } else if (run && others.length === 0) {
-  process.stdout.write(`${JSON.stringify(run(JSON.parse(await text(process.stdin))))}\n`);
+  process.stdout.write(`${compact(run(JSON.parse(await text(process.stdin))))}\n`);
 } else {
   process.stderr.write("modinfo: usage: modinfo analyze, modinfo convert or modinfo reach\n");
   process.exitCode = 2;
+}
+
+/** The JSON of a value, in which the keys of each object ascend. */
+function compact(value) {
+  return JSON.stringify(value, (_, part) => {
+    const isObject = typeof part === "object" && part !== null && !Array.isArray(part);
+    return isObject ? Object.fromEntries(Object.entries(part).sort()) : part;
+  });
 }
 
 /** The lines of some bytes; line feeds alone end them. */

@@ -1,0 +1,102 @@
+/** A caller of the package, whose types are checked; it isn't run. */
+
+import * as acorn from "acorn";
+import ts from "typescript";
+import { Modinfo, ModinfoFault, ProgramEnd } from "modinfo";
+import type {
+  DependencyDescriptor, DocumentNode, FaultName, MediaType, ModuleDocument, ModuleGraph, ModuleInfo, PositionRange,
+} from "modinfo";
+import * as estree from "modinfo/estree";
+import * as typescript from "modinfo/typescript";
+
+const modinfo = new Modinfo({ program: "build/modinfo", jobs: 4 });
+const specifier = "file:///a.ts";
+const mediaType: MediaType = "TypeScript";
+const text: string = 'import "./b.ts";';
+
+const info: ModuleInfo = await modinfo.moduleInfo(text, { specifier, mediaType });
+
+function textOf(dependency: DependencyDescriptor): string | undefined {
+  if (dependency.type === "static") {
+    const range: PositionRange = dependency.specifierRange;
+    const [[line, character]] = range;
+    return `${dependency.specifier} ${dependency.sideEffect ?? false} ${line + character}`;
+  }
+  const { argument } = dependency;
+  if (Array.isArray(argument)) {
+    return argument.map((part) => (part.type === "string" ? part.value : "*")).join("");
+  }
+  return argument;
+}
+
+const texts: (string | undefined)[] = (info.dependencies ?? []).map(textOf);
+for (const { importAttributes } of info.dependencies ?? []) {
+  const type: string | null | undefined =
+    importAttributes === undefined || importAttributes === "unknown" ? null : importAttributes.known["type"];
+  texts.push(type ?? undefined);
+}
+for (const reference of info.tsReferences ?? []) {
+  texts.push(reference.type === "types" ? reference.resolutionMode : reference.text);
+}
+
+const document: ModuleDocument = {
+  specifier, mediaType: "TypeScript", source: text,
+  program: {
+    range: [0, 16],
+    body: [
+      { kind: "ImportDecl", range: [0, 16], src: { value: "./b.ts", range: [7, 15] } },
+      { kind: "Other", range: [16, 16] },
+    ],
+  },
+  leading: [{ pos: 0, comments: [] }],
+};
+function kinds(nodes: DocumentNode[]): string[] {
+  return nodes.flatMap((node) => [
+    node.kind, ...(node.kind === "Call" ? [node.callee] : []), ...kinds(node.children ?? []),
+  ]);
+}
+kinds(document.program.body);
+
+const infos: ModuleInfo[] = [
+  await modinfo.analyze(document),
+  await modinfo.analyze(JSON.stringify(document)),
+  await modinfo.analyze(new TextEncoder().encode(text)),
+  await modinfo.convert({ dependencies: [] }),
+  await modinfo.convert("{}"),
+];
+const graph: ModuleGraph = { root: "a", modules: { a: infos[0] ?? {} } };
+const keys: string[] = await modinfo.reach(graph);
+keys.push(...(await modinfo.reach('{"root":"a","modules":{}}')));
+
+const comments: acorn.Comment[] = [];
+const tree = acorn.parse(text, { ecmaVersion: "latest", sourceType: "module", onComment: comments });
+const documents: ModuleDocument[] = [
+  estree.toDocument(text, { specifier: "file:///a.js" }),
+  estree.toDocument(text, { specifier, mediaType: "TypeScript", tree, comments }),
+  estree.toDocument(text, {
+    specifier, tree: { type: "Program", range: [0, 16] }, warn: ({ message, line, column }) => {
+      texts.push(`${message} ${line + column}`);
+    },
+  }),
+  typescript.toDocument(text, { specifier, mediaType, typescript: ts }),
+  typescript.toDocument(text, {
+    specifier, tree: ts.createSourceFile("a.ts", text, ts.ScriptTarget.Latest), typescript: ts,
+  }),
+];
+await Promise.all(documents.map((each) => modinfo.analyze(each)));
+
+try {
+  await modinfo[Symbol.asyncDispose]();
+} catch (error) {
+  if (error instanceof ModinfoFault) {
+    const fault: FaultName = error.fault;
+    const place: (number | undefined)[] = [error.line, error.column];
+    texts.push(fault, ...place.map(String));
+  } else if (error instanceof ProgramEnd) {
+    texts.push(error.message);
+  } else if (error instanceof estree.SourceFault) {
+    texts.push(`${error.line}:${error.column}`);
+  }
+}
+const closed: void = await modinfo.close();
+export { closed, keys, texts };
