@@ -144,6 +144,10 @@ export interface KeyValue extends NodeOf<"KeyValue"> {
   children: DocumentNode[];
 }
 
-export type OtherNode = NodeOf<
-  "ExportOther" | "Object" | "Await" | "Function" | "ImportMeta" | "Other"
->;
+export type OtherNode =
+  | NodeOf<"ExportOther">
+  | NodeOf<"Object">
+  | NodeOf<"Await">
+  | NodeOf<"Function">
+  | NodeOf<"ImportMeta">
+  | NodeOf<"Other">;
