@@ -38,6 +38,7 @@ let extended;
  */
 export function parseWithAcorn(source, mediaType) {
   const parser = loadAcorn();
+  /** @type {any[]} */
   const errors = [];
   for (const sourceType of SOURCE_TYPES[mediaType]) {
     try {

@@ -14,7 +14,7 @@ import { decode, documentOf } from "./reading.mjs";
  * @typedef {object} Adapter
  * @property {string} name
  * @property {string} url that of its module
- * @property {string} parser the module that it parses with
+ * @property {import("./parsers.mjs").Parser} parser the module that it parses with
  * @property {string[]} mediaTypes those that its parser reads
  * @property {string} standard that of the standard input
  * @property {import("./reading.mjs").ToDocument} toDocument
@@ -103,7 +103,7 @@ async function writeOne(adapter, words) {
 /**
  * @param {Adapter} adapter
  * @param {string} file
- * @param {import("./faults.mjs").Fault} fault
+ * @param {{ message: string, line?: number, column?: number }} fault or a warning
  */
 function say({ name }, file, fault) {
   process.stderr.write(`${name}: ${describeFault(file, fault)}\n`);

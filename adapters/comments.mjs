@@ -20,9 +20,15 @@ const KEYWORDS = new Set(
 
 /** The text between tokens: white space and comments. */
 export class Trivia {
-  /** By the ends of comments their starts. @type {Map<number, number> | undefined} */
+  /**
+   * By the ends of comments their starts.
+   * @type {Map<number, number> | undefined}
+   */
   #starts;
-  /** By the starts of comments their ends. @type {Map<number, number> | undefined} */
+  /**
+   * By the starts of comments their ends.
+   * @type {Map<number, number> | undefined}
+   */
   #ends;
 
   /**

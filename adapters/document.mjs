@@ -18,9 +18,11 @@
  *
  * @typedef {object} Property
  * @property {unknown} node
- * @property {unknown} [key] `{ str }`, `{ ident }` or `"other"`; none where it is no `key: value`
+ * @property {Key} [key] none where it is no `key: value`
  * @property {unknown} [computed] the expression of a computed key
  * @property {unknown} [value]
+ *
+ * @typedef {{ str: string, ident?: undefined } | { ident: string, str?: undefined } | "other"} Key
  *
  * @typedef {{ start: number, end: number, spread: boolean, node: unknown }} Argument
  *
@@ -30,8 +32,7 @@
  * @typedef {(
  *   | { kind: "ImportDecl", typeOnly: boolean, phase: string, src: Literal,
  *       hasSpecifiers: boolean, clause?: ObjectLiteral }
- *   | { kind: "NamedExport", typeOnly: boolean, src?: Literal, clause?: ObjectLiteral }
- *   | { kind: "ExportAll", typeOnly: boolean, src: Literal, clause?: ObjectLiteral }
+ *   | { kind: "NamedExport" | "ExportAll", typeOnly: boolean, src?: Literal, clause?: ObjectLiteral }
  *   | { kind: "ImportEquals", typeOnly: boolean, isExport: boolean, external?: Literal }
  *   | { kind: "ImportType", start: number, arg: Literal, clause?: ObjectLiteral, rest: unknown[] }
  *   | { kind: "ModuleDecl", start: number, name?: Literal, exported: boolean }
@@ -78,7 +79,7 @@ import { MOST_LEVELS, NodeWriter, levels } from "./nodes.mjs";
  * @param {unknown[]} module.body the statements of the module
  * @param {{ leading: Filed, trailing: Filed }} module.comments
  * @param {(warning: Warning) => void} [module.warn]
- * @returns {object} the document
+ * @returns {any} the document
  */
 export function writeDocument({ specifier, mediaType, source, view, body, comments, warn }) {
   const shebang = source.shebangEnd > 0;

@@ -22,8 +22,13 @@ export { SourceFault };
 
 /**
  * @typedef {import("./document.mjs").Description} Description
+ * @typedef {import("./document.mjs").ObjectLiteral} ObjectLiteral
+ * @typedef {import("./document.mjs").Value} Value
+ * @typedef {import("./document.mjs").View} View
  * @typedef {import("./kept.mjs").Kept} Kept
- * @typedef {{ type: string, start?: number, end?: number, range?: [number, number] }} Node
+ * @typedef {import("./estree.mjs").TextOptions} TextOptions
+ * @typedef {import("./estree.mjs").TreeOptions} TreeOptions
+ * @typedef {any} Node a node, or a comment
  */
 
 /** Members of nodes that hold no child. */
@@ -36,18 +41,13 @@ const OTHER = Object.freeze({ kind: "Other" });
 
 /**
  * @param {string} text the module's text, as it was handed to the parser
- * @param {object} options
- * @param {string} options.specifier an absolute URL
- * @param {string} [options.mediaType] a name of `MediaType`; else by the end of the specifier
- * @param {Node} [options.tree] the parser's `Program` or `File`; without it acorn parses the text
- * @param {Node[]} [options.comments] the comments; else those that the tree holds
- * @param {(warning: import("./document.mjs").Warning) => void} [options.warn] is called for each
- *   argument of which the document says less than the text
- * @returns {object} the document
+ * @param {TextOptions | TreeOptions} options
+ * @returns {import("./notation.mjs").ModuleDocument}
  * @throws {SourceFault} a syntax error, or a lone surrogate
  * @throws {TypeError} a text or an option that isn't what it has to be
  */
 export function toDocument(text, options) {
+  /** @type {any} */
   const { tree, comments, warn } = options ?? {};
   const mediaTypes = tree ? MEDIA_TYPES : ACORN_MEDIA_TYPES;
   const { specifier, mediaType } = readOptions(text, options, mediaTypes);
@@ -74,7 +74,7 @@ export function toDocument(text, options) {
   });
 }
 
-/** @implements {import("./document.mjs").View} */
+/** @implements {View} */
 class EstreeView {
   /**
    * @param {Trivia} trivia
@@ -166,7 +166,7 @@ class EstreeView {
   /**
    * @param {any} node
    * @param {number} [open]
-   * @returns {import("./document.mjs").Value}
+   * @returns {Value}
    */
   value(node, open) {
     if (this.outermost(node, open).start < start(node)) {
@@ -186,7 +186,10 @@ class EstreeView {
     }
   }
 
-  /** @param {any} node */
+  /**
+   * @param {any} node
+   * @returns {Description}
+   */
   importDeclaration(node) {
     return {
       kind: "ImportDecl",
@@ -198,7 +201,10 @@ class EstreeView {
     };
   }
 
-  /** @param {any} node */
+  /**
+   * @param {any} node
+   * @returns {Description}
+   */
   namedExport(node) {
     if (node.declaration?.type === "TSImportEqualsDeclaration") {
       return importEquals(node.declaration, true);
@@ -212,6 +218,7 @@ class EstreeView {
   /**
    * @param {"NamedExport" | "ExportAll"} kind
    * @param {any} node
+   * @returns {Description}
    */
   reExport(kind, node) {
     const typeOnly = node.exportKind === "type";
@@ -224,6 +231,7 @@ class EstreeView {
   /**
    * The clause `with { .. }` of a declaration. Only the text tells none from an empty one.
    * @param {any} node
+   * @returns {ObjectLiteral | undefined}
    */
   clause(node) {
     const { text } = this.trivia;
@@ -244,7 +252,10 @@ class EstreeView {
     };
   }
 
-  /** @param {any} node */
+  /**
+   * @param {any} node
+   * @returns {Description}
+   */
   importType(node) {
     const { argument, source = argument.literal ?? argument } = node;
     const read = [source, argument, node.options];
@@ -391,6 +402,7 @@ function literal(node) {
 /**
  * @param {any} node
  * @param {boolean} isExport
+ * @returns {Description}
  */
 function importEquals(node, isExport) {
   const { moduleReference } = node;
@@ -403,7 +415,10 @@ function importEquals(node, isExport) {
   };
 }
 
-/** @param {any} node */
+/**
+ * @param {any} node
+ * @returns {Description}
+ */
 function moduleDeclaration(node) {
   const name = typeof node.id.value === "string" ? literal(node.id) : undefined;
   return { kind: "ModuleDecl", start: start(node), name, exported: false };
@@ -412,6 +427,7 @@ function moduleDeclaration(node) {
 /**
  * A method in Babel's trees; in ESTree's it has a function as its value.
  * @param {any} node
+ * @returns {Description}
  */
 function method(node) {
   const outside = [...(node.decorators ?? []), ...(node.computed ? [node.key] : [])];
@@ -424,13 +440,19 @@ function isImportMeta({ meta, property }) {
   return meta.name === "import" && property.name === "meta";
 }
 
-/** @param {any} node */
+/**
+ * @param {any} node
+ * @returns {Value}
+ */
 function template(node) {
   const quasis = node.quasis.map(({ value }) => value.cooked);
   return quasis.includes(null) ? OTHER : { kind: "Template", quasis, parts: node.expressions };
 }
 
-/** @param {any} node */
+/**
+ * @param {any} node
+ * @returns {{ kind: "Object" } & ObjectLiteral}
+ */
 function object(node) {
   const properties = node.properties.map(property);
   return { kind: "Object", start: start(node), end: end(node), properties };

@@ -16,14 +16,11 @@ export class FileFault extends Error {
   /**
    * @param {string} fault
    * @param {string} message
-   * @param {{ line?: number, column?: number }} [place]
    */
-  constructor(fault, message, { line, column } = {}) {
+  constructor(fault, message) {
     super(message);
     this.name = "FileFault";
     this.fault = fault;
-    this.line = line;
-    this.column = column;
   }
 }
 
@@ -38,8 +35,7 @@ export function faultOf(error) {
     return { fault: "Syntax", message, line, column };
   }
   if (error instanceof FileFault) {
-    const { fault, message, line, column } = error;
-    return { fault, message, ...(line && { line, column }) };
+    return { fault: error.fault, message: error.message };
   }
   if (error instanceof RangeError && /call stack/.test(error.message)) {
     return { fault: "Depth", message: "the text nests too deep for the parser" };

@@ -12,17 +12,17 @@
  * @param {Description} described
  * @returns {boolean}
  */
-export function isKept({ kind, src, external, name }) {
-  switch (kind) {
+export function isKept(described) {
+  switch (described.kind) {
     case "ImportDecl": case "ExportAll": case "ImportType": case "Call": case "ImportMeta":
     case "Await":
       return true;
     case "NamedExport":
-      return src !== undefined;
+      return described.src !== undefined;
     case "ImportEquals":
-      return external !== undefined;
+      return described.external !== undefined;
     case "ModuleDecl":
-      return name !== undefined;
+      return described.name !== undefined;
     default:
       return false;
   }

@@ -35,9 +35,6 @@ export function isAbsoluteUrl(text) {
   if (typeof text !== "string") {
     return false;
   }
-  if (URL.canParse) {
-    return URL.canParse(text);
-  }
   try {
     return Boolean(new URL(text));
   } catch {
@@ -48,9 +45,9 @@ export function isAbsoluteUrl(text) {
 /**
  * The options that say what a text is.
  * @param {unknown} text
- * @param {{ specifier?: unknown, mediaType?: unknown } | undefined} options
+ * @param {{ specifier?: any, mediaType?: any } | undefined} options
  * @param {string[]} mediaTypes those that are read
- * @returns {{ specifier: string, mediaType: string }} the media type by the end of the specifier,
+ * @returns {{ specifier: string, mediaType: any }} the media type by the end of the specifier,
  *   where none is named
  * @throws {TypeError} with what is wrong
  */

@@ -17,28 +17,37 @@ import { TYPESCRIPT_MEDIA_TYPES } from "./typescript/parse.mjs";
 
 export { ModinfoFault, ProgramEnd };
 
-/** @typedef {"analyze" | "convert" | "reach"} Command */
+/**
+ * @typedef {import("./modinfo.mjs").Modinfo} Interface
+ * @typedef {import("./modinfo.mjs").ModinfoOptions} Options
+ * @typedef {import("./modinfo.mjs").ModuleGraph} ModuleGraph
+ * @typedef {import("./modinfo.mjs").ModuleInfo} ModuleInfo
+ * @typedef {import("./modinfo.mjs").ModuleInfoOptions} ModuleInfoOptions
+ * @typedef {import("./modinfo.mjs").ModuleDocument} ModuleDocument
+ * @typedef {"analyze" | "convert" | "reach"} Command
+ */
 
 const WORKER = new URL("./text_worker.mjs", import.meta.url);
 
-/** A process of `modinfo` for each command, started with its first document. */
+/**
+ * A process of `modinfo` for each command, started with its first document. What each method does
+ * is in modinfo.d.mts.
+ * @implements {Interface}
+ */
 export class Modinfo {
   #services;
   #pool;
-  /** The texts that are being parsed or analyzed. @type {Set<Promise<unknown>>} */
+  /**
+   * The texts that are being parsed or analyzed.
+   * @type {Set<Promise<ModuleInfo>>}
+   */
   #texts = new Set();
   /** @type {Promise<void> | undefined} */
   #closed;
 
-  /**
-   * @param {object} [options]
-   * @param {string} [options.program] the path of `modinfo`, or its name on the PATH; else what the
-   *   environment variable MODINFO names, else the one that is built in the repository, else the
-   *   one on the PATH
-   * @param {number} [options.jobs] how many threads parse for `moduleInfo`; with 1, which it is
-   *   where it is missing, the caller's
-   */
-  constructor({ program = modinfoPath(), jobs = 1 } = {}) {
+  /** @param {Options} options */
+  constructor(options = {}) {
+    const { program = modinfoPath(), jobs = 1 } = options;
     if (typeof program !== "string" || program === "") {
       throw new TypeError(`program is to be a path, and is ${String(program)}`);
     }
@@ -54,41 +63,33 @@ export class Modinfo {
   }
 
   /**
-   * What a module depends on, from its source, tree and comments.
-   * @param {object | string | Uint8Array} document also as JSON
-   * @returns {Promise<any>} its `ModuleInfo`; rejected with a `ModinfoFault` where the document is
-   *   refused, with a `ProgramEnd` where the process ends before it has answered
+   * @param {ModuleDocument | string | Uint8Array} document
+   * @returns {Promise<ModuleInfo>}
    */
   async analyze(document) {
     return this.#ask("analyze", document);
   }
 
   /**
-   * The information of one module, as version 1 stored it, in version 2.
-   * @param {object | string | Uint8Array} information also as JSON
-   * @returns {Promise<any>} rejected as `analyze` is
+   * @param {object | string | Uint8Array} information
+   * @returns {Promise<ModuleInfo>}
    */
   async convert(information) {
     return this.#ask("convert", information);
   }
 
   /**
-   * The keys that a root reaches among modules.
-   * @param {object | string | Uint8Array} graph also as JSON
-   * @returns {Promise<string[]>} ascending; rejected as `analyze` is
+   * @param {ModuleGraph | string | Uint8Array} graph
+   * @returns {Promise<string[]>}
    */
   async reach(graph) {
     return this.#ask("reach", graph);
   }
 
   /**
-   * What a module depends on, from its text, which TypeScript's parser parses.
    * @param {string} text
-   * @param {object} options
-   * @param {string} options.specifier an absolute URL
-   * @param {string} [options.mediaType] a name of `MediaType`; else by the end of the specifier
-   * @returns {Promise<any>} its `ModuleInfo`; rejected as `analyze` is, also with the faults
-   *   `Syntax`, `Depth`, `OutOfMemory` and `Parser`
+   * @param {ModuleInfoOptions} options
+   * @returns {Promise<ModuleInfo>}
    */
   async moduleInfo(text, options) {
     this.#checkOpen();
@@ -98,17 +99,14 @@ export class Modinfo {
     return info.finally(() => this.#texts.delete(info));
   }
 
-  /**
-   * Waits for all answers, and ends the processes and threads. No document is taken any more.
-   * @returns {Promise<void>}
-   */
+  /** @returns {Promise<void>} */
   close() {
     this.#closed ??= this.#end();
     return this.#closed;
   }
 
-  /** For `await using`; older versions of node have no such symbol. */
-  [Symbol.asyncDispose ?? Symbol.for("Symbol.asyncDispose")]() {
+  /** @returns {Promise<void>} */
+  [Symbol.asyncDispose]() {
     return this.close();
   }
 
@@ -118,6 +116,7 @@ export class Modinfo {
     await Promise.all([this.#pool?.close(), ...services.map((service) => service.close())]);
   }
 
+  /** @throws {ProgramEnd} */
   #checkOpen() {
     if (this.#closed) {
       throw new ProgramEnd("modinfo is closed");
@@ -126,7 +125,8 @@ export class Modinfo {
 
   /**
    * @param {Command} command
-   * @param {unknown} document
+   * @param {unknown} document an object, or its JSON
+   * @returns {Promise<any>}
    */
   #ask(command, document) {
     this.#checkOpen();
@@ -136,6 +136,7 @@ export class Modinfo {
   /**
    * @param {Command} command
    * @param {string | Uint8Array} document JSON
+   * @returns {Promise<any>}
    */
   async #answer(command, document) {
     const answer = await this.#services[command].answer(document);

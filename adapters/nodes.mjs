@@ -2,6 +2,7 @@
  * Writes the nodes of a document.
  *
  * @typedef {import("./document.mjs").Description} Description
+ * @typedef {import("./document.mjs").Key} Key
  * @typedef {import("./document.mjs").Literal} Literal
  * @typedef {import("./document.mjs").ObjectLiteral} ObjectLiteral
  * @typedef {import("./document.mjs").Property} Property
@@ -14,7 +15,12 @@
  * @typedef {object} DocumentNode a node of the notation of docs/FORMATS.md
  * @property {string} kind
  * @property {[number, number]} range in bytes
- * @property {DocumentNode[]} [children]
+ * @property {readonly DocumentNode[]} [children]
+ */
+
+/**
+ * @template {Description["kind"]} Kind
+ * @typedef {Extract<Description, { kind: Kind }>} Described
  */
 
 import { jsString } from "./source.mjs";
@@ -32,6 +38,7 @@ const MOST_OPERANDS = MOST_LEVELS - 2;
 const ITEMS = new Set(["ImportDecl", "NamedExport", "ExportAll", "ImportEquals", "ModuleDecl"]);
 
 const NONE = Object.freeze({});
+/** @type {readonly DocumentNode[]} */
 const NOTHING = Object.freeze([]);
 
 export class NodeWriter {
@@ -70,7 +77,8 @@ export class NodeWriter {
    */
   #item(node) {
     const described = this.view.describe(node);
-    const exported = described.kind === "ExportOther" || described.exported;
+    const exported = described.kind === "ExportOther" ||
+      (described.kind === "ModuleDecl" && described.exported);
     if (!ITEMS.has(described.kind) || exported) {
       const children = this.#write(this.kept.within(node));
       return this.#node(exported ? "ExportOther" : "Other", node, NONE, children);
@@ -146,7 +154,7 @@ export class NodeWriter {
   /**
    * An import, or an export with a source or of names.
    * @param {unknown} node
-   * @param {Description} described
+   * @param {any} described
    */
   #declaration(node, { kind, typeOnly, phase, src, hasSpecifiers, clause }) {
     const members = {
@@ -161,7 +169,7 @@ export class NodeWriter {
 
   /**
    * @param {unknown} node
-   * @param {Description} described
+   * @param {Described<"ImportEquals">} described
    */
   #importEquals(node, { typeOnly, isExport, external }) {
     return this.#node("ImportEquals", node, {
@@ -173,7 +181,7 @@ export class NodeWriter {
 
   /**
    * @param {unknown} node
-   * @param {Description} described
+   * @param {Described<"ImportType">} described
    */
   #importType(node, { start, arg, clause, rest }) {
     const members = { arg: this.#literal(arg), ...(clause && { hasWith: true }) };
@@ -186,7 +194,7 @@ export class NodeWriter {
 
   /**
    * @param {unknown} node
-   * @param {Description} described
+   * @param {Described<"ModuleDecl">} described
    */
   #moduleDecl(node, { start, name }) {
     const members = name ? { name: this.#literal(name) } : {};
@@ -196,7 +204,7 @@ export class NodeWriter {
 
   /**
    * @param {unknown} node
-   * @param {Description} described
+   * @param {Described<"Call">} described
    */
   #call(node, { callee, name, open, args, rest }) {
     const members = {
@@ -347,7 +355,7 @@ export class NodeWriter {
    * @param {string} kind
    * @param {unknown} node
    * @param {object} [members]
-   * @param {DocumentNode[]} [children]
+   * @param {readonly DocumentNode[]} [children]
    */
   #node(kind, node, members, children) {
     return this.#range(kind, this.view.start(node), this.view.end(node), members, children);
@@ -358,10 +366,11 @@ export class NodeWriter {
    * @param {number} start in UTF-16 units
    * @param {number} end
    * @param {object} [members]
-   * @param {DocumentNode[]} [children]
+   * @param {readonly DocumentNode[]} [children]
    * @returns {DocumentNode}
    */
   #range(kind, start, end, members = NONE, children = NOTHING) {
+    /** @type {DocumentNode} */
     const node = { kind, range: this.source.range(start, end), ...members };
     if (children.length > 0) {
       node.children = children;
@@ -372,7 +381,7 @@ export class NodeWriter {
 
 /**
  * How many levels of nodes there are.
- * @param {DocumentNode[]} nodes
+ * @param {readonly DocumentNode[]} nodes
  * @returns {number}
  */
 export function levels(nodes) {
@@ -385,15 +394,15 @@ export function levels(nodes) {
 
 /**
  * Whether a member of an import's second argument holds the attributes.
- * @param {unknown} key
+ * @param {Key} key
  * @returns {boolean}
  */
 export function isAttributesKey(key) {
-  const name = key.str ?? key.ident;
+  const name = key === "other" ? undefined : key.str ?? key.ident;
   return name === "with" || name === "assert";
 }
 
-/** @param {unknown} key */
+/** @param {Key} key */
 function writeKey(key) {
-  return key.str === undefined ? key : { str: jsString(key.str) };
+  return key === "other" || key.str === undefined ? key : { str: jsString(key.str) };
 }

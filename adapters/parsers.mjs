@@ -7,12 +7,17 @@ const DEBIAN_MODULES = "/usr/share/nodejs";
 
 const require = createRequire(import.meta.url);
 
-/** A look-up takes as long as many a file's parse. @type {Map<string, any>} */
+/** @typedef {"acorn" | "typescript"} Parser */
+
+/**
+ * A look-up takes as long as many a file's parse.
+ * @type {Map<string, any>}
+ */
 const loaded = new Map();
 
 /**
  * A module as node finds it from this folder, else Debian's.
- * @param {"acorn" | "typescript"} name
+ * @param {Parser} name
  * @returns {any}
  */
 export function loadParser(name) {
@@ -23,7 +28,7 @@ export function loadParser(name) {
 
 /**
  * The version of a parser, without loading it.
- * @param {"acorn" | "typescript"} name
+ * @param {Parser} name
  * @returns {string}
  */
 export function parserVersion(name) {
@@ -31,8 +36,8 @@ export function parserVersion(name) {
 }
 
 /**
- * @param {string} name
- * @param {string} file
+ * @param {Parser} name
+ * @param {"" | "/package.json"} file
  */
 function load(name, file) {
   for (const path of [name, `${DEBIAN_MODULES}/${name}`]) {

@@ -43,7 +43,10 @@ export class Pool {
   #waiting = new Queue();
   /** @type {Queue<Job>} */
   #suspects = new Queue();
-  /** Why no worker is started any more. @type {Error | undefined} */
+  /**
+   * Why no worker is started any more.
+   * @type {Error | undefined}
+   */
   #broken;
 
   /**
@@ -143,7 +146,10 @@ class Lane {
   isReady = false;
   /** @type {Map<number, Job>} */
   #jobs = new Map();
-  /** Tasks that are not sent yet. @type {{ id: number, task: unknown }[]} */
+  /**
+   * Tasks that are not sent yet.
+   * @type {{ id: number, task: unknown }[]}
+   */
   #outgoing = [];
   #worker;
   #onRoom;
@@ -235,6 +241,7 @@ export async function* inOrder(tasks, most, run) {
   const results = [];
   let coming = next();
   while (coming || results.length > 0) {
+    /** @type {{ item?: IteratorResult<Task>, result?: Result }} */
     const { item, result } = await Promise.race([
       ...results.slice(0, 1),
       ...(coming && results.length < most ? [coming] : []),

@@ -15,7 +15,7 @@ export class UsageFault extends Error {}
 /**
  * @typedef {object} Program
  * @property {string} name as the package has it
- * @property {string} parser the module that it parses with
+ * @property {import("./parsers.mjs").Parser} parser the module that it parses with
  * @property {string} help
  * @property {object} options those of node's `parseArgs`, but for `help` and `version`
  * @property {(words: Words) => Promise<number>} main answers the status

@@ -5,7 +5,10 @@
 export class Queue {
   /** @type {T[]} */
   #entering = [];
-  /** The next to leave stands last. @type {T[]} */
+  /**
+   * The next to leave stands last.
+   * @type {T[]}
+   */
   #leaving = [];
 
   get length() {

@@ -17,7 +17,7 @@ import { pathToFileURL } from "node:url";
 const ROOT = "";
 
 /** What stands beside a declaration file, and is what an import of it runs. */
-const BESIDE = [[".d.ts", [".js", ".jsx"]], [".d.mts", [".mjs"]], [".d.cts", [".cjs"]]];
+const BESIDE = { ".d.ts": [".js", ".jsx"], ".d.mts": [".mjs"], ".d.cts": [".cjs"] };
 
 /** @type {Map<string, string>} */
 const canonical = new Map();
@@ -102,6 +102,6 @@ function member(key, specifiers) {
 
 /** @param {string} name */
 function namesBeside(name) {
-  const [ending, others] = BESIDE.find(([each]) => name.endsWith(each)) ?? ["", []];
+  const [ending, others] = Object.entries(BESIDE).find(([each]) => name.endsWith(each)) ?? ["", []];
   return others.map((other) => name.slice(0, -ending.length) + other);
 }

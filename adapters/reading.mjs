@@ -8,7 +8,7 @@ import { mediaTypeOf } from "./media_types.mjs";
 
 /**
  * @typedef {import("./document.mjs").Warning} Warning
- * @typedef {(text: string, options: object) => object} ToDocument
+ * @typedef {(text: string, options: any) => object} ToDocument
  */
 
 const decoder = new TextDecoder("utf-8", { fatal: true, ignoreBOM: true });

@@ -22,13 +22,13 @@ export class ModinfoFault extends Error {
    * @param {string} [message]
    * @param {{ line?: number, column?: number }} [place] of a syntax error, both counted from one
    */
-  constructor(fault, message = fault, { line, column } = {}) {
+  constructor(fault, message = fault, place = {}) {
     super(message);
     this.name = "ModinfoFault";
     this.fault = fault;
-    if (line) {
-      this.line = line;
-      this.column = column;
+    if (place.line) {
+      this.line = place.line;
+      this.column = place.column;
     }
   }
 }
@@ -54,19 +54,32 @@ export class ProgramEnd extends Error {
 export class Service {
   #program;
   #command;
-  /** Requests that are not yet written. @type {Queue<Request>} */
+  /**
+   * Requests that are not yet written.
+   * @type {Queue<Request>}
+   */
   #waiting = new Queue();
-  /** Requests that are written and not yet answered. @type {Queue<Request>} */
+  /**
+   * Requests that are written and not yet answered.
+   * @type {Queue<Request>}
+   */
   #asked = new Queue();
   /** @type {ChildProcess | undefined} */
   #process;
-  /** The beginning of a line of the output. @type {Buffer[]} */
+  /**
+   * The beginning of a line of the output.
+   * @type {Buffer[]}
+   */
   #begun = [];
   #errors = "";
   /** Whether the process keeps node from ending. */
   #isHeld = false;
-  /** What `close` has answered. @type {Promise<void> | undefined} */
+  /**
+   * What `close` has answered.
+   * @type {Promise<void> | undefined}
+   */
   #closed;
+  /** @type {(nothing: void) => void} */
   #onClosed = () => {};
 
   /**
@@ -154,9 +167,9 @@ export class Service {
     if (this.#process?.pid && isNeeded !== this.#isHeld) {
       this.#isHeld = isNeeded;
       const { stdin, stdout, stderr } = this.#process;
-      for (const each of [this.#process, stdin, stdout, stderr]) {
-        isNeeded ? each.ref() : each.unref();
-      }
+      /** @type {any[]} */
+      const held = [this.#process, stdin, stdout, stderr];
+      held.forEach((each) => (isNeeded ? each.ref() : each.unref()));
     }
   }
 

@@ -77,7 +77,7 @@ export class Source {
 
 /**
  * Whether a text has no lone surrogate.
- * @param {string} text
+ * @param {any} text a string; node 18 has no such method of it
  * @returns {boolean}
  */
 export function isWellFormed(text) {

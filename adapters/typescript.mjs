@@ -20,24 +20,19 @@ import { TypeScriptView } from "./typescript/view.mjs";
 export { SourceFault };
 
 /**
- * @typedef {import("./typescript/parse.mjs").Node} Node
- * @typedef {import("./typescript/parse.mjs").Compiler} Compiler
+ * @typedef {import("./typescript.mjs").TextOptions} TextOptions
+ * @typedef {import("./typescript.mjs").TreeOptions} TreeOptions
  */
 
 /**
- * @param {string} text the module's text
- * @param {object} options
- * @param {string} options.specifier an absolute URL
- * @param {string} [options.mediaType] a name of `MediaType`; else by the end of the specifier
- * @param {Compiler} [options.typescript] the module `typescript`; else the one that is installed
- * @param {Node} [options.tree] the `SourceFile` that this module made of the text
- * @param {(warning: import("./document.mjs").Warning) => void} [options.warn] is called for each
- *   argument of which the document says less than the text
- * @returns {object} the document
+ * @param {string} text the module's text, as it was handed to the parser
+ * @param {TextOptions | TreeOptions} options
+ * @returns {import("./notation.mjs").ModuleDocument}
  * @throws {SourceFault} a syntax error, or a lone surrogate
  * @throws {TypeError} a text or an option that isn't what it has to be
  */
 export function toDocument(text, options) {
+  /** @type {any} */
   const { typescript, tree, warn } = options ?? {};
   const mediaTypes = tree ? MEDIA_TYPES : TYPESCRIPT_MEDIA_TYPES;
   const { specifier, mediaType } = readOptions(text, options, mediaTypes);

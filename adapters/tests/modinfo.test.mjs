@@ -236,7 +236,7 @@ test("what is no document, no text or no option", async () => {
   }
 });
 
-test("disposing of it closes it", { skip: !Symbol.asyncDispose && "node has no Symbol.asyncDispose" }, async () => {
+test("disposing of it closes it", async () => {
   const modinfo = new Modinfo({ program: STAND_IN });
   const answer = modinfo.analyze(numbered(1).document);
   await modinfo[Symbol.asyncDispose]();

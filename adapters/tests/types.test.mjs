@@ -1,16 +1,19 @@
 /** The types of the package against the schemas, and the modules against their own types. */
 
 import assert from "node:assert/strict";
-import { copyFileSync } from "node:fs";
+import { copyFileSync, existsSync } from "node:fs";
 import { join } from "node:path";
 import { test } from "node:test";
 import { fileURLToPath } from "node:url";
 
 import { folderOf } from "./running.mjs";
 import { readSchema } from "./schema.mjs";
-import { compile, parserFolder } from "./typing.mjs";
+import { check, compile, parserFolder } from "./typing.mjs";
 
 const ADAPTERS = fileURLToPath(new URL("..", import.meta.url));
+/** Where npm and Debian's packages put the types of node. */
+const NODE_TYPES = [join(ADAPTERS, "node_modules/@types/node"), "/usr/share/nodejs/@types/node"];
+
 const skip = !parserFolder("typescript") && "there is no TypeScript";
 
 /** The type of TypeScript that a schema describes. */
@@ -117,4 +120,10 @@ test("the types are what the schemas say", { skip }, () => {
     }
   }
   assert.equal(compile(folder, { ...files, "checks.mts": checks.join("\n") }), "");
+});
+
+const noTypes = !NODE_TYPES.some(existsSync) && "node's types aren't there";
+
+test("the modules keep the types that their comments and declarations say", { skip: skip || noTypes }, () => {
+  assert.equal(check(join(ADAPTERS, "tsconfig.json")), "");
 });

@@ -37,6 +37,15 @@ export function compile(folder, files, options = {}) {
   }
   const configuration = join(folder, "tsconfig.json");
   writeFileSync(configuration, JSON.stringify({ compilerOptions, files: Object.keys(files) }));
+  return check(configuration);
+}
+
+/**
+ * What TypeScript says of the files of a configuration.
+ * @param {string} configuration its path
+ * @returns {string} nothing where all is right
+ */
+export function check(configuration) {
   const words = [join(parserFolder("typescript"), "bin/tsc"), "--project", configuration];
   const { stdout, stderr } = spawnSync(process.execPath, words);
   return String(stdout) + String(stderr);

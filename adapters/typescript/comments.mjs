@@ -41,6 +41,7 @@ export function commentOpenings(text) {
 export function findComments(compiler, file, text, openings, tokens, from) {
   const { JsxText } = kindsOf(compiler);
   const startOf = (token) => (token.kind === JsxText ? token.pos : token.getStart(file, false));
+  /** @type {Comment[]} */
   const found = [];
   let [end, at] = [from, 0];
   for (const opening of openings) {

@@ -19,7 +19,10 @@ const AWAIT = 3;
 const FUNCTION = 4;
 const TEXT = 5;
 
-/** What kinds of nodes have a role. */
+/**
+ * What kinds of nodes have a role.
+ * @type {[number, string[]][]}
+ */
 const ROLES = [
   [NODE, [
     "ImportDeclaration", "ExportDeclaration", "ImportEqualsDeclaration", "ModuleDeclaration",

@@ -8,6 +8,8 @@ import { isAwait } from "./survey.mjs";
  * @typedef {import("../comments.mjs").Trivia} Trivia
  * @typedef {import("../document.mjs").Description} Description
  * @typedef {import("../document.mjs").ObjectLiteral} ObjectLiteral
+ * @typedef {import("../document.mjs").Value} Value
+ * @typedef {import("../document.mjs").View} View
  * @typedef {import("../kept.mjs").Kept} Kept
  * @typedef {import("../source.mjs").Source} Source
  * @typedef {import("./parse.mjs").Node} Node
@@ -16,7 +18,7 @@ import { isAwait } from "./survey.mjs";
 
 const OTHER = Object.freeze({ kind: "Other" });
 
-/** @implements {import("../document.mjs").View} */
+/** @implements {View} */
 export class TypeScriptView {
   /**
    * @param {Compiler} compiler
@@ -85,7 +87,7 @@ export class TypeScriptView {
 
   /**
    * @param {Node} node
-   * @returns {import("../document.mjs").Value}
+   * @returns {Value}
    */
   value(node) {
     const { kinds } = this;
@@ -114,7 +116,10 @@ export class TypeScriptView {
     }
   }
 
-  /** @param {Node} node */
+  /**
+   * @param {Node} node
+   * @returns {Description}
+   */
   importDeclaration(node) {
     const { importClause: names, moduleSpecifier } = node;
     const bindings = names?.namedBindings;
@@ -306,6 +311,7 @@ export class TypeScriptView {
 /**
  * @param {Node[]} quasis
  * @param {Node[]} parts
+ * @returns {Value}
  */
 function template(quasis, parts) {
   const isInvalid = quasis.some(({ templateFlags }) => templateFlags);
