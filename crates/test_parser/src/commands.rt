@@ -1,4 +1,5 @@
 use crate::sources::{analyze, analyze_as, parse, parsed, parser, remove, source_with};
+use deno_graph_info::analysis::{DependencyDescriptor, ModuleInfo};
 use deno_graph_parser::{
     Answer, CapturingModuleAnalyzer, DefaultParsedSourceStore, ParsedSourceStore, run,
 };
@@ -10,12 +11,21 @@ use std::rc::Rc;
 use std::test::Fail;
 use url::Url;
 
-/// Each answer in a letter: a module, a script, a diagnostic, a source taken away, or none.
+/// What a module imports, or the letter of a script.
+fn imported(info: &ModuleInfo) -> &str {
+    let Some(DependencyDescriptor::Static(import)) = info.dependencies.first() else {
+        return "s";
+    };
+    import.specifier.as_str()
+}
+
+/// Each answer in a letter: what a module imports, a script, a diagnostic, a source that was parsed,
+/// one taken away, or none.
 fn letters(alloc: Global, answers: &[Answer]) -> Result<String, AllocError> {
     let mut letters = String::new(alloc);
     for answer in answers {
         letters.push_str(match answer {
-            Answer::Analyzed(Ok(info)) => { if info.is_script { "s" } else { "m" } }
+            Answer::Analyzed(Ok(info)) => imported(info),
             Answer::Analyzed(Err(_)) | Answer::Parsed(Err(_)) => "d",
             Answer::Parsed(Ok(_)) => "p",
             Answer::Removed(Some(_)) => "r",
@@ -42,7 +52,7 @@ fn runs_from_an_empty_store(rt: HostRuntime) -> Result<(), Fail> {
     commands.push(remove(alloc, u)?)?;
     commands.push(analyze(alloc, u, "b")?)?;
     let answers = run(alloc, &mut analyzer, &commands)?;
-    assert_eq!(rt; letters(alloc, &answers)?.as_str(), "mmmrm");
+    assert_eq!(rt; letters(alloc, &answers)?.as_str(), "aabrb");
     assert_eq!(rt; calls.get(), 3);
     if let [_, _, _, Answer::Removed(Some(source)), _] = answers.as_slice() {
         assert!(rt; *source == parsed(alloc, u, "b")?);
@@ -58,7 +68,7 @@ fn runs_from_an_empty_store(rt: HostRuntime) -> Result<(), Fail> {
     commands.push(analyze_as(alloc, v, "a", MediaType::TypeScript)?)?;
     commands.push(remove(alloc, "file:///w.js")?)?;
     let answers = run(alloc, &mut analyzer, &commands)?;
-    assert_eq!(rt; letters(alloc, &answers)?.as_str(), "mmdmn");
+    assert_eq!(rt; letters(alloc, &answers)?.as_str(), "aadan");
     assert_eq!(rt; calls.get(), 6);
     Ok(())
 }
@@ -109,7 +119,7 @@ fn a_source_of_the_callers_own_is_answered_until_the_text_changes(
     commands.push(analyze(alloc, u, "b")?)?;
     commands.push(analyze(alloc, u, "a")?)?;
     let answers = run(alloc, &mut analyzer, &commands)?;
-    assert_eq!(rt; letters(alloc, &answers)?.as_str(), "smm");
+    assert_eq!(rt; letters(alloc, &answers)?.as_str(), "sba");
     assert_eq!(rt; calls.get(), 2);
     Ok(())
 }

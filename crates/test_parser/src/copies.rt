@@ -1,13 +1,11 @@
 //! Copies of commands, answers and errors.
 
-use crate::sources::{analyze, parse, parsed, remove};
+use crate::sources::{SPECIFIER, analyze, parse, parsed, remove};
 use deno_graph_parser::{AnalyzeError, Answer, ParseDiagnostic, ParseError};
 use deno_graph_source::text::Position;
 use deno_graph_source::values::{Text, TryClone};
 use std::alloc::{AllocError, Global};
 use std::test::Fail;
-
-const SPECIFIER: &str = "file:///u.js";
 
 #[test]
 fn commands_are_copied(rt: HostRuntime) -> Result<(), Fail> {

@@ -13,6 +13,8 @@ mod copies;
 #[cfg(test)]
 mod failing;
 #[cfg(test)]
+mod recording;
+#[cfg(test)]
 mod refusals;
 #[cfg(test)]
 mod sources;

@@ -1,7 +1,7 @@
 //! Calls in which the parser or the store is refused memory once.
 
 use crate::failing::{RefusedParser, RefusedStore};
-use crate::sources::{analyze, options, parsed, parser};
+use crate::sources::{SPECIFIER, analyze, options, parsed, parser};
 use deno_graph_parser::{
     AnalyzeError, CapturingModuleAnalyzer, DefaultParsedSourceStore, EsParser, ModuleAnalyzer,
     ParseError, ParsedSourceStore, run,
@@ -13,8 +13,6 @@ use std::process::Abort;
 use std::rc::{Rc, RcStr};
 use std::test::Fail;
 use url::Url;
-
-const SPECIFIER: &str = "file:///u.js";
 
 /// The calls that parse a text and keep its source.
 #[derive(Clone, Copy, Debug)]

@@ -1,8 +1,10 @@
-//! The sources of the tests: `a` and `b` parse, and no other text does.
+//! The sources of the tests: `a` and `b` parse, each as an import of itself, and no other text does.
 
 use deno_graph_parser::{Command, ParseOptions};
-use deno_graph_source::text::SourceRange;
-use deno_graph_source::tree::{Comments, Kind, MediaType, Node, ParsedSource, Program};
+use deno_graph_source::text::{JsString, SourceRange};
+use deno_graph_source::tree::{
+    Comments, ImportPhase, Kind, MediaType, Node, ParsedSource, Program, StrLit,
+};
 use deno_graph_source::values::Items;
 use example_table_parser::TableParser;
 use std::alloc::Global;
@@ -10,6 +12,8 @@ use std::cell::Cell;
 use std::rc::{Rc, RcStr};
 use std::test::Fail;
 use url::Url;
+
+pub const SPECIFIER: &str = "file:///u.js";
 
 /// A module with this tree.
 pub fn source_with(
@@ -37,15 +41,23 @@ pub fn source_with(
     )?)
 }
 
-/// What the parser of the tests has for `text`: an export, so no script.
+/// What the parser of the tests has for `text`: an import of that text, so no script.
 pub fn parsed(alloc: Global, specifier: &str, text: &str) -> Result<ParsedSource, Fail> {
+    let range = SourceRange {
+        start: 0,
+        end: text.len(),
+    };
+    let value = JsString::from_str(alloc, text)?;
     let mut body = Items::new(alloc);
     body.push(Node {
-        range: SourceRange {
-            start: 0,
-            end: text.len(),
+        range,
+        kind: Kind::ImportDecl {
+            type_only: false,
+            phase: ImportPhase::Evaluation,
+            src: StrLit { value, range },
+            has_specifiers: false,
+            has_with: false,
         },
-        kind: Kind::ExportOther,
         children: Items::new(alloc),
     })?;
     source_with(alloc, specifier, text, body)
@@ -54,8 +66,8 @@ pub fn parsed(alloc: Global, specifier: &str, text: &str) -> Result<ParsedSource
 /// A parser of `a` and `b` that counts in `calls`.
 pub fn parser(alloc: Global, calls: &Rc<Cell<u64>>) -> Result<TableParser, Fail> {
     let mut sources = Vec::new(alloc);
-    sources.push(parsed(alloc, "file:///u.js", "a")?)?;
-    sources.push(parsed(alloc, "file:///u.js", "b")?)?;
+    sources.push(parsed(alloc, SPECIFIER, "a")?)?;
+    sources.push(parsed(alloc, SPECIFIER, "b")?)?;
     Ok(TableParser::new(sources, calls.clone()?))
 }
 
