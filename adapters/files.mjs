@@ -82,7 +82,7 @@ async function main({ values, positionals }) {
  * Runs the program without a document.
  * @param {string} program
  */
-async function checkProgram(program) {
+export async function checkProgram(program) {
   const child = spawn(program, ["analyze", "--lines"], { stdio: ["ignore", "ignore", "inherit"] });
   const end = once(child, "close").then(([status, signal]) => signal ?? `status ${status}`);
   const how = await end.catch(({ message }) => message);

@@ -100,8 +100,12 @@ function member(key, specifiers) {
   return `${JSON.stringify(key)}:${JSON.stringify({ dependencies })}`;
 }
 
-/** @param {string} name */
-function namesBeside(name) {
+/**
+ * What may stand beside a declaration file.
+ * @param {string} name a URL
+ * @returns {string[]} none for another file
+ */
+export function namesBeside(name) {
   const [ending, others] = Object.entries(BESIDE).find(([each]) => name.endsWith(each)) ?? ["", []];
   return others.map((other) => name.slice(0, -ending.length) + other);
 }

@@ -1,0 +1,136 @@
+/**
+ * Where Graphviz's `dot` puts nodes and edges.
+ *
+ * @typedef {object} Layout whose lengths are in points, from the upper left corner
+ * @property {number} width
+ * @property {number} height
+ * @property {Record<string, [number, number, number, number]>} boxes by the ids of the nodes: the
+ *   centre, the width and the height
+ * @property {string[]} paths those of the edges, as SVG has them
+ */
+
+import { spawn } from "node:child_process";
+import { text } from "node:stream/consumers";
+
+import { dotOf } from "./dot.mjs";
+
+/** How long a drawing may take, in milliseconds. */
+const LONGEST = 60_000;
+
+/** Bounds of the work that makes a large drawing a little more beautiful. */
+const WORDS = ["-Tjson0", "-Gnslimit=4", "-Gnslimit1=4", "-Gmclimit=0.5"];
+
+/** There is no drawing; the message says why. */
+export class LayoutFault extends Error {}
+
+/**
+ * @param {import("./views.mjs").View[]} views
+ * @param {number} jobs how many run at once
+ * @param {(view: import("./views.mjs").View) => Promise<Layout>} [run]
+ * @returns {Promise<(Layout | LayoutFault)[]>}
+ */
+export async function layoutsOf(views, jobs, run = layoutOf) {
+  const layouts = [];
+  let next = 0;
+  const work = async () => {
+    while (next < views.length) {
+      const at = next++;
+      layouts[at] = await run(views[at]).catch(asFault);
+    }
+  };
+  await Promise.all(Array.from({ length: jobs }, work));
+  return layouts;
+}
+
+/** @param {any} error */
+function asFault(error) {
+  if (error instanceof LayoutFault) {
+    return error;
+  }
+  throw error;
+}
+
+/**
+ * @param {import("./views.mjs").View} view
+ * @returns {Promise<Layout>} rejected with a `LayoutFault`
+ */
+export async function layoutOf(view) {
+  const answer = await runDot(dotOf(view));
+  return readLayout(JSON.parse(answer), view.edges.length);
+}
+
+/**
+ * @param {string} graph in Graphviz's language
+ * @returns {Promise<string>} JSON
+ */
+async function runDot(graph) {
+  const child = spawn("dot", WORDS, { timeout: LONGEST });
+  const ended = new Promise((resolve, reject) => {
+    child.once("error", reject);
+    child.once("close", (...end) => resolve(end));
+  });
+  // What a write fails with says less than how the process ends.
+  child.stdin.on("error", () => {});
+  child.stdin.end(graph);
+  try {
+    const [answer, errors, [status, signal]] = await Promise.all([
+      text(child.stdout), text(child.stderr), ended,
+    ]);
+    if (status !== 0) {
+      throw new LayoutFault(describeEnd(status, signal, errors));
+    }
+    return answer;
+  } catch (error) {
+    throw error.code === "ENOENT"
+      ? new LayoutFault("dot isn't installed; it is in Debian's package graphviz")
+      : error;
+  }
+}
+
+/**
+ * @param {number | null} status
+ * @param {string | null} signal
+ * @param {string} errors
+ */
+function describeEnd(status, signal, errors) {
+  return signal === "SIGTERM"
+    ? `dot took more than ${LONGEST / 1000} seconds`
+    : `dot ended with ${signal ?? `status ${status}`}: ${errors.trim()}`;
+}
+
+/**
+ * @param {any} drawing as `dot -Tjson0` writes it
+ * @param {number} count of the edges
+ * @returns {Layout}
+ */
+export function readLayout({ bb, objects = [], edges = [] }, count) {
+  const [, , width, height] = bb.split(",").map(Number);
+  const boxes = {};
+  for (const { name, pos, width: wide, height: high } of objects) {
+    const [x, y] = pos.split(",").map(Number);
+    boxes[name] = [round(x), round(height - y), round(wide * 72), round(high * 72)];
+  }
+  const paths = new Array(count).fill("");
+  for (const { id, pos } of edges) {
+    paths[Number(id)] = pathOf(pos, height);
+  }
+  return { width: round(width), height: round(height), boxes, paths };
+}
+
+/**
+ * An edge as a path. Its last point is the arrow's tip.
+ * @param {string} pos `e,X,Y X,Y X,Y ..`, whose heights count from below
+ * @param {number} height of the drawing
+ */
+function pathOf(pos, height) {
+  const points = pos.split(" ").map((point) => point.split(","));
+  const tip = points.find(([mark]) => mark === "e")?.slice(1);
+  const place = ([x, y]) => `${round(Number(x))} ${round(height - Number(y))}`;
+  const [first, ...curve] = points.filter(([mark]) => mark !== "e" && mark !== "s").map(place);
+  return `M${first}C${curve.join(" ")}${tip ? `L${place(tip)}` : ""}`;
+}
+
+/** @param {number} length */
+function round(length) {
+  return Math.round(length * 10) / 10;
+}

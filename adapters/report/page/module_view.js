@@ -1,0 +1,61 @@
+/** One module: its source, and beside it what it names. */
+
+import { element } from "./elements.js";
+import { pathLabel } from "./pieces.js";
+import { report } from "./report.js";
+import { sourceView } from "./source_view.js";
+import { importersView, tableView } from "./table_view.js";
+
+/**
+ * @param {number} index
+ * @returns {HTMLElement}
+ */
+export function moduleView(index) {
+  const { path, source, fault } = report.modules[index];
+  return element(
+    "article", { class: "module", "data-module": index },
+    element("header", {}, element("h1", {}, pathLabel(path)), ...states(index)),
+    element(
+      "div", { class: "columns" },
+      source === undefined ? element("p", { class: "none" }, "Its text couldn't be read.") : sourceView(index),
+      element("div", { class: "beside" }, fault ? faultView(fault) : tableView(index), importersView(index)),
+    ),
+  );
+}
+
+function states(index) {
+  const { entries, lists } = report;
+  const all = [
+    [entries.includes(index), "entry"],
+    [lists.unreached.includes(index), entries.length > 0 ? "unreached" : "imported by none"],
+    [lists.cycles.some(({ modules }) => modules.includes(index)), "in a cycle"],
+    [lists.faults.includes(index), "no answer"],
+  ];
+  return all.filter(([has]) => has).map(([, name]) => element("span", { class: "state" }, name));
+}
+
+function faultView({ fault, message, line, column }) {
+  const place = line ? `line ${line}, column ${column}: ` : "";
+  return element("p", { class: "fault" }, element("strong", {}, fault), " ", `${place}${message}`);
+}
+
+/**
+ * Marks a row and its marks as chosen, and brings them into sight.
+ * @param {HTMLElement} view
+ * @param {number | undefined} row
+ */
+export function choose(view, row) {
+  for (const each of view.querySelectorAll(".chosen")) {
+    each.classList.remove("chosen");
+  }
+  if (row === undefined) {
+    return;
+  }
+  const marks = [...view.querySelectorAll(`.mark[data-rows~="${row}"]`)];
+  const line = view.querySelector(`tr[data-row="${row}"]`);
+  for (const each of [...marks, line].filter(Boolean)) {
+    each.classList.add("chosen");
+  }
+  marks[marks.length - 1]?.scrollIntoView({ block: "nearest", inline: "nearest" });
+  line?.scrollIntoView({ block: "nearest" });
+}

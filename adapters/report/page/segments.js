@@ -1,0 +1,58 @@
+/** Cuts a module's text into lines, and lines where marks begin and end. */
+
+/**
+ * @typedef {[number, number, number, string]} Mark from, to, the row and the kind
+ *
+ * @typedef {object} Segment
+ * @property {number} from in UTF-16 units
+ * @property {number} to
+ * @property {Mark[]} marks those around it, the innermost last
+ */
+
+/**
+ * @param {string} text
+ * @param {Mark[]} marks sorted by where they begin
+ * @returns {Generator<Segment[]>} for each line its segments, a line feed among them
+ */
+export function* lineSegments(text, marks) {
+  let next = 0;
+  let open = [];
+  for (let from = 0; from < text.length || next < marks.length; ) {
+    const feed = text.indexOf("\n", from);
+    const to = feed < 0 ? text.length : feed + 1;
+    const isLast = feed < 0;
+    while (next < marks.length && (marks[next][0] < to || isLast)) {
+      open.push(marks[next++]);
+    }
+    yield segmentsOf(from, to, open);
+    open = open.filter((mark) => mark[1] > to);
+    from = to;
+    if (isLast) {
+      return;
+    }
+  }
+}
+
+function segmentsOf(from, to, marks) {
+  const ends = marks.flatMap(([start, end]) => [start, end]);
+  const cuts = [...new Set([from, ...ends.filter((at) => at > from && at < to), to])];
+  cuts.sort((one, other) => one - other);
+  const segments = [];
+  cuts.forEach((start, at) => {
+    const empty = marks.filter((mark) => mark[0] === start && mark[1] === start);
+    if (empty.length > 0) {
+      segments.push({ from: start, to: start, marks: empty });
+    }
+    if (at + 1 < cuts.length) {
+      segments.push({ from: start, to: cuts[at + 1], marks: around(marks, start, cuts[at + 1]) });
+    }
+  });
+  return segments;
+}
+
+/** The marks that cover a segment, the longest first. */
+function around(marks, from, to) {
+  return marks
+    .filter((mark) => mark[0] <= from && mark[1] >= to)
+    .sort((one, other) => other[1] - other[0] - (one[1] - one[0]));
+}

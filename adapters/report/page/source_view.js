@@ -1,0 +1,60 @@
+/** A module's text with its marks. */
+
+import { withControls } from "./controls.js";
+import { element } from "./elements.js";
+import { hashOf } from "./pieces.js";
+import { kindNamed, report } from "./report.js";
+import { lineSegments } from "./segments.js";
+
+/** Lines that a browser lays out together, once they are seen. */
+const BLOCK = 200;
+
+/**
+ * @param {number} index of the module
+ * @returns {HTMLElement}
+ */
+export function sourceView(index) {
+  const { source, marks } = report.modules[index];
+  const code = element("code", { class: "source" });
+  let block;
+  let number = 0;
+  for (const segments of lineSegments(source, marks)) {
+    if (number % BLOCK === 0) {
+      block = element("span", { class: "block" });
+      code.append(block);
+    }
+    number++;
+    const parts = segments.map((segment) => segmentView(index, source, segment));
+    block.append(element("span", { class: "line", "data-number": number }, ...parts));
+  }
+  return element("pre", { tabindex: 0, "aria-label": "source" }, code);
+}
+
+function segmentView(index, source, { from, to, marks }) {
+  const text = source.slice(from, to);
+  const mark = marks[marks.length - 1];
+  if (!mark) {
+    return textView(text);
+  }
+  const [, , row, kind] = mark;
+  const rows = [...new Set(marks.map((each) => each[2]))].join(" ");
+  const attributes = { class: `mark ${kind}`, "data-rows": rows, "data-kind": kind };
+  if (row < 0) {
+    return element("span", { ...attributes, title: "a syntax error" }, textView(text));
+  }
+  const title = kindNamed(kind).title;
+  return element("a", { ...attributes, title, href: hashOf(index, row) }, textView(text));
+}
+
+function textView(text) {
+  const fragment = document.createDocumentFragment();
+  const isEnd = text.endsWith("\r\n");
+  const parts = withControls(isEnd ? text.slice(0, -2) : text);
+  for (const { text: part, name } of parts) {
+    fragment.append(name ? element("span", { class: "control", "data-name": name }, part) : part);
+  }
+  if (isEnd) {
+    fragment.append(element("span", { class: "return" }, "\r"), "\n");
+  }
+  return fragment;
+}

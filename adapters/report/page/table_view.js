@@ -1,0 +1,84 @@
+/** The table of what a module names, and who names it. */
+
+import { element } from "./elements.js";
+import { counted, hashOf, kindLabel, moduleLink, nameLabel, targetLabel } from "./pieces.js";
+import { importers, report } from "./report.js";
+
+/**
+ * @param {number} index of the module
+ * @returns {HTMLElement}
+ */
+export function tableView(index) {
+  const { rows } = report.modules[index];
+  if (rows.length === 0) {
+    return element("p", { class: "none" }, "It names no other module.");
+  }
+  const head = ["Line", "Kind", "Names", "Resolves to"].map((name) => element("th", { scope: "col" }, name));
+  return element(
+    "table", { class: "rows" },
+    element("caption", {}, counted(rows.length, "place")),
+    element("thead", {}, element("tr", {}, ...head)),
+    element("tbody", {}, ...rows.map((row, at) => rowView(index, row, at))),
+  );
+}
+
+function rowView(index, row, at) {
+  const { kind, name, place, to } = row;
+  const title = `ModuleInfo, from zero: ${place.map((position) => position.join(":")).join(" to ")}`;
+  const line = element("a", { href: hashOf(index, at), title, class: "place" }, String(place[0][0] + 1));
+  const names = [element("a", { href: hashOf(index, at), title }, nameLabel(name)), ...details(row)];
+  return element(
+    "tr", { "data-row": at, class: kind },
+    element("td", { class: "number" }, line),
+    element("td", {}, kindLabel(row)),
+    element("td", { class: "names" }, ...names),
+    element("td", { class: "target" }, targetLabel(to)),
+  );
+}
+
+/** What is below a row's name. */
+function details({ word, attributes, mode, sideEffect, types, typesTo }) {
+  return [
+    word !== "import" && detail("as", element("code", {}, word)),
+    sideEffect && detail("binds", "no name"),
+    ...attributeDetails(attributes),
+    mode && detail("mode", element("code", {}, mode)),
+    types !== undefined && detail("types", element("code", { class: "name" }, types), " → ", targetLabel(typesTo)),
+  ].filter(Boolean);
+}
+
+function attributeDetails(attributes) {
+  if (!attributes) {
+    return [];
+  }
+  if (attributes === "unknown") {
+    return [detail("attributes", "not known")];
+  }
+  const known = Object.entries(attributes.known);
+  if (known.length === 0) {
+    return [detail("attributes", "none in the clause")];
+  }
+  return known.map(([key, value]) => {
+    return detail("with", element("code", {}, `${key}: `, value ?? ""), value === null ? "not known" : undefined);
+  });
+}
+
+function detail(name, ...content) {
+  return element("div", { class: "detail" }, element("span", { class: "label" }, `${name} `), ...content);
+}
+
+/**
+ * @param {number} index of the module
+ * @returns {HTMLElement}
+ */
+export function importersView(index) {
+  const found = importers(index);
+  const items = found.map(({ module, row }) => {
+    return element("li", {}, moduleLink(module, row), " ", kindLabel(report.modules[module].rows[row]));
+  });
+  return element(
+    "section", { class: "importers" },
+    element("h2", {}, "Named by"),
+    items.length > 0 ? element("ul", {}, ...items) : element("p", { class: "none" }, "no module"),
+  );
+}

@@ -1,0 +1,3 @@
+import type { Unit } from "../report.js";
+
+export const SIGNS: Record<Unit, string> = { celsius: "°C", fahrenheit: "°F" };

@@ -1,0 +1,3 @@
+"use strict";
+
+module.exports = ({ title, days }) => [title, ...days.map(({ name }) => name)].join("\n");

@@ -1,0 +1,3 @@
+import { tomorrow } from "./forecast.js";
+
+export const oldForecast = () => `${tomorrow}: rain`;
