@@ -4,8 +4,12 @@ import { drawn, element } from "./elements.js";
 import { counted, hashOf } from "./pieces.js";
 import { kindNamed, partsOf, report } from "./report.js";
 
-const STEP = 1.25;
 const MARGIN = 8;
+
+/** Scales: of one step, the largest that a small drawing gets, and the least at which it is read. */
+const STEP = 1.25;
+const LARGEST = 1.1;
+const READABLE = 0.55;
 
 /**
  * @param {number} index of the view
@@ -135,19 +139,23 @@ function zoom(box, drawing, { width }) {
     scale = Math.min(4, Math.max(0.05, next));
     drawing.setAttribute("width", (width + 2 * MARGIN) * scale);
   };
-  const fit = () => apply(Math.min(1.1, box.clientWidth / (width + 2 * MARGIN)));
+  const fitting = () => {
+    const { paddingLeft, paddingRight } = getComputedStyle(box);
+    const room = box.clientWidth - parseFloat(paddingLeft) - parseFloat(paddingRight);
+    return Math.min(LARGEST, room / (width + 2 * MARGIN));
+  };
   const button = (text, title, act) => {
     const made = element("button", { type: "button", title, "aria-label": title }, text);
     made.addEventListener("click", act);
     return made;
   };
-  requestAnimationFrame(() => apply(Math.min(1.1, Math.max(0.55, box.clientWidth / (width + 2 * MARGIN)))));
+  requestAnimationFrame(() => apply(Math.max(READABLE, fitting())));
   return [
     element(
       "span", { class: "zoom" },
       button("−", "smaller", () => apply(scale / STEP)),
       button("+", "larger", () => apply(scale * STEP)),
-      button("Fit", "fit the width", fit),
+      button("Fit", "fit the width", () => apply(fitting())),
     ),
   ];
 }

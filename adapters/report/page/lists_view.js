@@ -2,46 +2,52 @@
 
 import { element } from "./elements.js";
 import { counted, kindLabel, moduleLink, nameLabel } from "./pieces.js";
-import { report } from "./report.js";
+import { importers, report } from "./report.js";
 
 /** How many items of a list are shown at first. */
 const SHOWN = 100;
 
-/** Each list: its name, title, what it says, and the view of an item. */
+/** The lists with their titles, how the summary calls one item and more, and how an item is shown. */
 function lists() {
   const { lists: found, entries } = report;
   const unreached = entries.length > 0
-    ? ["Unreached from the entries", "No chain of dependencies leads to them from an entry. Types and imports that only comments name aren't followed, nor arguments that aren't known as a whole."]
-    : ["Imported by no module", "Nothing in this report leads to them. With --entry the report shows what the entries don't reach."];
+    ? {
+      title: "Unreached from the entries", one: "unreached",
+      says: "No chain of dependencies leads to them from an entry. What only a comment names isn't followed, nor is an argument that isn't known as a whole.",
+    }
+    : {
+      title: "Imported by no module", one: "imported by no module",
+      says: "Nothing in this report leads to them. With --entry it lists what no entry reaches.",
+    };
   return [
-    ["unresolved", "Unresolved", "TypeScript finds no file for them.", found.unresolved, placeItem],
-    ["unknown", "Unknown arguments", "Nothing is known of what is imported.", found.unknown, placeItem],
-    ["partly", "Partly known arguments", "A part of the text is known.", found.partly, placeItem],
-    ["unreached", ...unreached, found.unreached, (module) => [moduleLink(module)]],
-    ["cycles", "Cycles", "Each of the modules leads to each other one.", found.cycles, cycleItem],
-    ["faults", "Files without an answer", "They have a syntax error, or can't be read.", found.faults, faultItem],
-  ];
+    { id: "unresolved", title: "Unresolved", one: "unresolved", says: "TypeScript finds no file for them.", view: placeItem },
+    { id: "unknown", title: "Unknown arguments", one: "unknown argument", many: "unknown arguments", says: "Nothing is known of what they name.", view: placeItem },
+    { id: "partly", title: "Partly known arguments", one: "partly known", says: "Only a part of the text is known.", view: placeItem },
+    { id: "unreached", ...unreached, view: unreachedItem },
+    { id: "cycles", title: "Cycles", one: "cycle", many: "cycles", says: "Each of the modules leads to each other one.", view: cycleItem },
+    { id: "faults", title: "Files without an answer", one: "file without an answer", many: "files without an answer", says: "They have a syntax error, or couldn't be read.", view: faultItem },
+  ].map((list) => ({ ...list, found: found[list.id] }));
 }
 
 /** @returns {HTMLElement} */
 export function summaryView() {
   const { modules, edges } = report;
-  const items = lists().map(([name, title, , found]) => {
-    const attributes = { href: `#list-${name}`, class: found.length > 0 ? "some" : "zero" };
-    return element("a", attributes, element("strong", {}, String(found.length)), ` ${title.toLowerCase()}`);
+  const items = lists().map(({ id, one, many = one, found: { length } }) => {
+    const attributes = { href: `#list-${id}`, class: length > 0 ? "some" : "zero" };
+    return element("a", attributes, counted(length, one, many));
   });
-  const size = element("span", {}, `${counted(modules.length, "module")}, ${counted(edges, "edge")}`);
-  return element("p", { class: "summary" }, size, ...items);
+  const size = `${counted(modules.length, "module")}, ${counted(edges, "edge")}`;
+  return element("p", { class: "summary" }, element("span", {}, size), ...items);
 }
 
 /** @returns {HTMLElement} */
 export function listsView() {
-  return element("div", { class: "lists" }, ...lists().map((list) => listView(...list)));
+  return element("div", { class: "lists" }, ...lists().map(listView));
 }
 
-function listView(name, title, says, found, view) {
+function listView({ id, title, says, found, view }) {
   const heading = element("h2", {}, title, " ", element("span", { class: "count" }, String(found.length)));
-  const section = element("section", { id: `list-${name}`, class: found.length > 0 ? "list" : "list zero" }, heading);
+  const section = element("section", { id: `list-${id}`, class: found.length > 0 ? "list" : "list zero" }, heading);
   if (found.length === 0) {
     return section;
   }
@@ -50,20 +56,31 @@ function listView(name, title, says, found, view) {
   show(found.slice(0, SHOWN));
   section.append(element("p", { class: "says" }, says), list);
   if (found.length > SHOWN) {
-    const more = element("button", { type: "button" }, `Show all ${found.length}`);
-    more.addEventListener("click", () => {
-      show(found.slice(SHOWN));
-      more.remove();
-    });
-    section.append(more);
+    section.append(moreButton(`Show all ${found.length}`, () => show(found.slice(SHOWN))));
   }
   return section;
+}
+
+function moreButton(text, act) {
+  const button = element("button", { type: "button" }, text);
+  button.addEventListener("click", () => {
+    act();
+    button.remove();
+  });
+  return button;
 }
 
 function placeItem({ module, row, types }) {
   const found = report.modules[module].rows[row];
   const line = element("span", { class: "place" }, `:${found.place[0][0] + 1}`);
-  return [nameLabel(types ? found.types : found.name), kindLabel(found), element("span", {}, moduleLink(module, row), line)];
+  const place = element("span", {}, moduleLink(module, row), line);
+  return [nameLabel(types ? found.types : found.name), kindLabel(found), place];
+}
+
+function unreachedItem(module) {
+  const named = report.entries.length > 0 && importers(module).length > 0;
+  const note = named ? `named by ${counted(importers(module).length, "place")}` : "";
+  return [moduleLink(module), element("span", { class: "note" }, note)];
 }
 
 function cycleItem({ modules, path, isRun }) {

@@ -1,8 +1,8 @@
 /** The list of all modules, and the field that filters it. */
 
 import { element } from "./elements.js";
-import { hashOf, pathLabel } from "./pieces.js";
-import { report } from "./report.js";
+import { hashOf } from "./pieces.js";
+import { partsOf, report } from "./report.js";
 
 export class ModuleList {
   #field = element("input", {
@@ -10,16 +10,24 @@ export class ModuleList {
     autocomplete: "off", spellcheck: "false",
   });
   #count = element("p", { class: "shown", role: "status" });
+  /** By the modules. */
   #links = report.modules.map(({ path }, index) => {
-    return element("a", { href: hashOf(index), "data-module": index, tabindex: "-1", title: path }, pathLabel(path));
+    const [, name] = partsOf(path);
+    return element("a", { href: hashOf(index), "data-module": index, tabindex: "-1", title: path }, name);
   });
+  #folders = report.modules.map(({ path }) => partsOf(path)[0]);
   #texts = report.modules.map(({ path }) => path.toLowerCase());
+  /** As they are listed: the modules of a folder, then those of the next one. */
+  #order = report.modules.map((_, index) => index).sort((one, other) => this.#compare(one, other));
   #onFilter;
 
   /** @param {(isShown: (module: number) => boolean) => void} onFilter */
   constructor(onFilter) {
     this.#onFilter = onFilter;
-    const items = this.#links.map((link) => element("li", {}, link));
+    const items = this.#order.map((module) => {
+      const heading = element("div", { class: "heading", "aria-hidden": "true" }, this.#folders[module] || "./");
+      return element("li", {}, heading, this.#links[module]);
+    });
     this.list = element("ul", { class: "modules" }, ...items);
     this.view = element("nav", { "aria-label": "modules" }, this.#field, this.#count, this.list);
     this.#field.addEventListener("input", () => this.filter());
@@ -38,7 +46,13 @@ export class ModuleList {
   filter() {
     const words = this.#field.value.toLowerCase().split(/\s+/u).filter((word) => word !== "");
     const isShown = (module) => words.every((word) => this.#texts[module].includes(word));
-    this.#links.forEach((link, module) => (link.parentNode.hidden = !isShown(module)));
+    let folder;
+    for (const module of this.#order) {
+      const item = this.#links[module].parentNode;
+      item.hidden = !isShown(module);
+      item.classList.toggle("first", !item.hidden && this.#folders[module] !== folder);
+      folder = item.hidden ? folder : this.#folders[module];
+    }
     const { length } = this.#shown;
     const all = this.#links.length;
     this.#count.textContent = words.length > 0 ? `${length} of ${all} modules` : `${all} modules`;
@@ -58,7 +72,13 @@ export class ModuleList {
   }
 
   get #shown() {
-    return this.#links.filter((link) => !link.parentNode.hidden);
+    return this.#order.map((module) => this.#links[module]).filter((link) => !link.parentNode.hidden);
+  }
+
+  #compare(one, other) {
+    const texts = [one, other].map((module) => [this.#folders[module], this.#texts[module]]);
+    const at = texts[0][0] === texts[1][0] ? 1 : 0;
+    return texts[0][at] < texts[1][at] ? -1 : 1;
   }
 
   /** The list is one stop of the tab key. */

@@ -10,7 +10,16 @@ import { kindNamed, partsOf, report } from "./report.js";
  */
 export function pathLabel(path) {
   const [folder, name] = partsOf(path);
-  return element("span", { class: "path" }, element("span", { class: "folder" }, folder), name);
+  return element("span", { class: "path" }, element("span", { class: "folder" }, ...breakable(folder)), name);
+}
+
+/**
+ * A text that a line may end in behind each slash.
+ * @param {string} text
+ * @returns {(Node | string)[]}
+ */
+function breakable(text) {
+  return text.split(/(?<=\/)/u).flatMap((part) => [part, element("wbr")]);
 }
 
 /**
@@ -51,7 +60,7 @@ export function nameLabel(name) {
   }
   const parts = typeof name === "string" ? [{ type: "string", value: name }] : name;
   const shown = parts.map(({ type, value }) => (type === "string"
-    ? element("span", { class: "text" }, value)
+    ? element("span", { class: "text" }, ...breakable(value))
     : element("span", { class: "hole", title: "an expression, whose value isn't known" }, "${…}")));
   return element("code", { class: "name" }, ...shown);
 }
@@ -63,7 +72,7 @@ export function nameLabel(name) {
  */
 export function targetLabel(target) {
   if (target === undefined) {
-    return "";
+    return element("span", { class: "outside" }, "–");
   }
   if (target.module !== undefined) {
     return moduleLink(target.module);

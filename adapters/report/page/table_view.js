@@ -1,7 +1,7 @@
 /** The table of what a module names, and who names it. */
 
 import { element } from "./elements.js";
-import { counted, hashOf, kindLabel, moduleLink, nameLabel, targetLabel } from "./pieces.js";
+import { hashOf, kindLabel, moduleLink, nameLabel, targetLabel } from "./pieces.js";
 import { importers, report } from "./report.js";
 
 /**
@@ -16,7 +16,6 @@ export function tableView(index) {
   const head = ["Line", "Kind", "Names", "Resolves to"].map((name) => element("th", { scope: "col" }, name));
   return element(
     "table", { class: "rows" },
-    element("caption", {}, counted(rows.length, "place")),
     element("thead", {}, element("tr", {}, ...head)),
     element("tbody", {}, ...rows.map((row, at) => rowView(index, row, at))),
   );
