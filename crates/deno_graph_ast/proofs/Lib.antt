@@ -7,6 +7,8 @@ pub mod ItemComments
 pub mod JsDocComments
 pub mod Named
 pub mod Places
+pub mod Pushed
+pub mod ReadComments
 pub mod ReferenceLists
 pub mod Scripts
 pub mod SomeInfo

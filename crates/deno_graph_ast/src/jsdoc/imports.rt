@@ -10,7 +10,7 @@ ghost use Rattle.deno_graph_ast.specs.CommentImports.{AreApart, AreImports, IsJs
 ghost use Rattle.deno_graph_ast.specs.CommentImportSteps.{AreJsDocOf, GainsImports, IsMovedHit};
 ghost use Rattle.deno_graph_source.specs.Source.{IsSpelled};
 
-use deno_graph_jsdoc::{JsDocImport, insert, scan};
+use deno_graph_jsdoc::{JsDocImport, scan};
 use deno_graph_source::tree::{CommentKind, DependencyComment, MediaType};
 use std::alloc::{AllocError, Global};
 
@@ -34,10 +34,15 @@ pub fn imports_of<'a>(
         → All (IsQuotedAt text) (map import_of imports.items)) }
 {
     let mut imports = Vec::new(alloc);
+    let mut end = 0;
     for comment in &jsdoc_by_start(alloc, comments)? {
         // What is counted from its start on is below its end.
-        let _end = comment.range.end;
-        add_imports(alloc, &mut imports, comment)?;
+        let own_end = comment.range.end;
+        // One that begins before the last one ends is that one again.
+        if comment.range.start >= end {
+            add_imports(alloc, &mut imports, comment)?;
+            end = own_end;
+        }
     }
     Ok(imports)
 }
@@ -63,14 +68,15 @@ fn jsdoc_by_start<'a>(
     Ok(chosen)
 }
 
-/// Puts the imports of a comment into their places by their starts, counted from the start of the
-/// source.
+/// Puts the imports of a comment at the end, counted from the start of the source.
 fn add_imports<'a>(
     alloc: Global,
     imports: &mut Vec<JsDocImport<'a>>,
     comment: &'a DependencyComment,
 ) -> Result<(), AllocError>
     requires ascending { Ascend (map import_of imports.old.items) }
+    requires before { All (λ import. import.start < comment.now.range.start + 2)
+        (map import_of imports.old.items) }
     requires fits { comment.now.range.start + 2 + length comment.now.text < 2 ^ 64 }
     ensures utf8 { OnOk result (IsUtf8 comment.now.text) }
     ensures gains { OnOk result (GainsImports
@@ -79,7 +85,7 @@ fn add_imports<'a>(
 {
     let found = scan(alloc, comment.text.as_str())?;
     for import in &found.imports {
-        insert(imports, import.moved(comment.range.start + 2))?;
+        imports.push(import.moved(comment.range.start + 2))?;
     }
     Ok(())
 }

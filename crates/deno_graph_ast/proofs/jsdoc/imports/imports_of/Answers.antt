@@ -1,18 +1,21 @@
 -- One JSDoc comment after another.
-use Rattle.std.proofs.Common.{◌≡◌, ◌<◌, ◌≤◌, ℕ, List, length, take, map, get_or, sym, subst, arith, rules, Bor}
+use Rattle.std.proofs.Common.{◌≡◌, ◌+◌, ◌<◌, ◌≤◌, ℕ, List, length, take, map, get_or, sym, subst, arith, rules, Bor, Vec, Global}
 use Rattle.std.proofs.lemmas.List.{take_all}
 use Rattle.std.proofs.lemmas.List.Elements.{All-contains, Contains-get_or}
 use Rattle.std.specs.List.{Contains}
+use Rattle.std.specs.List.Sorted.{IsNonDecreasingBy}
 use Rattle.deno_graph_jsdoc.specs.JsDocImport.{import_of}
+use Rattle.deno_graph_jsdoc.specs.declared.import.JsDocImport.{JsDocImport}
 use Rattle.deno_graph_ast.specs.CommentImports.{IsJsDoc}
 use Rattle.deno_graph_ast.specs.CommentImportSteps.{AreJsDocOf}
-use Rattle.deno_graph_ast.proofs.Chosen.{all, item_in, item_next}
-use Rattle.deno_graph_ast.proofs.Gathered.{Gathered, Gathered-jsdoc, Gathered-more, Gathered-imports, Gathered-quoted}
+use Rattle.deno_graph_ast.proofs.Chosen.{all, item_in}
+use Rattle.deno_graph_ast.proofs.Gathered.{Gathered, Gathered-jsdoc, Gathered-imports, Gathered-quoted}
 use Rattle.deno_graph_ast.proofs.Places.{comment_size}
+use Rattle.deno_graph_ast.proofs.ReadComments.{AreRead, AreRead-again, AreRead-more, AreRead-start}
 use Rattle.deno_graph_source.specs.Source.{IsSpelled}
 use Rattle.deno_graph_source.specs.declared.tree.comments.DependencyComment.{DependencyComment}
 use Rattle.deno_graph_ast.proofs.jsdoc.imports.imports_of.Goals as goal
-use Rattle.deno_graph_ast.proofs.jsdoc.imports.imports_of.Goals.{After-deref-comment-items}
+use Rattle.deno_graph_ast.proofs.jsdoc.imports.imports_of.Goals.{After-deref-comment-items, then-comment-end+in_ok-add_imports, else-comment-end}
 
 -- what was chosen
 are : (c : After-deref-comment-items)
@@ -39,22 +42,51 @@ add_imports-requires-clause-fits c =
     (All-contains (IsSpelled spelled.0) (all c.args.comments.now) item.now spelled.1 both.0) (both.1).0 in
     omega (arith, size.0, size.1)
 
+sorted : (c : After-deref-comment-items)
+    → IsNonDecreasingBy (λ (b : Bor DependencyComment). b.now.range.start) c.deref-comment-items.result.now
+sorted c =
+    subst (IsNonDecreasingBy (λ (b : Bor DependencyComment). b.now.range.start))
+    (sym c.deref-comment-items.ensures.value) c.in_ok-jsdoc_by_start.ensures.ascending
+
+pub loop-comment-init : goal.loop-comment-init
+loop-comment-init c =
+    subst (λ (is : List JsDocImport). AreRead (all c.args.comments.now) c.deref-comment-items.result.now 0
+    (map import_of is) 0) (sym c.new-imports.ensures.items) (AreRead-start (all c.args.comments.now) c.deref-comment-items.result.now)
+
+pub add_imports-requires-clause-before : goal.add_imports-requires-clause-before
+add_imports-requires-clause-before c = λ k d inside.
+    let first = c.loop-comment.invariant.below (get_or (map import_of c.loop-comment.imports.items) k d)
+    (Contains-get_or (map import_of c.loop-comment.imports.items) k d inside) in
+    let order : c.loop-comment.end ≤ c.comment-item.result.now.range.start = search rules in
+    omega (arith, first, order)
+
 pub loop-comment-preserved : goal.loop-comment-preserved
 loop-comment-preserved c =
+    let here = (goal.at.loop-comment-preserved c).After-deref-comment-items in
     let inside : c.loop-comment.comment-index < length c.deref-comment-items.result.now = search rules in
+    let comments = all c.args.comments.now in
     let items = c.deref-comment-items.result.now in
+    let k = c.loop-comment.comment-index in
     let item = c.comment-item.result in
-    let both = chosen (all c.args.comments.now) items
-    (are (goal.at.loop-comment-preserved c).After-deref-comment-items) c.loop-comment.comment-index item
-    inside c.comment-item.is in
-    subst (λ (d : List DependencyComment). Gathered (all c.args.comments.now) d
-    (map import_of c.add_imports.new.imports.items))
-    (sym (item_next items c.loop-comment.comment-index item inside c.comment-item.is))
-    (Gathered-more c.requires.spelled.0 (all c.args.comments.now) c.requires.spelled.1 c.requires.apart
-    (all (take c.loop-comment.comment-index items)) item.now
-    (map import_of c.loop-comment.imports.items)
-    (map import_of c.add_imports.new.imports.items) both.0 both.1 c.in_ok-add_imports.ensures.utf8
-    c.loop-comment.invariant c.in_ok-add_imports.ensures.gains)
+    elim c.if-comment-end.branch [
+      | then-comment-end+in_ok-add_imports w ↦
+          let order : c.loop-comment.end ≤ item.now.range.start = search rules in
+          subst (λ (v : Vec JsDocImport Global). AreRead comments items (k + 1) (map import_of v.items)
+          c.if-comment-end.end) (sym w.imports-is)
+          (subst (AreRead comments items (k + 1) (map import_of w.add_imports.new.imports.items)) (sym w.end-is)
+          (AreRead-more c.requires.spelled.0 comments c.requires.spelled.1 c.requires.apart items (are here)
+          (sorted here) k item inside c.comment-item.is (map import_of c.loop-comment.imports.items)
+          (map import_of w.add_imports.new.imports.items) c.loop-comment.end order
+          w.in_ok-add_imports.ensures.utf8 w.in_ok-add_imports.ensures.gains c.loop-comment.invariant))
+      | else-comment-end w ↦
+          let order : item.now.range.start < c.loop-comment.end = search rules in
+          subst (λ (v : Vec JsDocImport Global). AreRead comments items (k + 1) (map import_of v.items)
+          c.if-comment-end.end) (sym w.imports-is)
+          (subst (AreRead comments items (k + 1) (map import_of c.loop-comment.imports.items)) (sym w.end-is)
+          (AreRead-again c.requires.spelled.0 comments c.requires.spelled.1 c.requires.apart items (are here)
+          (sorted here) k item inside c.comment-item.is (map import_of c.loop-comment.imports.items)
+          c.loop-comment.end order c.loop-comment.invariant))
+    ]
 
 pub returns-clause-all : goal.returns-clause-all
 returns-clause-all c =
@@ -66,12 +98,12 @@ returns-clause-all c =
     (λ comment has jsdoc. (are_all comment).1 (has, jsdoc))
     (subst (λ (xs : List (Bor DependencyComment)). Gathered (all c.args.comments.now) (all xs)
     (map import_of c.loop-comment.imports.items))
-    (take_all c.loop-comment.comment-index items over) c.loop-comment.invariant))
+    (take_all c.loop-comment.comment-index items over) c.loop-comment.invariant.gathered))
 
 pub returns-clause-quoted : goal.returns-clause-quoted
 returns-clause-quoted c = λ text spelled k d inside.
     Gathered-quoted (all c.args.comments.now)
     (all (take c.loop-comment.comment-index c.deref-comment-items.result.now))
-    (map import_of c.loop-comment.imports.items) c.loop-comment.invariant
+    (map import_of c.loop-comment.imports.items) c.loop-comment.invariant.gathered
     text spelled (get_or (map import_of c.loop-comment.imports.items) k d)
     (Contains-get_or (map import_of c.loop-comment.imports.items) k d inside)
