@@ -8,4 +8,6 @@ pub use deno_graph_source::tree::{
     Arg, BinaryOp, Callee, CommentKind, Comments, DependencyComment, ImportPhase, Kind, MediaType,
     Node, ParsedSource, Program, PropKey, ResolutionMode, SourceFault, StrLit, source_fault,
 };
-pub use deno_graph_source::values::{Items, Text, TextMap, TryClone};
+pub use deno_graph_source::values::{
+    Items, Text, TextMap, TryClone, TypeScriptTypesResolutionMode,
+};

@@ -1,5 +1,6 @@
 //! What each type can do.
 
+use crate::parsers::ScriptParser;
 use crate::{analysis, info, source};
 use deno_graph_source::values::TryClone;
 use std::fmt::Debug;
@@ -16,6 +17,9 @@ pub struct Shared<T: Clone + Debug + Eq>(pub T);
 /// A value of a type of data that borrows or is handed on, or is an error.
 pub struct Compared<T: Debug + Eq>(pub T);
 
+/// A value of a type that does something, and is no data.
+pub struct Dropped<T: Drop>(pub T);
+
 /// A value of each type of `deno_graph_source`.
 pub struct Sources {
     pub source_range: Copied<source::SourceRange>,
@@ -28,6 +32,7 @@ pub struct Sources {
     pub import_phase: Copied<source::ImportPhase>,
     pub media_type: Copied<source::MediaType>,
     pub resolution_mode: Copied<source::ResolutionMode>,
+    pub types_resolution_mode: Copied<source::TypeScriptTypesResolutionMode>,
     pub items: Cloned<source::Items<source::Arg>>,
     pub text: Cloned<source::Text>,
     pub text_map: Cloned<source::TextMap<source::Text>>,
@@ -82,4 +87,17 @@ pub struct Analyses<'a> {
     pub static_dependency: Compared<analysis::StaticDependencyDescriptor<'a>>,
     pub jsdoc_import: Compared<analysis::JsDocImport<'a>>,
     pub scan: Shared<analysis::Scan<'a>>,
+}
+
+/// A value of each other type of `deno_graph_analysis`.
+pub struct Others<'a> {
+    pub store: Dropped<analysis::DefaultParsedSourceStore>,
+    pub capturing_parser: Dropped<
+        analysis::CapturingEsParser<'a, ScriptParser, analysis::DefaultParsedSourceStore>,
+    >,
+    pub capturing_analyzer: Dropped<
+        analysis::CapturingModuleAnalyzer<ScriptParser, analysis::DefaultParsedSourceStore>,
+    >,
+    pub parser_analyzer: Dropped<analysis::ParserModuleAnalyzer<'a, ScriptParser>>,
+    pub walk: Dropped<analysis::Walk<'a>>,
 }
