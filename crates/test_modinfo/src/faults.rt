@@ -1,0 +1,79 @@
+//! Each fault of the program by its name, from each error that it comes from.
+
+use deno_graph_info::analysis::{ConvertFault, InfoFault};
+use deno_graph_source::tree::SourceFault;
+use modinfo::Fault;
+use modinfo::notation::NotationFault;
+use serde_json::{Error, Value};
+use std::alloc::{AllocError, AllocFailed};
+use std::process::Abort;
+use std::test::Fail;
+
+fn assert_names(rt: &(impl Abort + AllocGlobal), faults: &[(Fault, &str)]) -> Result<(), Fail> {
+    for (fault, name) in faults {
+        assert_eq!(rt; format!(in rt.alloc(); "{fault}")?.as_str(), *name);
+    }
+    Ok(())
+}
+
+#[test]
+fn faults_of_a_document(rt: HostRuntime) -> Result<(), Fail> {
+    assert_names(
+        &rt,
+        &[
+            (Fault::from(NotationFault::Json), "Json"),
+            (Fault::from(NotationFault::NotInNotation), "Tree"),
+            (Fault::from(NotationFault::Specifier), "Specifier"),
+            (Fault::from(NotationFault::OutOfMemory), "OutOfMemory"),
+        ],
+    )
+}
+
+#[test]
+fn faults_of_a_source(rt: HostRuntime) -> Result<(), Fail> {
+    let faults = [
+        (SourceFault::RangeReversed, "RangeReversed"),
+        (SourceFault::RangeOutside, "RangeOutside"),
+        (SourceFault::RangeOffBoundary, "RangeOffBoundary"),
+        (SourceFault::CommentText, "CommentText"),
+        (SourceFault::CommentsOverlap, "CommentsOverlap"),
+        (SourceFault::Shape, "Shape"),
+        (SourceFault::OutOfMemory, "OutOfMemory"),
+    ];
+    for (fault, name) in faults {
+        assert_names(&rt, &[(Fault::from(NotationFault::from(fault)), name)])?;
+    }
+    Ok(())
+}
+
+#[test]
+fn faults_of_stored_information(rt: HostRuntime) -> Result<(), Fail> {
+    assert_names(
+        &rt,
+        &[
+            (Fault::from(ConvertFault::ColumnOverflow), "ColumnOverflow"),
+            (Fault::from(ConvertFault::Float), "Float"),
+            (Fault::from(ConvertFault::OutOfMemory), "OutOfMemory"),
+            (Fault::from(InfoFault::Shape), "Shape"),
+            (Fault::from(InfoFault::Float), "Float"),
+            (Fault::from(InfoFault::OutOfMemory), "OutOfMemory"),
+        ],
+    )
+}
+
+#[test]
+fn faults_of_json_and_of_memory(rt: HostRuntime) -> Result<(), Fail> {
+    let Err(error) = Value::from_str(rt.alloc(), "{") else {
+        assert!(rt; false);
+        return Ok(());
+    };
+    assert_names(
+        &rt,
+        &[
+            (Fault::from(error), "Json"),
+            (Fault::from(Error::from(AllocError)), "OutOfMemory"),
+            (Fault::from(AllocError), "OutOfMemory"),
+            (Fault::from(AllocFailed { value: 1u8 }), "OutOfMemory"),
+        ],
+    )
+}
