@@ -1,12 +1,13 @@
 /** The command line of an adapter: from a file, or the standard input, to the standard output. */
 
 import { readFileSync } from "node:fs";
+import { buffer } from "node:stream/consumers";
 import { pathToFileURL } from "node:url";
 
 import { describeFault, faultOf } from "./faults.mjs";
 import { LINE_OPTIONS, runLines } from "./lines.mjs";
 import { isAbsoluteUrl, mediaTypeOf } from "./media_types.mjs";
-import { writeOutput } from "./output.mjs";
+import { OutputFault, writeOutput } from "./output.mjs";
 import { UsageFault, runProgram, usageOf } from "./program.mjs";
 import { decode, documentOf } from "./reading.mjs";
 
@@ -84,7 +85,7 @@ function writeLines(adapter, { values, positionals }) {
 async function writeOne(adapter, words) {
   const { file, ...options } = readOptions(adapter, words);
   try {
-    const text = decode(readFileSync(file === "-" ? 0 : file));
+    const text = decode(file === "-" ? await buffer(process.stdin) : readFileSync(file));
     const { json, warnings } = documentOf(adapter.toDocument, text, options);
     for (const { message, ...place } of warnings) {
       say(adapter, file, { message: `warning: ${message}`, ...place });
@@ -92,7 +93,7 @@ async function writeOne(adapter, words) {
     await writeOutput(`${json}\n`);
     return 0;
   } catch (error) {
-    if (error.name === "OutputFault") {
+    if (error instanceof OutputFault) {
       throw error;
     }
     say(adapter, file, faultOf(error));

@@ -58,7 +58,7 @@ export function toDocument(text, options) {
     throw new TypeError("a tree needs its comments");
   }
   const program = parsed.tree.type === "File" ? parsed.tree.program : parsed.tree;
-  const ranges = parsed.comments.map((node) => ({ start: start(node), end: end(node) }));
+  const [, ...ranges] = [program, ...parsed.comments].map(rangeOf);
   const trivia = new Trivia(text, readComments(text, ranges, source.shebangEnd));
   let ends;
   const endsOperand = (offset) => (ends ??= operandEnds(program)).has(offset);
@@ -372,6 +372,18 @@ function start(node) {
 /** @param {any} node */
 function end(node) {
   return node.range?.[1] ?? node.end;
+}
+
+/**
+ * @param {Node} node
+ * @throws {TypeError} it has none, as other parsers' nodes by their standard options
+ */
+function rangeOf(node) {
+  const range = { start: start(node), end: end(node) };
+  if (!Number.isInteger(range.start) || !Number.isInteger(range.end)) {
+    throw new TypeError("a tree and its comments are to have start and end, or range");
+  }
+  return range;
 }
 
 /**

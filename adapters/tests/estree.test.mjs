@@ -129,3 +129,15 @@ test("links to parents, tokens and comments are no children", () => {
   assert.deepEqual(documentOf(toDocument, source, "JavaScript", { tree: Object.assign(tree, { comments, tokens }) }), plain);
   assert.throws(() => toDocument(source, { specifier: "file:///a.js", mediaType: "JavaScript", tree: { ...tree, comments: undefined } }), TypeError);
 });
+
+test("a tree or a comment without its place is refused", () => {
+  const tree = { type: "Program", start: 0, end: 0, body: [], comments: [] };
+  const refuse = (more) => assert.throws(
+    () => toDocument("", { specifier: "file:///a.js", tree: { ...tree, ...more } }),
+    { name: "TypeError", message: "a tree and its comments are to have start and end, or range" },
+  );
+  toDocument("", { specifier: "file:///a.js", tree });
+  refuse({ end: undefined });
+  refuse({ start: null });
+  refuse({ comments: [{ type: "Line", value: "a" }] });
+});

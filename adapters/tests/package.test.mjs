@@ -141,6 +141,8 @@ describe("the package", { skip: noNpm && "npm isn't there" }, () => {
     mkdirSync(join(folder, "src"));
     assert.equal(compile(folder, { "src/caller.mts": read("tests/types/caller.mts") }), "");
     assert.equal(compile(folder, { "src/wrong.mts": read("tests/types/wrong.mts") }), "");
+    const older = { module: "es2022", moduleResolution: "node" };
+    assert.equal(compile(folder, { "src/older.ts": read("tests/types/wrong.mts") }, older), "");
     const unused = read("tests/types/wrong.mts").replace(/@ts-expect-error/g, "");
     assert.match(compile(folder, { "src/refused.mts": unused }), /error TS/);
   });

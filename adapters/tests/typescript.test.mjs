@@ -47,7 +47,7 @@ test("type-only imports and exports", () => {
   );
 });
 
-test("export type * from", since(5, 0), () => {
+test("export type * from", () => {
   assert.deepEqual(dependencies(`export type * from "a"; export type * as b from "b"`), [
     { kind: "exportType", specifier: "a" }, { kind: "exportType", specifier: "b" },
   ]);
@@ -109,6 +109,15 @@ test("a later version's names of the clauses", () => {
   rename(type, type.attributes ?? type.assertions.assertClause);
   const document = documentOf(toDocument, text, "TypeScript", { typescript, tree });
   assert.deepEqual(document, documentOf(toDocument, text, "TypeScript"));
+});
+
+test("a tree is that of the text", () => {
+  const tree = typescript.createSourceFile("a.ts", "a", typescript.ScriptTarget.Latest);
+  const options = { specifier: "file:///a.ts", typescript, tree };
+  assert.equal(toDocument("a", options).source, "a");
+  for (const wrong of [() => toDocument("b", options), () => toDocument("a", { ...options, tree: {} })]) {
+    assert.throws(wrong, { name: "TypeError", message: "the tree is to be a SourceFile of the text" });
+  }
 });
 
 test("module declarations", () => {
