@@ -59,7 +59,8 @@ export function viewsOf(paths, edges, most = MOST_NODES) {
 }
 
 /**
- * The modules of some folders, each with what is below it, as deep as there aren't too many.
+ * The modules of some folders, each with what is below it: of the deepest folders that aren't too
+ * many, else of as few as they come.
  * @param {string[]} paths
  * @param {number[]} inside
  * @param {number} most
@@ -70,18 +71,18 @@ function groupsOf(paths, inside, most) {
     return undefined;
   }
   const folders = inside.map((module) => posix.dirname(paths[module]).split("/"));
-  let depth = folders.reduce((deepest, { length }) => Math.max(deepest, length), 0);
+  const deepest = folders.reduce((depth, { length }) => Math.max(depth, length), 0);
   let groups;
-  do {
-    groups = new Map();
+  for (let depth = deepest; depth > 0 && !(groups?.size <= most); depth--) {
+    const next = new Map();
     inside.forEach((module, at) => {
       const path = folders[at].slice(0, depth).join("/");
-      groups.set(path, groups.get(path) ?? []);
-      groups.get(path).push(module);
+      next.set(path, next.get(path) ?? []);
+      next.get(path).push(module);
     });
-    depth--;
-  } while (groups.size > most && depth > 0);
-  return groups.size > 1 ? groups : undefined;
+    groups = next.size > 1 ? next : groups;
+  }
+  return groups;
 }
 
 /**
