@@ -1,5 +1,6 @@
 /** What is written into the page: all that its script shows, and no path from outside of the folder. */
 
+import { withinBounds } from "./excerpts.mjs";
 import { KINDS } from "./kinds.mjs";
 import { LayoutFault } from "./layout.mjs";
 
@@ -26,21 +27,19 @@ export function dataOf({ title, modules, links, edges, entries, lists, views, la
     kinds: KINDS.map(({ kind, title: name, says, dash }) => ({ kind, title: name, says, dash })),
     entries,
     edges: edges.length,
-    modules: modules.map((module) => moduleData(module, links)),
+    modules: withinBounds(modules).map((module) => moduleData(module, links)),
     lists,
     views: views.map((view, at) => viewData(view, layouts[at])),
   };
 }
 
 /**
- * @param {Module} module
+ * @param {Module & import("./excerpts.mjs").Text} module
  * @param {import("./links.mjs").Links} links
  */
-function moduleData({ path, source, rows, marks, fault }, links) {
+function moduleData({ path, source, pieces, lines, rows, marks, fault }, links) {
   return {
-    path,
-    source,
-    fault,
+    path, source, pieces, lines, fault,
     rows: rows.map((row) => rowData(row, links)),
     marks: marks.map(({ from, to, row, kind }) => [from, to, row, kind]),
   };

@@ -25,7 +25,7 @@ function lists() {
     { id: "partly", title: "Partly known arguments", one: "partly known", says: "Only a part of the text is known.", view: placeItem },
     { id: "unreached", ...unreached, view: unreachedItem },
     { id: "cycles", title: "Cycles", one: "cycle", many: "cycles", says: "Each of the modules leads to each other one.", view: cycleItem },
-    { id: "faults", title: "Files without an answer", one: "file without an answer", many: "files without an answer", says: "They have a syntax error, or couldn't be read.", view: faultItem },
+    { id: "faults", title: "Files without an answer", one: "without an answer", says: "They have a syntax error, or couldn't be read.", view: faultItem },
   ].map((list) => ({ ...list, found: found[list.id] }));
 }
 

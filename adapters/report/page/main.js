@@ -64,7 +64,7 @@ function titleOf(module) {
 
 /** The next row of the open module, or the one before. */
 function step(by) {
-  const { module, row } = open;
+  const { module, row } = readAddress();
   const count = module === undefined ? 0 : report.modules[module].rows.length;
   if (count > 0) {
     const next = row === undefined ? (by > 0 ? 0 : count - 1) : (row + by + count) % count;
@@ -74,7 +74,8 @@ function step(by) {
 
 /** Where the chosen row leads to. */
 function followRow() {
-  const target = report.modules[open.module]?.rows[open.row]?.to?.module;
+  const { module, row } = readAddress();
+  const target = report.modules[module]?.rows[row]?.to?.module;
   if (target !== undefined) {
     location.hash = hashOf(target);
   }

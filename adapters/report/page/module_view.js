@@ -1,7 +1,7 @@
 /** One module: its source, and beside it what it names. */
 
 import { element } from "./elements.js";
-import { pathLabel } from "./pieces.js";
+import { counted, pathLabel } from "./pieces.js";
 import { report } from "./report.js";
 import { sourceView } from "./source_view.js";
 import { importersView, tableView } from "./table_view.js";
@@ -11,16 +11,23 @@ import { importersView, tableView } from "./table_view.js";
  * @returns {HTMLElement}
  */
 export function moduleView(index) {
-  const { path, source, fault } = report.modules[index];
+  const { path, fault } = report.modules[index];
+  const beside = [fault ? faultView(fault) : tableView(index), importersView(index)];
   return element(
     "article", { class: "module", "data-module": index },
     element("header", {}, element("h1", {}, pathLabel(path)), ...states(index)),
-    element(
-      "div", { class: "columns" },
-      source === undefined ? element("p", { class: "none" }, "Its text couldn't be read.") : sourceView(index),
-      element("div", { class: "beside" }, fault ? faultView(fault) : tableView(index), importersView(index)),
-    ),
+    element("div", { class: "columns" }, textView(index), element("div", { class: "beside" }, ...beside)),
   );
+}
+
+/** The text, as far as the page has it. */
+function textView(index) {
+  const { source, lines } = report.modules[index];
+  const left = lines && `The file has ${counted(lines, "line")}: too long to be in this page as a whole.`;
+  if (source === undefined) {
+    return element("p", { class: "none" }, left ?? "Its text couldn't be read.");
+  }
+  return element("div", {}, left && element("p", { class: "none" }, left), sourceView(index));
 }
 
 function states(index) {

@@ -15,38 +15,55 @@ const BLOCK = 200;
  */
 export function sourceView(index) {
   const { source, marks } = report.modules[index];
+  const numbers = lineNumbers(report.modules[index]);
   const code = element("code", { class: "source" });
   let block;
-  let number = 0;
+  let at = 0;
   for (const segments of lineSegments(source, marks)) {
-    if (number % BLOCK === 0) {
+    if (at % BLOCK === 0) {
       block = element("span", { class: "block" });
       code.append(block);
     }
-    number++;
+    const { number, isBehindGap } = numbers(at);
     const parts = segments.map((segment) => segmentView(index, source, segment));
-    block.append(element("span", { class: "line", "data-number": number }, ...parts));
+    const attributes = { class: isBehindGap ? "line behind-gap" : "line", "data-number": number };
+    block.append(element("span", attributes, ...parts));
+    at++;
   }
   return element("pre", { tabindex: 0, "aria-label": "source" }, code);
+}
+
+/**
+ * The numbers of lines, counted from one, of a text of which some may be left out.
+ * @param {{ pieces?: [number, number][] }} module
+ */
+function lineNumbers({ pieces = [[0, 0]] }) {
+  let next = 0;
+  return (at) => {
+    const isFirst = pieces[next]?.[0] === at;
+    next += isFirst ? 1 : 0;
+    const [start, number] = pieces[next - 1];
+    return { number: number + at - start + 1, isBehindGap: isFirst && number > 0 };
+  };
 }
 
 function segmentView(index, source, { from, to, marks }) {
   const text = source.slice(from, to);
   const mark = marks[marks.length - 1];
   if (!mark) {
-    return textView(text);
+    return characters(text);
   }
   const [, , row, kind] = mark;
   const rows = [...new Set(marks.map((each) => each[2]))].join(" ");
   const attributes = { class: `mark ${kind}`, "data-rows": rows, "data-kind": kind };
   if (row < 0) {
-    return element("span", { ...attributes, title: "a syntax error" }, textView(text));
+    return element("span", { ...attributes, title: "a syntax error" }, characters(text));
   }
   const title = kindNamed(kind).title;
-  return element("a", { ...attributes, title, href: hashOf(index, row) }, textView(text));
+  return element("a", { ...attributes, title, href: hashOf(index, row) }, characters(text));
 }
 
-function textView(text) {
+function characters(text) {
   const fragment = document.createDocumentFragment();
   const isEnd = text.endsWith("\r\n");
   const parts = withControls(isEnd ? text.slice(0, -2) : text);
