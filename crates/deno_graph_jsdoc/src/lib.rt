@@ -10,4 +10,4 @@ pub use deno_graph_text::values::TypeScriptTypesResolutionMode;
 pub use grammar::declaration::parse_jsdoc_import_decl;
 pub use grammar::dynamic::parse_jsdoc_dynamic_import;
 pub use import::{JsDocImport, NoParse, Scan};
-pub use pass::{insert, scan};
+pub use pass::scan;

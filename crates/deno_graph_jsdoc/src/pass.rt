@@ -76,7 +76,7 @@ fn add<'a>(
 
 /// Puts an import into its place by its start, unless one with that start is there. Where memory is
 /// refused the list stays as it was.
-pub fn insert<'a>(
+fn insert<'a>(
     imports: &mut Vec<JsDocImport<'a>>,
     import: JsDocImport<'a>,
 ) -> Result<(), AllocError>
