@@ -16,6 +16,10 @@ const TYPE_IN_A_TYPE: &str = r#"{"mediaType":"TypeScript","program":{"body":[
     {"kind":"ImportType","range":[0,26],"arg":{"value":"a","range":[7,10]},"children":[{"kind":"ImportType","range":[14,25],"arg":{"value":"b","range":[21,24]}}]}
 ],"range":[0,26]},"source":"import(\"a\").B<import(\"b\")>","specifier":"file:///a.ts"}"#;
 
+/// Nothing behind a shebang.
+const SHEBANG: &str =
+    r##"{"mediaType":"JavaScript","program":{"body":[],"range":[0,5],"shebang":true},"source":"#!/a\n","specifier":"file:///a.js"}"##;
+
 /// Each step gives the node that starts there, or none, and so many nodes are entered then.
 fn assert_steps(
     rt: &(impl Abort + AllocGlobal),
@@ -46,4 +50,22 @@ fn other_nodes_come_before_what_is_inside_them(rt: HostRuntime) -> Result<(), Fa
         TYPE_IN_A_TYPE,
         &[(Some(0), 1), (Some(14), 2), (None, 2)],
     )
+}
+
+#[test]
+fn a_walk_keeps_the_shebang_of_its_program(rt: HostRuntime) -> Result<(), Fail> {
+    assert_steps(&rt, SHEBANG, &[(None, 0)])?;
+    let source = parse_document(rt.alloc(), SHEBANG)?.into_source(rt.alloc())?;
+    assert!(rt;
+        Walk::new(rt.alloc(), source.program())
+            .program()
+            .has_shebang
+    );
+    let source = parse_document(rt.alloc(), CALL_IN_A_CALL)?.into_source(rt.alloc())?;
+    assert!(rt;
+        !Walk::new(rt.alloc(), source.program())
+            .program()
+            .has_shebang
+    );
+    Ok(())
 }
