@@ -209,7 +209,7 @@ function hasLineBreak(text, from, to) {
  * @param {(offset: number) => boolean} endsOperand
  * @returns {TokenClass}
  */
-export function classify(text, end, endsOperand) {
+function classify(text, end, endsOperand) {
   const last = text[end - 1];
   if (/[\w$]/.test(last) || (last > "\x7f" && IDENTIFIER_PART.test(lastCharacter(text, end)))) {
     return /[a-z]/.test(last) && KEYWORDS.has(wordBefore(text, end)) ? "other" : "trailed";

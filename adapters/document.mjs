@@ -32,7 +32,8 @@
  * @typedef {(
  *   | { kind: "ImportDecl", typeOnly: boolean, phase: string, src: Literal,
  *       hasSpecifiers: boolean, clause?: ObjectLiteral }
- *   | { kind: "NamedExport" | "ExportAll", typeOnly: boolean, src?: Literal, clause?: ObjectLiteral }
+ *   | { kind: "NamedExport" | "ExportAll", typeOnly: boolean, src?: Literal,
+ *       clause?: ObjectLiteral }
  *   | { kind: "ImportEquals", typeOnly: boolean, isExport: boolean, external?: Literal }
  *   | { kind: "ImportType", start: number, arg: Literal, clause?: ObjectLiteral, rest: unknown[] }
  *   | { kind: "ModuleDecl", start: number, name?: Literal, exported: boolean }

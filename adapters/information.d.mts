@@ -1,6 +1,6 @@
 /**
- * The answer of `modinfo analyze`, as docs/module-info.schema.json of the repository describes it. A
- * member is missing where its value is the default.
+ * The answer of `modinfo analyze`, as docs/module-info.schema.json of the repository describes it.
+ * A member is missing where its value is the default.
  */
 
 /** Both from zero. A character is a Unicode code point, and nothing but a line feed ends a line. */

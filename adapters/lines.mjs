@@ -35,7 +35,7 @@ const WORKER = new URL("./file_worker.mjs", import.meta.url);
  * @param {{ jobs: number, work: Work }} options
  * @returns {AsyncGenerator<FileResult, void>}
  */
-export async function* readFiles(files, { jobs, work }) {
+async function* readFiles(files, { jobs, work }) {
   const pool = new Pool(WORKER, { jobs, data: work });
   try {
     yield* inOrder(files, jobs * UNDER_WAY, (file) => readFile(pool, file));

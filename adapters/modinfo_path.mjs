@@ -3,7 +3,7 @@
 import { existsSync } from "node:fs";
 import { fileURLToPath } from "node:url";
 
-/** In the repository, the proved program: a trial by ./modinfo answers nothing before its input ends. */
+/** The proved program; the trial by ./modinfo answers nothing before its input ends. */
 const BUILT = fileURLToPath(new URL("../build/modinfo", import.meta.url));
 
 /**

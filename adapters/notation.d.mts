@@ -1,6 +1,6 @@
 /**
- * The document that `modinfo analyze` reads, as docs/document.schema.json of the repository describes
- * it. docs/FORMATS.md has what no schema says.
+ * The document that `modinfo analyze` reads, as docs/document.schema.json of the repository
+ * describes it. docs/FORMATS.md has what no schema says.
  */
 
 export type MediaType =

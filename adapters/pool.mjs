@@ -141,7 +141,7 @@ export class Pool {
   }
 }
 
-/** One worker and the tasks that it holds; while there are none, it doesn't keep node from ending. */
+/** One worker and its tasks; while there are none, it doesn't keep node from ending. */
 class Lane {
   isReady = false;
   /** @type {Map<number, Job>} */

@@ -189,24 +189,29 @@ export class Service {
 
   /** @param {ChildProcess} process */
   #listen(process) {
+    const isHeard = () => process === this.#process;
     this.#isHeld = true;
-    process.once("close", (status, signal) => this.#end(status, signal));
+    process.once("close", (status, signal) => isHeard() && this.#end(status, signal));
     process.stdin.on("drain", () => this.#proceed());
     // What a write fails with says less than how the process ends.
     process.stdin.on("error", () => {});
-    process.stdout.on("data", (bytes) => this.#read(bytes));
+    process.stdout.on("data", (bytes) => isHeard() && this.#read(bytes));
     process.stderr.setEncoding("utf8");
     process.stderr.on("data", (text) => {
-      this.#errors = (this.#errors + text).slice(-KEPT_ERRORS);
+      this.#errors = (this.#errors + (isHeard() ? text : "")).slice(-KEPT_ERRORS);
     });
   }
 
   /** @param {Buffer} bytes */
   #read(bytes) {
+    const process = this.#process;
     let from = 0;
     for (let at = bytes.indexOf(LINE_FEED); at >= 0; at = bytes.indexOf(LINE_FEED, from)) {
       this.#begun.push(bytes.subarray(from, at));
       this.#settle(Buffer.concat(this.#begun));
+      if (process !== this.#process) {
+        return;
+      }
       this.#begun = [];
       from = at + 1;
     }
@@ -218,15 +223,18 @@ export class Service {
 
   /** @param {Buffer} line */
   #settle(line) {
-    const request = this.#asked.shift();
-    if (!request) {
+    const answer = readAnswer(line);
+    if (!answer || this.#asked.length === 0) {
+      // Which answer belongs to which document isn't known any more.
       this.#process.kill();
+      this.#lose(`answers what is no answer: ${line.toString().slice(0, 100)}`);
       return;
     }
-    try {
-      request.resolve(readAnswer(line));
-    } catch (error) {
-      request.reject(error);
+    const { resolve, reject } = this.#asked.shift();
+    if (answer.fault === undefined) {
+      resolve(answer.json);
+    } else {
+      reject(new ModinfoFault(answer.fault));
     }
   }
 
@@ -253,17 +261,25 @@ export class Service {
   }
 
   /**
-   * The process has ended, and all that it wrote is read.
+   * A process has ended, and all that it wrote is read.
    * @param {number | null} status
    * @param {string | null} signal
    */
   #end(status, signal) {
     const how = signal ? `by ${signal}` : `with status ${status}`;
     const said = this.#errors.trim();
+    this.#lose(`ended ${how}${said && `: ${said}`}`);
+  }
+
+  /**
+   * What the process held is rejected, and it is heard no more.
+   * @param {string} why
+   */
+  #lose(why) {
     this.#process = undefined;
     this.#begun = [];
     this.#errors = "";
-    const end = new ProgramEnd(`${this.#program} ended ${how}${said && `: ${said}`}`);
+    const end = new ProgramEnd(`${this.#program} ${why}`);
     this.#asked.takeAll().forEach(({ reject }) => reject(end));
     this.#proceed();
   }
@@ -287,20 +303,16 @@ function oneLine(document) {
 
 /**
  * @param {Buffer} line `{"answer":..}` or `{"fault":".."}`
- * @returns {Buffer}
+ * @returns {{ json?: Buffer, fault?: string } | undefined} nothing where it is neither
  */
 function readAnswer(line) {
   if (line.subarray(0, ANSWER.length).equals(ANSWER)) {
-    return line.subarray(ANSWER.length, -1);
+    return { json: line.subarray(ANSWER.length, -1) };
   }
-  let fault;
   try {
-    ({ fault } = JSON.parse(line.toString()));
+    const { fault } = JSON.parse(line.toString());
+    return typeof fault === "string" ? { fault } : undefined;
   } catch {
-    // Told below.
+    return undefined;
   }
-  if (typeof fault !== "string") {
-    throw new ProgramEnd(`no answer: ${line.toString().slice(0, 100)}`);
-  }
-  throw new ModinfoFault(fault);
 }

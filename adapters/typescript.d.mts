@@ -22,7 +22,7 @@ export interface TextOptions extends ModuleOptions<ParsedMediaType> {
 export interface TreeOptions extends ModuleOptions<MediaType> {
   /** The `SourceFile`. */
   tree: { readonly kind: number; readonly fileName: string; readonly text: string };
-  /** The module that made the tree; else the one that is installed, which has to be of its version. */
+  /** The module that made the tree; else the one that is installed, of the same version. */
   typescript?: Compiler;
 }
 

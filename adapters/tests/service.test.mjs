@@ -217,15 +217,21 @@ test("where no more files can be opened, each document is rejected", () => {
   assert.deepEqual([String(stderr), status], ["", 0]);
 });
 
-test("what is no answer is an error", async () => {
-  const { program } = programOf(`
+test("behind what is no answer nothing that the process says is one", async () => {
+  const { program, starts } = programOf(`
     for await (const line of lines) {
-      console.log(line === "1" ? "modinfo" : '{"answer":2}\\n{"answer":2}');
+      console.log({ 1: "modinfo", 2: '{"fault":2}', 3: '{"answer":3}\\n{"answer":4}' }[line] ?? '{"answer":' + line + "}");
     }`);
   const service = new Service(program);
-  const [first, second] = await Promise.allSettled([service.answer("1"), service.answer("2")]);
-  assert.match(first.reason.message, /^no answer: modinfo$/);
-  assert.equal(String(second.value), "2");
+  for (const [wrong, said] of [["1", "modinfo"], ["2", '{"fault":2}']]) {
+    const held = await Promise.allSettled([service.answer(wrong), service.answer("5"), service.answer("6")]);
+    const message = `ProgramEnd: ${program} answers what is no answer: ${said}`;
+    assert.deepEqual(held.map(({ reason }) => String(reason)), [message, message, message]);
+    assert.equal(String(await service.answer("5")), "5");
+  }
+  assert.equal(String(await service.answer("3")), "3");
+  assert.equal(String(await service.answer("5")), "5");
+  assert.equal(starts(), 4);
   await service.close();
 });
 
