@@ -8,7 +8,11 @@ const MARGIN = 22;
 const POINTS = 72;
 
 /** Characters that take two columns. */
-const WIDE = /[\u1100-\u115f\u2e80-\ua4cf\uac00-\ud7a3\uf900-\ufaff\ufe30-\ufe6f\uff00-\uff60]|[\u{1f300}-\u{1faff}\u{20000}-\u{3ffff}]/gu;
+const WIDE = new RegExp(
+  "[\\u1100-\\u115f\\u2e80-\\ua4cf\\uac00-\\ud7a3\\uf900-\\ufaff\\ufe30-\\ufe6f" +
+    "\\uff00-\\uff60\\u{1f300}-\\u{1faff}\\u{20000}-\\u{3ffff}]",
+  "gu",
+);
 
 /** What Graphviz prints as it is, and no JSON may have. */
 const CONTROLS = /[\0-\x1f\x7f]/g;

@@ -8,8 +8,8 @@ import { KINDS } from "./kinds.mjs";
 /** The page's own modules, each behind those that it imports. */
 const SCRIPTS = [
   "elements.js", "segments.js", "controls.js", "report.js", "pieces.js", "source_view.js",
-  "table_view.js", "module_view.js", "lists_view.js", "graph_view.js", "graph_keys.js",
-  "module_list.js", "main.js",
+  "table_view.js", "module_view.js", "lists_view.js", "graph_follow.js", "graph_keys.js",
+  "graph_legend.js", "graph_zoom.js", "graph_view.js", "module_list.js", "main.js",
 ];
 
 /**

@@ -1,7 +1,10 @@
 /** Characters that aren't seen, or that change how others are seen, have their name shown. */
 
-const CONTROLS =
-  /[\0-\x08\x0b-\x1f\x7f-\x9f\xad\u061c\u180e\u200b\u200e\u200f\u2028-\u202e\u2060-\u206f\ufeff\ufff9-\ufffb]/u;
+const CONTROLS = new RegExp(
+  "[\\0-\\x08\\x0b-\\x1f\\x7f-\\x9f\\xad\\u061c\\u180e\\u200b\\u200e\\u200f" +
+    "\\u2028-\\u202e\\u2060-\\u206f\\ufeff\\ufff9-\\ufffb]",
+  "u",
+);
 
 const NAMES = new Map([
   ["\r", "CR"], ["\0", "NUL"], ["\x1b", "ESC"], ["\ufeff", "BOM"], ["\xad", "SHY"],

@@ -7,32 +7,49 @@ import { importers, report } from "./report.js";
 /** How many items of a list are shown at first. */
 const SHOWN = 100;
 
-/** The lists with their titles, how the summary calls one item and more, and how an item is shown. */
-function lists() {
-  const { lists: found, entries } = report;
-  const unreached = entries.length > 0
+/** The lists with their titles, how the summary calls one item and more, and how one is shown. */
+const LISTS = [
+  {
+    id: "unresolved", title: "Unresolved", one: "unresolved",
+    says: "TypeScript finds no file for them.", view: placeItem,
+  },
+  {
+    id: "unknown", title: "Unknown arguments", one: "unknown argument", many: "unknown arguments",
+    says: "Nothing is known of what they name.", view: placeItem,
+  },
+  {
+    id: "partly", title: "Partly known arguments", one: "partly known",
+    says: "Only a part of the text is known.", view: placeItem,
+  },
+  { id: "unreached", ...unreachedWords(), view: unreachedItem },
+  {
+    id: "cycles", title: "Cycles", one: "cycle", many: "cycles",
+    says: "Each of the modules leads to each other one.", view: cycleItem,
+  },
+  {
+    id: "faults", title: "Files without an answer", one: "without an answer",
+    says: "They have a syntax error, or couldn't be read.", view: faultItem,
+  },
+];
+
+function unreachedWords() {
+  return report.entries.length > 0
     ? {
       title: "Unreached from the entries", one: "unreached",
-      says: "No chain of dependencies leads to them from an entry. What only a comment names isn't followed, nor is an argument that isn't known as a whole.",
+      says: "No chain of dependencies leads to them from an entry. What only a comment names " +
+        "isn't followed, nor is an argument that isn't known as a whole.",
     }
     : {
       title: "Imported by no module", one: "imported by no module",
       says: "Nothing in this report leads to them. With --entry it lists what no entry reaches.",
     };
-  return [
-    { id: "unresolved", title: "Unresolved", one: "unresolved", says: "TypeScript finds no file for them.", view: placeItem },
-    { id: "unknown", title: "Unknown arguments", one: "unknown argument", many: "unknown arguments", says: "Nothing is known of what they name.", view: placeItem },
-    { id: "partly", title: "Partly known arguments", one: "partly known", says: "Only a part of the text is known.", view: placeItem },
-    { id: "unreached", ...unreached, view: unreachedItem },
-    { id: "cycles", title: "Cycles", one: "cycle", many: "cycles", says: "Each of the modules leads to each other one.", view: cycleItem },
-    { id: "faults", title: "Files without an answer", one: "without an answer", says: "They have a syntax error, or couldn't be read.", view: faultItem },
-  ].map((list) => ({ ...list, found: found[list.id] }));
 }
 
 /** @returns {HTMLElement} */
 export function summaryView() {
   const { modules, edges } = report;
-  const items = lists().map(({ id, one, many = one, found: { length } }) => {
+  const items = LISTS.map(({ id, one, many = one }) => {
+    const { length } = report.lists[id];
     const attributes = { href: `#list-${id}`, class: length > 0 ? "some" : "zero" };
     return element("a", attributes, counted(length, one, many));
   });
@@ -42,12 +59,14 @@ export function summaryView() {
 
 /** @returns {HTMLElement} */
 export function listsView() {
-  return element("div", { class: "lists" }, ...lists().map(listView));
+  return element("div", { class: "lists" }, ...LISTS.map(listView));
 }
 
-function listView({ id, title, says, found, view }) {
-  const heading = element("h2", {}, title, " ", element("span", { class: "count" }, String(found.length)));
-  const section = element("section", { id: `list-${id}`, class: found.length > 0 ? "list" : "list zero" }, heading);
+function listView({ id, title, says, view }) {
+  const found = report.lists[id];
+  const count = element("span", { class: "count" }, String(found.length));
+  const attributes = { id: `list-${id}`, class: found.length > 0 ? "list" : "list zero" };
+  const section = element("section", attributes, element("h2", {}, title, " ", count));
   if (found.length === 0) {
     return section;
   }

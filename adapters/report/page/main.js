@@ -1,7 +1,6 @@
 /** The page: what the address says is shown. */
 
 import { element } from "./elements.js";
-import { listenInGraph } from "./graph_keys.js";
 import { graphView } from "./graph_view.js";
 import { listsView, summaryView } from "./lists_view.js";
 import { ModuleList } from "./module_list.js";
@@ -25,10 +24,9 @@ function fade(test) {
 }
 
 function overview(view) {
-  const title = element("h1", {}, "Dependencies of ", element("span", { class: "project" }, report.title));
-  const graph = graphView(view);
-  listenInGraph(graph);
-  return element("article", { class: "overview" }, element("header", {}, title, summaryView()), graph, listsView());
+  const title = element("h1", {}, `Dependencies of ${report.title}`);
+  const head = element("header", {}, title, summaryView());
+  return element("article", { class: "overview" }, head, graphView(view), listsView());
 }
 
 /** @returns {{ module?: number, row?: number, view?: number, list?: string }} */
@@ -38,7 +36,8 @@ function readAddress() {
   if (what === "module" && report.modules[first]) {
     return { module: first, row: report.modules[first].rows[second] && second };
   }
-  return { view: what === "view" && report.views[first] ? first : 0, list: what === "list" ? words[0] : undefined };
+  const view = what === "view" && report.views[first] ? first : 0;
+  return { view, list: what === "list" ? words[0] : undefined };
 }
 
 function show() {
@@ -99,8 +98,12 @@ function onKey(event) {
 }
 
 function keys() {
-  const all = [["/", "filter"], ["n p", "next, previous place"], ["o", "open its module"], ["g", "graph and lists"]];
-  return element("footer", {}, ...all.map(([key, says]) => element("span", {}, element("kbd", {}, key), ` ${says}`)));
+  const all = [
+    ["/", "filter"], ["n p", "next, previous place"], ["o", "open its module"],
+    ["g", "graph and lists"],
+  ];
+  const shown = all.map(([key, says]) => element("span", {}, element("kbd", {}, key), ` ${says}`));
+  return element("footer", {}, ...shown);
 }
 
 const home = element("a", { href: "#", class: "home" }, report.title);

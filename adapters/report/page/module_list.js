@@ -13,19 +13,21 @@ export class ModuleList {
   /** By the modules. */
   #links = report.modules.map(({ path }, index) => {
     const [, name] = partsOf(path);
-    return element("a", { href: hashOf(index), "data-module": index, tabindex: "-1", title: path }, name);
+    const attributes = { href: hashOf(index), "data-module": index, tabindex: "-1", title: path };
+    return element("a", attributes, name);
   });
   #folders = report.modules.map(({ path }) => partsOf(path)[0]);
   #texts = report.modules.map(({ path }) => path.toLowerCase());
   /** As they are listed: the modules of a folder, then those of the next one. */
-  #order = report.modules.map((_, index) => index).sort((one, other) => this.#compare(one, other));
+  #order = [...report.modules.keys()].sort((one, other) => this.#compare(one, other));
   #onFilter;
 
   /** @param {(isShown: (module: number) => boolean) => void} onFilter */
   constructor(onFilter) {
     this.#onFilter = onFilter;
     const items = this.#order.map((module) => {
-      const heading = element("div", { class: "heading", "aria-hidden": "true" }, this.#folders[module] || "./");
+      const attributes = { class: "heading", "aria-hidden": "true" };
+      const heading = element("div", attributes, this.#folders[module] || "./");
       return element("li", {}, heading, this.#links[module]);
     });
     this.list = element("ul", { class: "modules" }, ...items);

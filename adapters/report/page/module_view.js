@@ -2,7 +2,7 @@
 
 import { element } from "./elements.js";
 import { counted, pathLabel } from "./pieces.js";
-import { report } from "./report.js";
+import { moduleStates, report, stateTitle } from "./report.js";
 import { sourceView } from "./source_view.js";
 import { importersView, tableView } from "./table_view.js";
 
@@ -16,7 +16,9 @@ export function moduleView(index) {
   return element(
     "article", { class: "module", "data-module": index },
     element("header", {}, element("h1", {}, pathLabel(path)), ...states(index)),
-    element("div", { class: "columns" }, textView(index), element("div", { class: "beside" }, ...beside)),
+    element(
+      "div", { class: "columns" }, textView(index), element("div", { class: "beside" }, ...beside),
+    ),
   );
 }
 
@@ -31,14 +33,7 @@ function textView(index) {
 }
 
 function states(index) {
-  const { entries, lists } = report;
-  const all = [
-    [entries.includes(index), "entry"],
-    [lists.unreached.includes(index), entries.length > 0 ? "unreached" : "imported by none"],
-    [lists.cycles.some(({ modules }) => modules.includes(index)), "in a cycle"],
-    [lists.faults.includes(index), "no answer"],
-  ];
-  return all.filter(([has]) => has).map(([, name]) => element("span", { class: "state" }, name));
+  return moduleStates(index).map((state) => element("span", { class: "state" }, stateTitle(state)));
 }
 
 function faultView({ fault, message, line, column }) {

@@ -10,7 +10,8 @@ import { kindNamed, partsOf, report } from "./report.js";
  */
 export function pathLabel(path) {
   const [folder, name] = partsOf(path);
-  return element("span", { class: "path" }, element("span", { class: "folder" }, ...breakable(folder)), name);
+  const head = element("span", { class: "folder" }, ...breakable(folder));
+  return element("span", { class: "path" }, head, name);
 }
 
 /**
@@ -59,9 +60,10 @@ export function nameLabel(name) {
     return element("span", { class: "name unknown" }, "not known");
   }
   const parts = typeof name === "string" ? [{ type: "string", value: name }] : name;
+  const hole = { class: "hole", title: "an expression, whose value isn't known" };
   const shown = parts.map(({ type, value }) => (type === "string"
     ? element("span", { class: "text" }, ...breakable(value))
-    : element("span", { class: "hole", title: "an expression, whose value isn't known" }, "${…}")));
+    : element("span", hole, "${…}")));
   return element("code", { class: "name" }, ...shown);
 }
 
@@ -78,7 +80,8 @@ export function targetLabel(target) {
     return moduleLink(target.module);
   }
   if (target.file !== undefined) {
-    return element("span", { class: "outside", title: "not a module of this report" }, pathLabel(target.file));
+    const attributes = { class: "outside", title: "not a module of this report" };
+    return element("span", attributes, pathLabel(target.file));
   }
   return target.other === "node"
     ? element("span", { class: "outside" }, "a module of Node.js")

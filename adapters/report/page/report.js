@@ -30,6 +30,31 @@ function allImporters() {
 }
 
 /**
+ * What is to be said of a module: whether it is an entry, unreached, in a cycle, without an answer.
+ * @param {number} module
+ * @returns {string[]}
+ */
+export function moduleStates(module) {
+  const { entries, lists } = report;
+  const states = [
+    [entries.includes(module), "entry"],
+    [lists.unreached.includes(module), "unreached"],
+    [lists.cycles.some(({ modules }) => modules.includes(module)), "cyclic"],
+    [lists.faults.includes(module), "faulty"],
+  ];
+  return states.filter(([has]) => has).map(([, name]) => name);
+}
+
+/**
+ * @param {string} state one of those of `moduleStates`
+ * @returns {string}
+ */
+export function stateTitle(state) {
+  const unreached = report.entries.length > 0 ? "unreached" : "imported by no module";
+  return { entry: "entry", unreached, cyclic: "in a cycle", faulty: "no answer" }[state];
+}
+
+/**
  * A path in two parts.
  * @param {string} path
  * @returns {[string, string]} the folder with its slash, and the name

@@ -13,7 +13,8 @@ export function tableView(index) {
   if (rows.length === 0) {
     return element("p", { class: "none" }, "It names no other module.");
   }
-  const head = ["Line", "Kind", "Names", "Resolves to"].map((name) => element("th", { scope: "col" }, name));
+  const names = ["Line", "Kind", "Names", "Resolves to"];
+  const head = names.map((name) => element("th", { scope: "col" }, name));
   return element(
     "table", { class: "rows" },
     element("thead", {}, element("tr", {}, ...head)),
@@ -25,12 +26,12 @@ function rowView(index, row, at) {
   const { kind, name, place, to } = row;
   const title = `ModuleInfo, from zero: ${place.map((position) => position.join(":")).join(" to ")}`;
   const line = element("a", { href: hashOf(index, at), title, class: "place" }, String(place[0][0] + 1));
-  const names = [element("a", { href: hashOf(index, at), title }, nameLabel(name)), ...details(row)];
+  const link = element("a", { href: hashOf(index, at), title }, nameLabel(name));
   return element(
     "tr", { "data-row": at, class: kind },
     element("td", { class: "number" }, line),
     element("td", {}, kindLabel(row)),
-    element("td", { class: "names" }, ...names),
+    element("td", { class: "names" }, link, ...details(row)),
     element("td", { class: "target" }, targetLabel(to)),
   );
 }
@@ -42,8 +43,13 @@ function details({ word, attributes, mode, sideEffect, types, typesTo }) {
     sideEffect && detail("binds", "no name"),
     ...attributeDetails(attributes),
     mode && detail("mode", element("code", {}, mode)),
-    types !== undefined && detail("types", element("code", { class: "name" }, types), " → ", targetLabel(typesTo)),
+    ...typesDetails(types, typesTo),
   ].filter(Boolean);
+}
+
+function typesDetails(types, target) {
+  const name = element("code", { class: "name" }, types);
+  return types === undefined ? [] : [detail("types", name, " → ", targetLabel(target))];
 }
 
 function attributeDetails(attributes) {
@@ -58,7 +64,8 @@ function attributeDetails(attributes) {
     return [detail("attributes", "none in the clause")];
   }
   return known.map(([key, value]) => {
-    return detail("with", element("code", {}, `${key}: `, value ?? ""), value === null ? "not known" : undefined);
+    const code = element("code", {}, `${key}: `, value ?? "");
+    return detail("with", code, value === null ? "not known" : undefined);
   });
 }
 

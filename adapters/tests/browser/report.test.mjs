@@ -334,12 +334,15 @@ shown("of more than 300 modules the folders are drawn, and they open", async () 
   await browser.until(`return document.querySelectorAll(".node").length === 2`);
 });
 
-/** The contrast of each kind's colour, and of the page's own, with what is behind it. */
+/** The page's colours of texts. */
+const COLOURS = ["text", "quiet", "warn", "static", "dynamic", "type", "require", "jsdoc", "pragma"];
+
+/** The contrast of each of some colours with the one that is behind it. */
 const CONTRASTS = `
   const style = getComputedStyle(document.documentElement);
   const canvas = document.createElement("canvas").getContext("2d", { willReadFrequently: true });
   const luminance = (name) => {
-    canvas.fillStyle = style.getPropertyValue(name);
+    canvas.fillStyle = style.getPropertyValue(name) || name;
     canvas.fillRect(0, 0, 1, 1);
     const [red, green, blue] = [...canvas.getImageData(0, 0, 1, 1).data].slice(0, 3)
       .map((value) => value / 255)
@@ -347,30 +350,32 @@ const CONTRASTS = `
     return 0.2126 * red + 0.7152 * green + 0.0722 * blue;
   };
   return arguments[0].map((name) => {
-    const [dark, light] = [luminance(name), luminance("--page")].sort((one, other) => one - other);
+    const [dark, light] = [luminance(name), luminance(arguments[1])].sort((one, other) => one - other);
     return (light + 0.05) / (dark + 0.05);
   });
 `;
 
 shown("it is readable in light and dark", async () => {
-  const names = ["text", "quiet", "warn", "static", "dynamic", "type", "require", "jsdoc", "pragma"];
   const pages = new Set();
   for (const value of ["light", "dark"]) {
     await browser.command("Emulation.setEmulatedMedia", { features: [{ name: "prefers-color-scheme", value }] });
     await open(example);
     pages.add(await browser.run("return getComputedStyle(document.documentElement).backgroundColor"));
-    const contrasts = await browser.run(CONTRASTS, names.map((name) => `--${name}`));
+    const contrasts = await browser.run(CONTRASTS, COLOURS.map((name) => `--${name}`), "--page");
     // The least that WCAG 2.2 asks of text, criterion 1.4.3.
-    contrasts.forEach((contrast, at) => assert.ok(contrast >= 4.5, `${names[at]} on ${value}: ${contrast}`));
+    contrasts.forEach((contrast, at) => assert.ok(contrast >= 4.5, `${COLOURS[at]}, ${value}: ${contrast}`));
   }
   assert.equal(pages.size, 2);
   await browser.command("Emulation.setEmulatedMedia", { features: [] });
 });
 
-shown("on paper there are no lists to click, and nothing is cut off", async () => {
+shown("on paper it is dark on white, without what is clicked, and nothing is cut off", async () => {
   await open(example);
   await openModule("src/main.ts");
-  await browser.command("Emulation.setEmulatedMedia", { media: "print" });
+  const features = [{ name: "prefers-color-scheme", value: "dark" }];
+  await browser.command("Emulation.setEmulatedMedia", { media: "print", features });
+  const contrasts = await browser.run(CONTRASTS, COLOURS.map((name) => `--${name}`), "#fff");
+  contrasts.forEach((contrast, at) => assert.ok(contrast >= 4.5, `${COLOURS[at]}: ${contrast}`));
   const { aside, overflow, whole } = await browser.run(`
     const pre = document.querySelector("pre");
     return {
@@ -380,7 +385,7 @@ shown("on paper there are no lists to click, and nothing is cut off", async () =
     };
   `);
   assert.deepEqual({ aside, overflow, whole }, { aside: "none", overflow: "visible", whole: true });
-  await browser.command("Emulation.setEmulatedMedia", { media: "" });
+  await browser.command("Emulation.setEmulatedMedia", { media: "", features: [] });
 });
 
 test("scripts other than its own don't run", { skip }, async () => {
