@@ -7,6 +7,7 @@ const CLEAR = "\r\x1b[K";
 export class Progress {
   #stream;
   #isShown;
+  #things;
   #drawn = -Infinity;
   #found = 0;
   #done = 0;
@@ -15,9 +16,11 @@ export class Progress {
   /**
    * @param {{ write(text: string): unknown, isTTY?: boolean }} stream
    * @param {boolean} isShown whether the stream, where it is a terminal, gets a line of progress
+   * @param {string} [things] what is counted
    */
-  constructor(stream, isShown) {
+  constructor(stream, isShown, things = "files") {
     this.#stream = stream;
+    this.#things = things;
     this.#isShown = Boolean(isShown && stream.isTTY);
   }
 
@@ -57,7 +60,7 @@ export class Progress {
 
   #draw() {
     const faults = `${this.#faults} ${this.#faults === 1 ? "fault" : "faults"}`;
-    this.#stream.write(`${CLEAR}${this.#done} of ${this.#found} files, ${faults}`);
+    this.#stream.write(`${CLEAR}${this.#done} of ${this.#found} ${this.#things}, ${faults}`);
     this.#drawn = performance.now();
   }
 }

@@ -14,6 +14,7 @@ import { systemMessage } from "./faults.mjs";
 import { LINE_OPTIONS, runLines } from "./lines.mjs";
 import { modinfoPath } from "./modinfo_path.mjs";
 import { UsageFault, isMain, readJobs, runProgram, usageOf } from "./program.mjs";
+import { Progress } from "./progress.mjs";
 import { dataOf } from "./report/data.mjs";
 import { dotOf } from "./report/dot.mjs";
 import { edgesOf } from "./report/graph.mjs";
@@ -26,11 +27,15 @@ import { entriesOf, unreachedOf } from "./report/unreached.mjs";
 import { viewsOf } from "./report/views.mjs";
 import { TYPESCRIPT_MEDIA_TYPES } from "./typescript/parse.mjs";
 
-/** @typedef {import("./program.mjs").Words} Words */
+/**
+ * @typedef {import("./program.mjs").Words} Words
+ * @typedef {import("./report/project.mjs").Module} Module
+ */
 
 const NAME = "adapters/report.mjs";
 
-const HELP = `usage: node ${NAME} [--entry FILE ..] [-o FILE] [--dot FILE] [--jobs N] [--all] [-0] PATH ..
+const HELP = `usage: node ${NAME} [--entry FILE ..] [-o FILE] [--dot FILE]
+           [--jobs N] [--all] [-0] PATH ..
 
 Makes a page that shows what the files depend on: their graph, each file's text with its specifiers
 marked, and what is unresolved, unknown, unreached or in a cycle. It is one file and loads nothing.
@@ -44,7 +49,7 @@ marked, and what is unresolved, unknown, unreached or in a cycle. It is one file
   -0, --null         paths from the standard input end with zero bytes
   --help, --version  writes this, or the versions
 
-The graph is laid out by dot, which is in Debian's package graphviz; without it the page has no graph.
+The graph is laid out by dot, of Debian's package graphviz; without it the page has no graph.
 
 Status 0; 1 where a file has no answer or there is no graph, with a line on the error output for each,
 and the page is made all the same, or where the page can't be written; 2 for words that aren't the
@@ -68,7 +73,8 @@ async function main({ values, positionals }) {
   }
   const program = modinfoPath();
   await checkProgram(program);
-  const { status, ...project } = await readProject({ values, program, paths: [...positionals, ...entries] });
+  const words = [...positionals, ...entries];
+  const { status, ...project } = await readProject({ values, program, paths: words });
   const links = new Links(project.folder, project.modules);
   const edges = edgesOf(project.modules, links);
   const paths = project.modules.map(({ path }) => path);
@@ -77,7 +83,7 @@ async function main({ values, positionals }) {
     await write(dot, dotOf(all));
   }
   const views = viewsOf(paths, edges);
-  const layouts = await layoutsOf(views, jobs);
+  const layouts = await drawAll(views, jobs);
   const found = await reachedOf(project.modules, links, edges, { entries, program });
   const title = basename(project.folder);
   await write(output, pageOf(dataOf({ title, ...project, links, edges, ...found, views, layouts })));
@@ -86,7 +92,7 @@ async function main({ values, positionals }) {
 
 /**
  * @param {{ values: any, program: string, paths: string[] }} run
- * @returns {Promise<{ status: number, folder: string, modules: import("./report/project.mjs").Module[] }>}
+ * @returns {Promise<{ status: number, folder: string, modules: Module[] }>}
  */
 async function readProject({ values, program, paths }) {
   const work = {
@@ -103,7 +109,7 @@ async function readProject({ values, program, paths }) {
 }
 
 /**
- * @param {import("./report/project.mjs").Module[]} modules
+ * @param {Module[]} modules
  * @param {Links} links
  * @param {import("./report/graph.mjs").Edge[]} edges
  * @param {{ entries: string[], program: string }} run
@@ -115,12 +121,26 @@ async function reachedOf(modules, links, edges, { entries: paths, program }) {
 }
 
 /**
+ * @param {import("./report/views.mjs").View[]} views
+ * @param {number} jobs
+ */
+async function drawAll(views, jobs) {
+  const progress = new Progress(process.stderr, true, "graphs");
+  views.forEach(() => progress.find());
+  const onDone = (layout) => progress.pass(layout instanceof LayoutFault);
+  const layouts = await layoutsOf(views, { jobs, onDone });
+  progress.clear();
+  return layouts;
+}
+
+/**
  * Says why there are graphs that couldn't be laid out.
  * @param {(object | LayoutFault)[]} layouts
  * @returns {boolean} whether there are any
  */
 function tellLayouts(layouts) {
-  const messages = layouts.filter((each) => each instanceof LayoutFault).map(({ message }) => message);
+  const faults = layouts.filter((each) => each instanceof LayoutFault);
+  const messages = faults.map(({ message }) => message);
   for (const message of new Set(messages)) {
     process.stderr.write(`${NAME}: no graph: ${message}\n`);
   }

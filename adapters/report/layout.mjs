@@ -25,17 +25,20 @@ export class LayoutFault extends Error {}
 
 /**
  * @param {import("./views.mjs").View[]} views
- * @param {number} jobs how many run at once
- * @param {(view: import("./views.mjs").View) => Promise<Layout>} [run]
+ * @param {object} options
+ * @param {number} options.jobs how many run at once
+ * @param {(view: import("./views.mjs").View) => Promise<Layout>} [options.run]
+ * @param {(layout: Layout | LayoutFault) => void} [options.onDone] is called for each
  * @returns {Promise<(Layout | LayoutFault)[]>}
  */
-export async function layoutsOf(views, jobs, run = layoutOf) {
+export async function layoutsOf(views, { jobs, run = layoutOf, onDone = () => {} }) {
   const layouts = [];
   let next = 0;
   const work = async () => {
     while (next < views.length) {
       const at = next++;
       layouts[at] = await run(views[at]).catch(asFault);
+      onDone(layouts[at]);
     }
   };
   await Promise.all(Array.from({ length: jobs }, work));

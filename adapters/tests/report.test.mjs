@@ -131,6 +131,18 @@ test("--dot writes the graph for Graphviz", () => {
   assert.match(dot, /m2 -> m0 /);
 });
 
+const hasScript = spawnSync("script", ["--version"]).status === 0;
+
+test("on a terminal it says how far it is", { skip: !hasScript && "script isn't installed" }, () => {
+  const folder = folderOf({ "a.js": "", "b.js": "(" });
+  const env = {
+    ...process.env, PATH: withDot(folderOfDot(EMPTY_DOT)), MODINFO: STAND_IN, SHELL: "/bin/sh",
+  };
+  const command = `${process.execPath} ${programOf("report.mjs")} .`;
+  const { stdout } = spawnSync("script", ["-qec", command, "/dev/null"], { cwd: folder, env });
+  assert.match(String(stdout), /\r\x1b\[K\d of 2 files, \d faults?.*\r\x1b\[K1 of 1 graphs, 0 faults/s);
+});
+
 test("what can't be written is an error", () => {
   const folder = folderOf(PROJECT);
   mkdirSync(join(folder, "page"));

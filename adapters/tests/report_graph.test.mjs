@@ -147,9 +147,11 @@ test("a drawing that fails is a fault with its message, and other errors go on",
   const run = async (view) => {
     throw view === 1 ? new LayoutFault("none") : new TypeError("wrong");
   };
-  const [fault] = await layoutsOf([1], 1, run);
+  const done = [];
+  const [fault] = await layoutsOf([1], { jobs: 1, run, onDone: (layout) => done.push(layout) });
   assert.ok(fault instanceof LayoutFault && fault.message === "none");
-  await assert.rejects(layoutsOf([2], 1, run), TypeError);
+  assert.deepEqual(done, [fault]);
+  await assert.rejects(layoutsOf([2], { jobs: 1, run }), TypeError);
 });
 
 const hasDot = spawnSync("dot", ["-V"]).status === 0;

@@ -33,26 +33,30 @@ export function* lineSegments(text, marks) {
   }
 }
 
+/** Of a line, with the marks that reach into it. */
 function segmentsOf(from, to, marks) {
-  const ends = marks.flatMap(([start, end]) => [start, end]);
-  const cuts = [...new Set([from, ...ends.filter((at) => at > from && at < to), to])];
-  cuts.sort((one, other) => one - other);
+  const ends = marks.flatMap(([start, end]) => [start, end]).filter((at) => at > from && at < to);
+  const cuts = [...new Set([from, ...ends, to])].sort((one, other) => one - other);
   const segments = [];
+  let next = 0;
+  let around = [];
   cuts.forEach((start, at) => {
-    const empty = marks.filter((mark) => mark[0] === start && mark[1] === start);
+    while (next < marks.length && marks[next][0] <= start) {
+      around.push(marks[next++]);
+    }
+    const empty = around.filter((mark) => mark[0] === start && mark[1] === start);
+    around = around.filter((mark) => mark[1] > start);
     if (empty.length > 0) {
       segments.push({ from: start, to: start, marks: empty });
     }
     if (at + 1 < cuts.length) {
-      segments.push({ from: start, to: cuts[at + 1], marks: around(marks, start, cuts[at + 1]) });
+      segments.push({ from: start, to: cuts[at + 1], marks: [...around].sort(byLength) });
     }
   });
   return segments;
 }
 
-/** The marks that cover a segment, the longest first. */
-function around(marks, from, to) {
-  return marks
-    .filter((mark) => mark[0] <= from && mark[1] >= to)
-    .sort((one, other) => other[1] - other[0] - (one[1] - one[0]));
+/** The longest first. */
+function byLength(one, other) {
+  return other[1] - other[0] - (one[1] - one[0]);
 }
