@@ -18,7 +18,7 @@ FaultName = Literal[
 
 
 class Fault(Exception):
-    """A document was refused. `name` says why; the repository's README.md lists the names."""
+    """A document was refused. `name` says why; docs/FORMATS.md of the repository lists the names."""
 
     def __init__(self, name: FaultName) -> None:
         super().__init__(name)
