@@ -2,11 +2,12 @@
 """Measures how many lines a second go through one process, GNU parallel and workers of Dask.
 
     examples/cluster/setup
-    build/cluster/bin/python bench/cluster.py [--files N] [--rounds N]
+    build/cluster/bin/python bench/cluster.py [--files N] [--times N] [--rounds N]
 
 It takes so many files of Debian's node packages, evenly spread, makes a document of each, and prints
-tables: what the documents take, what the files take with their parser, and what partitions of several
-sizes take. Of the rounds, in each of which all take their turn, the fastest counts.
+tables: what the documents take, so many times one after another, what the files take with their parser,
+and what partitions of several sizes take. Of the rounds, in each of which all take their turn, the
+fastest counts. All ways have to write the same bytes.
 """
 
 import argparse
@@ -36,7 +37,7 @@ ANALYZE = f"{MODINFO} analyze --lines"
 FILES = f"MODINFO={MODINFO} node {ROOT}/adapters/files.mjs --jobs 1 - 2> /dev/null || true"
 COUNTS = [1, 2, 4]
 BYTES = [1 << 16, 1 << 18, 1 << 20, 1 << 22]
-LINES = [25, 100, 250, 1000]
+LINES = [50, 250, 1000]
 
 
 @dataclass
@@ -178,6 +179,7 @@ def quoted(command: str) -> str:
 def main() -> None:
     words = argparse.ArgumentParser(description=__doc__, formatter_class=argparse.RawDescriptionHelpFormatter)
     words.add_argument("--files", type=int, default=5000)
+    words.add_argument("--times", type=int, default=10)
     words.add_argument("--rounds", type=int, default=3)
     options = words.parse_args()
     with tempfile.TemporaryDirectory() as name:
@@ -185,6 +187,7 @@ def main() -> None:
         paths, documents = folder / "paths", folder / "documents.jsonl"
         paths.write_text("".join(f"{path}\n" for path in choose_files(options.files)))
         make_documents(paths, documents)
+        documents.write_bytes(documents.read_bytes() * options.times)
         size = documents.stat().st_size
         print(f"{count_lines(documents)} documents of {count_lines(paths)} files, {size / 1e6:.1f} MB")
         measure_all(folder, paths, documents, options.rounds)
