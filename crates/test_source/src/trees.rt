@@ -62,12 +62,13 @@ fn a_parsed_source_keeps_what_it_got(rt: HostRuntime) -> Result<(), Fail> {
     assert!(rt; source.comments().get_leading(0).is_none());
     assert!(rt; source.has_scope_analysis());
     assert!(rt; is_copied(rt.alloc(), source.program())?);
+    assert!(rt; is_copied(rt.alloc(), &source)?);
     Ok(())
 }
 
 /// Whether a copy is equal.
-fn is_copied(alloc: Global, program: &Program) -> Result<bool, AllocError> {
-    Ok(program.try_clone(alloc)? == *program)
+fn is_copied<T: TryClone + PartialEq + Drop>(alloc: Global, value: &T) -> Result<bool, AllocError> {
+    Ok(value.try_clone(alloc)? == *value)
 }
 
 #[test]
