@@ -1,7 +1,7 @@
-//! Calls that take no memory, made where each request would be refused: those on values that hold
-//! memory. What takes texts alone, as the finders do, has nothing that it could ask for memory.
+//! Calls that take no memory, made where each request would be refused.
 
 mod made;
+mod texts;
 mod values;
 
 use crate::fault::Fault;
@@ -13,6 +13,7 @@ use std::alloc::Global;
 pub fn call_all(alloc: Global) -> Result<Outcome, Fault> {
     let made = Made::new(alloc)?;
     let was_refused = is_refused(alloc);
+    texts::read()?;
     values::look_up(alloc, &made)?;
     values::take_apart(alloc, made)?;
     if was_refused && is_refused(alloc) {
