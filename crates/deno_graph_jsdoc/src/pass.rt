@@ -76,10 +76,7 @@ fn add<'a>(
 
 /// Puts an import into its place by its start, unless one with that start is there. Where memory is
 /// refused the list stays as it was.
-fn insert<'a>(
-    imports: &mut Vec<JsDocImport<'a>>,
-    import: JsDocImport<'a>,
-) -> Result<(), AllocError>
+fn insert<'a>(imports: &mut Vec<JsDocImport<'a>>, import: JsDocImport<'a>) -> Result<(), AllocError>
     requires ascending { Ascend (map import_of imports.old.items) }
     ensures ok { OnOk result (GainsImport (map import_of imports.old.items)
         (import_of import.entry) (map import_of imports.new.items)) }
