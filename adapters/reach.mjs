@@ -16,8 +16,11 @@ import { pathToFileURL } from "node:url";
 /** The key of a module that names the entries; no file has it. */
 const ROOT = "";
 
-/** What stands beside a declaration file, and is what an import of it runs. */
-const BESIDE = { ".d.ts": [".js", ".jsx"], ".d.mts": [".mjs"], ".d.cts": [".cjs"] };
+/**
+ * What stands beside a declaration file, and is what an import of it runs.
+ * @type {[string, string[]][]}
+ */
+const BESIDE = [[".d.ts", [".js", ".jsx"]], [".d.mts", [".mjs"]], [".d.cts", [".cjs"]]];
 
 /** @type {Map<string, string>} */
 const canonical = new Map();
@@ -106,6 +109,6 @@ function member(key, specifiers) {
  * @returns {string[]} none for another file
  */
 export function namesBeside(name) {
-  const [ending, others] = Object.entries(BESIDE).find(([each]) => name.endsWith(each)) ?? ["", []];
+  const [ending, others] = BESIDE.find(([each]) => name.endsWith(each)) ?? ["", []];
   return others.map((other) => name.slice(0, -ending.length) + other);
 }

@@ -62,8 +62,8 @@ describe("the package", { skip: noNpm && "npm isn't there" }, () => {
   };
 
   test("has its modules with their types, a README and a licence, and no tests", () => {
-    const modules = ["", "typescript/", "report/", "report/page/"].flatMap((part) => readdirSync(join(ADAPTERS, part))
-      .filter((name) => /\.mjs$|\.d\.mts$|\.js$|\.css$/.test(name)).map((name) => part + name));
+    const modules = readdirSync(ADAPTERS, { recursive: true })
+      .filter((path) => /\.(?:mjs|mts|js|css)$/.test(path) && !/^(?:tests|node_modules)\//.test(path));
     const expected = ["LICENSE", "README.md", "package.json", ...modules];
     assert.deepEqual(packed.files.map(({ path }) => path).sort(), expected.sort());
   });
