@@ -29,8 +29,8 @@ export function parserFolder(name) {
  */
 export function compile(folder, files, options = {}) {
   const compilerOptions = {
-    noEmit: true, strict: true, target: "es2022", module: "node16", moduleResolution: "node16",
-    types: [], ...options,
+    noEmit: true, strict: true, exactOptionalPropertyTypes: true, noUncheckedIndexedAccess: true,
+    target: "es2022", module: "node16", moduleResolution: "node16", types: [], ...options,
   };
   for (const [path, text] of Object.entries(files)) {
     writeFileSync(join(folder, path), text);
