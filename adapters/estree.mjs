@@ -12,7 +12,7 @@ import { ACORN_MEDIA_TYPES, parseWithAcorn } from "./acorn.mjs";
 import { run } from "./command.mjs";
 import { Trivia, fileComments, readComments } from "./comments.mjs";
 import { writeDocument } from "./document.mjs";
-import { isKept } from "./kept.mjs";
+import { PHASE_CALLEES, isKept } from "./kept.mjs";
 import { MEDIA_TYPES, readOptions } from "./media_types.mjs";
 import { isAttributesKey } from "./nodes.mjs";
 import { isMain } from "./program.mjs";
@@ -275,7 +275,7 @@ class EstreeView {
    * @returns {Description}
    */
   importCall(node) {
-    const callee = { defer: "importDefer", source: "importSource" }[node.phase] ?? "import";
+    const callee = PHASE_CALLEES.get(node.phase) ?? "import";
     const open = this.openingOf(node);
     const options = node.options === undefined ? node.attributes : node.options;
     const args = options ? [node.source, options] : [node.source];

@@ -7,6 +7,9 @@
  * @typedef {{ node: unknown, described: Description }} Kept
  */
 
+/** The callees of `import.defer(..)` and `import.source(..)` by their phase. */
+export const PHASE_CALLEES = new Map([["defer", "importDefer"], ["source", "importSource"]]);
+
 /**
  * Whether a node below an item is written.
  * @param {Description} described

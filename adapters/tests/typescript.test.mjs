@@ -111,6 +111,15 @@ test("a later version's names of the clauses", () => {
   assert.deepEqual(document, documentOf(toDocument, text, "TypeScript"));
 });
 
+test("a call of a meta property that is no phase is none", () => {
+  for (const name of ["toString", "constructor", "__proto__", "meta", "phase"]) {
+    assert.deepEqual(dependencies(`import.${name}("a");`), [], name);
+  }
+  assert.deepEqual(dependencies(`import.defer("a"); import.source("b");`), [
+    { kind: "importDefer", argument: "a" }, { kind: "importSource", argument: "b" },
+  ]);
+});
+
 test("a tree is that of the text", () => {
   const tree = typescript.createSourceFile("a.ts", "a", typescript.ScriptTarget.Latest);
   const options = { specifier: "file:///a.ts", typescript, tree };

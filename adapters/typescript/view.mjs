@@ -1,6 +1,6 @@
 /** How TypeScript's tree is read. */
 
-import { isKept } from "../kept.mjs";
+import { PHASE_CALLEES, isKept } from "../kept.mjs";
 import { kindsOf } from "./kinds.mjs";
 import { isAwait } from "./survey.mjs";
 
@@ -222,7 +222,7 @@ export class TypeScriptView {
         return "import";
       case kinds.MetaProperty:
         return expression.keywordToken === kinds.ImportKeyword
-          ? { defer: "importDefer", source: "importSource" }[expression.name.text]
+          ? PHASE_CALLEES.get(expression.name.text)
           : undefined;
       case kinds.Identifier:
         return expression.text === "require" ? "expr" : undefined;
