@@ -13,7 +13,9 @@ import { loadParser } from "./parsers.mjs";
 import { isMain } from "./program.mjs";
 import { Source, SourceFault } from "./source.mjs";
 import { commentOpenings, findComments } from "./typescript/comments.mjs";
-import { TYPESCRIPT_MEDIA_TYPES, parseWithTypeScript, refuseErrors } from "./typescript/parse.mjs";
+import {
+  TYPESCRIPT_MEDIA_TYPES, parseWithTypeScript, refuseErrors, withoutRemains,
+} from "./typescript/parse.mjs";
 import { operandEnds, survey } from "./typescript/survey.mjs";
 import { TypeScriptView } from "./typescript/view.mjs";
 
@@ -41,7 +43,9 @@ export function toDocument(text, options) {
   }
   const compiler = typescript ?? loadParser("typescript");
   const source = new Source(text);
-  const file = tree ?? parseWithTypeScript(compiler, source, mediaType);
+  const file = tree
+    ? withoutRemains(compiler, tree)
+    : parseWithTypeScript(compiler, source, mediaType);
   refuseErrors(compiler, file, source);
   const openings = commentOpenings(text);
   const { nodes, texts } = survey(compiler, file, text, openings);

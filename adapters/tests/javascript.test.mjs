@@ -248,6 +248,26 @@ test("the options are checked", () => {
   }
 });
 
+test("what stands behind an await at the top is read once", () => {
+  const behind = `\nimport "a";\nrequire("b");\n/* c */`;
+  for (const await_ of [
+    "await { d };", "await [1, ...d];", "await [1,\n...(await d).e, f]; let g = await { h: [...i] };",
+    "(await\n'd')(e);", "for await (const d of (await\n'e')('f')) { g; }", "tag`${await\n'd' +\ne}`;",
+    "((await 'd', ('e')))((() => {}) + await 1);", "export const d = await { e: { 'f': 'g' } };",
+    "let d = await /* e */ { f: import.meta }; /* g */",
+  ]) {
+    for (const mediaType of ["JavaScript", "Mjs"]) {
+      assert.deepEqual(dependencies(await_ + behind, mediaType), [
+        { kind: "import", specifier: "a", sideEffect: true }, { kind: "require", argument: "b" },
+      ], await_);
+    }
+  }
+  const wrong = "await { d };\nlet e = ;";
+  for (const [, adapter] of ADAPTERS) {
+    assert.throws(() => adapter(wrong, { specifier: "file:///a.mjs" }), { name: "SourceFault", line: 2, column: 9 });
+  }
+});
+
 test("the error of a module is shown once its syntax was seen", () => {
   const [, estree] = ADAPTERS[0];
   const placeOf = (text, mediaType = "JavaScript") => {

@@ -129,6 +129,14 @@ test("a tree is that of the text", () => {
   }
 });
 
+test("a tree that has more than the text, behind an await at the top", () => {
+  const text = `await [1, ...a];\nimport "b";`;
+  const tree = typescript.createSourceFile("a.ts", text, typescript.ScriptTarget.Latest);
+  const document = documentOf(toDocument, text, "TypeScript", { typescript, tree });
+  assert.deepEqual(document, documentOf(toDocument, text, "TypeScript"));
+  assert.deepEqual(document.program.body.map(({ kind }) => kind), ["Other", "ImportDecl"]);
+});
+
 test("module declarations", () => {
   const text = `
     declare module "*.css"; declare module "./*.css" { let a: import("a"); } declare module "b" { import "c"; }

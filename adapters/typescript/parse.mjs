@@ -91,7 +91,33 @@ function parseAs(compiler, text, mediaType, asModule) {
     jsDocParsingMode: compiler.JSDocParsingMode?.ParseNone,
     ...(asModule && { setExternalModuleIndicator: markAsModule }),
   };
-  return compiler.createSourceFile(name, text, options, false, compiler.ScriptKind[scriptKind]);
+  const kind = compiler.ScriptKind[scriptKind];
+  return withoutRemains(compiler, compiler.createSourceFile(name, text, options, false, kind));
+}
+
+/**
+ * A module's statements with an `await` outside of every function are parsed a second time, since
+ * TypeScript took it for a name at first. Where one of them then takes in several of the first
+ * time's, TypeScript leaves as many of these behind the last statement, with their errors.
+ * @param {Compiler} compiler
+ * @param {Node} file
+ * @returns {Node} the file without what was left
+ */
+export function withoutRemains(compiler, file) {
+  const { fileName, languageVersion, parseDiagnostics, scriptKind, statements, text } = file;
+  const first = statements.findIndex(({ pos }, at) => at > 0 && pos < statements[at - 1].end);
+  if (first < 0) {
+    return file;
+  }
+  const options = { languageVersion, setExternalModuleIndicator: () => {} };
+  const once = compiler.createSourceFile(fileName, text, options, false, scriptKind);
+  const errors = once.parseDiagnostics;
+  const left = errors.findIndex(({ start }) => start >= statements[first].pos);
+  const more = left < 0 ? 0 : errors.length - left;
+  return Object.create(file, {
+    statements: { value: statements.slice(0, first) },
+    parseDiagnostics: { value: parseDiagnostics.slice(0, parseDiagnostics.length - more) },
+  });
 }
 
 /** @param {Node} file */
