@@ -85,7 +85,7 @@ async function main({ values, positionals }) {
   const views = viewsOf(paths, edges);
   const layouts = await drawAll(views, jobs);
   const found = await reachedOf(project.modules, links, edges, { entries, program });
-  const title = basename(project.folder);
+  const title = basename(project.folder) || project.folder;
   await write(output, pageOf(dataOf({ title, ...project, links, edges, ...found, views, layouts })));
   return tellLayouts(layouts) ? 1 : status;
 }

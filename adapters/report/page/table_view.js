@@ -4,6 +4,9 @@ import { element } from "./elements.js";
 import { hashOf, kindLabel, moduleLink, nameLabel, targetLabel } from "./pieces.js";
 import { importers, report } from "./report.js";
 
+/** What the kind says already. */
+const PLAIN = new Set(["import", "require", "JSDoc import"]);
+
 /**
  * @param {number} index of the module
  * @returns {HTMLElement}
@@ -39,7 +42,7 @@ function rowView(index, row, at) {
 /** What is below a row's name. */
 function details({ word, attributes, mode, sideEffect, types, typesTo }) {
   return [
-    word !== "import" && detail("as", element("code", {}, word)),
+    !PLAIN.has(word) && detail("as", element("code", {}, word)),
     sideEffect && detail("binds", "no name"),
     ...attributeDetails(attributes),
     mode && detail("mode", element("code", {}, mode)),
