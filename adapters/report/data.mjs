@@ -1,4 +1,4 @@
-/** What is written into the page: all that its script shows, and no path from outside of the folder. */
+/** What is written into the page: all that its script shows, with paths from the folder alone. */
 
 import { withinBounds } from "./excerpts.mjs";
 import { KINDS } from "./kinds.mjs";

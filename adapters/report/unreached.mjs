@@ -58,7 +58,8 @@ function allNames({ key, rows }) {
 
 /** @param {(string | null | undefined)[]} files */
 function urlsOf(files) {
-  return files.filter((file) => typeof file === "string").map((file) => canonicalUrl(fileURLToPath(file)));
+  const found = files.filter((file) => typeof file === "string");
+  return found.map((file) => canonicalUrl(fileURLToPath(file)));
 }
 
 /**

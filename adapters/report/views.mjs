@@ -45,10 +45,11 @@ export function viewsOf(paths, edges, most = MOST_NODES) {
     for (const [path, members] of groups ?? []) {
       const group = { id: `f${folders++}`, label: path, count: members.length };
       members.forEach((module) => nodes.set(module, group));
-      todo.push({ folder: path, inside: members, around: nodes, parent: views.length, node: group });
+      const parent = views.length;
+      todo.push({ folder: path, inside: members, around: nodes, parent, node: group });
     }
-    if (!groups) {
-      inside.forEach((module) => nodes.set(module, { id: `m${module}`, label: paths[module], module }));
+    for (const module of groups ? [] : inside) {
+      nodes.set(module, { id: `m${module}`, label: paths[module], module });
     }
     if (node) {
       node.view = views.length;
@@ -94,7 +95,8 @@ function groupsOf(paths, inside, most) {
 function drawing(inside, nodes, edges) {
   const drawn = new Set([...inside].map((module) => nodes.get(module)));
   const byEnds = new Map();
-  for (const { from, to, kind } of edges.filter((each) => inside.has(each.from) || inside.has(each.to))) {
+  const near = edges.filter(({ from, to }) => inside.has(from) || inside.has(to));
+  for (const { from, to, kind } of near) {
     const ends = [nodes.get(from), nodes.get(to)];
     if (ends[0] === ends[1] && ends[0].module === undefined) {
       continue;

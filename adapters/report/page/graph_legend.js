@@ -17,7 +17,8 @@ export function legend({ nodes, edges }) {
   const states = STATES.filter((state) => found.has(state)).map((state) => {
     return element("li", {}, element("span", { class: `swatch ${state}` }), stateTitle(state));
   });
-  return element("ul", { class: "legend", "aria-label": "legend" }, ...kinds.map(kindItem), ...states);
+  const attributes = { class: "legend", "aria-label": "legend" };
+  return element("ul", attributes, ...kinds.map(kindItem), ...states);
 }
 
 function kindItem({ kind, title, says, dash }) {
@@ -25,6 +26,6 @@ function kindItem({ kind, title, says, dash }) {
     d: "M1 6H33", class: `edge ${kind}`, "stroke-dasharray": dash || undefined,
     "marker-end": `url(#arrow-${kind})`,
   });
-  const size = { viewBox: "0 0 36 12", width: 36, height: 12 };
-  return element("li", { title: says }, drawn("svg", { ...size, "aria-hidden": "true" }, line), title);
+  const frame = { viewBox: "0 0 36 12", width: 36, height: 12, "aria-hidden": "true" };
+  return element("li", { title: says }, drawn("svg", frame, line), title);
 }

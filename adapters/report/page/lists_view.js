@@ -103,7 +103,8 @@ function unreachedItem(module) {
 }
 
 function cycleItem({ modules, path, isRun }) {
-  const steps = path.flatMap((module) => [moduleLink(module), element("span", { class: "arrow" }, " → ")]);
+  const arrow = () => element("span", { class: "arrow" }, " → ");
+  const steps = path.flatMap((module) => [moduleLink(module), arrow()]);
   const more = modules.length > path.length ? `, ${modules.length} modules in all` : "";
   const note = isRun ? "" : "by types or JSDoc only";
   return [

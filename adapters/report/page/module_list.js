@@ -13,8 +13,8 @@ export class ModuleList {
   /** By the modules. */
   #links = report.modules.map(({ path }, index) => {
     const [, name] = partsOf(path);
-    const attributes = { href: hashOf(index), "data-module": index, tabindex: "-1", title: path };
-    return element("a", attributes, name);
+    const attributes = { href: hashOf(index), title: path, "aria-label": path };
+    return element("a", { ...attributes, "data-module": index, tabindex: "-1" }, name);
   });
   #folders = report.modules.map(({ path }) => partsOf(path)[0]);
   #texts = report.modules.map(({ path }) => path.toLowerCase());

@@ -20,7 +20,8 @@ export function pathLabel(path) {
  * @returns {(Node | string)[]}
  */
 function breakable(text) {
-  return text.split(/(?<=\/)/u).flatMap((part) => [part, element("wbr")]);
+  const parts = text.match(/[^/]*\/|[^/]+/gu) ?? [];
+  return parts.flatMap((part) => [part, element("wbr")]);
 }
 
 /**

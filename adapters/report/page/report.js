@@ -1,4 +1,4 @@
-/** What the report is made of, as it is written into the page, and the questions that are asked of it. */
+/** What is written into the page, and the questions that are asked of it. */
 
 /** @type {any} */
 export const report = JSON.parse(document.getElementById("data").textContent);

@@ -18,16 +18,21 @@ const ELEMENT = "element-6066-11e4-a52e-4f735466cecf";
 const PATIENCE = 20_000;
 
 /** What the protocol calls some keys. */
-export const KEYS = { enter: "\ue007", escape: "\ue00c", down: "\ue015", up: "\ue013", right: "\ue014", tab: "\ue004" };
+export const KEYS = {
+  enter: "\ue007", escape: "\ue00c", up: "\ue013", right: "\ue014", down: "\ue015",
+};
+
+/** What a page is made and opened with, and a word that each of them knows. */
+const PROGRAMS = [["dot", "-V"], ["chromium", "--version"], ["chromedriver", "--version"]];
 
 /**
- * Why there is no browser.
+ * Why no page can be opened.
  * @returns {string | false}
  */
-export function missingBrowser() {
-  const has = (name) => spawnSync(name, ["--version"]).status === 0;
-  return !(has("chromium") && has("chromedriver")) &&
-    "chromium or chromedriver isn't installed: adapters/report/setup installs them";
+export function missingPrograms() {
+  const missing = PROGRAMS.filter(([name, word]) => spawnSync(name, [word]).status !== 0);
+  const names = missing.map(([name]) => name).join(", ");
+  return missing.length > 0 && `adapters/report/setup installs what isn't there: ${names}`;
 }
 
 export class Browser {

@@ -7,10 +7,10 @@ import { after, before, test } from "node:test";
 import { fileURLToPath, pathToFileURL } from "node:url";
 
 import { MODINFO, STAND_IN, folderOf, run } from "../running.mjs";
-import { Browser, KEYS, missingBrowser } from "./browser.mjs";
+import { Browser, KEYS, missingPrograms } from "./browser.mjs";
 
 const EXAMPLE = fileURLToPath(new URL("../../../examples/project/", import.meta.url));
-const skip = missingBrowser();
+const skip = missingPrograms();
 
 /** JSDoc imports are read by the program itself alone. */
 const hasProgram = existsSync(MODINFO);
