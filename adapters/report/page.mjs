@@ -56,7 +56,8 @@ export function pageScript() {
 /** The kinds' colours, for light pages and for dark ones. */
 function colours() {
   const variables = (shade) => KINDS.map((kind) => `--${kind.kind}: ${kind[shade]};`).join(" ");
-  const classes = KINDS.map(({ kind }) => `.${kind} { --kind: var(--${kind}); }`).join("\n");
+  const classes = KINDS.map(({ kind }) => `.${kind} { --kind: var(--${kind}); }
+.without-${kind} .edge.${kind} { display: none; }`).join("\n");
   return `
 :root { ${variables("light")} }
 @media screen and (prefers-color-scheme: dark) { :root { ${variables("dark")} } }

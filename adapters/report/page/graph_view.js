@@ -25,7 +25,7 @@ export function graphView(index) {
     ? undefined
     : element("a", { href: `#view-${view.parent}`, class: "back" }, "← all folders");
   const bar = element("div", { class: "bar" }, title, back, zoomButtons(box, drawing, view.width));
-  return element("section", { class: "graph" }, bar, legend(view), box);
+  return element("section", { class: "graph" }, bar, legend(view, drawing), box);
 }
 
 function drawingOf({ width, height, nodes, edges }) {

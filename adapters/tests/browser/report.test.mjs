@@ -203,6 +203,22 @@ shown("the graph has each module and each edge, told apart by kind", async () =>
   assert.deepEqual(legend.slice(0, 4), ["static", "dynamic", "type", "require"]);
 });
 
+/** How many edges of the graph are seen. */
+const edgesSeen = () => browser.run(`
+  const edges = [...document.querySelectorAll(".drawing .edge")];
+  return edges.filter((edge) => getComputedStyle(edge).display !== "none").length;
+`);
+
+shown("a click in the legend hides the edges of a kind, another one shows them", async () => {
+  await open(example);
+  const all = await edgesSeen();
+  const requires = (await texts(".edge.require title")).length;
+  for (const expected of [all - requires, all]) {
+    await browser.click(".legend li:nth-child(4) button");
+    assert.equal(await edgesSeen(), expected);
+  }
+});
+
 shown("clicks lead from the graph to a module, and between marks and rows", async () => {
   await open(example);
   await browser.click('.node[aria-label="src/page.tsx"]');
