@@ -36,25 +36,41 @@ def test_a_worker_that_is_killed_with_work_in_its_hands(documents: Path, answers
         client.wait_for_workers(2)
         program = subprocess.Popen(command(cluster, *SMALL, "-"), stdin=subprocess.PIPE, stdout=subprocess.PIPE)
         assert program.stdin is not None and program.stdout is not None
-        feed(program.stdin, beginning)
-        first = program.stdout.readline()
+        written = Written(program.stdout)
+        program.stdin.writelines(beginning)
+        program.stdin.flush()
+        written.wait_for_a_line()
         os.kill(cluster.workers[0].pid, signal.SIGSTOP)
-        feeder = threading.Thread(target=lambda: feed(program.stdin, rest, close=True))
+        feeder = threading.Thread(target=feed, args=(program.stdin, rest))
         feeder.start()
         wait_until_held(client, cluster, program)
         os.kill(cluster.workers[0].pid, signal.SIGKILL)
-        written = first + program.stdout.read()
         feeder.join()
         assert program.wait() == 0
         assert len(client.nthreads()) == 1
-    assert written == answers
+        assert written.whole() == answers
 
 
-def feed(stream: IO[bytes], lines: list[bytes], close: bool = False) -> None:
+class Written:
+    """What a program writes, read as it comes."""
+
+    def __init__(self, stream: IO[bytes]) -> None:
+        self._lines: list[bytes] = []
+        self._reader = threading.Thread(target=lambda: self._lines.extend(stream))
+        self._reader.start()
+
+    def wait_for_a_line(self) -> None:
+        while not self._lines and self._reader.is_alive():
+            time.sleep(0.01)
+
+    def whole(self) -> bytes:
+        self._reader.join()
+        return b"".join(self._lines)
+
+
+def feed(stream: IO[bytes], lines: list[bytes]) -> None:
     stream.writelines(lines)
-    stream.flush()
-    if close:
-        stream.close()
+    stream.close()
 
 
 def wait_until_held(client: Client, cluster: Local, program: subprocess.Popen[bytes]) -> None:
