@@ -120,14 +120,16 @@ function timeTable(commands, list, rounds, files) {
       }
     }
   }
-  console.log("\n| | seconds | files a second | processor seconds | of the parser's time |");
-  console.log("|---|---|---|---|---|");
+  console.log("\n| | seconds | files a second | of the parser's | processor seconds | of the parser's |");
+  console.log("|---|---|---|---|---|---|");
   for (const [name, { wall, processor }] of best) {
     const [count] = /\d+ threads?$/.exec(name) ?? ["1 thread"];
     const parser = best.get(`TypeScript's parser alone, ${count}`);
-    const ratio = (wall / parser.wall).toFixed(2);
-    const rate = Math.round(files / wall);
-    console.log(`| ${name} | ${wall.toFixed(2)} | ${rate} | ${processor.toFixed(2)} | ${ratio} |`);
+    const beside = `${Math.round(files / wall)} | ${(wall / parser.wall).toFixed(2)}`;
+    const ofProcessor = (processor / parser.processor).toFixed(2);
+    console.log(
+      `| ${name} | ${wall.toFixed(2)} | ${beside} | ${processor.toFixed(2)} | ${ofProcessor} |`,
+    );
   }
 }
 
