@@ -135,6 +135,10 @@ test("a tree that has more than the text, behind an await at the top", () => {
   const document = documentOf(toDocument, text, "TypeScript", { typescript, tree });
   assert.deepEqual(document, documentOf(toDocument, text, "TypeScript"));
   assert.deepEqual(document.program.body.map(({ kind }) => kind), ["Other", "ImportDecl"]);
+  const other = { ...typescript, TransformFlags: undefined };
+  const simple = `await { a };\nimport "b";`;
+  const [first, second, ...more] = documentOf(toDocument, simple, "TypeScript", { typescript: other }).program.body;
+  assert.deepEqual([first.kind, second.kind, more], ["Other", "ImportDecl", []]);
 });
 
 test("module declarations", () => {

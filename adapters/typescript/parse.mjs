@@ -96,28 +96,38 @@ function parseAs(compiler, text, mediaType, asModule) {
 }
 
 /**
- * A module's statements with an `await` outside of every function are parsed a second time, since
- * TypeScript took it for a name at first. Where one of them then takes in several of the first
- * time's, TypeScript leaves as many of these behind the last statement, with their errors.
+ * TypeScript takes an `await` outside of every function for a name at first, and parses a module's
+ * statements with one a second time. Where such a statement then takes in several of the first
+ * time's, it leaves as many behind the last statement, with their errors.
  * @param {Compiler} compiler
  * @param {Node} file
- * @returns {Node} the file without what was left
+ * @returns {Node} the file, where it is so, with all behind the first `await` parsed twice
  */
 export function withoutRemains(compiler, file) {
-  const { fileName, languageVersion, parseDiagnostics, scriptKind, statements, text } = file;
-  const first = statements.findIndex(({ pos }, at) => at > 0 && pos < statements[at - 1].end);
-  if (first < 0) {
+  if (firstRemain(file) < 0) {
     return file;
   }
-  const options = { languageVersion, setExternalModuleIndicator: () => {} };
-  const once = compiler.createSourceFile(fileName, text, options, false, scriptKind);
-  const errors = once.parseDiagnostics;
-  const left = errors.findIndex(({ start }) => start >= statements[first].pos);
-  const more = left < 0 ? 0 : errors.length - left;
-  return Object.create(file, {
-    statements: { value: statements.slice(0, first) },
-    parseDiagnostics: { value: parseDiagnostics.slice(0, parseDiagnostics.length - more) },
-  });
+  const { fileName, languageVersion, scriptKind, text } = file;
+  const awaits = compiler.TransformFlags?.ContainsPossibleTopLevelAwait ?? 0;
+  const setExternalModuleIndicator = (module) => {
+    markAsModule(module);
+    const first = module.statements.findIndex(({ transformFlags }) => transformFlags & awaits);
+    module.statements.slice(first).forEach((each) => (each.transformFlags |= awaits));
+  };
+  const options = { languageVersion, setExternalModuleIndicator };
+  const again = compiler.createSourceFile(fileName, text, options, false, scriptKind);
+  const remain = firstRemain(again);
+  // A version may have no such flag. Then valid texts may be refused, for errors that were left.
+  const statements = remain < 0 ? again.statements : again.statements.slice(0, remain);
+  return Object.create(again, { statements: { value: statements } });
+}
+
+/**
+ * @param {Node} file
+ * @returns {number} the place of the first statement that was left, below 0 where there is none
+ */
+function firstRemain({ statements }) {
+  return statements.findIndex(({ pos }, at) => at > 0 && pos < statements[at - 1].end);
 }
 
 /** @param {Node} file */
