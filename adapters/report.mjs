@@ -32,10 +32,10 @@ import { TYPESCRIPT_MEDIA_TYPES } from "./typescript/parse.mjs";
  * @typedef {import("./report/project.mjs").Module} Module
  */
 
-const NAME = "adapters/report.mjs";
+const NAME = "modinfo-report";
 
-const HELP = `usage: node ${NAME} [--entry FILE ..] [-o FILE] [--dot FILE]
-           [--jobs N] [--all] [-0] PATH ..
+const HELP = `usage: ${NAME} [--entry FILE ..] [-o FILE] [--dot FILE]
+                      [--jobs N] [--all] [-0] PATH ..
 
 Makes a page that shows what the files depend on: their graph, each file's text with its specifiers
 marked, and what is unresolved, unknown, unreached or in a cycle. It is one file and loads nothing.
@@ -51,10 +51,10 @@ marked, and what is unresolved, unknown, unreached or in a cycle. It is one file
 
 The graph is laid out by dot, of Debian's package graphviz; without it the page has no graph.
 
-Status 0; 1 where a file has no answer or there is no graph, with a line on the error output for each,
-and the page is made all the same, or where the page can't be written; 2 for words that aren't the
-usage. The environment variable MODINFO names the program \`modinfo\`; else it is the one that
-\`./modinfo --prove\` has made in the repository, or the one on the PATH.
+Status 0; 1 where a file has no answer or there is no graph, with a line on the error output for
+each, and the page is made all the same, or where the page can't be written; 2 for words that
+aren't the usage. The environment variable MODINFO names the program \`modinfo\`; else it is the
+one that \`./modinfo --prove\` has made in the repository, or the one on the PATH.
 `;
 
 /**

@@ -9,7 +9,7 @@ import { test } from "node:test";
 import { pageOf } from "../report/page.mjs";
 import { STAND_IN, folderOf, programOf, run } from "./running.mjs";
 
-const NAME = "adapters/report.mjs";
+const NAME = "modinfo-report";
 
 /** Two modules, of which one imports the other, and something that isn't there. */
 const PROJECT = {
@@ -160,7 +160,7 @@ test("other words are answered by the usage, and nothing is written", () => {
     assert.match(stderr, new RegExp(`^${NAME}: .+`));
   }
   assert.ok(!existsSync(join(folder, "report.html")));
-  assert.match(run("report.mjs", ["--help"]).stdout, /^usage: node adapters\/report\.mjs /);
+  assert.match(run("report.mjs", ["--help"]).stdout, /^usage: modinfo-report /);
 });
 
 test("no text ends an element of the page", () => {
