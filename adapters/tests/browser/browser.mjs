@@ -15,7 +15,7 @@ import { setTimeout as wait } from "node:timers/promises";
 const ELEMENT = "element-6066-11e4-a52e-4f735466cecf";
 
 /** How long a page may take to become what is asked for, in milliseconds. */
-const PATIENCE = 20_000;
+const PATIENCE = 120_000;
 
 /** What the protocol calls some keys. */
 export const KEYS = {
