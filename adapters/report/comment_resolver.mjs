@@ -23,10 +23,12 @@ export class CommentResolver {
   resolve(rows, file) {
     return rows.map((row) => {
       const resolved = { ...row };
+      // What a comment names is a text.
+      const name = /** @type {string} */ (row.name);
       if (row.word === "reference path") {
-        resolved.file = urlAt(absolute(dirname(file), row.name));
+        resolved.file = urlAt(absolute(dirname(file), name));
       } else if (NAMES_MODULE.has(row.word)) {
-        resolved.file = this.#find(row.name, row.mode, file);
+        resolved.file = this.#find(name, row.mode, file);
       }
       if (row.types) {
         resolved.typesFile = this.#find(row.types.text, undefined, file);

@@ -53,6 +53,7 @@ function shortened({ source = "", marks }) {
  */
 export function excerptOf(source, marks) {
   const starts = [0, ...[...source.matchAll(/\n/g)].map(({ index }) => index + 1)];
+  /** @type {[number, number][]} */
   const pieces = [];
   const texts = [];
   const moved = [];
@@ -80,6 +81,7 @@ export function excerptOf(source, marks) {
  * @returns {[number, number][]} first and last lines
  */
 function rangesOf(starts, marks) {
+  /** @type {[number, number][]} */
   const ranges = [];
   let line = 0;
   for (const { from, to } of marks.length > 0 ? marks : [{ from: 0, to: 0 }]) {

@@ -8,7 +8,7 @@
  */
 
 /**
- * @param {{ rows: { kind: import("./kinds.mjs").Kind }[] }[]} modules
+ * @param {{ rows: import("./rows.mjs").Row[] }[]} modules
  * @param {import("./links.mjs").Links} links
  * @returns {Edge[]} each once, in the order of the modules and their rows
  */

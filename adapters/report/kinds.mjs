@@ -33,7 +33,10 @@ export const KINDS = [
   },
 ];
 
-/** What `ModuleInfo` calls the kind of a dependency, where it isn't one that imports a value. */
+/**
+ * What `ModuleInfo` calls the kind of a dependency, where it isn't one that imports a value.
+ * @type {Map<string, Kind>}
+ */
 const BY_WORD = new Map([
   ["importType", "type"],
   ["exportType", "type"],

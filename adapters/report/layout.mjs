@@ -108,6 +108,7 @@ function describeEnd(status, signal, errors) {
  */
 export function readLayout({ bb, objects = [], edges = [] }, count) {
   const [, , width, height] = bb.split(",").map(Number);
+  /** @type {Layout["boxes"]} */
   const boxes = {};
   for (const { name, pos, width: wide, height: high } of objects) {
     const [x, y] = pos.split(",").map(Number);
@@ -128,6 +129,7 @@ export function readLayout({ bb, objects = [], edges = [] }, count) {
 function pathOf(pos, height) {
   const points = pos.split(" ").map((point) => point.split(","));
   const tip = points.find(([mark]) => mark === "e")?.slice(1);
+  /** @param {string[]} point */
   const place = ([x, y]) => `${round(Number(x))} ${round(height - Number(y))}`;
   const [first, ...curve] = points.filter(([mark]) => mark !== "e" && mark !== "s").map(place);
   return `M${first}C${curve.join(" ")}${tip ? `L${place(tip)}` : ""}`;

@@ -64,8 +64,8 @@ export function faultRange(text, { line, column }) {
     return undefined;
   }
   const breaks = [...text.matchAll(LINE_BREAK)];
-  const { index = 0, 0: last = "" } = breaks[line - 2] ?? {};
-  const start = index + last.length;
+  const before = breaks[line - 2];
+  const start = before ? before.index + before[0].length : 0;
   const end = breaks[line - 1]?.index ?? text.length;
   const characters = [...text.slice(start, end)];
   const from = start + characters.slice(0, column - 1).join("").length;

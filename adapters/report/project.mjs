@@ -37,7 +37,7 @@ export class Project {
     if (!this.#byKey.has(key)) {
       const module = { file, path: "", key, rows: [], marks: [] };
       this.#byKey.set(key, module);
-      this.#read(module, line && JSON.parse(line).info, fault);
+      this.#read(module, line && JSON.parse(String(line)).info, fault);
     }
   }
 
