@@ -64,7 +64,7 @@ describe("the package", { skip: noNpm && "npm isn't there" }, () => {
   test("has its modules with their types, a README and a licence, and no tests", () => {
     const modules = readdirSync(ADAPTERS, { recursive: true })
       .filter((path) => /\.(?:mjs|mts|js|css)$/.test(path) && !/^(?:tests|node_modules)\//.test(path));
-    const expected = ["LICENSE", "README.md", "package.json", ...modules];
+    const expected = ["LICENSE", "README.md", "package.json", "report.png", ...modules];
     assert.deepEqual(packed.files.map(({ path }) => path).sort(), expected.sort());
   });
 
