@@ -2,6 +2,7 @@
 """Analyzes documents by workers of Dask, and writes what one `modinfo analyze --lines` would."""
 
 import argparse
+import logging
 import os
 import sys
 import warnings
@@ -103,6 +104,8 @@ def run(client: Client, words: argparse.Namespace) -> None:
 
 def main(arguments: Sequence[str] | None = None) -> int:
     words = parser().parse_args(arguments)
+    # On a busy machine connections of the client time out while it closes, which says nothing of the answers.
+    logging.getLogger("asyncio").setLevel(logging.CRITICAL)
     # A partition is meant to be a part of its task.
     warnings.filterwarnings("ignore", message="Large object of size")
     try:
