@@ -10,8 +10,8 @@ crates=()
 declare -A below=()
 # What loading the libraries below costs a crate, in bytes of its own.
 loading=100000
-# The state of each crate that was started, and by its process each crate that is being built.
-declare -A state=() running=()
+# The state and the jobs of each crate that was started, and by its process each crate that is being built.
+declare -A state=() jobs_of=() running=()
 # The folders that crates are built in.
 stage=$root/build/unfinished
 
@@ -103,8 +103,9 @@ has_newer() {
 
 # Builds the crates. Ends the script with status 1 where one fails, and says what its build said.
 build_crates() {
-    local processors limit
+    local processors limit idle
     processors=$(nproc)
+    idle=$processors
     limit=$(at_once)
     lock_crates
     sort_crates
@@ -143,31 +144,35 @@ lock_crates() {
     done
 }
 
-# The more crates with more left to build run already, the fewer processors a crate takes from them.
+# The more crates with more left to build run already, the fewer processors a crate takes from them. It has
+# two jobs, which take more processor time in all than one, where a processor is left that no other crate
+# that is ready needs.
 start_crates() {
-    local crate ahead=0 jobs
-    jobs=$(jobs_of_each)
+    local crate ahead=0 waiting jobs
+    waiting=$(count_ready)
     for crate in "${crates[@]}"; do
         if [[ ${state[$crate]-} == running ]]; then
             ahead=$((ahead + 1))
         elif [[ -z ${state[$crate]-} ]] && ((${#running[@]} < limit)) && is_ready "$crate"; then
             state[$crate]=running
             echo "$script: building crate ${#state[@]} of ${#crates[@]}, $crate" >&2
+            waiting=$((waiting - 1))
+            jobs=$((idle - waiting > 1 ? 2 : 1))
             build_crate "$crate" $((5 * ahead)) "$jobs" > "$stage/$crate.log" 2>&1 &
             running[$!]=$crate
+            jobs_of[$crate]=$jobs
+            idle=$((idle - jobs))
             ahead=$((ahead + 1))
         fi
     done
 }
 
-# Two jobs of a crate take a third more processor time than one. So it has two where the other crates
-# leave that many processors.
-jobs_of_each() {
-    local crate busy=${#running[@]}
+count_ready() {
+    local crate count=0
     for crate in "${crates[@]}"; do
-        [[ -n ${state[$crate]-} ]] || ! is_ready "$crate" || busy=$((busy + 1))
+        [[ -n ${state[$crate]-} ]] || ! is_ready "$crate" || count=$((count + 1))
     done
-    echo $((processors < 2 * busy ? 1 : 2))
+    echo "$count"
 }
 
 is_ready() {
@@ -234,6 +239,7 @@ end_crate() {
     wait -n -p process "${!running[@]}" 2> /dev/null || status=$?
     crate=${running[$process]}
     unset "running[$process]"
+    idle=$((idle + jobs_of[$crate]))
     move_made "$stage/$crate/crates/$crate/out" "$root/crates/$crate/out"
     if ((status > 0)); then
         cat "$stage/$crate.log" >&2
