@@ -8,6 +8,8 @@ export class SourceFault extends Error {
   readonly line: number;
   /** From one, in Unicode code points. */
   readonly column: number;
+  /** The line, or of a long one the part round the column, and below it a caret under the column. */
+  readonly excerpt: string;
 }
 
 /** What a document leaves out. */

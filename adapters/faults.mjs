@@ -2,10 +2,11 @@
  * Why a file has no document or no answer.
  *
  * @typedef {object} Fault as it is printed and handed from thread to thread
- * @property {string} fault one of the names in README.md
+ * @property {string} fault one of the names in docs/FORMATS.md or README.md beside this file
  * @property {string} message
  * @property {number} [line] of a syntax error, with the column counted from one
  * @property {number} [column]
+ * @property {string} [excerpt] the line, and below it a caret under the column; for the error output alone
  */
 
 import { WorkerEnd } from "./pool.mjs";
@@ -31,8 +32,8 @@ export class FileFault extends Error {
  */
 export function faultOf(error) {
   if (error instanceof SourceFault) {
-    const { message, line, column } = error;
-    return { fault: "Syntax", message, line, column };
+    const { message, line, column, excerpt } = error;
+    return { fault: "Syntax", message, line, column, excerpt };
   }
   if (error instanceof FileFault) {
     return { fault: error.fault, message: error.message };
@@ -65,10 +66,19 @@ export function systemMessage({ message }) {
 }
 
 /**
- * @param {string} file
- * @param {{ message: string, line?: number, column?: number }} fault or a warning
- * @returns {string} as `FILE:LINE:COLUMN: MESSAGE`
+ * A fault as an answer or a page has it.
+ * @param {Fault} fault
+ * @returns {Fault}
  */
-export function describeFault(file, { message, line, column }) {
-  return `${file}${line ? `:${line}:${column}` : ""}: ${message}`;
+export function withoutExcerpt({ excerpt, ...fault }) {
+  return fault;
+}
+
+/**
+ * @param {string} file
+ * @param {{ message: string, line?: number, column?: number, excerpt?: string }} fault or a warning
+ * @returns {string} as `FILE:LINE:COLUMN: MESSAGE`, with the excerpt below
+ */
+export function describeFault(file, { message, line, column, excerpt }) {
+  return `${file}${line ? `:${line}:${column}` : ""}: ${message}${excerpt ? `\n${excerpt}` : ""}`;
 }

@@ -11,6 +11,7 @@ import { existsSync } from "node:fs";
 import { resolve as absolute } from "node:path";
 import { pathToFileURL } from "node:url";
 
+import { withoutExcerpt } from "./faults.mjs";
 import { isFolder } from "./finding.mjs";
 import { LINE_OPTIONS, runLines } from "./lines.mjs";
 import { modinfoPath } from "./modinfo_path.mjs";
@@ -73,8 +74,10 @@ async function main({ values, positionals }) {
     resolve: Boolean(values.resolve || values.reach),
     reach: Boolean(values.reach),
   };
-  const run = { name: NAME, values, paths: positionals, work };
-  await checkProgram(program);
+  // The threads load the parser meanwhile.
+  const ready = checkProgram(program);
+  ready.catch(() => {});
+  const run = { name: NAME, values, paths: positionals, work, ready };
   return values.reach ? writeReached(run, values) : runLines({ ...run, write: writeAnswer });
 }
 
@@ -94,7 +97,8 @@ export async function checkProgram(program) {
 
 /** @param {FileResult} result */
 async function writeAnswer({ path, line, fault }) {
-  await writeOutput(line ?? `${JSON.stringify({ specifier: pathToFileURL(path), ...fault })}\n`);
+  const said = fault && withoutExcerpt(fault);
+  await writeOutput(line ?? `${JSON.stringify({ specifier: pathToFileURL(path), ...said })}\n`);
 }
 
 /**

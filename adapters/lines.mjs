@@ -24,8 +24,8 @@ export const LINE_OPTIONS = {
 
 /** How many paths are looked up ahead of the files that are read. */
 const AHEAD = 1_000_000;
-/** How many files are under way for each worker, where an early one takes long. */
-const UNDER_WAY = 16;
+/** How many files are under way for each worker: so many are done while an early one takes long. */
+const UNDER_WAY = 256;
 
 const WORKER = new URL("./file_worker.mjs", import.meta.url);
 
@@ -71,19 +71,22 @@ async function readFile(pool, { path, error }) {
  * @param {string[]} run.paths
  * @param {Work} run.work
  * @param {boolean} [run.isQuiet] whether nothing is written to the standard output meanwhile
+ * @param {Promise<void>} [run.ready] nothing is said or written before it; where it is rejected, so is this
  * @param {(result: FileResult) => Promise<void>} [run.write] is called for each file in turn
  * @returns {Promise<number>} the status
  */
-export async function runLines({ name, values, paths, work, isQuiet, write = writeLine }) {
+export async function runLines({ name, values, paths, work, isQuiet, ready, write = writeLine }) {
   const jobs = readJobs(values.jobs);
   const progress = new Progress(process.stderr, isQuiet || !process.stdout.isTTY);
   const teller = new Teller(name, progress);
   const files = findFiles(named(paths, values), { mediaTypes: work.mediaTypes, all: values.all });
   const ahead = Readable.from(counted(files, progress), { highWaterMark: AHEAD });
   for await (const result of readFiles(ahead, { jobs, work })) {
+    await ready;
     teller.tell(result);
     await write(result);
   }
+  await ready;
   progress.clear();
   return teller.status;
 }

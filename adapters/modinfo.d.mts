@@ -1,6 +1,8 @@
+import type { DocumentFault, Report } from "./check.mjs";
 import type { ModuleInfo } from "./information.mjs";
 import type { MediaType, ModuleDocument } from "./notation.mjs";
 
+export * from "./check.mjs";
 export * from "./information.mjs";
 export * from "./notation.mjs";
 
@@ -14,7 +16,10 @@ export interface ModinfoOptions {
   jobs?: number;
 }
 
-/** A process of `modinfo` for each command, started with its first document. */
+/**
+ * A process of `modinfo` for each command, and for the checks of each, started with its first
+ * document.
+ */
 export class Modinfo {
   constructor(options?: ModinfoOptions);
 
@@ -44,6 +49,17 @@ export class Modinfo {
   reach(graph: ModuleGraph | string | Uint8Array): Promise<string[]>;
 
   /**
+   * What is wrong with a document of a command, and where; or that it is valid, with warnings. A
+   * document with a fault is answered by its report too.
+   * @param document also as JSON, the bytes in UTF-8. Places in the text of an object are those in
+   *   what `JSON.stringify` makes of it
+   * @throws {ModinfoFault} memory was refused: `OutOfMemory` alone
+   * @throws {ProgramEnd} the process ended before it had answered
+   * @throws {TypeError} what is handed over is neither an object nor JSON, or there is no such command
+   */
+  check(document: object | string | Uint8Array, options?: CheckOptions): Promise<Report>;
+
+  /**
    * What a module depends on, from its text, which TypeScript's parser parses.
    * @throws {ModinfoFault} also `Syntax`, `Depth`, `OutOfMemory` or `Parser`
    * @throws {ProgramEnd} the process ended before it had answered
@@ -55,6 +71,11 @@ export class Modinfo {
   close(): Promise<void>;
 
   [Symbol.asyncDispose](): Promise<void>;
+}
+
+export interface CheckOptions {
+  /** The command that would read the document; `"analyze"` where it is missing. */
+  command?: "analyze" | "convert" | "reach";
 }
 
 export interface ModuleInfoOptions {
@@ -72,24 +93,8 @@ export interface ModuleGraph {
   modules: Record<string, ModuleInfo>;
 }
 
-/** Why a document or a text is refused; README.md of the repository says when each comes. */
-export type FaultName =
-  | "Input"
-  | "Json"
-  | "Tree"
-  | "Specifier"
-  | "RangeReversed"
-  | "RangeOutside"
-  | "RangeOffBoundary"
-  | "CommentText"
-  | "CommentsOverlap"
-  | "Shape"
-  | "Float"
-  | "ColumnOverflow"
-  | "OutOfMemory"
-  | "Syntax"
-  | "Depth"
-  | "Parser";
+/** Why a document or a text is refused; docs/FORMATS.md of the repository and README.md say when each comes. */
+export type FaultName = DocumentFault | "OutOfMemory" | "Syntax" | "Depth" | "Parser";
 
 /** A document, or the text of a module, is refused. */
 export class ModinfoFault extends Error {

@@ -6,7 +6,8 @@
  *     await modinfo.close();
  */
 
-import { faultOf } from "./faults.mjs";
+import { checkedForm, withPlace } from "./checking.mjs";
+import { faultOf, withoutExcerpt } from "./faults.mjs";
 import { readOptions } from "./media_types.mjs";
 import { modinfoPath } from "./modinfo_path.mjs";
 import { parseText } from "./parse_text.mjs";
@@ -18,24 +19,27 @@ import { TYPESCRIPT_MEDIA_TYPES } from "./typescript/parse.mjs";
 export { ModinfoFault, ProgramEnd };
 
 /**
+ * @typedef {import("./modinfo.mjs").CheckOptions} CheckOptions
  * @typedef {import("./modinfo.mjs").Modinfo} Interface
  * @typedef {import("./modinfo.mjs").ModinfoOptions} Options
  * @typedef {import("./modinfo.mjs").ModuleGraph} ModuleGraph
  * @typedef {import("./modinfo.mjs").ModuleInfo} ModuleInfo
  * @typedef {import("./modinfo.mjs").ModuleInfoOptions} ModuleInfoOptions
  * @typedef {import("./modinfo.mjs").ModuleDocument} ModuleDocument
- * @typedef {"analyze" | "convert" | "reach"} Command
+ * @typedef {import("./modinfo.mjs").Report} Report
+ * @typedef {import("./service.mjs").Command} Command
  */
 
 const WORKER = new URL("./text_worker.mjs", import.meta.url);
 
 /**
- * A process of `modinfo` for each command, started with its first document. What each method does
- * is in modinfo.d.mts.
+ * A process of `modinfo` for each command, and for the checks of each, started with its first
+ * document. What each method does is in modinfo.d.mts.
  * @implements {Interface}
  */
 export class Modinfo {
   #services;
+  #checks;
   #pool;
   /**
    * The texts that are being parsed or analyzed.
@@ -58,6 +62,11 @@ export class Modinfo {
       analyze: new Service(program, "analyze"),
       convert: new Service(program, "convert"),
       reach: new Service(program, "reach"),
+    };
+    this.#checks = {
+      analyze: new Service(program, "check analyze"),
+      convert: new Service(program, "check convert"),
+      reach: new Service(program, "check reach"),
     };
     this.#pool = jobs > 1 ? new Pool(WORKER, { jobs }) : undefined;
   }
@@ -87,6 +96,21 @@ export class Modinfo {
   }
 
   /**
+   * @param {object | string | Uint8Array} document
+   * @param {CheckOptions} options
+   * @returns {Promise<Report>}
+   */
+  async check(document, { command = "analyze" } = {}) {
+    this.#checkOpen();
+    if (!Object.hasOwn(this.#checks, command)) {
+      throw new TypeError(`command is to be analyze, convert or reach, and is ${String(command)}`);
+    }
+    const handed = checkedForm(jsonOf(document));
+    const report = await this.#checks[command].answer(handed);
+    return withPlace(JSON.parse(report.toString()), handed);
+  }
+
+  /**
    * @param {string} text
    * @param {ModuleInfoOptions} options
    * @returns {Promise<ModuleInfo>}
@@ -112,7 +136,7 @@ export class Modinfo {
 
   async #end() {
     await Promise.allSettled(this.#texts);
-    const services = Object.values(this.#services);
+    const services = [...Object.values(this.#services), ...Object.values(this.#checks)];
     await Promise.all([this.#pool?.close(), ...services.map((service) => service.close())]);
   }
 
@@ -130,7 +154,7 @@ export class Modinfo {
    */
   #ask(command, document) {
     this.#checkOpen();
-    return this.#answer(command, jsonOf(document));
+    return this.#answer(command, utf8Of(jsonOf(document)));
   }
 
   /**
@@ -152,7 +176,7 @@ export class Modinfo {
       ? await this.#pool.run(task).catch((error) => ({ fault: faultOf(error) }))
       : parseText(task);
     if (parsed.fault) {
-      const { fault, message, ...place } = parsed.fault;
+      const { fault, message, ...place } = withoutExcerpt(parsed.fault);
       throw new ModinfoFault(fault, message, place);
     }
     return parsed.json;
@@ -171,7 +195,15 @@ function jsonOf(document) {
   if (json === undefined) {
     throw new TypeError(`a document is an object, or its JSON, and is ${String(document)}`);
   }
-  if (!isWellFormed(json)) {
+  return json;
+}
+
+/**
+ * @param {string | Uint8Array} json
+ * @returns {string | Uint8Array}
+ */
+function utf8Of(json) {
+  if (typeof json === "string" && !isWellFormed(json)) {
     throw new ModinfoFault("Input", "a lone surrogate is no UTF-8");
   }
   return json;

@@ -140,7 +140,7 @@ export interface Ident extends NodeOf<"Ident"> {
 }
 
 export interface KeyValue extends NodeOf<"KeyValue"> {
-  key: { str: JsString } | { ident: string } | "other";
+  key: { str: JsString; ident?: never } | { ident: string; str?: never } | "other";
   children: DocumentNode[];
 }
 

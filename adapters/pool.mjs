@@ -5,8 +5,11 @@ import { Worker } from "node:worker_threads";
 
 import { Queue } from "./queue.mjs";
 
-/** How many tasks a worker holds at most, so that the next ones are at hand when some are done. */
-const HELD = 8;
+/**
+ * How many tasks a worker holds at most, so that the next ones are at hand when some are done. It
+ * parses all that it was sent before it sees an answer, and sends the results of these together.
+ */
+const HELD = 16;
 
 /** A worker ended, or the pool was closed, before there was the result of a task. */
 export class WorkerEnd extends Error {

@@ -14,6 +14,7 @@ const KEPT_ERRORS = 2000;
 const LINE_FEED = 0x0a;
 const CARRIAGE_RETURN = 0x0d;
 const ANSWER = Buffer.from('{"answer":');
+const VALID = Buffer.from('{"valid":true');
 
 /** A document, or the text of a module, is refused. */
 export class ModinfoFault extends Error {
@@ -45,6 +46,11 @@ export class ProgramEnd extends Error {
 /**
  * @typedef {import("node:child_process").ChildProcess} ChildProcess
  *
+ * @typedef {"analyze" | "convert" | "reach"} Command
+ * @typedef {Command | `check ${Command}`} Words behind the program's name
+ *
+ * @typedef {{ json?: Buffer, fault?: string }} Answer one of the two
+ *
  * @typedef {object} Request
  * @property {string | Uint8Array} document without a line feed
  * @property {(answer: Buffer) => void} resolve
@@ -53,7 +59,8 @@ export class ProgramEnd extends Error {
 
 export class Service {
   #program;
-  #command;
+  #words;
+  #readAnswer;
   /**
    * Requests that are not yet written.
    * @type {Queue<Request>}
@@ -86,19 +93,21 @@ export class Service {
    * The process is started with the first document, and again with the next one when it has ended.
    * While no answer is waited for, it doesn't keep node from ending.
    * @param {string} program the path of `modinfo`, or its name on the PATH
-   * @param {"analyze" | "convert" | "reach"} [command]
+   * @param {Words} [words]
    */
-  constructor(program, command = "analyze") {
+  constructor(program, words = "analyze") {
     this.#program = program;
-    this.#command = command;
+    this.#words = [...words.split(" "), "--lines"];
+    this.#readAnswer = words.startsWith("check ") ? readReport : readAnswer;
   }
 
   /**
    * The answer to a document. Documents are written in the order of the calls, each once the pipe
    * has room for it.
    * @param {string | Uint8Array} document JSON
-   * @returns {Promise<Buffer>} JSON, as the command prints it; rejected with a `ModinfoFault`, or
-   *   with a `ProgramEnd` where the process ends before it has answered
+   * @returns {Promise<Buffer>} JSON, as the command prints it; rejected with a `ModinfoFault`, of a
+   *   check only where memory was refused, or with a `ProgramEnd` where the process ends before it has
+   *   answered
    */
   answer(document) {
     if (this.#closed) {
@@ -176,7 +185,7 @@ export class Service {
   /** @returns {ChildProcess | undefined} */
   #start() {
     try {
-      const process = spawn(this.#program, [this.#command, "--lines"]);
+      const process = spawn(this.#program, this.#words);
       process.on("error", (error) => this.#fail(process, error));
       if (process.pid) {
         this.#listen(process);
@@ -223,7 +232,7 @@ export class Service {
 
   /** @param {Buffer} line */
   #settle(line) {
-    const answer = readAnswer(line);
+    const answer = this.#readAnswer(line);
     if (!answer || this.#asked.length === 0) {
       // Which answer belongs to which document isn't known any more.
       this.#process.kill();
@@ -303,15 +312,45 @@ function oneLine(document) {
 
 /**
  * @param {Buffer} line `{"answer":..}` or `{"fault":".."}`
- * @returns {{ json?: Buffer, fault?: string } | undefined} nothing where it is neither
+ * @returns {Answer | undefined} nothing where it is neither
  */
 function readAnswer(line) {
-  if (line.subarray(0, ANSWER.length).equals(ANSWER)) {
-    return { json: line.subarray(ANSWER.length, -1) };
-  }
+  return beginsWith(line, ANSWER) ? { json: line.subarray(ANSWER.length, -1) } : readFault(line);
+}
+
+/**
+ * @param {Buffer} line a report, or `{"fault":".."}` alone
+ * @returns {Answer | undefined} nothing where it is neither
+ */
+function readReport(line) {
+  const isReport = beginsWith(line, VALID) || typeof parsed(line)?.expected === "string";
+  return isReport ? { json: line } : readFault(line);
+}
+
+/**
+ * @param {Buffer} line
+ * @returns {Answer | undefined}
+ */
+function readFault(line) {
+  const fault = parsed(line)?.fault;
+  return typeof fault === "string" ? { fault } : undefined;
+}
+
+/**
+ * @param {Buffer} line
+ * @param {Buffer} beginning
+ */
+function beginsWith(line, beginning) {
+  return line.subarray(0, beginning.length).equals(beginning);
+}
+
+/**
+ * @param {Buffer} line
+ * @returns {any} nothing where it is no JSON
+ */
+function parsed(line) {
   try {
-    const { fault } = JSON.parse(line.toString());
-    return typeof fault === "string" ? { fault } : undefined;
+    return JSON.parse(line.toString());
   } catch {
     return undefined;
   }

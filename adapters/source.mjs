@@ -8,7 +8,12 @@
 
 /** A byte order mark may stand before the `#!`; it stays a part of the text. */
 const SHEBANG = /^\uFEFF?#!.*/u;
-const LONE_SURROGATE = /\p{Surrogate}/u;
+export const LONE_SURROGATE = /\p{Surrogate}/u;
+const LINE_END = /\r\n|[\n\r\u2028\u2029]/u;
+/** Those that move a terminal's cursor or change its colours; a tab has its place in the caret's line too. */
+const CONTROL = /[^\P{Cc}\t]/gu;
+/** How many characters of a line are shown before a place, and behind it. */
+const ROUND = 70;
 
 /** A syntax error, or a text that no document can hold. Line and column count from one. */
 export class SourceFault extends Error {
@@ -20,10 +25,25 @@ export class SourceFault extends Error {
   constructor(message, text, offset) {
     super(message);
     this.name = "SourceFault";
-    const lines = text.slice(0, offset).split(/\r\n|[\n\r\u2028\u2029]/u);
+    const lines = text.slice(0, offset).split(LINE_END);
+    const before = lines[lines.length - 1];
     this.line = lines.length;
-    this.column = [...lines[lines.length - 1]].length + 1;
+    this.column = [...before].length + 1;
+    /** The line, and below it a caret under the column. */
+    this.excerpt = excerptOf(before, text.slice(offset));
   }
+}
+
+/**
+ * @param {string} before what the line has before the place
+ * @param {string} behind the text from the place on
+ * @returns {string} two lines
+ */
+function excerptOf(before, behind) {
+  const start = [...before].slice(-ROUND).join("").replace(CONTROL, "\uFFFD");
+  const [rest] = behind.slice(0, 2 * ROUND).split(LINE_END, 1);
+  const end = [...rest].slice(0, ROUND).join("").replace(CONTROL, "\uFFFD");
+  return `${start}${end}\n${start.replace(/[^\t]/gu, " ")}^`;
 }
 
 export class Source {

@@ -4,7 +4,9 @@
  * repository and below share/doc/modinfo where it is installed, describes documents and answers.
  *
  * modinfo_analyze, modinfo_convert and modinfo_reach each read one JSON document from memory, and
- * write one line into memory that you lend. Nothing is kept between calls, and nothing is printed.
+ * write one line into memory that you lend; modinfo_check, modinfo_check_convert and
+ * modinfo_check_reach read a document of these three, and write a report on it. Nothing is kept
+ * between calls, and nothing is printed.
  *
  *     document         the document, in UTF-8
  *     document_length  its length in bytes; no zero byte is needed behind it
@@ -16,14 +18,16 @@
  *
  *     MODINFO_ANSWERED   the answer is at the front of `answer`: one line of JSON in UTF-8, with its
  *                        line feed.
- *     MODINFO_FAULT      the document was refused. The fault's name is at the front of `answer`, in
- *                        ASCII and without a line feed.
+ *     MODINFO_FAULT      the document was refused, or memory for it was. The fault's name is at the
+ *                        front of `answer`, in ASCII and without a line feed. A check refuses no
+ *                        document: its only fault is OutOfMemory.
  *     MODINFO_TOO_SMALL  `room` is too small for what would be written, the answer or the name.
  *                        Nothing is written to `answer`: call again with room for `*length` bytes.
  *
  * Bytes of `answer` behind the first `*length` are left as they were, and there is no zero byte at the
  * end. Most answers are shorter than their documents, so room for as many bytes as the document has
- * makes one call the rule. No bound is promised.
+ * makes one call the rule; a report on a small document may be longer, and few have more than 4,096
+ * bytes. No bound is promised.
  *
  * The faults are looked for in this order, but for OutOfMemory, which may come at any point:
  *
@@ -43,6 +47,22 @@
  *     OutOfMemory       memory was refused
  *
  * Of those from RangeReversed to Shape any one is named where analyze meets several.
+ *
+ * A report is one of these JSON objects, which report.schema.json describes beside FORMATS.md:
+ *
+ *     {"valid":true}    the command answers the document. With "warnings" where something in it may
+ *                       not be what was meant: an array of {"pointer":POINTER,"says":TEXT}, at most
+ *                       100, and "more", the number of those beyond them, where there are any.
+ *     {"fault":NAME,..} the command refuses the document, with this fault. "expected" is a text for
+ *                       people, and always there. "pointer":POINTER leads to the value that is at
+ *                       fault; "range":[START,END] is the range of the source that this value is or
+ *                       has, where there is one, in bytes from zero. With CommentsOverlap "other"
+ *                       leads to the first of the two comments. With Input and Json there is no
+ *                       pointer, but "at":{"line":N,"column":N,"offset":N}, the place behind which
+ *                       the document stops being UTF-8 or JSON: in lines and characters from zero,
+ *                       and in bytes.
+ *
+ * A POINTER is a JSON Pointer (RFC 6901) into the document. That to the whole document is empty.
  *
  * What you owe: `document` and `answer` point to `document_length` and `room` bytes, also where these
  * are zero (then to any byte): a null pointer isn't tested for. The document, the room and `*length`
@@ -92,6 +112,18 @@ uint8_t modinfo_convert(const uint8_t *document, size_t document_length,
 /* From a root and the ModuleInfo of many modules to the keys that the root reaches, ascending. */
 uint8_t modinfo_reach(const uint8_t *document, size_t document_length,
                       uint8_t *answer, size_t room, size_t *length);
+
+/* From a document of modinfo_analyze to a report on it: MODINFO_ANSWERED whether it is valid or not. */
+uint8_t modinfo_check(const uint8_t *document, size_t document_length,
+                      uint8_t *answer, size_t room, size_t *length);
+
+/* The same for a document of modinfo_convert. */
+uint8_t modinfo_check_convert(const uint8_t *document, size_t document_length,
+                              uint8_t *answer, size_t room, size_t *length);
+
+/* The same for a document of modinfo_reach. */
+uint8_t modinfo_check_reach(const uint8_t *document, size_t document_length,
+                            uint8_t *answer, size_t room, size_t *length);
 
 #ifdef __cplusplus
 }

@@ -114,13 +114,17 @@ build_crates() {
     trap 'exit 130' INT
     trap 'exit 143' TERM
     return_made
-    rm -rf "$stage"
-    mkdir -p "$stage"
-    touch "$stage/start"
+    begin_stage
     while ((${#state[@]} < ${#crates[@]} || ${#running[@]} > 0)); do
         start_crates
         end_crate
     done
+}
+
+begin_stage() {
+    rm -rf "$stage"
+    mkdir -p "$stage"
+    touch "$stage/start"
 }
 
 # At most a crate for each processor, and for each four gigabytes of memory.

@@ -16,7 +16,7 @@
 import { readFileSync } from "node:fs";
 import { dirname, relative, resolve as absolute } from "node:path";
 
-import { faultOf } from "../faults.mjs";
+import { faultOf, withoutExcerpt } from "../faults.mjs";
 import { isFolder } from "../finding.mjs";
 import { canonicalUrl } from "../reach.mjs";
 import { decode } from "../reading.mjs";
@@ -37,7 +37,7 @@ export class Project {
     if (!this.#byKey.has(key)) {
       const module = { file, path: "", key, rows: [], marks: [] };
       this.#byKey.set(key, module);
-      this.#read(module, line && JSON.parse(String(line)).info, fault);
+      this.#read(module, line && JSON.parse(String(line)).info, fault && withoutExcerpt(fault));
     }
   }
 

@@ -48,7 +48,16 @@ for (const adapter of ["estree", "typescript"]) {
     const path = join(FOLDER, "error.js");
     const { stdout, stderr, status } = runIn([path]);
     assert.deepEqual([stdout, status], ["", 1]);
-    assert.match(stderr, new RegExp(`^${name}: ${path}:2:14: [^\n]+\n$`));
+    const [first, ...excerpt] = stderr.split("\n");
+    assert.match(first, new RegExp(`^${name}: ${path}:2:14: .`));
+    assert.deepEqual(excerpt, ["let é = 'é', (;", `${" ".repeat(13)}^`, ""]);
+  });
+
+  test(`${adapter} shows a part of a long line, its tabs as they are, and no other control character`, () => {
+    const long = runIn(["-"], `"${"a".repeat(100)}"; (;"${"b".repeat(100)}"`).stderr.split("\n").slice(1);
+    assert.deepEqual(long, [`${"a".repeat(66)}"; (;"${"b".repeat(68)}`, `${" ".repeat(70)}^`, ""]);
+    const control = runIn(["-"], "a\t= '\u001b[31m' + ;\r\nb").stderr.split("\n").slice(1);
+    assert.deepEqual(control, ["a\t= '\uFFFD[31m' + ;", ` \t${" ".repeat(12)}^`, ""]);
   });
 
   test(`${adapter} names the file that it can't read`, () => {
@@ -99,7 +108,8 @@ for (const adapter of ["estree", "typescript"]) {
     assert.equal(status, 1);
     const [first, ...others] = stderr.split("\n");
     assert.match(first, new RegExp(`^${name}: lines/d.js:2:9: `));
-    assert.deepEqual(others, [`${name}: none.js: ENOENT: no such file or directory`, ""]);
+    const none = `${name}: none.js: ENOENT: no such file or directory`;
+    assert.deepEqual(others, ["let b = ;", `${" ".repeat(8)}^`, none, ""]);
   });
 
   test(`${adapter} says when its output fails, unless its reader has ended`, () => {

@@ -40,7 +40,7 @@ function answers(words, cwd, { stderr = "", status = 0, ...options } = {}) {
 }
 
 const urlOf = (folder, path) => pathToFileURL(join(folder, path)).href;
-const wrongLine = (path) => `${NAME}: ${path}:2:9: Expression expected.\n`;
+const wrongLine = (path) => `${NAME}: ${path}:2:9: Expression expected.\nlet b = ;\n        ^\n`;
 
 test("each file's answer, in the order of the files, a fault among them", () => {
   const folder = project();

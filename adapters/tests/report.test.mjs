@@ -93,7 +93,10 @@ test("the page is the same each time", () => {
 test("a file without an answer is said, is in the page with its place, and the status is 1", () => {
   const folder = folderOf({ "a.ts": "let a = 1;\nlet b = ;\n", "b.ts": Buffer.of(0xff), "c.ts": "" });
   const { stderr, status } = runWith(withDot(folderOfDot(EMPTY_DOT)), ["."], folder);
-  assert.equal(stderr, `${NAME}: a.ts:2:9: Expression expected.\n${NAME}: b.ts: the file is not UTF-8\n`);
+  const excerpt = "let b = ;\n        ^";
+  assert.equal(
+    stderr, `${NAME}: a.ts:2:9: Expression expected.\n${excerpt}\n${NAME}: b.ts: the file is not UTF-8\n`,
+  );
   assert.equal(status, 1);
   const { modules, lists } = dataOf(join(folder, "report.html"));
   assert.deepEqual(lists.faults, [0, 1]);

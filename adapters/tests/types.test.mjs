@@ -18,6 +18,9 @@ const skip = !parserFolder("typescript") && "there is no TypeScript";
 
 /** The type of TypeScript that a schema describes. */
 function typeOf(schema) {
+  if (schema === false) {
+    return "never";
+  }
   if (schema.$ref) {
     return schema.$ref.replace("#/$defs/", "");
   }
@@ -54,7 +57,6 @@ function objectOf({ properties, required = [], additionalProperties }) {
     return `Record<string, ${typeOf(additionalProperties)}>`;
   }
   const members = Object.entries(properties)
-    .filter(([, property]) => property !== false)
     .map(([name, property]) => `${name}${required.includes(name) ? "" : "?"}: ${typeOf(property)};`);
   return `{ ${members.join(" ")} }`;
 }
@@ -77,7 +79,7 @@ function moduleOf(schema) {
   const definitions = Object.entries(schema.$defs)
     .filter(([name]) => !kinds.includes(name))
     .map(([name, each]) => `type ${name} = ${name === "node" ? nodeOf(schema) : typeOf(each)};`);
-  return [...definitions, `export type Root = ${objectOf(schema)};`].join("\n");
+  return [...definitions, `export type Root = ${typeOf(schema)};`].join("\n");
 }
 
 /** Types are the same where nothing tells them apart. */
@@ -100,6 +102,15 @@ const CHANGES = {
     ({ $defs }) => $defs.NamedExport.properties.src.anyOf.pop(),
     ({ required }) => required.pop(),
   ],
+  report: [
+    ({ oneOf }) => oneOf.pop(),
+    ({ $defs }) => delete $defs.faultReport.properties.valid,
+    ({ $defs }) => $defs.faultReport.required.pop(),
+    ({ $defs }) => $defs.documentFault.enum.pop(),
+    ({ $defs }) => $defs.range.prefixItems.pop(),
+    ({ $defs }) => delete $defs.validReport.properties.more,
+    ({ $defs }) => ($defs.textPlace.properties.offset.type = "string"),
+  ],
 };
 
 test("the types are what the schemas say", { skip }, () => {
@@ -108,6 +119,7 @@ test("the types are what the schemas say", { skip }, () => {
   const checks = [SAME];
   for (const [name, file, type] of [
     ["module-info", "information", "ModuleInfo"], ["document", "notation", "ModuleDocument"],
+    ["report", "check", "Report"],
   ]) {
     copyFileSync(join(ADAPTERS, `${file}.d.mts`), join(folder, `${file}.d.mts`));
     checks.push(`import type { ${type} } from "./${file}.mjs";`);

@@ -9,6 +9,7 @@ import ctypes
 import sys
 
 ANSWERED, FAULT, TOO_SMALL = 0, 1, 2
+FUNCTIONS = ("analyze", "convert", "reach", "check", "check_convert", "check_reach")
 
 
 class Modinfo:
@@ -16,8 +17,8 @@ class Modinfo:
 
     def __init__(self, path):
         self.library = ctypes.CDLL(path)
-        for name in ("modinfo_analyze", "modinfo_convert", "modinfo_reach"):
-            function = getattr(self.library, name)
+        for name in FUNCTIONS:
+            function = getattr(self.library, f"modinfo_{name}")
             function.restype = ctypes.c_uint8
             function.argtypes = [
                 ctypes.c_char_p,

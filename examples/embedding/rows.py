@@ -13,13 +13,15 @@ from pathlib import Path
 from analyze import ANSWERED, FAULT, TOO_SMALL, Modinfo
 
 COMMANDS = ("analyze", "convert", "reach")
+# Each command's function that writes reports.
+CHECKS = {"analyze": "check", "convert": "check_convert", "reach": "check_reach"}
 GUARD = b"\xa5" * 64
 
 
 def blocks(text):
     """The rows of a file, each a list of (word, rest)."""
     row = []
-    for line in text.splitlines():
+    for line in text.split("\n"):
         if not line or line.startswith("#"):
             continue
         word, _, rest = line.partition(" ")
@@ -31,17 +33,31 @@ def blocks(text):
         yield row
 
 
-def program_rows(folder):
-    """The name, command, input, status and answer of each row that runs the program on one command."""
+def rows_of_runs(folder):
+    """The words, and the lines by their first words, of each row that runs the program."""
     for file in sorted(folder.glob("*.rows")):
         for row in blocks(file.read_text()):
             fields = {}
             for word, rest in row:
                 fields.setdefault(word, []).append(rest)
-            call = fields["call"][0].split()
-            if call[0] != "serve" or len(call) != 2 or call[1] not in COMMANDS:
-                continue
-            yield fields["row"][0], call[1], input_of(folder, fields), *wanted_of(folder, fields)
+            program, *words = fields["call"][0].split()
+            if program == "serve":
+                yield words, fields
+
+
+def program_rows(folder):
+    """The name, command, input, status and answer of each row that runs the program on one command."""
+    for words, fields in rows_of_runs(folder):
+        if len(words) == 1 and words[0] in COMMANDS:
+            yield fields["row"][0], words[0], input_of(folder, fields), *wanted_of(folder, fields)
+
+
+def check_rows(folder):
+    """The name, command, input and report of each row that checks one document."""
+    for words, fields in rows_of_runs(folder):
+        command = words[1] if len(words) == 2 else "analyze"
+        if words[:1] == ["check"] and len(words) < 3 and command in COMMANDS:
+            yield fields["row"][0], command, input_of(folder, fields), output_of(folder, fields)
 
 
 def input_of(folder, fields):
@@ -54,28 +70,39 @@ def input_of(folder, fields):
 
 def wanted_of(folder, fields):
     if int(fields.get("status", ["0"])[0]) == 0:
-        if "output-from" in fields:
-            return ANSWERED, (folder / fields["output-from"][0]).read_bytes()
-        return ANSWERED, "".join(line + "\n" for line in fields["output"]).encode()
+        return ANSWERED, output_of(folder, fields)
     return FAULT, fields["errors"][0].removeprefix("modinfo: ").encode()
 
 
-def called(modinfo, command, document, room):
+def output_of(folder, fields):
+    if "output-from" in fields:
+        return (folder / fields["output-from"][0]).read_bytes()
+    return "".join(line + "\n" for line in fields["output"]).encode()
+
+
+def calls(folder):
+    """The name, function, document, status and answer of each row that the library can replay."""
+    yield from program_rows(folder)
+    for name, command, document, report in check_rows(folder):
+        yield name, CHECKS[command], document, ANSWERED, report
+
+
+def called(modinfo, function, document, room):
     """The status, the length, and the room with the bytes behind it."""
     length = ctypes.c_size_t()
     answer = ctypes.create_string_buffer(b"\xa5" * room + GUARD, room + len(GUARD))
-    function = getattr(modinfo.library, f"modinfo_{command}")
-    status = function(document, len(document), answer, room, ctypes.byref(length))
+    call = getattr(modinfo.library, f"modinfo_{function}")
+    status = call(document, len(document), answer, room, ctypes.byref(length))
     return status, length.value, answer.raw
 
 
-def fails(modinfo, command, document, status, wanted):
+def fails(modinfo, function, document, status, wanted):
     size = len(wanted)
-    if called(modinfo, command, document, size) != (status, size, wanted + GUARD):
+    if called(modinfo, function, document, size) != (status, size, wanted + GUARD):
         return "with room for the answer"
-    if called(modinfo, command, document, size + 7) != (status, size, wanted + GUARD[:7] + GUARD):
+    if called(modinfo, function, document, size + 7) != (status, size, wanted + GUARD[:7] + GUARD):
         return "with more room"
-    if called(modinfo, command, document, size - 1) != (TOO_SMALL, size, b"\xa5" * (size - 1) + GUARD):
+    if called(modinfo, function, document, size - 1) != (TOO_SMALL, size, b"\xa5" * (size - 1) + GUARD):
         return "with too little room"
     return None
 
@@ -83,12 +110,12 @@ def fails(modinfo, command, document, status, wanted):
 def main():
     modinfo, folder = Modinfo(sys.argv[1]), Path(sys.argv[2])
     count = wrong = 0
-    for name, command, document, status, wanted in program_rows(folder):
+    for name, function, document, status, wanted in calls(folder):
         count += 1
-        failure = fails(modinfo, command, document, status, wanted)
+        failure = fails(modinfo, function, document, status, wanted)
         if failure is not None:
             wrong += 1
-            print(f"{name}: {failure}: {called(modinfo, command, document, 4096)[:2]}", file=sys.stderr)
+            print(f"{name}: {failure}: {called(modinfo, function, document, 4096)[:2]}", file=sys.stderr)
     print(f"rows: {count}, of which {wrong} answer otherwise")
     return 1 if wrong or count == 0 else 0
 

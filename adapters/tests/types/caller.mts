@@ -4,7 +4,8 @@ import * as acorn from "acorn";
 import ts from "typescript";
 import { Modinfo, ModinfoFault, ProgramEnd } from "modinfo";
 import type {
-  DependencyDescriptor, DocumentNode, FaultName, MediaType, ModuleDocument, ModuleGraph, ModuleInfo, PositionRange,
+  CheckOptions, DependencyDescriptor, DocumentFault, DocumentNode, FaultName, FaultReport, MediaType, ModuleDocument,
+  ModuleGraph, ModuleInfo, PositionRange, Report, ValidReport,
 } from "modinfo";
 import * as estree from "modinfo/estree";
 import * as typescript from "modinfo/typescript";
@@ -67,6 +68,25 @@ const infos: ModuleInfo[] = [
 const graph: ModuleGraph = { root: "a", modules: { a: infos[0] ?? {} } };
 const keys: string[] = await modinfo.reach(graph);
 keys.push(...(await modinfo.reach('{"root":"a","modules":{}}')));
+
+function textsOf(report: Report): string[] {
+  if (!report.valid) {
+    const wrong: FaultReport = report;
+    const name: DocumentFault = wrong.fault;
+    const numbers = [...(wrong.range ?? []), wrong.at?.line, wrong.at?.column, wrong.at?.offset];
+    return [name, wrong.pointer ?? wrong.other ?? numbers.join(), wrong.expected];
+  }
+  const sound: ValidReport = report;
+  return [...(sound.warnings ?? []).map(({ pointer, says }) => `${pointer}: ${says}`), `${sound.more ?? 0} more`];
+}
+const options: CheckOptions = { command: "reach" };
+const reports: Report[] = [
+  await modinfo.check(document),
+  await modinfo.check(JSON.stringify(document), { command: "analyze" }),
+  await modinfo.check(new TextEncoder().encode(text), {}),
+  await modinfo.check({ nothing: true }, options),
+];
+texts.push(...reports.flatMap(textsOf), ...reports.flatMap((report) => report.fault ?? []));
 
 const comments: acorn.Comment[] = [];
 const tree = acorn.parse(text, { ecmaVersion: "latest", sourceType: "module", onComment: comments });

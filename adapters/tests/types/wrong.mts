@@ -1,7 +1,7 @@
 /** Wrong uses of the package, each of which TypeScript has to refuse; it isn't run. */
 
 import { Modinfo, ModinfoFault } from "modinfo";
-import type { DependencyDescriptor, ModuleDocument, ModuleInfo } from "modinfo";
+import type { DependencyDescriptor, ModuleDocument, ModuleInfo, Report } from "modinfo";
 import * as estree from "modinfo/estree";
 import * as typescript from "modinfo/typescript";
 
@@ -36,6 +36,12 @@ modinfo.reach({ modules: {} });
 const info: ModuleInfo = modinfo.analyze("{}");
 // @ts-expect-error no command
 modinfo.resolve("{}");
+// @ts-expect-error no command that reads documents
+modinfo.check("{}", { command: "check" });
+// @ts-expect-error the command is an option
+modinfo.check("{}", "reach");
+// @ts-expect-error a number is no document
+modinfo.check(1);
 
 // @ts-expect-error acorn reads no TypeScript
 estree.toDocument("", { specifier, mediaType: "TypeScript" });
@@ -48,8 +54,18 @@ typescript.toDocument("", { specifier, tree: { type: "Program", start: 0, end: 0
 // @ts-expect-error a warning is a record
 typescript.toDocument("", { specifier, warn: (warning: string) => warning });
 
-export function wrong(dependency: DependencyDescriptor, document: ModuleDocument): unknown[] {
+export function wrong(dependency: DependencyDescriptor, document: ModuleDocument, report: Report): unknown[] {
   return [
+    // @ts-expect-error only a report of a fault has a pointer
+    report.pointer,
+    // @ts-expect-error a valid document has no fault
+    report.valid && report.fault.length,
+    // @ts-expect-error warnings may be missing
+    report.valid && report.warnings.length,
+    // @ts-expect-error a check refuses no document for lack of memory
+    report.fault === "OutOfMemory",
+    // @ts-expect-error a key is either a string or an identifier
+    document.program.body.push({ kind: "KeyValue", range: [0, 1], key: { str: "a", ident: "a" }, children: [] }),
     info,
     // @ts-expect-error only a static dependency has a specifier
     dependency.specifier,

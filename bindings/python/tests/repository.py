@@ -10,9 +10,9 @@ ROWS = ROOT / "crates/test_replay/data"
 
 sys.path.append(str(EXAMPLES / "embedding"))
 
-from rows import blocks, program_rows  # noqa: E402
+from rows import blocks, check_rows, program_rows  # noqa: E402
 
-__all__ = ["EXAMPLES", "ROOT", "ROWS", "blocks", "examples", "program_rows"]
+__all__ = ["EXAMPLES", "ROOT", "ROWS", "blocks", "check_rows", "examples", "program_rows"]
 
 # Each command's documents and what has to come out.
 ENDINGS = {

@@ -24,6 +24,27 @@ unsafe extern "C" {
         room: usize,
         length: *mut usize,
     ) -> u8;
+    fn modinfo_check(
+        document: *const u8,
+        document_length: usize,
+        answer: *mut u8,
+        room: usize,
+        length: *mut usize,
+    ) -> u8;
+    fn modinfo_check_convert(
+        document: *const u8,
+        document_length: usize,
+        answer: *mut u8,
+        room: usize,
+        length: *mut usize,
+    ) -> u8;
+    fn modinfo_check_reach(
+        document: *const u8,
+        document_length: usize,
+        answer: *mut u8,
+        room: usize,
+        length: *mut usize,
+    ) -> u8;
 }
 
 /// One of the functions of the library.
@@ -33,6 +54,9 @@ pub struct Function(CFunction);
 pub const ANALYZE: Function = Function(modinfo_analyze);
 pub const CONVERT: Function = Function(modinfo_convert);
 pub const REACH: Function = Function(modinfo_reach);
+pub const CHECK: Function = Function(modinfo_check);
+pub const CHECK_CONVERT: Function = Function(modinfo_check_convert);
+pub const CHECK_REACH: Function = Function(modinfo_check_reach);
 
 pub enum Status {
     /// The answer is at the front of the room.

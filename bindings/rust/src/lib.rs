@@ -39,9 +39,49 @@ pub fn reach(document: &[u8]) -> Result<String, Fault> {
     answer(ffi::REACH, document)
 }
 
-/// Nearly every answer is no longer than its document, but for the line feed.
+/// What is wrong with a document of [`analyze`], and where; or that it is valid, with warnings: the
+/// JSON of the report. It is one of
+///
+/// ```json
+/// {"valid":true}
+/// {"valid":true,"warnings":[{"pointer":"/program/body/0/child","says":".."}],"more":1}
+/// {"fault":"RangeOutside","pointer":"/program/range","range":[0,9],"expected":".."}
+/// {"fault":"Json","at":{"line":0,"column":1,"offset":1},"expected":".."}
+/// ```
+///
+/// and `docs/report.schema.json` of the repository describes it.
+///
+/// # Errors
+///
+/// [`Fault::OutOfMemory`] alone. A document with a fault has a report too.
+pub fn check(document: &[u8]) -> Result<String, Fault> {
+    answer(ffi::CHECK, document)
+}
+
+/// The report on a document of [`convert`], as [`check`] gives it.
+///
+/// # Errors
+///
+/// [`Fault::OutOfMemory`] alone.
+pub fn check_convert(document: &[u8]) -> Result<String, Fault> {
+    answer(ffi::CHECK_CONVERT, document)
+}
+
+/// The report on a document of [`reach`], as [`check`] gives it.
+///
+/// # Errors
+///
+/// [`Fault::OutOfMemory`] alone.
+pub fn check_reach(document: &[u8]) -> Result<String, Fault> {
+    answer(ffi::CHECK_REACH, document)
+}
+
+/// Nearly every answer is no longer than its document, but for the line feed, and nearly every report
+/// than this.
+const LEAST_ROOM: usize = 4096;
+
 fn answer(function: Function, document: &[u8]) -> Result<String, Fault> {
-    let mut room = vec![0; document.len() + 1];
+    let mut room = vec![0; LEAST_ROOM.max(document.len() + 1)];
     loop {
         let (status, length) = ffi::call(function, document, &mut room);
         match status {

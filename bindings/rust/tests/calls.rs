@@ -2,7 +2,7 @@
 
 mod repository;
 
-use modinfo::{analyze, Fault};
+use modinfo::{analyze, check, check_convert, check_reach, Fault};
 use repository::{blocks, examples, field, root, rows};
 use std::collections::BTreeSet;
 use std::sync::Barrier;
@@ -18,6 +18,24 @@ fn each_example_has_its_answer() {
         );
     }
     examples.iter().for_each(|example| example.check());
+}
+
+#[test]
+fn each_example_is_valid() {
+    for example in examples() {
+        let check = match example.command.as_str() {
+            "convert" => check_convert,
+            "reach" => check_reach,
+            _ => check,
+        };
+        let report = check(&example.document);
+        assert_eq!(
+            report.as_deref(),
+            Ok(r#"{"valid":true}"#),
+            "{}",
+            example.name
+        );
+    }
 }
 
 #[test]

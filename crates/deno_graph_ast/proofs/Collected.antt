@@ -1,5 +1,29 @@
 -- Comments have a list of all their imports, from one comment to the next.
-use Rattle.std.proofs.Common.{◌≡◌, ℕ, ◌+◌, ◌==◌, ◌⊎◌, inl, inr, Bool, true, false, List, [], ◌∷◌, ◌++◌, map, refl, sym, ap, ◌∙◌, subst, codes, append_assoc, arith}
+use Rattle.std.proofs.Common.{
+  ◌≡◌,
+  ℕ,
+  ◌+◌,
+  ◌==◌,
+  ◌⊎◌,
+  inl,
+  inr,
+  Bool,
+  true,
+  false,
+  List,
+  [],
+  ◌∷◌,
+  ◌++◌,
+  map,
+  refl,
+  sym,
+  ap,
+  ◌∙◌,
+  subst,
+  codes,
+  append_assoc,
+  arith,
+}
 use Rattle.std.proofs.lemmas.Bool.{eqb-true, eqb-false, false≢true}
 use Rattle.std.proofs.lemmas.List.{append-nil}
 use Rattle.std.proofs.lemmas.List.Elements.{All-contains, Contains-append_left, Contains-push}
@@ -10,7 +34,18 @@ use Rattle.deno_graph_jsdoc.specs.JsDocImport.{Import, moved}
 use Rattle.deno_graph_jsdoc.proofs.Collected.{gain, hits_of}
 use Rattle.deno_graph_ast.specs.CommentImports.{AreApart, AreImports, IsJsDoc}
 use Rattle.deno_graph_ast.specs.CommentImportSteps.{GainsImports, IsMovedHit}
-use Rattle.deno_graph_ast.proofs.Gathered.{Gathered, Gathered-start, Gathered-more, Gathered-skip, Gathered-imports, GainsImports-start, GainsImports-more, GainsImports-as, moved_is_hit, hit_is_moved}
+use Rattle.deno_graph_ast.proofs.Gathered.{
+  Gathered,
+  Gathered-start,
+  Gathered-more,
+  Gathered-skip,
+  Gathered-imports,
+  GainsImports-start,
+  GainsImports-more,
+  GainsImports-as,
+  moved_is_hit,
+  hit_is_moved,
+}
 use Rattle.deno_graph_source.specs.Source.{IsSpelled}
 use Rattle.deno_graph_source.specs.declared.tree.comments.CommentKind.{CommentKind}
 use Rattle.deno_graph_source.specs.declared.tree.comments.CommentKind.TheVariants.{Line, Block}

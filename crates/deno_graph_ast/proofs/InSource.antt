@@ -1,6 +1,45 @@
 -- A part of a comment's text is a part of the source, two bytes behind the comment's start.
-use Rattle.std.proofs.Common.{◌≡◌, ℕ, ◌+◌, ◌-◌, ◌<◌, ◌≤◌, ◌⊎◌, inl, inr, false, true, Bool, List, [], ◌∷◌, ◌++◌, length, take, drop, get_or, refl, sym, ap, subst, ◌∙◌, append_assoc, length-append, length-drop, arith}
-use Rattle.std.proofs.lemmas.List.{drop-drop, drop-append-le, take-append-le, take-append-drop, get_or_at, get_or_append_left, append-nil, length-take}
+use Rattle.std.proofs.Common.{
+  ◌≡◌,
+  ℕ,
+  ◌+◌,
+  ◌-◌,
+  ◌<◌,
+  ◌≤◌,
+  ◌⊎◌,
+  inl,
+  inr,
+  false,
+  true,
+  Bool,
+  List,
+  [],
+  ◌∷◌,
+  ◌++◌,
+  length,
+  take,
+  drop,
+  get_or,
+  refl,
+  sym,
+  ap,
+  subst,
+  ◌∙◌,
+  append_assoc,
+  length-append,
+  length-drop,
+  arith,
+}
+use Rattle.std.proofs.lemmas.List.{
+  drop-drop,
+  drop-append-le,
+  take-append-le,
+  take-append-drop,
+  get_or_at,
+  get_or_append_left,
+  append-nil,
+  length-take,
+}
 use Rattle.std.proofs.lemmas.Bool.{cases_order}
 use Rattle.std.proofs.lemmas.Str.{IsCharBoundary-before_ascii, IsCharBoundary-from_rest}
 use Rattle.std.specs.Str.{IsCharBoundary}
@@ -111,7 +150,8 @@ range_from : (start : ℕ) (part : TextPart) → SourceRange
 range_from start part = record { start = start + part.start; end = start + part.end }
 
 -- a slice of the text is one of the source
-slice_in_source : (source text : List ℕ) (start limit : ℕ) (part : TextPart) → HasFault source text start limit
+slice_in_source : (source text : List ℕ) (start limit : ℕ) (part : TextPart)
+    → HasFault source text start limit
     → IsSliceOf text part
     → IsTextRange source (range_from start part) × (slice_of source (range_from start part) ≡ part.text)
     × (start + part.end ≤ limit)

@@ -1,6 +1,26 @@
 -- In a valid source the comments before its dependencies, at its head and at its tail stand in the
 -- text as they say.
-use Rattle.std.proofs.Common.{◌≡◌, ℕ, List, [], ◌∷◌, Bool, true, false, Option, Some, None, refl, sym, ap, subst, All, Contains, unwrap_or, slice_get}
+use Rattle.std.proofs.Common.{
+  ◌≡◌,
+  ℕ,
+  List,
+  [],
+  ◌∷◌,
+  Bool,
+  true,
+  false,
+  Option,
+  Some,
+  None,
+  refl,
+  sym,
+  ap,
+  subst,
+  All,
+  Contains,
+  unwrap_or,
+  slice_get,
+}
 use Rattle.std.proofs.lemmas.List.Elements.{All-nil, All-cons}
 use Rattle.deno_graph_source.specs.ByPosition.{value_at}
 use Rattle.deno_graph_source.specs.Comments.{FiledComments, comments_of}
@@ -8,7 +28,15 @@ use Rattle.deno_graph_source.specs.Node.{kind_of, range_of}
 use Rattle.deno_graph_source.specs.Source.{IsSpelled, IsValid}
 use Rattle.deno_graph_source.specs.declared.tree.comments.DependencyComment.{DependencyComment}
 use Rattle.deno_graph_source.specs.declared.tree.node.Kind.{Kind}
-use Rattle.deno_graph_source.specs.declared.tree.node.Kind.TheVariants.{ImportDecl, NamedExport, ExportAll, ImportEquals, ImportType, ModuleDecl, Call}
+use Rattle.deno_graph_source.specs.declared.tree.node.Kind.TheVariants.{
+  ImportDecl,
+  NamedExport,
+  ExportAll,
+  ImportEquals,
+  ImportType,
+  ModuleDecl,
+  Call,
+}
 use Rattle.deno_graph_source.specs.declared.tree.node.Node.{Node}
 use Rattle.deno_graph_source.specs.declared.tree.node.Program.{Program}
 use Rattle.deno_graph_source.proofs.Lists.{All-within}

@@ -16,8 +16,10 @@ abbrev HaveSame : List DependencyComment → List DependencyComment → Type 0
 HaveSame xs ys = (comment : DependencyComment) → Contains xs comment ↔ Contains ys comment
 
 same_from_permutation : (xs ys : List DependencyComment) → IsPermutation xs ys → HaveSame xs ys
-same_from_permutation xs ys same comment =
-    (Contains-permutation xs ys comment same, Contains-permutation ys xs comment (IsPermutation-sym xs ys same))
+same_from_permutation xs ys same comment = (
+  Contains-permutation xs ys comment same,
+  Contains-permutation ys xs comment (IsPermutation-sym xs ys same),
+)
 
 pub apart_in_any_order : (xs ys : List DependencyComment) → IsPermutation xs ys → AreApart xs → AreApart ys
 apart_in_any_order xs ys same apart a b there_a there_b share =

@@ -1,5 +1,33 @@
 -- The first and the last of a list with a property, and what their pragmas name.
-use Rattle.std.proofs.Common.{◌≡◌, ℕ, ◌+◌, ◌<◌, List, [], ◌∷◌, ◌++◌, length, take, drop, get_or, length-append, refl, sym, ap, subst, ◌∙◌, All, arith, add-one, drop-cons, IsTrue, Bool, true, false, Some}
+use Rattle.std.proofs.Common.{
+  ◌≡◌,
+  ℕ,
+  ◌+◌,
+  ◌<◌,
+  List,
+  [],
+  ◌∷◌,
+  ◌++◌,
+  length,
+  take,
+  drop,
+  get_or,
+  length-append,
+  refl,
+  sym,
+  ap,
+  subst,
+  ◌∙◌,
+  All,
+  arith,
+  add-one,
+  drop-cons,
+  IsTrue,
+  Bool,
+  true,
+  false,
+  Some,
+}
 use Rattle.std.proofs.lemmas.List.{take-append-drop, get_or_append_left}
 use Rattle.std.proofs.lemmas.List.Elements.{All-nil, All-cons}
 use Rattle.deno_graph_source.specs.declared.tree.comments.CommentKind.TheVariants.{Block}
@@ -7,7 +35,17 @@ use Rattle.deno_graph_source.specs.declared.tree.comments.DependencyComment.{Dep
 use Rattle.deno_graph_dependency.specs.declared.specifier_with_range.SpecifierWithRange.{SpecifierWithRange}
 use Rattle.deno_graph_pragmas.specs.Finders as finder
 use Rattle.deno_graph_pragmas.specs.Split.{TextPart, HasSplit, IsCaptured}
-use Rattle.deno_graph_ast.specs.Pragma.{Pragma, HasPragma, Names, NamesByFirst, IsFirstWith, dependency_types_pragmas, quoted, quoteless, specifier_of_part}
+use Rattle.deno_graph_ast.specs.Pragma.{
+  Pragma,
+  HasPragma,
+  Names,
+  NamesByFirst,
+  IsFirstWith,
+  dependency_types_pragmas,
+  quoted,
+  quoteless,
+  specifier_of_part,
+}
 use Rattle.deno_graph_ast.specs.FoundPragma.{IsFound}
 
 -- a list at one of its places
@@ -27,7 +65,8 @@ first_at P xs i x below is none has = record {
   has = has;
 }
 
-pub found_pragma : (pragma : Pragma) (comment : DependencyComment) (part : TextPart) → IsFound pragma comment part
+pub found_pragma : (pragma : Pragma) (comment : DependencyComment) (part : TextPart)
+    → IsFound pragma comment part
     → HasPragma pragma comment
 found_pragma pragma comment part found = record { kind = found.kind; split = found.is_captured.split }
 
@@ -89,7 +128,8 @@ deno_types_named source comment part true specifier no_ts_types captured_quoted 
         whole = refl;
         none_before = All-cons (λ p. ¬ HasPragma p comment) (quoted finder.ts_types_pattern)
             (quoted finder.deno_types_pattern ∷ []) (λ has. no_ts_types has.split)
-            (All-cons (λ p. ¬ HasPragma p comment) (quoted finder.deno_types_pattern) [] (λ has. captured.0 has.split)
+            (All-cons (λ p. ¬ HasPragma p comment) (quoted finder.deno_types_pattern) []
+            (λ has. captured.0 has.split)
             (All-nil (λ p. ¬ HasPragma p comment)));
         has = record { kind = no_blocks comment; split = captured.1.split };
       },

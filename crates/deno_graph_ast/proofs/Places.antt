@@ -1,8 +1,43 @@
 -- Imports of comments, by their places in the source.
-use Rattle.std.proofs.Common.{◌≡◌, ℕ, true, ◌+◌, ◌-◌, ◌<◌, ◌≤◌, ◌⊎◌, inl, inr, List, [], ◌∷◌, ◌++◌, length, take, drop, refl, sym, ap, ◌∙◌, subst, codes, append_assoc, length-append, arith}
+use Rattle.std.proofs.Common.{
+  ◌≡◌,
+  ℕ,
+  true,
+  ◌+◌,
+  ◌-◌,
+  ◌<◌,
+  ◌≤◌,
+  ◌⊎◌,
+  inl,
+  inr,
+  List,
+  [],
+  ◌∷◌,
+  ◌++◌,
+  length,
+  take,
+  drop,
+  refl,
+  sym,
+  ap,
+  ◌∙◌,
+  subst,
+  codes,
+  append_assoc,
+  length-append,
+  arith,
+}
 use Rattle.std.proofs.lemmas.Bool.{and_parts}
 use Rattle.std.proofs.lemmas.List.{drop_at, take_at, take-append-drop, length-take-le, length-drop}
-use Rattle.std.proofs.lemmas.Str.{IsCharBoundary-from_rest, IsCharBoundary-start, IsUtf8-append, IsUtf8-from_ascii, encodes-append, encodes-chars, scalars-chars}
+use Rattle.std.proofs.lemmas.Str.{
+  IsCharBoundary-from_rest,
+  IsCharBoundary-start,
+  IsUtf8-append,
+  IsUtf8-from_ascii,
+  encodes-append,
+  encodes-chars,
+  scalars-chars,
+}
 use Rattle.std.specs.List.{Contains}
 use Rattle.std.specs.Str.{IsCharBoundary, IsUtf8, chars}
 use lib.Utf8.{encodes, encode, scalar, scalars}
@@ -31,7 +66,8 @@ hit_bounds bytes import utf8 hit =
     let own = placed.start in
     let last = placed.end in
     let quote = byte_count_quote import.specifier placed.quote placed.quoted in
-    let whole : length bytes ≡ byte_count placed.before + (byte_count placed.quote + byte_count placed.behind) =
+    let whole : length bytes
+    ≡ byte_count placed.before + (byte_count placed.quote + byte_count placed.behind) =
     ap length (sym (encodes-chars bytes utf8)) ∙ ap byte_count placed.whole
     ∙ byte_count-append placed.before (placed.quote ++ placed.behind)
     ∙ ap (λ n. byte_count placed.before + n) (byte_count-append placed.quote placed.behind) in
@@ -243,7 +279,8 @@ module _ (text : List ℕ) (comment : DependencyComment) (spelled : IsSpelled te
         let own = placed.start in
         let moves = ap (λ (i : Import). i.start) place in
         let quote = byte_count_quote hit.specifier placed.quote placed.quoted in
-        let inner : length comment.text ≡ byte_count placed.before + (byte_count placed.quote + byte_count placed.behind) =
+        let inner : length comment.text
+        ≡ byte_count placed.before + (byte_count placed.quote + byte_count placed.behind) =
         ap length bytes ∙ length-append (encodes placed.before)
         (encodes placed.quote ++ encodes placed.behind)
         ∙ ap (λ n. length (encodes placed.before) + n)

@@ -1,7 +1,35 @@
 -- Imports that are put at a list's end, since they are behind all that is there.
-use Rattle.std.proofs.Common.{◌≡◌, ℕ, ◌+◌, ◌<◌, ◌≤◌, ◌⊎◌, inl, inr, List, [], ◌∷◌, ◌++◌, length, take, map, get_or, refl, sym, ap, ◌∙◌, arith}
+use Rattle.std.proofs.Common.{
+  ◌≡◌,
+  ℕ,
+  ◌+◌,
+  ◌<◌,
+  ◌≤◌,
+  ◌⊎◌,
+  inl,
+  inr,
+  List,
+  [],
+  ◌∷◌,
+  ◌++◌,
+  length,
+  take,
+  map,
+  get_or,
+  refl,
+  sym,
+  ap,
+  ◌∙◌,
+  arith,
+}
 use Rattle.std.proofs.lemmas.List.{get_or-map, get_or-take, length-map, length-take-le}
-use Rattle.std.proofs.lemmas.List.Elements.{All-contains, Contains-append_left, Contains-get_or, Contains-push, Contains-push_cases}
+use Rattle.std.proofs.lemmas.List.Elements.{
+  All-contains,
+  Contains-append_left,
+  Contains-get_or,
+  Contains-push,
+  Contains-push_cases,
+}
 use Rattle.std.proofs.lemmas.List.Quantifiers.{all_pairs_push}
 use Rattle.std.specs.List.{All, Contains}
 use Rattle.std.specs.Str.{IsUtf8, chars}
@@ -51,8 +79,10 @@ next_behind by items k d old now text inside hits before gains other has = by_pl
         get_or-map f (take k items) j d other here ∙ ap f (get_or-take k items j d smaller) in
         let same : other.start ≡ (import_of (get_or items j d)).start + by =
         ap (λ (i : Import). i.start) (sym is ∙ at) in
-        let order = hits.ascending j k (import_of d) smaller (omega (arith, inside, length-map items import_of)) in
-        let first = ap (λ (i : Import). i.start) (get_or-map import_of items j d (import_of d) (omega (arith, smaller, inside))) in
+        let order = hits.ascending j k (import_of d) smaller
+        (omega (arith, inside, length-map items import_of)) in
+        let first = ap (λ (i : Import). i.start)
+        (get_or-map import_of items j d (import_of d) (omega (arith, smaller, inside))) in
         let second = ap (λ (i : Import). i.start) (get_or-map import_of items k d (import_of d) inside) in
         omega (arith, same, order, first, second)
 
@@ -72,5 +102,6 @@ inside_end text comment spelled block utf8 old new behind order below gains impo
         let first = below import was in
         omega (arith, order, first, size.0)
     by_place (inr (hit, is_hit, place)) =
-        (inside_comment text comment spelled block utf8 import hit (hit_placed (chars comment.text) hit is_hit)
+        (inside_comment text comment spelled block utf8 import hit
+        (hit_placed (chars comment.text) hit is_hit)
         place).1

@@ -1,7 +1,35 @@
 -- Comments by ascending start, each read once: the imports so far are behind no later comment's start.
-use Rattle.std.proofs.Common.{◌≡◌, ℕ, ◌+◌, ◌<◌, ◌≤◌, ◌⊎◌, inl, inr, List, [], ◌∷◌, ◌++◌, length, take, get_or, refl, sym, ap, ◌∙◌, subst, arith, Bor}
+use Rattle.std.proofs.Common.{
+  ◌≡◌,
+  ℕ,
+  ◌+◌,
+  ◌<◌,
+  ◌≤◌,
+  ◌⊎◌,
+  inl,
+  inr,
+  List,
+  [],
+  ◌∷◌,
+  ◌++◌,
+  length,
+  take,
+  get_or,
+  refl,
+  sym,
+  ap,
+  ◌∙◌,
+  subst,
+  arith,
+  Bor,
+}
 use Rattle.std.proofs.lemmas.List.{get_or-take, get_or_default, length-take-le, take_more}
-use Rattle.std.proofs.lemmas.List.Elements.{All-contains, Contains-append_left, Contains-push, Contains-push_cases}
+use Rattle.std.proofs.lemmas.List.Elements.{
+  All-contains,
+  Contains-append_left,
+  Contains-push,
+  Contains-push_cases,
+}
 use Rattle.std.specs.List.{All, Contains}
 use Rattle.std.specs.List.Sorted.{IsNonDecreasingBy}
 use Rattle.std.specs.Str.{IsUtf8}
@@ -67,7 +95,8 @@ module _ (text : List ℕ) (comments : List DependencyComment) (spelled : All (I
       → AreRead comments items k imports end → AreRead comments items (k + 1) new item.now.range.end
   AreRead-more imports new end order utf8 gains so_far = record {
     gathered =
-        subst (λ (d : List DependencyComment). Gathered comments d new) (sym (item_next items k item inside is))
+        subst (λ (d : List DependencyComment). Gathered comments d new)
+        (sym (item_next items k item inside is))
         (Gathered-more text comments spelled apart (all (take k items)) item.now imports new here.0 here.1
         utf8 so_far.gathered gains);
     below =

@@ -1,9 +1,42 @@
 -- What makes a module, node by node.
-use Rattle.std.proofs.Common.{◌≡◌, ℕ, Bool, true, false, ◌||◌, List, [], ◌∷◌, ◌++◌, Option, Some, None, slice_get, IsTrue, IsSomeAnd, ◌⊎◌, inl, inr, ap, sym, refl, subst, ◌∙◌, All}
+use Rattle.std.proofs.Common.{
+  ◌≡◌,
+  ℕ,
+  Bool,
+  true,
+  false,
+  ◌||◌,
+  List,
+  [],
+  ◌∷◌,
+  ◌++◌,
+  Option,
+  Some,
+  None,
+  slice_get,
+  IsTrue,
+  IsSomeAnd,
+  ◌⊎◌,
+  inl,
+  inr,
+  ap,
+  sym,
+  refl,
+  subst,
+  ◌∙◌,
+  All,
+}
 use Rattle.deno_graph_source.specs.declared.tree.node.Node.{Node}
 use Rattle.deno_graph_source.specs.Node.{kind_of, children_of}
-use Rattle.deno_graph_dep.specs.NodePath.{NodePath, node_below, LeadsTo, IsStrictPrefix}
-use Rattle.deno_graph_ast.specs.Script.{is_function, IsAwait, IsFunction, IsImportMeta, IsScript, is_module_item}
+use Rattle.deno_graph_source.specs.NodePath.{NodePath, node_below, LeadsTo, IsStrictPrefix}
+use Rattle.deno_graph_ast.specs.Script.{
+  is_function,
+  IsAwait,
+  IsFunction,
+  IsImportMeta,
+  IsScript,
+  is_module_item,
+}
 use Rattle.deno_graph_ast.specs.ScriptSteps.{LeadsBelow, IsBareAwait, MakesModule}
 
 -- a path below a child is a path below its parent

@@ -14,8 +14,21 @@ use Rattle.deno_graph_dep.proofs.SomeItem.{some_dependencies}
 use Rattle.deno_graph_ast.specs.CommentImports.{AreApart, reads_jsdoc}
 use Rattle.deno_graph_ast.specs.HeadTail.{head_comments, tail_comments}
 use Rattle.deno_graph_ast.specs.JsDocInfo.{IsJsDocList, info_of}
-use Rattle.deno_graph_ast.specs.ModuleInfo.{AreDescribed, Describes, IsModuleInfo, comments_before, dependency_of}
-use Rattle.deno_graph_ast.specs.Pragma.{comments_for_jsx, comments_for_types, jsx_import_source_pragma, jsx_import_source_types_pragma, self_types_pragma, source_mapping_url_pragma}
+use Rattle.deno_graph_ast.specs.ModuleInfo.{
+  AreDescribed,
+  Describes,
+  IsModuleInfo,
+  comments_before,
+  dependency_of,
+}
+use Rattle.deno_graph_ast.specs.Pragma.{
+  comments_for_jsx,
+  comments_for_types,
+  jsx_import_source_pragma,
+  jsx_import_source_types_pragma,
+  self_types_pragma,
+  source_mapping_url_pragma,
+}
 use Rattle.deno_graph_ast.proofs.Collected.{imports_of}
 use Rattle.deno_graph_ast.proofs.SomeNamed.{names_first, names_last, names_types, partners, references}
 use Rattle.deno_graph_ast.proofs.SomeScript.{some_script}
@@ -55,7 +68,8 @@ some_info source media_type program comments valid utf8 =
     let self_types = names_first source self_types_pragma (comments_for_types media_type head) in
     let jsx = names_first source jsx_import_source_pragma (comments_for_jsx media_type head) in
     let jsx_types = names_first source jsx_import_source_types_pragma (comments_for_jsx media_type head) in
-    let jsdoc = some_imports (reads_jsdoc media_type) source (comments_of comments) valid.spelled valid.apart utf8 in
+    let jsdoc = some_imports (reads_jsdoc media_type) source
+    (comments_of comments) valid.spelled valid.apart utf8 in
     let map_url = names_last source source_mapping_url_pragma (tail_comments program comments) in (
       record {
         is_script = script.0;

@@ -1,5 +1,28 @@
 -- What comments name: each pragma's specifier, or none, and each reference.
-use Rattle.std.proofs.Common.{◌≡◌, ℕ, ◌⊎◌, inl, inr, ⊎_elim, Bool, true, false, List, [], ◌∷◌, Option, Some, None, All, IsTrue, refl, ap, slice_get, ◌-◌, length}
+use Rattle.std.proofs.Common.{
+  ◌≡◌,
+  ℕ,
+  ◌⊎◌,
+  inl,
+  inr,
+  ⊎_elim,
+  Bool,
+  true,
+  false,
+  List,
+  [],
+  ◌∷◌,
+  Option,
+  Some,
+  None,
+  All,
+  IsTrue,
+  refl,
+  ap,
+  slice_get,
+  ◌-◌,
+  length,
+}
 use Rattle.std.specs.List.{AllZip, flat_map}
 use Rattle.std.specs.Option.{option_to_list}
 use Rattle.std.proofs.lemmas.Bool.{false≢true}
@@ -8,14 +31,42 @@ use Rattle.deno_graph_source.specs.declared.tree.comments.CommentKind.{CommentKi
 use Rattle.deno_graph_source.specs.declared.tree.comments.CommentKind.TheVariants.{Line, Block}
 use Rattle.deno_graph_source.specs.declared.tree.comments.DependencyComment.{DependencyComment}
 use Rattle.deno_graph_dependency.specs.declared.specifier_with_range.SpecifierWithRange.{SpecifierWithRange}
-use Rattle.deno_graph_info.specs.declared.analysis.type_script_reference.TypeScriptReference.{TypeScriptReference}
-use Rattle.deno_graph_info.specs.declared.analysis.type_script_reference.TypeScriptReference.TheVariants.{Path, Types}
+use Rattle.deno_graph_info.specs.declared.analysis.type_script_reference.TypeScriptReference.{
+  TypeScriptReference,
+}
+use Rattle.deno_graph_info.specs.declared.analysis.type_script_reference.TypeScriptReference.TheVariants.{
+  Path,
+  Types,
+}
 use Rattle.deno_graph_text.specs.ResolutionMode.{mode_named}
-use Rattle.deno_graph_text.specs.declared.values.resolution_mode.TypeScriptTypesResolutionMode.{TypeScriptTypesResolutionMode}
+use Rattle.deno_graph_text.specs.declared.values.resolution_mode.TypeScriptTypesResolutionMode.{
+  TypeScriptTypesResolutionMode,
+}
 use Rattle.deno_graph_pragmas.specs.Finders as finder
 use Rattle.deno_graph_pragmas.specs.Split.{HasSplit}
-use Rattle.deno_graph_ast.specs.Pragma.{HasPragma, IsFirstWith, IsLastWith, Names, NamesByFirst, NamesDependencyTypes, NamesDependencyTypesIn, NamesFirst, NamesLast, Pragma, dependency_types_pragmas, specifier_of_part}
-use Rattle.deno_graph_ast.specs.References.{AreReferences, IsReferenceOf, IsTripleSlashReference, RefersTo, StatesMode, path_reference_pragma, types_reference_pragma}
+use Rattle.deno_graph_ast.specs.Pragma.{
+  HasPragma,
+  IsFirstWith,
+  IsLastWith,
+  Names,
+  NamesByFirst,
+  NamesDependencyTypes,
+  NamesDependencyTypesIn,
+  NamesFirst,
+  NamesLast,
+  Pragma,
+  dependency_types_pragmas,
+  specifier_of_part,
+}
+use Rattle.deno_graph_ast.specs.References.{
+  AreReferences,
+  IsReferenceOf,
+  IsTripleSlashReference,
+  RefersTo,
+  StatesMode,
+  path_reference_pragma,
+  types_reference_pragma,
+}
 use Rattle.deno_graph_pragmas.proofs.SomeSplit.{Decided, decide_split, some_part}
 
 -- The first and the last of a list
@@ -165,7 +216,8 @@ refers : (source : List ℕ) (comment : DependencyComment)
 refers source comment =
     by (decide_pragma path_reference_pragma comment) (decide_pragma types_reference_pragma comment)
   where
-    by : Decided (HasPragma path_reference_pragma comment) → Decided (HasPragma types_reference_pragma comment)
+    by : Decided (HasPragma path_reference_pragma comment)
+        → Decided (HasPragma types_reference_pragma comment)
         → (reference : Option TypeScriptReference) × RefersTo source comment reference
     by (inl path) types =
         let name = some_name source path_reference_pragma comment path in (Some (Path name.0), name.1)

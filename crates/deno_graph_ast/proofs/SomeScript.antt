@@ -1,14 +1,47 @@
 -- A body is a script, or it is none.
-use Rattle.std.proofs.Common.{◌≡◌, ◌↔◌, ℕ, Bool, true, false, inl, inr, List, [], ◌∷◌, Option, Some, None, slice_get, All, Contains, IsTrue, IsSome, IsSomeAnd, refl, sym, subst, arith}
+use Rattle.std.proofs.Common.{
+  ◌≡◌,
+  ◌↔◌,
+  ℕ,
+  Bool,
+  true,
+  false,
+  inl,
+  inr,
+  List,
+  [],
+  ◌∷◌,
+  Option,
+  Some,
+  None,
+  slice_get,
+  All,
+  Contains,
+  IsTrue,
+  IsSome,
+  IsSomeAnd,
+  refl,
+  sym,
+  subst,
+  arith,
+}
 use Rattle.std.proofs.lemmas.Bool.{false≢true}
 use Rattle.std.proofs.lemmas.List.Elements.{All-cons, All-head, All-nil, All-tail}
 use Rattle.deno_graph_source.specs.declared.tree.node.Node.{Node}
 use Rattle.deno_graph_source.specs.Node.{kind_of}
 use Rattle.deno_graph_dep.specs.ListedPaths.{listed_paths}
 use Rattle.deno_graph_dep.specs.Listing.{IsReachable, Rules}
-use Rattle.deno_graph_dep.specs.NodePath.{NodePath, LeadsTo, node_at}
+use Rattle.deno_graph_source.specs.NodePath.{NodePath, LeadsTo, node_at}
 use Rattle.deno_graph_dep.proofs.Listings.{IsListing-listed_paths}
-use Rattle.deno_graph_ast.specs.Script.{is_await, is_function, is_import_meta, is_module_item, IsAwait, IsImportMeta, IsScript}
+use Rattle.deno_graph_ast.specs.Script.{
+  is_await,
+  is_function,
+  is_import_meta,
+  is_module_item,
+  IsAwait,
+  IsImportMeta,
+  IsScript,
+}
 use Rattle.deno_graph_ast.specs.ScriptSteps.{MakesModule}
 use Rattle.deno_graph_ast.proofs.Scripts.{in_body, no_function_round, IsScript-made}
 use Rattle.deno_graph_pragmas.proofs.SomeSplit.{Decided}
@@ -79,7 +112,8 @@ module _ (body : List Node) where
       none_in (listed_paths awaits body) (k ∷ path) no_awaits
       (((IsListing-listed_paths awaits body).members (k ∷ path)).1 (reachable, leads))
 
-  first_of : (rules : Rules) (path : NodePath) (paths : List NodePath) → listed_paths rules body ≡ path ∷ paths
+  first_of : (rules : Rules) (path : NodePath) (paths : List NodePath)
+      → listed_paths rules body ≡ path ∷ paths
       → IsReachable rules body path × LeadsTo (λ node. IsTrue (rules.is_listed node)) body path
   first_of rules path paths is =
       ((IsListing-listed_paths rules body).members path).0
@@ -89,7 +123,8 @@ module _ (body : List Node) where
       → listed_paths metas body ≡ ps → listed_paths awaits body ≡ qs → Decided (IsScript body)
   by_paths items [] [] no_metas no_awaits =
       inl (IsScript-made body items (λ k item at makes. made no_metas no_awaits k item at makes))
-  by_paths items (path ∷ ps) qs is _ = inr (λ script. script.no_import_meta path (first_of metas path ps is).1)
+  by_paths items (path ∷ ps) qs is _ =
+      inr (λ script. script.no_import_meta path (first_of metas path ps is).1)
   by_paths items [] (path ∷ qs) _ is = inr (λ script.
       let first = first_of awaits path qs is in
       let round = script.awaits_in_functions path first.1 in

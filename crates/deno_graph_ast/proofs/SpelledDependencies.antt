@@ -12,8 +12,19 @@ use Rattle.deno_graph_dep.specs.Argument.{Form, ArgumentPart, text, parts, expre
 use Rattle.deno_graph_dep.specs.Item.{Item, static_item, dynamic_item}
 use Rattle.deno_graph_dep.specs.SpelledItems.{SpellsArgument, SpellsIn}
 use Rattle.deno_graph_dep.proofs.SpelledItems.{dependencies_spell}
-use Rattle.deno_graph_ast.specs.ModuleInfo.{AreDescribed, Describes, argument_of_form, dependency_of, template_part_of}
-use Rattle.deno_graph_ast.specs.SpelledDependencies.{SpellDependencies, SpellsDependency, form_said, part_said}
+use Rattle.deno_graph_ast.specs.ModuleInfo.{
+  AreDescribed,
+  Describes,
+  argument_of_form,
+  dependency_of,
+  template_part_of,
+}
+use Rattle.deno_graph_ast.specs.SpelledDependencies.{
+  SpellDependencies,
+  SpellsDependency,
+  form_said,
+  part_said,
+}
 
 same_part : (p : ArgumentPart) → part_said (template_part_of p) ≡ p
 same_part (known known_text) = refl

@@ -1,5 +1,21 @@
 -- The imports that the JSDoc comments of a source state, as one list.
-use Rattle.std.specs.Prelude.{◌≡◌, ◌<◌, ◌≤◌, ◌+◌, ◌-◌, ◌⊎◌, ◌↔◌, ℕ, Bool, true, false, List, ◌++◌, codes, encode_utf8_all}
+use Rattle.std.specs.Prelude.{
+  ◌≡◌,
+  ◌<◌,
+  ◌≤◌,
+  ◌+◌,
+  ◌-◌,
+  ◌⊎◌,
+  ◌↔◌,
+  ℕ,
+  Bool,
+  true,
+  false,
+  List,
+  ◌++◌,
+  codes,
+  encode_utf8_all,
+}
 use Rattle.std.specs.List.{AllPairs, Contains}
 use Rattle.std.specs.Str.{IsCharBoundary, chars}
 use Rattle.deno_graph_jsdoc.specs.JsDocHits.{IsHit}
@@ -8,7 +24,21 @@ use Rattle.deno_graph_source.specs.Source.{SharesByte}
 use Rattle.deno_graph_source.specs.declared.tree.comments.CommentKind.TheVariants.{Block}
 use Rattle.deno_graph_source.specs.declared.tree.comments.DependencyComment.{DependencyComment}
 use Rattle.deno_graph_source.specs.declared.tree.media_type.MediaType.{MediaType}
-use Rattle.deno_graph_source.specs.declared.tree.media_type.MediaType.TheVariants.{JavaScript, Jsx, Mjs, Cjs, TypeScript, Mts, Cts, Dts, Dmts, Dcts, Tsx, Json, Other}
+use Rattle.deno_graph_source.specs.declared.tree.media_type.MediaType.TheVariants.{
+  JavaScript,
+  Jsx,
+  Mjs,
+  Cjs,
+  TypeScript,
+  Mts,
+  Cts,
+  Dts,
+  Dmts,
+  Dcts,
+  Tsx,
+  Json,
+  Other,
+}
 use Rattle.deno_graph_text.specs.SourceRange.{slice_of}
 use Rattle.deno_graph_text.specs.declared.text.position.SourceRange.{SourceRange}
 

@@ -5,9 +5,18 @@ use Rattle.deno_graph_source.specs.declared.tree.comments.DependencyComment.{Dep
 use Rattle.deno_graph_dependency.specs.declared.specifier_with_range.SpecifierWithRange.{SpecifierWithRange}
 use Rattle.deno_graph_pragmas.specs.Split.{TextPart, IsCaptured, IsSliceOf, StandsInQuotes}
 use Rattle.deno_graph_ast.specs.declared.head_pragmas.HeadPragma.{HeadPragma}
-use Rattle.deno_graph_ast.specs.declared.head_pragmas.HeadPragma.TheVariants.{TsSelfTypes, JsxImportSource, JsxImportSourceTypes}
+use Rattle.deno_graph_ast.specs.declared.head_pragmas.HeadPragma.TheVariants.{
+  TsSelfTypes,
+  JsxImportSource,
+  JsxImportSourceTypes,
+}
 use Rattle.deno_graph_ast.specs.Spelled.{CoversBare, CoversQuoted}
-use Rattle.deno_graph_ast.specs.Pragma.{Pragma, self_types_pragma, jsx_import_source_pragma, jsx_import_source_types_pragma}
+use Rattle.deno_graph_ast.specs.Pragma.{
+  Pragma,
+  self_types_pragma,
+  jsx_import_source_pragma,
+  jsx_import_source_types_pragma,
+}
 
 -- the range covers the specifier as the source has it, with its quotes if there are any
 abbrev pub Covers : List ℕ → Bool → SpecifierWithRange → Type 0

@@ -1,5 +1,20 @@
 -- What is said of the imports of JSDoc comments.
-use Rattle.std.specs.Prelude.{◌≡◌, ◌+◌, ◌-◌, ◌⊎◌, ℕ, Bool, true, false, List, [], ◌++◌, map, codes, encode_utf8_all}
+use Rattle.std.specs.Prelude.{
+  ◌≡◌,
+  ◌+◌,
+  ◌-◌,
+  ◌⊎◌,
+  ℕ,
+  Bool,
+  true,
+  false,
+  List,
+  [],
+  ◌++◌,
+  map,
+  codes,
+  encode_utf8_all,
+}
 use Rattle.deno_graph_jsdoc.specs.JsDocImport.{Import}
 use Rattle.deno_graph_ast.specs.CommentImports.{AreImports}
 use Rattle.deno_graph_info.specs.declared.analysis.js_doc_import_info.JsDocImportInfo.{JsDocImportInfo}

@@ -12,17 +12,32 @@ use Rattle.deno_graph_dependency.specs.declared.dynamic_argument.DynamicArgument
 use Rattle.deno_graph_dependency.specs.declared.dynamic_argument.DynamicArgument.TheVariants as argument
 use Rattle.deno_graph_dependency.specs.declared.dynamic_argument.DynamicTemplatePart.{DynamicTemplatePart}
 use Rattle.deno_graph_dependency.specs.declared.dynamic_argument.DynamicTemplatePart.TheVariants as part
-use Rattle.deno_graph_dependency.specs.declared.dynamic_dependency.DynamicDependencyDescriptor.{DynamicDependencyDescriptor}
+use Rattle.deno_graph_dependency.specs.declared.dynamic_dependency.DynamicDependencyDescriptor.{
+  DynamicDependencyDescriptor,
+}
 use Rattle.deno_graph_info.specs.declared.analysis.module_info.ModuleInfo.{ModuleInfo}
 use Rattle.deno_graph_dependency.specs.declared.specifier_with_range.SpecifierWithRange.{SpecifierWithRange}
-use Rattle.deno_graph_dependency.specs.declared.static_dependency.StaticDependencyDescriptor.{StaticDependencyDescriptor}
+use Rattle.deno_graph_dependency.specs.declared.static_dependency.StaticDependencyDescriptor.{
+  StaticDependencyDescriptor,
+}
 use Rattle.deno_graph_dep.specs.Argument.{Form, ArgumentPart, text, parts, expression, known, unknown}
 use Rattle.deno_graph_dep.specs.Dependencies.{AreDependencies}
 use Rattle.deno_graph_dep.specs.Item.{Item, StaticItem, DynamicItem, static_item, dynamic_item, HasTextRanges}
 use Rattle.deno_graph_ast.specs.JsDocInfo.{CoversInEqualQuotes, IsJsDocList}
 use Rattle.deno_graph_ast.specs.CommentImports.{reads_jsdoc}
 use Rattle.deno_graph_ast.specs.HeadTail.{head_comments, tail_comments}
-use Rattle.deno_graph_ast.specs.Pragma.{comments_for_jsx, comments_for_types, jsx_import_source_pragma, jsx_import_source_types_pragma, positions_of, self_types_pragma, source_mapping_url_pragma, NamesFirst, NamesLast, NamesDependencyTypes}
+use Rattle.deno_graph_ast.specs.Pragma.{
+  comments_for_jsx,
+  comments_for_types,
+  jsx_import_source_pragma,
+  jsx_import_source_types_pragma,
+  positions_of,
+  self_types_pragma,
+  source_mapping_url_pragma,
+  NamesFirst,
+  NamesLast,
+  NamesDependencyTypes,
+}
 use Rattle.deno_graph_ast.specs.References.{AreReferences, CoversReference}
 use Rattle.deno_graph_ast.specs.Script.{IsScript}
 use Rattle.deno_graph_ast.specs.Spelled.{CoversAsWritten, CoversBare, CoversQuoted}

@@ -1,5 +1,25 @@
 -- Pragmas in comments, and the specifiers that they name.
-use Rattle.std.specs.Prelude.{◌≡◌, ℕ, ◌+◌, ◌-◌, Bool, true, false, List, [], ◌∷◌, ◌++◌, All, IsTrue, Option, Some, None, slice_get, length, if◌then◌else◌}
+use Rattle.std.specs.Prelude.{
+  ◌≡◌,
+  ℕ,
+  ◌+◌,
+  ◌-◌,
+  Bool,
+  true,
+  false,
+  List,
+  [],
+  ◌∷◌,
+  ◌++◌,
+  All,
+  IsTrue,
+  Option,
+  Some,
+  None,
+  slice_get,
+  length,
+  if◌then◌else◌,
+}
 use Rattle.deno_graph_source.specs.MediaType.{is_typed}
 use Rattle.deno_graph_text.specs.Position.{position_at}
 use Rattle.deno_graph_text.specs.declared.text.position.PositionRange.{PositionRange}
@@ -44,7 +64,8 @@ source_mapping_url_pragma = quoteless finder.source_mapping_url_pattern
 -- those that name the types of a dependency: where a comment has several of them, the first counts
 abbrev pub dependency_types_pragmas : List Pragma
 dependency_types_pragmas =
-    quoted finder.ts_types_pattern ∷ quoted finder.deno_types_pattern ∷ quoteless finder.quoteless_deno_types_pattern ∷ []
+    quoted finder.ts_types_pattern ∷ quoted finder.deno_types_pattern
+    ∷ quoteless finder.quoteless_deno_types_pattern ∷ []
 
 -- the comment has the pragma
 pub record HasPragma (pragma : Pragma) (comment : DependencyComment) : Type 0 where

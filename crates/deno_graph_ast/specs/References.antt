@@ -5,9 +5,16 @@ use Rattle.std.specs.Option.{option_to_list}
 use Rattle.deno_graph_source.specs.declared.tree.comments.CommentKind.TheVariants.{Line}
 use Rattle.deno_graph_source.specs.declared.tree.comments.DependencyComment.{DependencyComment}
 use Rattle.deno_graph_text.specs.ResolutionMode.{mode_named}
-use Rattle.deno_graph_text.specs.declared.values.resolution_mode.TypeScriptTypesResolutionMode.{TypeScriptTypesResolutionMode}
-use Rattle.deno_graph_info.specs.declared.analysis.type_script_reference.TypeScriptReference.{TypeScriptReference}
-use Rattle.deno_graph_info.specs.declared.analysis.type_script_reference.TypeScriptReference.TheVariants.{Path, Types}
+use Rattle.deno_graph_text.specs.declared.values.resolution_mode.TypeScriptTypesResolutionMode.{
+  TypeScriptTypesResolutionMode,
+}
+use Rattle.deno_graph_info.specs.declared.analysis.type_script_reference.TypeScriptReference.{
+  TypeScriptReference,
+}
+use Rattle.deno_graph_info.specs.declared.analysis.type_script_reference.TypeScriptReference.TheVariants.{
+  Path,
+  Types,
+}
 use Rattle.deno_graph_pragmas.specs.Finders as finder
 use Rattle.deno_graph_pragmas.specs.Split.{TextPart, HasSplit, IsCaptured}
 use Rattle.deno_graph_ast.specs.Pragma.{Pragma, HasPragma, Names, quoted}
@@ -28,7 +35,8 @@ pub record IsTripleSlashReference (comment : DependencyComment) : Type 0 where
 abbrev pub StatesMode : List ℕ → Option TypeScriptTypesResolutionMode → Type 0
 StatesMode text mode =
     (¬ HasSplit finder.resolution_mode_pattern text × (mode ≡ None))
-    ⊎ ((part : TextPart) × IsCaptured finder.resolution_mode_pattern text part × (mode ≡ mode_named part.text))
+    ⊎ ((part : TextPart) × IsCaptured finder.resolution_mode_pattern text part
+    × (mode ≡ mode_named part.text))
 
 -- what a triple-slash reference refers to: a path, or else types; or neither
 abbrev pub RefersTo : List ℕ → DependencyComment → Option TypeScriptReference → Type 0

@@ -1,10 +1,18 @@
 -- What tells a script from a module.
 use Rattle.std.specs.Prelude.{◌≡◌, Bool, true, false, List, All, IsTrue}
 use Rattle.deno_graph_source.specs.declared.tree.node.Kind.{Kind}
-use Rattle.deno_graph_source.specs.declared.tree.node.Kind.TheVariants.{ImportDecl, NamedExport, ExportAll, ExportOther, Await, Function, ImportMeta}
+use Rattle.deno_graph_source.specs.declared.tree.node.Kind.TheVariants.{
+  ImportDecl,
+  NamedExport,
+  ExportAll,
+  ExportOther,
+  Await,
+  Function,
+  ImportMeta,
+}
 use Rattle.deno_graph_source.specs.declared.tree.node.Node.{Node}
 use Rattle.deno_graph_source.specs.Node.{kind_of}
-use Rattle.deno_graph_dep.specs.NodePath.{NodePath, LeadsTo, IsStrictPrefix}
+use Rattle.deno_graph_source.specs.NodePath.{NodePath, LeadsTo, IsStrictPrefix}
 
 -- the items that only a module has: imports and exports
 abbrev pub is_module_item : Kind → Bool

@@ -1,7 +1,7 @@
 -- What makes a module at one node, as the search for it goes down.
 use Rattle.std.specs.Prelude.{◌≡◌, Bool, false, Some, IsSomeAnd, ◌⊎◌}
 use Rattle.deno_graph_source.specs.declared.tree.node.Node.{Node}
-use Rattle.deno_graph_dep.specs.NodePath.{NodePath, node_below, IsStrictPrefix}
+use Rattle.deno_graph_source.specs.NodePath.{NodePath, node_below, IsStrictPrefix}
 use Rattle.deno_graph_ast.specs.Script.{IsAwait, IsFunction, IsImportMeta}
 
 -- the child indices lead from the node to one of which P holds

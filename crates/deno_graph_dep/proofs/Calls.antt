@@ -1,9 +1,36 @@
 -- What a listed call is, and that its arguments are among its children.
-use Rattle.std.proofs.Common.{◌≡◌, true, ℕ, ◌+◌, ◌<◌, List, [], ◌∷◌, Some, slice_get, length, get_or, arith, ap, sym, ◌∙◌, refl, subst, All}
+use Rattle.std.proofs.Common.{
+  ◌≡◌,
+  true,
+  ℕ,
+  ◌+◌,
+  ◌<◌,
+  List,
+  [],
+  ◌∷◌,
+  Some,
+  slice_get,
+  length,
+  get_or,
+  arith,
+  ap,
+  sym,
+  ◌∙◌,
+  refl,
+  subst,
+  All,
+}
 use Rattle.std.specs.Prelude.{is_some}
 use Rattle.std.proofs.lemmas.Bool.{and_parts, false≢true}
 use Rattle.std.proofs.lemmas.Option.{slice_get_within, slice_get_read, get_or_from_slice_get}
-use Rattle.deno_graph_source.specs.Node.{kind_of, children_of, nodes_in, callee_count, HasCountOfKind, IsShaped}
+use Rattle.deno_graph_source.specs.Node.{
+  kind_of,
+  children_of,
+  nodes_in,
+  callee_count,
+  HasCountOfKind,
+  IsShaped,
+}
 use Rattle.deno_graph_source.specs.declared.tree.node.Arg.{Arg}
 use Rattle.deno_graph_source.specs.declared.tree.node.Callee.{Callee}
 use Rattle.deno_graph_source.specs.declared.tree.node.Kind.{Kind}

@@ -1,6 +1,39 @@
 -- What a stack counts: the paths that are passed, and so those that are entered by the time that a
 -- node is given.
-use Rattle.std.proofs.Common.{◌≡◌, ◌≢◌, ℕ, suc, ◌+◌, ◌-◌, ◌^◌, min, List, [], ◌∷◌, ◌++◌, length, Bool, true, false, not, ◌&&◌, Option, Some, None, inl, inr, ⊎_elim, sym, ap, ◌∙◌, refl, subst, arith, append_assoc, Contains}
+use Rattle.std.proofs.Common.{
+  ◌≡◌,
+  ◌≢◌,
+  ℕ,
+  suc,
+  ◌+◌,
+  ◌-◌,
+  ◌^◌,
+  min,
+  List,
+  [],
+  ◌∷◌,
+  ◌++◌,
+  length,
+  Bool,
+  true,
+  false,
+  not,
+  ◌&&◌,
+  Option,
+  Some,
+  None,
+  inl,
+  inr,
+  ⊎_elim,
+  sym,
+  ap,
+  ◌∙◌,
+  refl,
+  subst,
+  arith,
+  append_assoc,
+  Contains,
+}
 use Rattle.std.specs.Prelude.{◌↔◌, IsSome, IsSomeAnd, IsTrue, AllPairs}
 use Rattle.std.proofs.lemmas.Bool.{false≢true}
 use Rattle.std.proofs.lemmas.List.{append-nil, length-append}
@@ -9,17 +42,70 @@ use Rattle.deno_graph_source.specs.declared.tree.node.Node.{Node}
 use Rattle.deno_graph_dep.specs.DependencyRules.{children_to_visit, dependency_rules}
 use Rattle.deno_graph_dep.specs.Entered as by
 use Rattle.deno_graph_dep.specs.Entered.{IsEnteredBy, EnteredBy, IsCountOf}
-use Rattle.deno_graph_dep.specs.Stack.{entry_rules, frame_of, is_before, is_after, index_of, next_path, paths_to_come, next_of, StandsIn, to_come, IsPassed, IsStackOf}
+use Rattle.deno_graph_dep.specs.Stack.{
+  entry_rules,
+  frame_of,
+  is_before,
+  is_after,
+  index_of,
+  next_path,
+  paths_to_come,
+  next_of,
+  StandsIn,
+  to_come,
+  IsPassed,
+  IsStackOf,
+}
 use Rattle.deno_graph_dep.specs.ListedPaths.{listed_paths}
 use Rattle.deno_graph_dep.specs.Listing.{Rules, IsReachable, IsListed, IsAfterInside, Precedes}
-use Rattle.deno_graph_dep.specs.NodePath.{NodePath, node_at}
+use Rattle.deno_graph_source.specs.NodePath.{NodePath, node_at}
 use Rattle.deno_graph_dep.specs.declared.stack.Stack.{Stack}
-use Rattle.deno_graph_dep.proofs.Ascending.{Member, Ascending, Member-append, Member-left, Contains-from_Member, Member-from_Contains, AllPairs-from_Ascending, Ascending-from_AllPairs, Ascending-weaker}
+use Rattle.deno_graph_dep.proofs.Ascending.{
+  Member,
+  Ascending,
+  Member-append,
+  Member-left,
+  Contains-from_Member,
+  Member-from_Contains,
+  AllPairs-from_Ascending,
+  Ascending-from_AllPairs,
+  Ascending-weaker,
+}
 use Rattle.deno_graph_dep.proofs.Listings.{IsListing-listed_paths, Precedes-asymmetric}
-use Rattle.deno_graph_dep.proofs.NodePaths.{Below-from_IsStrictPrefix, IsStrictPrefix-from_Below, Apart-from_PartsBelow, PartsBelow-from_Apart}
-use Rattle.deno_graph_dep.proofs.Passed.{Around, Past, UpTo, Past-from_IsPassed, IsPassed-from_Past, Past-enter, Past-leave, Past-from_UpTo, UpTo-from_Past, Past-from_Around, Around-from_Past, next_path-inside, next_path-sibling, AreNext, to_come-not_past}
+use Rattle.deno_graph_dep.proofs.NodePaths.{
+  Below-from_IsStrictPrefix,
+  IsStrictPrefix-from_Below,
+  Apart-from_PartsBelow,
+  PartsBelow-from_Apart,
+}
+use Rattle.deno_graph_dep.proofs.Passed.{
+  Around,
+  Past,
+  UpTo,
+  Past-from_IsPassed,
+  IsPassed-from_Past,
+  Past-enter,
+  Past-leave,
+  Past-from_UpTo,
+  UpTo-from_Past,
+  Past-from_Around,
+  Around-from_Past,
+  next_path-inside,
+  next_path-sibling,
+  AreNext,
+  to_come-not_past,
+}
 use Rattle.deno_graph_dep.proofs.Rounds.{entries_close}
-use Rattle.deno_graph_dep.proofs.Steps.{Enters, Left, path_of, to_come-enter, to_come-leave, stands-left, stands-enter, stands-leave}
+use Rattle.deno_graph_dep.proofs.Steps.{
+  Enters,
+  Left,
+  path_of,
+  to_come-enter,
+  to_come-leave,
+  stands-left,
+  stands-enter,
+  stands-leave,
+}
 
 next-first : (body : List Node) (old new : Stack) (node : Bor Node) (siblings : Bor (List Node))
     → Enters old new node siblings

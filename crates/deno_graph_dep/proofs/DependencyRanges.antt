@@ -1,27 +1,76 @@
 -- What validity says of the nodes of a listing, and of the ranges that dependencies are read at.
-use Rattle.std.proofs.Common.{◌≡◌, ℕ, suc, Bool, true, false, cond, List, [], ◌∷◌, ◌++◌, Option, Some, None, map, slice_get, get_or, ap, sym, refl, subst, ◌∙◌, All, Contains, option_and_then, option_map}
+use Rattle.std.proofs.Common.{
+  ◌≡◌,
+  ℕ,
+  suc,
+  Bool,
+  true,
+  false,
+  cond,
+  List,
+  [],
+  ◌∷◌,
+  ◌++◌,
+  Option,
+  Some,
+  None,
+  map,
+  slice_get,
+  get_or,
+  ap,
+  sym,
+  refl,
+  subst,
+  ◌∙◌,
+  All,
+  Contains,
+  option_and_then,
+  option_map,
+}
 use Rattle.std.proofs.lemmas.List.Elements.{All-head, All-nil, All-cons, All-contains, Contains-get_or}
 use Rattle.std.proofs.lemmas.Option.{slice_get_within, get_or_from_slice_get, slice_get-map}
 use Rattle.deno_graph_source.specs.Comments.{FiledComments}
-use Rattle.deno_graph_source.specs.Node.{kind_of, children_of, ranges_in_kind, node_ranges, nodes_in, nodes_of, IsShaped}
+use Rattle.deno_graph_source.specs.Node.{
+  kind_of,
+  children_of,
+  ranges_in_kind,
+  node_ranges,
+  nodes_in,
+  nodes_of,
+  IsShaped,
+}
 use Rattle.deno_graph_source.specs.Source.{IsValid}
 use Rattle.deno_graph_text.specs.SourceRange.{IsTextRange}
 use Rattle.deno_graph_text.specs.declared.text.position.SourceRange.{SourceRange}
 use Rattle.deno_graph_source.specs.declared.tree.node.Arg.{Arg}
 use Rattle.deno_graph_source.specs.declared.tree.node.Kind.{Kind}
-use Rattle.deno_graph_source.specs.declared.tree.node.Kind.TheVariants.{ImportDecl, NamedExport, ExportAll, ImportEquals, ImportType, ModuleDecl, Call}
+use Rattle.deno_graph_source.specs.declared.tree.node.Kind.TheVariants.{
+  ImportDecl,
+  NamedExport,
+  ExportAll,
+  ImportEquals,
+  ImportType,
+  ModuleDecl,
+  Call,
+}
 use Rattle.deno_graph_source.specs.declared.tree.node.Node.{Node}
 use Rattle.deno_graph_source.specs.declared.tree.node.Program.{Program}
 use Rattle.deno_graph_source.specs.declared.tree.node.StrLit.{StrLit}
 use Rattle.deno_graph_source.proofs.Lists.{Contains-map}
-use Rattle.deno_graph_source.proofs.ValidSource.{All-child_ranges, All-kind_ranges, valid_item, All-item_nodes, All-child_nodes}
+use Rattle.deno_graph_source.proofs.ValidSource.{
+  All-child_ranges,
+  All-kind_ranges,
+  valid_item,
+  All-item_nodes,
+  All-child_nodes,
+}
 use Rattle.deno_graph_dependency.specs.declared.import_attributes.ImportAttributes.{ImportAttributes}
 use Rattle.deno_graph_dependency.specs.declared.static_dependency.StaticDependencyKind.{StaticDependencyKind}
 use Rattle.deno_graph_dep.specs.Dependencies.{AreDependencies}
 use Rattle.deno_graph_dep.specs.ListedNodes.{AreListed, listed_at, listed_node}
 use Rattle.deno_graph_dep.specs.DependencyRules.{is_listed}
 use Rattle.deno_graph_dep.specs.Item.{Item, HasTextRanges}
-use Rattle.deno_graph_dep.specs.NodePath.{NodePath, node_at, node_below}
+use Rattle.deno_graph_source.specs.NodePath.{NodePath, node_at, node_below}
 use Rattle.deno_graph_dep.specs.Stated.{States, StatesAt, StatesSpecifier, AllStated}
 
 there : {X : Type 0} (xs : List X) (k : ℕ) (x : X) → slice_get xs k ≡ Some x → Contains xs x

@@ -1,5 +1,25 @@
 -- What a walk has given until now, and what it then gives.
-use Rattle.std.proofs.Common.{◌≡◌, List, [], ◌∷◌, ◌++◌, map, Option, Some, None, true, sym, ap, ◌∙◌, refl, subst, append_assoc, option_and_then, cond, inl}
+use Rattle.std.proofs.Common.{
+  ◌≡◌,
+  List,
+  [],
+  ◌∷◌,
+  ◌++◌,
+  map,
+  Option,
+  Some,
+  None,
+  true,
+  sym,
+  ap,
+  ◌∙◌,
+  refl,
+  subst,
+  append_assoc,
+  option_and_then,
+  cond,
+  inl,
+}
 use Rattle.std.specs.Prelude.{IsSomeAnd, IsTrue, All}
 use Rattle.std.specs.Borrow.{Bor}
 use Rattle.std.proofs.lemmas.List.{append-nil, map-append}
@@ -14,7 +34,7 @@ use Rattle.deno_graph_dep.proofs.DependencyRanges.{AllStated-more, shaped_node}
 use Rattle.deno_graph_dep.specs.DependencyRules.{dependency_rules, is_listed}
 use Rattle.deno_graph_dep.specs.ListedNodes.{AreListed, listed_at, listed_below, listed_node}
 use Rattle.deno_graph_dep.specs.Listing.{IsListing}
-use Rattle.deno_graph_dep.specs.NodePath.{NodePath, node_at}
+use Rattle.deno_graph_source.specs.NodePath.{NodePath, node_at}
 use Rattle.deno_graph_dep.specs.Walk.{Gives, WalkState}
 use Rattle.deno_graph_dep.proofs.Ascending.{Member-right, Contains-from_Member}
 use Rattle.deno_graph_dep.proofs.Items.{AreListed-listed_below, AreListed-unique}

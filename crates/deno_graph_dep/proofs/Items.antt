@@ -1,5 +1,25 @@
 -- The entries of a body by plain recursion are those at the paths of its listing.
-use Rattle.std.proofs.Common.{◌≡◌, ℕ, suc, List, [], ◌∷◌, ◌++◌, Bool, true, false, cond, Option, Some, None, map, sym, ap, ◌∙◌, refl}
+use Rattle.std.proofs.Common.{
+  ◌≡◌,
+  ℕ,
+  suc,
+  List,
+  [],
+  ◌∷◌,
+  ◌++◌,
+  Bool,
+  true,
+  false,
+  cond,
+  Option,
+  Some,
+  None,
+  map,
+  sym,
+  ap,
+  ◌∙◌,
+  refl,
+}
 use Rattle.std.specs.Prelude.{slice_get, is_some, option_and_then}
 use Rattle.std.specs.List.{flat_map}
 use Rattle.std.specs.Option.{option_to_list}
@@ -10,7 +30,7 @@ use Rattle.deno_graph_source.specs.declared.tree.node.Node.{Node}
 use Rattle.deno_graph_dep.specs.DependencyRules.{dependency_rules, is_listed}
 use Rattle.deno_graph_dep.specs.ListedNodes.{AreListed, listed_at, listed_below, listed_node}
 use Rattle.deno_graph_dep.specs.Listing.{Rules}
-use Rattle.deno_graph_dep.specs.NodePath.{NodePath, node_below, node_at}
+use Rattle.deno_graph_source.specs.NodePath.{NodePath, node_below, node_at}
 use Rattle.deno_graph_dep.specs.Recursion.{entries_at}
 use Rattle.deno_graph_dep.proofs.Entries.{entries_at-pieces}
 use Rattle.deno_graph_dep.proofs.ListedPaths.{paths_at-is}

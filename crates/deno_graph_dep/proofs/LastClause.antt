@@ -1,5 +1,38 @@
 -- The properties of a call's second argument that are looked at, one property after another.
-use Rattle.std.proofs.Common.{◌≡◌, ◌≢◌, ℕ, ◌+◌, ◌<◌, ◌≤◌, Bool, true, false, ◌&&◌, ◌||◌, cond, List, length, get_or, codes, Option, Some, None, option_and_then, ◌⊎◌, inl, inr, ⊎_elim, ◌↔◌, refl, sym, ap, subst, ◌∙◌, arith, MatchBool}
+use Rattle.std.proofs.Common.{
+  ◌≡◌,
+  ◌≢◌,
+  ℕ,
+  ◌+◌,
+  ◌<◌,
+  ◌≤◌,
+  Bool,
+  true,
+  false,
+  ◌&&◌,
+  ◌||◌,
+  cond,
+  List,
+  length,
+  get_or,
+  codes,
+  Option,
+  Some,
+  None,
+  option_and_then,
+  ◌⊎◌,
+  inl,
+  inr,
+  ⊎_elim,
+  ◌↔◌,
+  refl,
+  sym,
+  ap,
+  subst,
+  ◌∙◌,
+  arith,
+  MatchBool,
+}
 use Rattle.std.specs.List.{slice_get}
 use Rattle.std.proofs.lemmas.Bool.{cases_lt, false_from_ne_true, or_cases, or_parts, and_parts, both_ways}
 use Rattle.std.proofs.lemmas.Option.{none-some, cond_some, slice_get_read, slice_get_past}
@@ -7,7 +40,17 @@ use Rattle.deno_graph_source.specs.declared.tree.node.Node.{Node}
 use Rattle.deno_graph_source.specs.Node.{kind_of, is_object}
 use Rattle.deno_graph_dependency.specs.declared.import_attributes.ImportAttributes.{ImportAttributes}
 use Rattle.deno_graph_dependency.specs.declared.import_attributes.ImportAttributes.TheVariants as attributes
-use Rattle.deno_graph_dep.specs.Attributes.{static_key, value_node, has_static_keys, ObjectGives, ValueGives, IndexGives, key_at, IsLookedAt, LookedAtGive}
+use Rattle.deno_graph_dep.specs.Attributes.{
+  static_key,
+  value_node,
+  has_static_keys,
+  ObjectGives,
+  ValueGives,
+  IndexGives,
+  key_at,
+  IsLookedAt,
+  LookedAtGive,
+}
 use Rattle.deno_graph_dep.specs.AttributeSteps.{known_object}
 
 -- the value that is a known object

@@ -1,5 +1,35 @@
 -- What the properties of an object give last, with one more property.
-use Rattle.std.proofs.Common.{◌≡◌, ◌≢◌, ℕ, zero, suc, ◌+◌, ◌<◌, true, false, cond, List, [], ◌∷◌, ◌++◌, length, take, get_or, Some, None, ◌⊎◌, inl, inr, ⊎_elim, refl, sym, ap, subst, ◌∙◌, arith}
+use Rattle.std.proofs.Common.{
+  ◌≡◌,
+  ◌≢◌,
+  ℕ,
+  zero,
+  suc,
+  ◌+◌,
+  ◌<◌,
+  true,
+  false,
+  cond,
+  List,
+  [],
+  ◌∷◌,
+  ◌++◌,
+  length,
+  take,
+  get_or,
+  Some,
+  None,
+  ◌⊎◌,
+  inl,
+  inr,
+  ⊎_elim,
+  refl,
+  sym,
+  ap,
+  subst,
+  ◌∙◌,
+  arith,
+}
 use Rattle.std.specs.List.{slice_get}
 use Rattle.std.specs.List.Sorted.{IsStrictlySortedBy}
 use Rattle.std.specs.Str.{bytes_eq}
@@ -10,7 +40,16 @@ use Rattle.std.proofs.lemmas.Slice.Eq.{bytes_eq-Decides}
 use Rattle.deno_graph_source.specs.declared.tree.node.Node.{Node}
 use Rattle.deno_graph_text.specs.TextMap.{value_at}
 use Rattle.deno_graph_dependency.specs.declared.import_attributes.ImportAttribute.{ImportAttribute}
-use Rattle.deno_graph_dep.specs.Attributes.{static_key, static_value, Entries, Giving, attribute_of, stated, GivesLast, HoldsLast}
+use Rattle.deno_graph_dep.specs.Attributes.{
+  static_key,
+  static_value,
+  Entries,
+  Giving,
+  attribute_of,
+  stated,
+  GivesLast,
+  HoldsLast,
+}
 use Rattle.deno_graph_dep.specs.AttributeSteps.{Puts}
 
 -- an item of a list with one more is an item of the list, or the one at its end

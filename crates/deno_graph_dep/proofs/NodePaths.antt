@@ -1,7 +1,27 @@
 -- How two paths stand to one another, by recursion on both.
-use Rattle.std.proofs.Common.{◌≡◌, ℕ, ◌<◌, [], ◌∷◌, ◌++◌, Bool, true, false, ◌⊎◌, inl, inr, ⊎_elim, sym, ap, ◌∙◌, refl, subst, arith}
+use Rattle.std.proofs.Common.{
+  ◌≡◌,
+  ℕ,
+  ◌<◌,
+  [],
+  ◌∷◌,
+  ◌++◌,
+  Bool,
+  true,
+  false,
+  ◌⊎◌,
+  inl,
+  inr,
+  ⊎_elim,
+  sym,
+  ap,
+  ◌∙◌,
+  refl,
+  subst,
+  arith,
+}
 use Rattle.std.proofs.lemmas.Bool.{cases_order, false≢true}
-use Rattle.deno_graph_dep.specs.NodePath.{NodePath, IsStrictPrefix, PartsBelow}
+use Rattle.deno_graph_source.specs.NodePath.{NodePath, IsStrictPrefix, PartsBelow}
 
 -- q goes on from p
 abbrev pub Below : NodePath → NodePath → Type 0

@@ -1,17 +1,53 @@
 -- Which paths a walk has passed, by the path that it enters next.
-use Rattle.std.proofs.Common.{◌≡◌, ℕ, suc, ◌+◌, ◌<◌, List, [], ◌∷◌, ◌++◌, map, ◌⊎◌, inl, inr, ⊎_elim, sym, ap, refl, subst, arith}
+use Rattle.std.proofs.Common.{
+  ◌≡◌,
+  ℕ,
+  suc,
+  ◌+◌,
+  ◌<◌,
+  List,
+  [],
+  ◌∷◌,
+  ◌++◌,
+  map,
+  ◌⊎◌,
+  inl,
+  inr,
+  ⊎_elim,
+  sym,
+  ap,
+  refl,
+  subst,
+  arith,
+}
 use Rattle.std.proofs.lemmas.Bool.{cases_order}
 use Rattle.std.specs.Borrow.{Bor}
 use Rattle.deno_graph_source.specs.declared.tree.node.Node.{Node}
 use Rattle.deno_graph_dep.specs.DependencyRules.{children_to_visit}
-use Rattle.deno_graph_dep.specs.Stack.{entry_rules, frame_of, index_of, frame_index, next_path, paths_to_come, StandsIn, IsPassed}
+use Rattle.deno_graph_dep.specs.Stack.{
+  entry_rules,
+  frame_of,
+  index_of,
+  frame_index,
+  next_path,
+  paths_to_come,
+  StandsIn,
+  IsPassed,
+}
 use Rattle.deno_graph_dep.specs.ListedPaths.{under, paths_at}
 use Rattle.deno_graph_dep.specs.Listing.{Rules}
-use Rattle.deno_graph_dep.specs.NodePath.{NodePath}
+use Rattle.deno_graph_source.specs.NodePath.{NodePath}
 use Rattle.deno_graph_dep.specs.declared.stack.Frame.{Frame}
 use Rattle.deno_graph_dep.proofs.Ascending.{Member, Member-append, Member-map}
 use Rattle.deno_graph_dep.proofs.ListedPaths.{Member-under}
-use Rattle.deno_graph_dep.proofs.NodePaths.{Below, Apart, Below-from_IsStrictPrefix, IsStrictPrefix-from_Below, Apart-from_PartsBelow, PartsBelow-from_Apart}
+use Rattle.deno_graph_dep.proofs.NodePaths.{
+  Below,
+  Apart,
+  Below-from_IsStrictPrefix,
+  IsStrictPrefix-from_Below,
+  Apart-from_PartsBelow,
+  PartsBelow-from_Apart,
+}
 use Rattle.deno_graph_dep.proofs.Stacks.{next_index}
 
 -- the same by recursion on both paths

@@ -1,5 +1,25 @@
 -- What a walk has done since it was asked for the next listed node, and what it then gives.
-use Rattle.std.proofs.Common.{◌≡◌, ℕ, ◌+◌, ◌-◌, ◌^◌, ◌≤◌, min, List, [], ◌++◌, true, false, Some, None, sym, ap, ◌∙◌, refl, arith}
+use Rattle.std.proofs.Common.{
+  ◌≡◌,
+  ℕ,
+  ◌+◌,
+  ◌-◌,
+  ◌^◌,
+  ◌≤◌,
+  min,
+  List,
+  [],
+  ◌++◌,
+  true,
+  false,
+  Some,
+  None,
+  sym,
+  ap,
+  ◌∙◌,
+  refl,
+  arith,
+}
 use Rattle.std.specs.Borrow.{Bor}
 use Rattle.deno_graph_source.specs.declared.tree.node.Node.{Node}
 use Rattle.deno_graph_source.specs.declared.tree.node.Program.{Program}
@@ -8,10 +28,24 @@ use Rattle.deno_graph_dep.specs.Stack.{is_before, is_after, once, IsStackOf, to_
 use Rattle.deno_graph_dep.specs.Walk.{Gives}
 use Rattle.deno_graph_dep.specs.WalkSteps.{state_of}
 use Rattle.deno_graph_dep.specs.declared.stack.Stack.{Stack}
-use Rattle.deno_graph_dep.proofs.Counts.{IsStackOf-enter, IsStackOf-leave, count-enter, count-leave, count-end}
+use Rattle.deno_graph_dep.proofs.Counts.{
+  IsStackOf-enter,
+  IsStackOf-leave,
+  count-enter,
+  count-leave,
+  count-end,
+}
 use Rattle.deno_graph_dep.proofs.Rounds.{listed_close}
 use Rattle.deno_graph_dep.proofs.Stacks.{node_at-next_path}
-use Rattle.deno_graph_dep.proofs.Steps.{Enters, Left, path_of, to_come-enter, to_come-leave, stands-first, stands-left}
+use Rattle.deno_graph_dep.proofs.Steps.{
+  Enters,
+  Left,
+  path_of,
+  to_come-enter,
+  to_come-leave,
+  stands-first,
+  stands-left,
+}
 
 -- only nodes that are not listed were passed
 pub record Progress (body : List Node) (first now : Stack) : Type 0 where

@@ -6,7 +6,7 @@ use Rattle.deno_graph_source.specs.declared.tree.node.Node.{Node}
 use Rattle.deno_graph_dep.specs.DependencyRules.{children_to_visit, dependency_rules}
 use Rattle.deno_graph_dep.specs.Stack.{entry_rules, index_of, paths_to_come}
 use Rattle.deno_graph_dep.specs.ListedPaths.{under, paths_at}
-use Rattle.deno_graph_dep.specs.NodePath.{NodePath}
+use Rattle.deno_graph_source.specs.NodePath.{NodePath}
 use Rattle.deno_graph_dep.specs.declared.stack.Frame.{Frame}
 use Rattle.deno_graph_dep.specs.declared.stack.Stack.{Stack}
 use Rattle.deno_graph_dep.proofs.Stacks.{paths_to_come-enter, ClosesAsVisited}

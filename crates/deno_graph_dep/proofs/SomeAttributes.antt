@@ -1,5 +1,41 @@
 -- Every clause and every argument gives attributes.
-use Rattle.std.proofs.Common.{◌≡◌, ℕ, zero, suc, ◌+◌, ◌<◌, ◌≤◌, Bool, true, false, not, ◌&&◌, List, [], ◌∷◌, ◌++◌, length, get_or, codes, Option, Some, None, ◌⊎◌, inl, inr, ⊎_elim, ◌↔◌, refl, sym, ap, subst, ◌∙◌, arith, append_assoc, MatchBool}
+use Rattle.std.proofs.Common.{
+  ◌≡◌,
+  ℕ,
+  zero,
+  suc,
+  ◌+◌,
+  ◌<◌,
+  ◌≤◌,
+  Bool,
+  true,
+  false,
+  not,
+  ◌&&◌,
+  List,
+  [],
+  ◌∷◌,
+  ◌++◌,
+  length,
+  get_or,
+  codes,
+  Option,
+  Some,
+  None,
+  ◌⊎◌,
+  inl,
+  inr,
+  ⊎_elim,
+  ◌↔◌,
+  refl,
+  sym,
+  ap,
+  subst,
+  ◌∙◌,
+  arith,
+  append_assoc,
+  MatchBool,
+}
 use Rattle.std.specs.List.{slice_get}
 use Rattle.std.specs.Str.{bytes_eq}
 use Rattle.std.proofs.lemmas.Bool.{false≢true}
@@ -13,11 +49,32 @@ use Rattle.deno_graph_text.specs.TextMap.{insert_entry}
 use Rattle.deno_graph_dependency.specs.declared.import_attributes.ImportAttribute.{ImportAttribute}
 use Rattle.deno_graph_dependency.specs.declared.import_attributes.ImportAttributes.{ImportAttributes}
 use Rattle.deno_graph_dependency.specs.declared.import_attributes.ImportAttributes.TheVariants as attributes
-use Rattle.deno_graph_dep.specs.Attributes.{static_key, has_static_keys, declared, stated, Entries, Giving, HoldsLast, KnowsLast, DeclarationGives, ObjectGives, LookedAtGive, CallGives}
+use Rattle.deno_graph_dep.specs.Attributes.{
+  static_key,
+  has_static_keys,
+  declared,
+  stated,
+  Entries,
+  Giving,
+  HoldsLast,
+  KnowsLast,
+  DeclarationGives,
+  ObjectGives,
+  LookedAtGive,
+  CallGives,
+}
 use Rattle.deno_graph_dep.specs.AttributeSteps.{known_object}
 use Rattle.deno_graph_dep.specs.Stated.{TypeGives}
 use Rattle.deno_graph_dep.proofs.Inserted.{Puts-inserted}
-use Rattle.deno_graph_dep.proofs.LastClause.{IsClause, LookedAtBelow, LookedAtBelow-skip, LookedAtBelow-clause, LookedAtGive-unknown, LookedAtGive-none, LookedAtGive-last}
+use Rattle.deno_graph_dep.proofs.LastClause.{
+  IsClause,
+  LookedAtBelow,
+  LookedAtBelow-skip,
+  LookedAtBelow-clause,
+  LookedAtGive-unknown,
+  LookedAtGive-none,
+  LookedAtGive-last,
+}
 use Rattle.deno_graph_dep.proofs.LastGiven.{HoldsLast-nil, HoldsLast-skip, HoldsLast-put}
 
 -- What properties give last
@@ -83,7 +140,8 @@ tested (Some key) name = (
 
 decide_clause : (y : Node) (after_with : Bool) → IsClause y after_with ⊎ (IsClause y after_with → ⊥)
 decide_clause y after_with =
-    by (is_key (static_key y) (codes "with")) (is_key (static_key y) (codes "assert")) after_with refl refl refl
+    by (is_key (static_key y) (codes "with"))
+    (is_key (static_key y) (codes "assert")) after_with refl refl refl
   where
     no_with : is_key (static_key y) (codes "with") ≡ false → static_key y ≡ Some (codes "with") → ⊥
     no_with e k = false≢true (sym e ∙ (tested (static_key y) (codes "with")).1 k)

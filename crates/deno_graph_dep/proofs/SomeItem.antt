@@ -1,19 +1,64 @@
 -- A listed node states an item, and a body has dependencies.
-use Rattle.std.proofs.Common.{◌≡◌, ℕ, zero, suc, ◌+◌, ◌<◌, Bool, true, false, not, cond, List, [], ◌∷◌, length, Some, None, slice_get, refl, ap, arith, All, MatchBool}
+use Rattle.std.proofs.Common.{
+  ◌≡◌,
+  ℕ,
+  zero,
+  suc,
+  ◌+◌,
+  ◌<◌,
+  Bool,
+  true,
+  false,
+  not,
+  cond,
+  List,
+  [],
+  ◌∷◌,
+  length,
+  Some,
+  None,
+  slice_get,
+  refl,
+  ap,
+  arith,
+  All,
+  MatchBool,
+}
 use Rattle.std.proofs.lemmas.Bool.{and_parts, false≢true}
 use Rattle.deno_graph_source.specs.Comments.{FiledComments}
-use Rattle.deno_graph_source.specs.Node.{kind_of, range_of, children_of, callee_count, nodes_in, nodes_of, IsShaped}
+use Rattle.deno_graph_source.specs.Node.{
+  kind_of,
+  range_of,
+  children_of,
+  callee_count,
+  nodes_in,
+  nodes_of,
+  IsShaped,
+}
 use Rattle.deno_graph_text.specs.JsString.{lossy_text}
 use Rattle.deno_graph_text.specs.declared.text.position.SourceRange.{SourceRange}
 use Rattle.deno_graph_source.specs.declared.tree.node.Arg.{Arg}
 use Rattle.deno_graph_source.specs.declared.tree.node.Callee.{Callee}
 use Rattle.deno_graph_source.specs.declared.tree.node.Callee.TheVariants as callee
 use Rattle.deno_graph_source.specs.declared.tree.node.Kind.{Kind}
-use Rattle.deno_graph_source.specs.declared.tree.node.Kind.TheVariants.{ImportDecl, NamedExport, ExportAll, ImportEquals, ImportType, ModuleDecl, Call, Str, Template, Binary}
+use Rattle.deno_graph_source.specs.declared.tree.node.Kind.TheVariants.{
+  ImportDecl,
+  NamedExport,
+  ExportAll,
+  ImportEquals,
+  ImportType,
+  ModuleDecl,
+  Call,
+  Str,
+  Template,
+  Binary,
+}
 use Rattle.deno_graph_source.specs.declared.tree.node.Node.{Node}
 use Rattle.deno_graph_source.specs.declared.tree.node.Program.{Program}
 use Rattle.deno_graph_source.specs.declared.tree.node.StrLit.{StrLit}
-use Rattle.deno_graph_dependency.specs.declared.dynamic_dependency.DynamicDependencyKind.{DynamicDependencyKind}
+use Rattle.deno_graph_dependency.specs.declared.dynamic_dependency.DynamicDependencyKind.{
+  DynamicDependencyKind,
+}
 use Rattle.deno_graph_dependency.specs.declared.dynamic_dependency.DynamicDependencyKind.TheVariants as dynamic_kind
 use Rattle.deno_graph_dependency.specs.declared.import_attributes.ImportAttributes.{ImportAttributes}
 use Rattle.deno_graph_dependency.specs.declared.import_attributes.ImportAttributes.TheVariants as attributes
@@ -21,11 +66,28 @@ use Rattle.deno_graph_dependency.specs.declared.static_dependency.StaticDependen
 use Rattle.deno_graph_dependency.specs.declared.static_dependency.StaticDependencyKind.TheVariants as static_kind
 use Rattle.deno_graph_dep.specs.Argument.{Form, HasForm, HasFormAt, expression, sum_form, template_form, text}
 use Rattle.deno_graph_dep.specs.Dependencies.{AreDependencies}
-use Rattle.deno_graph_dep.specs.DependencyKind.{call_kind, export_kind, import_equals_kind, import_kind, phase_kind}
+use Rattle.deno_graph_dep.specs.DependencyKind.{
+  call_kind,
+  export_kind,
+  import_equals_kind,
+  import_kind,
+  phase_kind,
+}
 use Rattle.deno_graph_dep.specs.DependencyRules.{is_dependency, is_listed, is_module_call}
 use Rattle.deno_graph_dep.specs.Item.{Item, dynamic_item, static_item}
 use Rattle.deno_graph_dep.specs.ListedNodes.{listed_below}
-use Rattle.deno_graph_dep.specs.Stated.{AllStated, NoneGiven, States, StatesAt, StatesCall, StatesSpecifier, clause_of, leading_at, second_argument, specified_item}
+use Rattle.deno_graph_dep.specs.Stated.{
+  AllStated,
+  NoneGiven,
+  States,
+  StatesAt,
+  StatesCall,
+  StatesSpecifier,
+  clause_of,
+  leading_at,
+  second_argument,
+  specified_item,
+}
 use Rattle.deno_graph_dep.proofs.Calls.{argument_shaped, first_argument_within}
 use Rattle.deno_graph_dep.proofs.DependencyRanges.{listed_one, shaped_node}
 use Rattle.deno_graph_dep.proofs.Items.{AreListed-listed_below}
@@ -64,7 +126,8 @@ none_given = (attributes.None, refl)
 some_kind : (callee : Callee) (children : List Node) → is_module_call callee children ≡ true
     → (kind : DynamicDependencyKind) × (call_kind callee children ≡ Some kind)
 some_kind (callee.Import phase) children is = (phase_kind phase, refl)
-some_kind callee.Expr children is = (dynamic_kind.Require, ap (λ b. cond b (Some dynamic_kind.Require) None) is)
+some_kind callee.Expr children is =
+    (dynamic_kind.Require, ap (λ b. cond b (Some dynamic_kind.Require) None) is)
 some_kind callee.Super children is = absurd (false≢true is)
 
 node_within : (nodes : List Node) (k : ℕ) → k < length nodes → (node : Node) × (slice_get nodes k ≡ Some node)
@@ -137,7 +200,8 @@ some_at comments node (Call callee (arg ∷ others)) is listed shaped =
     (and_parts (is_module_call callee (children_of node)) true listed).0 shaped
 some_at comments node _ is listed shaped = absurd (false≢true listed)
 
-pub some_stated : (comments : FiledComments) (node : Node) → is_listed node ≡ true → All IsShaped (nodes_in node)
+pub some_stated : (comments : FiledComments) (node : Node) → is_listed node ≡ true
+    → All IsShaped (nodes_in node)
     → (item : Item) × States comments node item
 unfolding States is_listed
 some_stated comments node listed shaped = some_at comments node (kind_of node) refl listed shaped

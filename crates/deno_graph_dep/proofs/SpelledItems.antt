@@ -1,10 +1,36 @@
 -- What is stated spells what it is stated of.
-use Rattle.std.proofs.Common.{◌≡◌, ℕ, suc, Bool, true, false, List, [], ◌∷◌, None, Some, slice_get, refl, sym, subst, All, MatchBool}
+use Rattle.std.proofs.Common.{
+  ◌≡◌,
+  ℕ,
+  suc,
+  Bool,
+  true,
+  false,
+  List,
+  [],
+  ◌∷◌,
+  None,
+  Some,
+  slice_get,
+  refl,
+  sym,
+  subst,
+  All,
+  MatchBool,
+}
 use Rattle.std.specs.List.{AllZip}
 use Rattle.deno_graph_source.specs.Comments.{FiledComments}
 use Rattle.deno_graph_source.specs.Node.{kind_of, nodes_of, IsShaped}
 use Rattle.deno_graph_source.specs.declared.tree.node.Kind.{Kind}
-use Rattle.deno_graph_source.specs.declared.tree.node.Kind.TheVariants.{ImportDecl, NamedExport, ExportAll, ImportEquals, ImportType, ModuleDecl, Call}
+use Rattle.deno_graph_source.specs.declared.tree.node.Kind.TheVariants.{
+  ImportDecl,
+  NamedExport,
+  ExportAll,
+  ImportEquals,
+  ImportType,
+  ModuleDecl,
+  Call,
+}
 use Rattle.deno_graph_source.specs.declared.tree.node.Node.{Node}
 use Rattle.deno_graph_source.specs.declared.tree.node.Program.{Program}
 use Rattle.deno_graph_source.specs.declared.tree.node.StrLit.{StrLit}

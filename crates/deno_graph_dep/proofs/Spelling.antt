@@ -1,5 +1,29 @@
 -- A form spells its node's text.
-use Rattle.std.proofs.Common.{◌≡◌, ℕ, ◌+◌, List, [], ◌∷◌, ◌++◌, map, length, All, Some, Bool, true, false, ◌&&◌, if◌then◌else◌, arith, ap, sym, refl, ◌∙◌, subst, append_assoc}
+use Rattle.std.proofs.Common.{
+  ◌≡◌,
+  ℕ,
+  ◌+◌,
+  List,
+  [],
+  ◌∷◌,
+  ◌++◌,
+  map,
+  length,
+  All,
+  Some,
+  Bool,
+  true,
+  false,
+  ◌&&◌,
+  if◌then◌else◌,
+  arith,
+  ap,
+  sym,
+  refl,
+  ◌∙◌,
+  subst,
+  append_assoc,
+}
 use Rattle.std.specs.List.{flat_map, list_all}
 use Rattle.std.proofs.lemmas.List.{append-nil, map-append, length-append, length-map}
 use Rattle.std.proofs.lemmas.List.Elements.{All-head, All-pop}
@@ -10,9 +34,45 @@ use Rattle.deno_graph_source.specs.declared.tree.node.BinaryOp.TheVariants.{Add}
 use Rattle.deno_graph_source.specs.declared.tree.node.Node.{Node}
 use Rattle.deno_graph_text.specs.JsString.{lossy_text, IsReadable}
 use Rattle.deno_graph_source.specs.Node.{kind_of, children_of, HasCountOfKind}
-use Rattle.deno_graph_dep.specs.NodePath.{NodePath}
-use Rattle.deno_graph_dep.specs.Argument.{Form, parts, expression, ArgumentPart, known, unknown, quasi_part, template_parts, template_form, is_string, is_add, Step, LeftSpine, operands_of, part_of, HasFormAt, HasForm}
-use Rattle.deno_graph_dep.specs.Value.{Assignment, template_text, ContributesAt, HasText, of_string, of_template, of_sum, joined, child_paths, unknown_path, unknown_operands, AreUnknownsAt, IsReadableAt, HasReadableLiteralsAt, Spells, SpellsItsText, unknown_count}
+use Rattle.deno_graph_source.specs.NodePath.{NodePath}
+use Rattle.deno_graph_dep.specs.Argument.{
+  Form,
+  parts,
+  expression,
+  ArgumentPart,
+  known,
+  unknown,
+  quasi_part,
+  template_parts,
+  template_form,
+  is_string,
+  is_add,
+  Step,
+  LeftSpine,
+  operands_of,
+  part_of,
+  HasFormAt,
+  HasForm,
+}
+use Rattle.deno_graph_dep.specs.Value.{
+  Assignment,
+  template_text,
+  ContributesAt,
+  HasText,
+  of_string,
+  of_template,
+  of_sum,
+  joined,
+  child_paths,
+  unknown_path,
+  unknown_operands,
+  AreUnknownsAt,
+  IsReadableAt,
+  HasReadableLiteralsAt,
+  Spells,
+  SpellsItsText,
+  unknown_count,
+}
 
 joined-quasi : (quasi : List ℕ) (ps : List ArgumentPart) (texts : List (List ℕ))
     → joined (quasi_part quasi ++ ps) texts ≡ lossy_text quasi ++ joined ps texts

@@ -1,5 +1,31 @@
 -- What is still to come on the stack of a walk, when a node is entered and when one is left.
-use Rattle.std.proofs.Common.{◌≡◌, ℕ, suc, ◌+◌, List, [], ◌∷◌, ◌++◌, length, map, Bool, true, false, not, ◌&&◌, cond, Some, None, slice_get, sym, ap, ◌∙◌, refl, arith, append_assoc}
+use Rattle.std.proofs.Common.{
+  ◌≡◌,
+  ℕ,
+  suc,
+  ◌+◌,
+  List,
+  [],
+  ◌∷◌,
+  ◌++◌,
+  length,
+  map,
+  Bool,
+  true,
+  false,
+  not,
+  ◌&&◌,
+  cond,
+  Some,
+  None,
+  slice_get,
+  sym,
+  ap,
+  ◌∙◌,
+  refl,
+  arith,
+  append_assoc,
+}
 use Rattle.std.proofs.lemmas.List.{map-append, length-append}
 use Rattle.std.specs.Borrow.{Bor}
 use Rattle.deno_graph_source.specs.Node.{kind_of, children_of}
@@ -7,8 +33,19 @@ use Rattle.deno_graph_source.specs.declared.tree.node.Node.{Node}
 use Rattle.deno_graph_dep.specs.DependencyRules.{children_to_visit, is_closed}
 use Rattle.deno_graph_dep.specs.ListedPaths.{under, here, paths_at}
 use Rattle.deno_graph_dep.specs.Listing.{Rules}
-use Rattle.deno_graph_dep.specs.NodePath.{NodePath, node_below, node_at}
-use Rattle.deno_graph_dep.specs.Stack.{frame_of, is_before, is_after, once, index_of, frame_index, next_path, paths_to_come, AreLastOf, StandsIn}
+use Rattle.deno_graph_source.specs.NodePath.{NodePath, node_below, node_at}
+use Rattle.deno_graph_dep.specs.Stack.{
+  frame_of,
+  is_before,
+  is_after,
+  once,
+  index_of,
+  frame_index,
+  next_path,
+  paths_to_come,
+  AreLastOf,
+  StandsIn,
+}
 use Rattle.deno_graph_dep.specs.declared.stack.Frame.{Frame}
 use Rattle.deno_graph_dep.proofs.ListedPaths.{paths_at-is}
 

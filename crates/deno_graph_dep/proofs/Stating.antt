@@ -1,5 +1,22 @@
 -- What nodes state, and which do.
-use Rattle.std.proofs.Common.{◌≡◌, Bool, true, false, ◌&&◌, List, Some, None, ap, sym, subst, ◌∙◌, refl, slice_get, cond, option_map}
+use Rattle.std.proofs.Common.{
+  ◌≡◌,
+  Bool,
+  true,
+  false,
+  ◌&&◌,
+  List,
+  Some,
+  None,
+  ap,
+  sym,
+  subst,
+  ◌∙◌,
+  refl,
+  slice_get,
+  cond,
+  option_map,
+}
 use Rattle.std.specs.Prelude.{MatchBool, is_some}
 use Rattle.std.proofs.lemmas.Bool.{false≢true}
 use Rattle.deno_graph_source.specs.Comments.{FiledComments}
@@ -8,9 +25,19 @@ use Rattle.deno_graph_source.specs.declared.tree.node.Arg.{Arg}
 use Rattle.deno_graph_source.specs.declared.tree.node.Callee.{Callee}
 use Rattle.deno_graph_source.specs.declared.tree.node.Callee.TheVariants as callee
 use Rattle.deno_graph_source.specs.declared.tree.node.Kind.{Kind}
-use Rattle.deno_graph_source.specs.declared.tree.node.Kind.TheVariants.{ImportDecl, NamedExport, ExportAll, ImportEquals, ImportType, ModuleDecl, Call}
+use Rattle.deno_graph_source.specs.declared.tree.node.Kind.TheVariants.{
+  ImportDecl,
+  NamedExport,
+  ExportAll,
+  ImportEquals,
+  ImportType,
+  ModuleDecl,
+  Call,
+}
 use Rattle.deno_graph_source.specs.declared.tree.node.Node.{Node}
-use Rattle.deno_graph_dependency.specs.declared.dynamic_dependency.DynamicDependencyKind.{DynamicDependencyKind}
+use Rattle.deno_graph_dependency.specs.declared.dynamic_dependency.DynamicDependencyKind.{
+  DynamicDependencyKind,
+}
 use Rattle.deno_graph_dependency.specs.declared.dynamic_dependency.DynamicDependencyKind.TheVariants as dynamic_kind
 use Rattle.deno_graph_dep.specs.DependencyRules.{is_dependency, is_listed, is_module_call, is_require}
 use Rattle.deno_graph_dep.specs.DependencyKind.{call_kind}

@@ -4,12 +4,19 @@ use Rattle.std.specs.Borrow.{Bor}
 use Rattle.deno_graph_source.specs.declared.tree.node.Node.{Node}
 use Rattle.deno_graph_dep.specs.DependencyRules.{children_to_visit}
 use Rattle.deno_graph_dep.specs.Listing.{Rules}
-use Rattle.deno_graph_dep.specs.NodePath.{NodePath}
+use Rattle.deno_graph_source.specs.NodePath.{NodePath}
 use Rattle.deno_graph_dep.specs.Stack.{frame_of, is_before, is_after, once, next_path, StandsIn, to_come}
 use Rattle.deno_graph_dep.specs.declared.stack.Frame.{Frame}
 use Rattle.deno_graph_dep.specs.declared.stack.Stack.{Stack}
 use Rattle.deno_graph_dep.proofs.Rounds.{rounds, rounds_of, rounds_of-push, to_enter, to_enter-first}
-use Rattle.deno_graph_dep.proofs.Stacks.{ClosesAsVisited, paths_to_come-enter, paths_to_come-leave, StandsIn-enter, StandsIn-leave, StandsIn-left}
+use Rattle.deno_graph_dep.proofs.Stacks.{
+  ClosesAsVisited,
+  paths_to_come-enter,
+  paths_to_come-leave,
+  StandsIn-enter,
+  StandsIn-leave,
+  StandsIn-left,
+}
 
 pub record Enters (old new : Stack) (node : Bor Node) (siblings : Bor (List Node)) : Type 0 where
   pub first : old.nodes.now ≡ node.now ∷ siblings.now

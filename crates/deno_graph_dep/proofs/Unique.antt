@@ -8,7 +8,18 @@ use Rattle.deno_graph_source.specs.declared.tree.node.Arg.{Arg}
 use Rattle.deno_graph_source.specs.declared.tree.node.BinaryOp.{BinaryOp}
 use Rattle.deno_graph_source.specs.declared.tree.node.Callee.{Callee}
 use Rattle.deno_graph_source.specs.declared.tree.node.Kind.{Kind}
-use Rattle.deno_graph_source.specs.declared.tree.node.Kind.TheVariants.{ImportDecl, NamedExport, ExportAll, ImportEquals, ImportType, ModuleDecl, Call, Str, Template, Binary}
+use Rattle.deno_graph_source.specs.declared.tree.node.Kind.TheVariants.{
+  ImportDecl,
+  NamedExport,
+  ExportAll,
+  ImportEquals,
+  ImportType,
+  ModuleDecl,
+  Call,
+  Str,
+  Template,
+  Binary,
+}
 use Rattle.deno_graph_source.specs.declared.tree.node.Node.{Node}
 use Rattle.deno_graph_source.specs.declared.tree.node.StrLit.{StrLit}
 use Rattle.deno_graph_text.specs.declared.text.position.SourceRange.{SourceRange}
@@ -16,14 +27,44 @@ use Rattle.deno_graph_dependency.specs.declared.import_attributes.ImportAttribut
 use Rattle.deno_graph_dependency.specs.declared.import_attributes.ImportAttributes.TheVariants as attributes
 use Rattle.deno_graph_dependency.specs.declared.static_dependency.StaticDependencyKind.{StaticDependencyKind}
 use Rattle.deno_graph_dependency.specs.declared.static_dependency.StaticDependencyKind.TheVariants as static_kind
-use Rattle.deno_graph_dependency.specs.declared.dynamic_dependency.DynamicDependencyKind.{DynamicDependencyKind}
-use Rattle.deno_graph_dep.specs.Argument.{Form, HasForm, HasFormAt, LeftSpine, Step, expression, is_binary, sum_form}
+use Rattle.deno_graph_dependency.specs.declared.dynamic_dependency.DynamicDependencyKind.{
+  DynamicDependencyKind,
+}
+use Rattle.deno_graph_dep.specs.Argument.{
+  Form,
+  HasForm,
+  HasFormAt,
+  LeftSpine,
+  Step,
+  expression,
+  is_binary,
+  sum_form,
+}
 use Rattle.deno_graph_dep.specs.Dependencies.{AreDependencies}
 use Rattle.deno_graph_dep.specs.DependencyKind.{import_kind, export_kind, import_equals_kind}
 use Rattle.deno_graph_dep.specs.Item.{Item, dynamic_item, static_item}
-use Rattle.deno_graph_dep.specs.Stated.{AllStated, ArgumentHasForm, NoneGiven, States, StatesAt, StatesCall, StatesSpecifier, clause_of, leading_at, second_argument, specified_item}
+use Rattle.deno_graph_dep.specs.Stated.{
+  AllStated,
+  ArgumentHasForm,
+  NoneGiven,
+  States,
+  StatesAt,
+  StatesCall,
+  StatesSpecifier,
+  clause_of,
+  leading_at,
+  second_argument,
+  specified_item,
+}
 use Rattle.deno_graph_dep.proofs.Items.{AreListed-unique}
-use Rattle.deno_graph_dep.proofs.UniqueAttributes.{IsUnique, unique_equal, unique_by, DeclarationGives-unique, TypeGives-unique, CallGives-unique}
+use Rattle.deno_graph_dep.proofs.UniqueAttributes.{
+  IsUnique,
+  unique_equal,
+  unique_by,
+  DeclarationGives-unique,
+  TypeGives-unique,
+  CallGives-unique,
+}
 
 -- The form of an argument
 

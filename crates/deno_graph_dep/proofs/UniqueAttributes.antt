@@ -1,5 +1,34 @@
 -- The attributes that a node gives are unique.
-use Rattle.std.proofs.Common.{◌≡◌, ℕ, Bool, true, false, not, ◌&&◌, cond, List, [], ◌∷◌, Option, Some, None, option_and_then, ◌⊎◌, inl, inr, ⊎_elim, ◌↔◌, refl, sym, ap, subst, ◌∙◌, arith, slice_get, MatchBool}
+use Rattle.std.proofs.Common.{
+  ◌≡◌,
+  ℕ,
+  Bool,
+  true,
+  false,
+  not,
+  ◌&&◌,
+  cond,
+  List,
+  [],
+  ◌∷◌,
+  Option,
+  Some,
+  None,
+  option_and_then,
+  ◌⊎◌,
+  inl,
+  inr,
+  ⊎_elim,
+  ◌↔◌,
+  refl,
+  sym,
+  ap,
+  subst,
+  ◌∙◌,
+  arith,
+  slice_get,
+  MatchBool,
+}
 use Rattle.std.specs.Cmp.Lexicographic.{slice_cmp}
 use Rattle.std.specs.List.{AllByRecursion}
 use Rattle.std.specs.List.Sorted.{IsStrictlySortedBy}
@@ -19,7 +48,23 @@ use Rattle.deno_graph_source.specs.declared.tree.node.Node.{Node}
 use Rattle.deno_graph_text.specs.TextMap.{value_at, IsAscending}
 use Rattle.deno_graph_dependency.specs.declared.import_attributes.ImportAttributes.{ImportAttributes}
 use Rattle.deno_graph_dependency.specs.declared.import_attributes.ImportAttributes.TheVariants as attributes
-use Rattle.deno_graph_dep.specs.Attributes.{value_node, has_static_keys, declared, stated, Entries, Giving, HoldsLast, KnowsLast, DeclarationGives, ObjectGives, ValueGives, IndexGives, GreatestGives, LookedAtGive, CallGives}
+use Rattle.deno_graph_dep.specs.Attributes.{
+  value_node,
+  has_static_keys,
+  declared,
+  stated,
+  Entries,
+  Giving,
+  HoldsLast,
+  KnowsLast,
+  DeclarationGives,
+  ObjectGives,
+  ValueGives,
+  IndexGives,
+  GreatestGives,
+  LookedAtGive,
+  CallGives,
+}
 use Rattle.deno_graph_dep.specs.Stated.{TypeGives}
 
 -- at most one value has the property

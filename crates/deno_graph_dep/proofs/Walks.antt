@@ -1,5 +1,29 @@
 -- A walk from its start, and from one step to the next.
-use Rattle.std.proofs.Common.{◌≡◌, ℕ, ◌+◌, List, [], ◌∷◌, ◌++◌, map, Option, Some, None, Result, Ok, Err, IfOk, OnErr, sym, ap, ◌∙◌, refl, subst, arith, append_assoc}
+use Rattle.std.proofs.Common.{
+  ◌≡◌,
+  ℕ,
+  ◌+◌,
+  List,
+  [],
+  ◌∷◌,
+  ◌++◌,
+  map,
+  Option,
+  Some,
+  None,
+  Result,
+  Ok,
+  Err,
+  IfOk,
+  OnErr,
+  sym,
+  ap,
+  ◌∙◌,
+  refl,
+  subst,
+  arith,
+  append_assoc,
+}
 use Rattle.std.specs.Borrow.{Bor}
 use Rattle.deno_graph_source.specs.declared.tree.node.Node.{Node}
 use Rattle.deno_graph_source.specs.declared.tree.node.Program.{Program}
@@ -7,7 +31,7 @@ use Rattle.deno_graph_dep.specs.DependencyRules.{dependency_rules}
 use Rattle.deno_graph_dep.specs.Stack.{entry_rules, index_of, paths_to_come, to_come, StandsIn, IsStackOf}
 use Rattle.deno_graph_dep.specs.ListedPaths.{listed_paths, paths_at}
 use Rattle.deno_graph_dep.specs.Listing.{Rules, IsListing}
-use Rattle.deno_graph_dep.specs.NodePath.{NodePath}
+use Rattle.deno_graph_source.specs.NodePath.{NodePath}
 use Rattle.deno_graph_dep.specs.Walk.{Gives}
 use Rattle.deno_graph_dep.specs.WalkSteps.{IsWalkOf, state_of}
 use Rattle.deno_graph_dep.specs.declared.stack.Frame.{Frame}

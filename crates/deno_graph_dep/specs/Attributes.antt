@@ -1,5 +1,27 @@
 -- What an object literal says of the attributes of an import, by the indices of its properties.
-use Rattle.std.specs.Prelude.{◌≡◌, ◌≢◌, ℕ, ◌<◌, ◌-◌, ◌↔◌, ◌⊎◌, Bool, not, ◌&&◌, List, length, codes, Option, Some, None, is_some, option_map, option_and_then, slice_get, MatchBool}
+use Rattle.std.specs.Prelude.{
+  ◌≡◌,
+  ◌≢◌,
+  ℕ,
+  ◌<◌,
+  ◌-◌,
+  ◌↔◌,
+  ◌⊎◌,
+  Bool,
+  not,
+  ◌&&◌,
+  List,
+  length,
+  codes,
+  Option,
+  Some,
+  None,
+  is_some,
+  option_map,
+  option_and_then,
+  slice_get,
+  MatchBool,
+}
 use Rattle.std.specs.List.{list_all}
 use Rattle.deno_graph_source.specs.declared.tree.node.Arg.{Arg}
 use Rattle.deno_graph_source.specs.declared.tree.node.Kind.{Kind}

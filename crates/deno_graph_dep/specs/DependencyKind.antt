@@ -1,12 +1,25 @@
 -- What kind of dependency a node states.
-use Rattle.std.specs.Prelude.{List, Bool, true, false, Option, Some, None, option_map, slice_get, if◌then◌else◌}
+use Rattle.std.specs.Prelude.{
+  List,
+  Bool,
+  true,
+  false,
+  Option,
+  Some,
+  None,
+  option_map,
+  slice_get,
+  if◌then◌else◌,
+}
 use Rattle.deno_graph_source.specs.Node.{kind_of}
 use Rattle.deno_graph_source.specs.declared.tree.node.Callee.{Callee}
 use Rattle.deno_graph_source.specs.declared.tree.node.Callee.TheVariants as callee
 use Rattle.deno_graph_source.specs.declared.tree.node.ImportPhase.{ImportPhase}
 use Rattle.deno_graph_source.specs.declared.tree.node.ImportPhase.TheVariants.{Evaluation, Source, Defer}
 use Rattle.deno_graph_source.specs.declared.tree.node.Node.{Node}
-use Rattle.deno_graph_dependency.specs.declared.dynamic_dependency.DynamicDependencyKind.{DynamicDependencyKind}
+use Rattle.deno_graph_dependency.specs.declared.dynamic_dependency.DynamicDependencyKind.{
+  DynamicDependencyKind,
+}
 use Rattle.deno_graph_dependency.specs.declared.dynamic_dependency.DynamicDependencyKind.TheVariants as dynamic_kind
 use Rattle.deno_graph_dependency.specs.declared.static_dependency.StaticDependencyKind.{StaticDependencyKind}
 use Rattle.deno_graph_dependency.specs.declared.static_dependency.StaticDependencyKind.TheVariants as static_kind

@@ -1,5 +1,25 @@
 -- Which nodes of a tree are dependencies, and where they are listed.
-use Rattle.std.specs.Prelude.{ℕ, List, [], Bool, true, false, not, ◌&&◌, ◌||◌, Option, Some, None, is_some, option_map, slice_get, if◌then◌else◌, codes, nat_eq, ◌==◌}
+use Rattle.std.specs.Prelude.{
+  ℕ,
+  List,
+  [],
+  Bool,
+  true,
+  false,
+  not,
+  ◌&&◌,
+  ◌||◌,
+  Option,
+  Some,
+  None,
+  is_some,
+  option_map,
+  slice_get,
+  if◌then◌else◌,
+  codes,
+  nat_eq,
+  ◌==◌,
+}
 use Rattle.std.specs.List.{list_any, starts_with}
 use Rattle.std.specs.Str.{bytes_eq}
 use Rattle.deno_graph_text.specs.JsString.{lossy_text}
@@ -7,7 +27,16 @@ use Rattle.deno_graph_source.specs.Node.{kind_of, children_of}
 use Rattle.deno_graph_source.specs.declared.tree.node.Callee.{Callee}
 use Rattle.deno_graph_source.specs.declared.tree.node.Callee.TheVariants as callee
 use Rattle.deno_graph_source.specs.declared.tree.node.Kind.{Kind}
-use Rattle.deno_graph_source.specs.declared.tree.node.Kind.TheVariants.{ImportDecl, NamedExport, ExportAll, ImportEquals, ImportType, ModuleDecl, Call, Ident}
+use Rattle.deno_graph_source.specs.declared.tree.node.Kind.TheVariants.{
+  ImportDecl,
+  NamedExport,
+  ExportAll,
+  ImportEquals,
+  ImportType,
+  ModuleDecl,
+  Call,
+  Ident,
+}
 use Rattle.deno_graph_source.specs.declared.tree.node.Node.{Node}
 use Rattle.deno_graph_dep.specs.Listing.{Rules}
 

@@ -2,7 +2,7 @@
 use Rattle.std.specs.Prelude.{◌≡◌, ◌≢◌, ℕ, ◌-◌, ◌^◌, min, List, length, Contains, AllPairs, ◌↔◌}
 use Rattle.deno_graph_source.specs.declared.tree.node.Node.{Node}
 use Rattle.deno_graph_dep.specs.Listing.{Rules, IsAfterInside, IsReachable}
-use Rattle.deno_graph_dep.specs.NodePath.{NodePath, IsStrictPrefix, PartsBelow}
+use Rattle.deno_graph_source.specs.NodePath.{NodePath, IsStrictPrefix, PartsBelow}
 
 -- The node at q is entered by the time that the node at p is given: q parts from p at a smaller
 -- index, q is p or a prefix of it, or p is a strict prefix of q and the node at p comes after what

@@ -9,7 +9,6 @@ pub mod Item
 pub mod ListedNodes
 pub mod ListedPaths
 pub mod Listing
-pub mod NodePath
 pub mod Recursion
 pub mod SpelledItems
 pub mod Stack

@@ -6,7 +6,7 @@ use Rattle.deno_graph_source.specs.declared.tree.node.Node.{Node}
 use Rattle.deno_graph_source.specs.Node.{kind_of}
 use Rattle.deno_graph_dep.specs.DependencyRules.{dependency_rules, is_listed, is_listed_after_inside}
 use Rattle.deno_graph_dep.specs.Listing.{IsListing}
-use Rattle.deno_graph_dep.specs.NodePath.{NodePath, node_at}
+use Rattle.deno_graph_source.specs.NodePath.{NodePath, node_at}
 use Rattle.deno_graph_dep.specs.Recursion.{entries_at}
 
 -- the node, if it is listed

@@ -2,7 +2,7 @@
 use Rattle.std.specs.Prelude.{ℕ, suc, List, [], ◌∷◌, ◌++◌, Bool, cond, map}
 use Rattle.deno_graph_source.specs.declared.tree.node.Node.{Node}
 use Rattle.deno_graph_dep.specs.Listing.{Rules}
-use Rattle.deno_graph_dep.specs.NodePath.{NodePath}
+use Rattle.deno_graph_source.specs.NodePath.{NodePath}
 use Rattle.deno_graph_dep.specs.Recursion.{by_children}
 
 -- the paths below consecutive children, where f n is the index of the n-th

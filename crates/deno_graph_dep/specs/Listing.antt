@@ -1,7 +1,7 @@
 -- Which nodes of a module are listed, each by its path, and in which order.
 use Rattle.std.specs.Prelude.{List, Bool, IsTrue, IsSome, Contains, AllPairs, ◌↔◌}
 use Rattle.deno_graph_source.specs.declared.tree.node.Node.{Node}
-use Rattle.deno_graph_dep.specs.NodePath.{NodePath, node_at, LeadsTo, IsStrictPrefix, PartsBelow}
+use Rattle.deno_graph_source.specs.NodePath.{NodePath, node_at, LeadsTo, IsStrictPrefix, PartsBelow}
 
 -- what a listing asks of a node, whatever stands round it
 pub record Rules : Type 0 where

@@ -1,11 +1,36 @@
 -- The stack of a walk: the entered nodes that are not left yet, and what is still to come.
-use Rattle.std.specs.Prelude.{◌≡◌, ◌⊎◌, ℕ, suc, ◌+◌, ◌-◌, ◌^◌, min, Contains, List, [], ◌∷◌, ◌++◌, length, map, Bool, not, ◌&&◌, cond, Option, Some, None, true, false}
+use Rattle.std.specs.Prelude.{
+  ◌≡◌,
+  ◌⊎◌,
+  ℕ,
+  suc,
+  ◌+◌,
+  ◌-◌,
+  ◌^◌,
+  min,
+  Contains,
+  List,
+  [],
+  ◌∷◌,
+  ◌++◌,
+  length,
+  map,
+  Bool,
+  not,
+  ◌&&◌,
+  cond,
+  Option,
+  Some,
+  None,
+  true,
+  false,
+}
 use Rattle.std.specs.Borrow.{Bor}
 use Rattle.deno_graph_source.specs.declared.tree.node.Node.{Node}
 use Rattle.deno_graph_dep.specs.DependencyRules.{children_to_visit, dependency_rules}
 use Rattle.deno_graph_dep.specs.ListedPaths.{under, paths_at, listed_paths}
 use Rattle.deno_graph_dep.specs.Listing.{Rules}
-use Rattle.deno_graph_dep.specs.NodePath.{NodePath, IsStrictPrefix, PartsBelow}
+use Rattle.deno_graph_source.specs.NodePath.{NodePath, IsStrictPrefix, PartsBelow}
 use Rattle.deno_graph_dep.specs.declared.stack.Frame.{Frame}
 use Rattle.deno_graph_dep.specs.declared.stack.Stack.{Stack}
 

@@ -1,5 +1,25 @@
 -- What a node that is a dependency states.
-use Rattle.std.specs.Prelude.{◌≡◌, ℕ, ◌+◌, List, [], ◌∷◌, Bool, true, false, not, Option, Some, None, option_map, option_and_then, unwrap_or, slice_get, IsTrue, MatchBool}
+use Rattle.std.specs.Prelude.{
+  ◌≡◌,
+  ℕ,
+  ◌+◌,
+  List,
+  [],
+  ◌∷◌,
+  Bool,
+  true,
+  false,
+  not,
+  Option,
+  Some,
+  None,
+  option_map,
+  option_and_then,
+  unwrap_or,
+  slice_get,
+  IsTrue,
+  MatchBool,
+}
 use Rattle.deno_graph_source.specs.ByPosition.{value_at}
 use Rattle.deno_graph_source.specs.Comments.{FiledComments}
 use Rattle.deno_graph_text.specs.JsString.{lossy_text}
@@ -9,10 +29,20 @@ use Rattle.deno_graph_source.specs.declared.tree.comments.DependencyComment.{Dep
 use Rattle.deno_graph_source.specs.declared.tree.node.Arg.{Arg}
 use Rattle.deno_graph_source.specs.declared.tree.node.Callee.{Callee}
 use Rattle.deno_graph_source.specs.declared.tree.node.Kind.{Kind}
-use Rattle.deno_graph_source.specs.declared.tree.node.Kind.TheVariants.{ImportDecl, NamedExport, ExportAll, ImportEquals, ImportType, ModuleDecl, Call}
+use Rattle.deno_graph_source.specs.declared.tree.node.Kind.TheVariants.{
+  ImportDecl,
+  NamedExport,
+  ExportAll,
+  ImportEquals,
+  ImportType,
+  ModuleDecl,
+  Call,
+}
 use Rattle.deno_graph_source.specs.declared.tree.node.Node.{Node}
 use Rattle.deno_graph_source.specs.declared.tree.node.StrLit.{StrLit}
-use Rattle.deno_graph_dependency.specs.declared.dynamic_dependency.DynamicDependencyKind.{DynamicDependencyKind}
+use Rattle.deno_graph_dependency.specs.declared.dynamic_dependency.DynamicDependencyKind.{
+  DynamicDependencyKind,
+}
 use Rattle.deno_graph_dependency.specs.declared.import_attributes.ImportAttributes.{ImportAttributes}
 use Rattle.deno_graph_dependency.specs.declared.import_attributes.ImportAttributes.TheVariants as attributes
 use Rattle.deno_graph_dependency.specs.declared.static_dependency.StaticDependencyKind.{StaticDependencyKind}

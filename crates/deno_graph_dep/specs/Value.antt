@@ -7,8 +7,20 @@ use Rattle.deno_graph_source.specs.declared.tree.node.BinaryOp.TheVariants.{Add}
 use Rattle.deno_graph_source.specs.declared.tree.node.Node.{Node}
 use Rattle.deno_graph_text.specs.JsString.{lossy_text, IsReadable}
 use Rattle.deno_graph_source.specs.Node.{kind_of, children_of}
-use Rattle.deno_graph_dep.specs.NodePath.{NodePath}
-use Rattle.deno_graph_dep.specs.Argument.{Form, text, parts, expression, ArgumentPart, known, unknown, is_string, Step, LeftSpine, operands_of}
+use Rattle.deno_graph_source.specs.NodePath.{NodePath}
+use Rattle.deno_graph_dep.specs.Argument.{
+  Form,
+  text,
+  parts,
+  expression,
+  ArgumentPart,
+  known,
+  unknown,
+  is_string,
+  Step,
+  LeftSpine,
+  operands_of,
+}
 
 -- an assignment: the text that the expression at each path below an argument contributes
 abbrev pub Assignment : Type 0

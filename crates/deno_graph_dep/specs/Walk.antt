@@ -6,7 +6,7 @@ use Rattle.deno_graph_source.specs.declared.tree.node.Program.{Program}
 use Rattle.deno_graph_dep.specs.DependencyRules.{dependency_rules}
 use Rattle.deno_graph_dep.specs.Entered.{EnteredBy, IsCountOf}
 use Rattle.deno_graph_dep.specs.Listing.{IsReachable}
-use Rattle.deno_graph_dep.specs.NodePath.{NodePath, node_at}
+use Rattle.deno_graph_source.specs.NodePath.{NodePath, node_at}
 
 pub record WalkState : Type 0 where
   -- the program that is walked

@@ -4,7 +4,7 @@ use Rattle.deno_graph_source.specs.declared.tree.node.Node.{Node}
 use Rattle.deno_graph_source.specs.declared.tree.node.Program.{Program}
 use Rattle.deno_graph_dep.specs.DependencyRules.{dependency_rules}
 use Rattle.deno_graph_dep.specs.ListedPaths.{listed_paths}
-use Rattle.deno_graph_dep.specs.NodePath.{NodePath}
+use Rattle.deno_graph_source.specs.NodePath.{NodePath}
 use Rattle.deno_graph_dep.specs.Stack.{IsStackOf, to_come}
 use Rattle.deno_graph_dep.specs.declared.stack.Stack.{Stack}
 use Rattle.deno_graph_dep.specs.Walk.{WalkState}

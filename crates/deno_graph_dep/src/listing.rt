@@ -5,7 +5,7 @@ ghost use Rattle.deno_graph_source.specs.declared.tree.node.Node.{Node};
 ghost use Rattle.deno_graph_dep.specs.ListedNodes.{listed_below, listed_in, own_after, own_before};
 ghost use Rattle.deno_graph_dep.specs.DependencyRules.{children_to_visit};
 ghost use Rattle.deno_graph_dep.specs.Listing.{IsListing, Precedes, Rules};
-ghost use Rattle.deno_graph_dep.specs.NodePath.{NodePath};
+ghost use Rattle.deno_graph_source.specs.NodePath.{NodePath};
 
 /// A body has exactly one listing.
 pub fn one_listing()

@@ -3,7 +3,7 @@
 ghost use Rattle.std.specs.Prelude.{◌≡◌, ◌≤◌, ◌++◌, IfOk, OnErr, List};
 ghost use Rattle.deno_graph_dep.specs.DependencyRules.{dependency_rules};
 ghost use Rattle.deno_graph_dep.specs.Listing.{IsListing};
-ghost use Rattle.deno_graph_dep.specs.NodePath.{NodePath};
+ghost use Rattle.deno_graph_source.specs.NodePath.{NodePath};
 ghost use Rattle.deno_graph_dep.specs.Walk.{Gives, WalkState};
 
 use crate::stack::Stack;

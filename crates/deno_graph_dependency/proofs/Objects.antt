@@ -1,5 +1,28 @@
 -- A look-up in the object of a table gives what the table has.
-use Rattle.std.proofs.Common.{◌≡◌, ℕ, List, [], ◌∷◌, Bool, true, false, not, ◌&&◌, ◌||◌, cond, bytes_eq, Option, Some, None, if◌then◌else◌, true≢false, refl, sym, ap, ◌∙◌}
+use Rattle.std.proofs.Common.{
+  ◌≡◌,
+  ℕ,
+  List,
+  [],
+  ◌∷◌,
+  Bool,
+  true,
+  false,
+  not,
+  ◌&&◌,
+  ◌||◌,
+  cond,
+  bytes_eq,
+  Option,
+  Some,
+  None,
+  if◌then◌else◌,
+  true≢false,
+  refl,
+  sym,
+  ap,
+  ◌∙◌,
+}
 use Rattle.std.proofs.lemmas.Slice.Eq.{bytes_eq-Decides}
 use Rattle.serde_json.specs.Data.{Data, Members}
 use Rattle.serde_json.specs.Find.{get, get_member}

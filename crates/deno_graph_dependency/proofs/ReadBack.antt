@@ -1,5 +1,32 @@
 -- What is written is read back: members of tables, lists, maps, flags, positions and modes.
-use Rattle.std.proofs.Common.{◌≡◌, ℕ, ◌<◌, ◌^◌, List, [], ◌∷◌, ◌++◌, map, Bool, true, false, Option, Some, None, option_map, nat_lt, All, refl, sym, ap, ◌∙◌, subst, lt-ltb, append_assoc, append-nil}
+use Rattle.std.proofs.Common.{
+  ◌≡◌,
+  ℕ,
+  ◌<◌,
+  ◌^◌,
+  List,
+  [],
+  ◌∷◌,
+  ◌++◌,
+  map,
+  Bool,
+  true,
+  false,
+  Option,
+  Some,
+  None,
+  option_map,
+  nat_lt,
+  All,
+  refl,
+  sym,
+  ap,
+  ◌∙◌,
+  subst,
+  lt-ltb,
+  append_assoc,
+  append-nil,
+}
 use Rattle.std.proofs.lemmas.Cmp.{nat_list_cmp_total}
 use Rattle.std.proofs.lemmas.List.Elements.{All-head, All-tail}
 use Rattle.std.specs.Cmp.Lexicographic.{slice_cmp}
@@ -12,15 +39,47 @@ use Rattle.serde_json.specs.Data.{Data, number, unsigned, Members, no_members, m
 use Rattle.serde_json.specs.Find.{as_bool}
 use Rattle.serde_json.specs.View.{items_of}
 use Rattle.deno_graph_text.specs.TextMap.{IsAscending}
-use Rattle.deno_graph_text.specs.declared.values.resolution_mode.TypeScriptTypesResolutionMode.{TypeScriptTypesResolutionMode}
-use Rattle.deno_graph_text.specs.declared.values.resolution_mode.TypeScriptTypesResolutionMode.TheVariants.{Require, Import}
+use Rattle.deno_graph_text.specs.declared.values.resolution_mode.TypeScriptTypesResolutionMode.{
+  TypeScriptTypesResolutionMode,
+}
+use Rattle.deno_graph_text.specs.declared.values.resolution_mode.TypeScriptTypesResolutionMode.TheVariants.{
+  Require,
+  Import,
+}
 use Rattle.deno_graph_text.specs.declared.text.position.Position.{Position}
 use Rattle.deno_graph_text.specs.declared.text.position.PositionRange.{PositionRange}
 use Rattle.deno_graph_dependency.proofs.Objects.{get_member-put_entries, has_distinct_keys, entry_at}
 use Rattle.deno_graph_dependency.proofs.Reading.{goes_on}
-use Rattle.deno_graph_dependency.specs.Json.Position.{IsHeldPosition, IsHeldRange, json_of_position, json_of_range, reads_position, reads_range}
-use Rattle.deno_graph_dependency.specs.Object.{Entry, put_entries, map_entries, map_object_of, array_of, if_true, if_any}
-use Rattle.deno_graph_dependency.specs.Read.Partial.{◌>>=◌, as_usize, reads_optional, reads_items, reads_array, reads_members, reads_map, reads_pair, read_or, member_at, member_or}
+use Rattle.deno_graph_dependency.specs.Json.Position.{
+  IsHeldPosition,
+  IsHeldRange,
+  json_of_position,
+  json_of_range,
+  reads_position,
+  reads_range,
+}
+use Rattle.deno_graph_dependency.specs.Object.{
+  Entry,
+  put_entries,
+  map_entries,
+  map_object_of,
+  array_of,
+  if_true,
+  if_any,
+}
+use Rattle.deno_graph_dependency.specs.Read.Partial.{
+  ◌>>=◌,
+  as_usize,
+  reads_optional,
+  reads_items,
+  reads_array,
+  reads_members,
+  reads_map,
+  reads_pair,
+  read_or,
+  member_at,
+  member_or,
+}
 use Rattle.deno_graph_dependency.specs.Json.ResolutionMode.{reads_mode, json_of_mode}
 
 -- ---- what any reader does

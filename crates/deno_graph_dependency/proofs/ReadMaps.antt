@@ -1,5 +1,24 @@
 -- Reading the members of an object as a map.
-use Rattle.std.proofs.Common.{◌≡◌, ℕ, List, [], ◌∷◌, ◌++◌, map, Option, Some, String, Global, string_bytes, refl, sym, ap, ◌∙◌, subst, append-nil}
+use Rattle.std.proofs.Common.{
+  ◌≡◌,
+  ℕ,
+  List,
+  [],
+  ◌∷◌,
+  ◌++◌,
+  map,
+  Option,
+  Some,
+  String,
+  Global,
+  string_bytes,
+  refl,
+  sym,
+  ap,
+  ◌∙◌,
+  subst,
+  append-nil,
+}
 use Rattle.std.proofs.lemmas.Cmp.{nat_list_cmp_total}
 use Rattle.std.specs.Cmp.Lexicographic.{slice_cmp}
 use Rattle.std.specs.List.{AllByRecursion}

@@ -2,9 +2,13 @@
 use Rattle.std.specs.Prelude.{Option, Some, None}
 use Rattle.deno_graph_dependency.specs.declared.dependency.DependencyDescriptor.{DependencyDescriptor}
 use Rattle.deno_graph_dependency.specs.declared.dependency.DependencyDescriptor.TheVariants.{Static, Dynamic}
-use Rattle.deno_graph_dependency.specs.declared.dynamic_dependency.DynamicDependencyDescriptor.{DynamicDependencyDescriptor}
+use Rattle.deno_graph_dependency.specs.declared.dynamic_dependency.DynamicDependencyDescriptor.{
+  DynamicDependencyDescriptor,
+}
 use Rattle.deno_graph_dependency.specs.declared.import_attributes.ImportAttributes.{ImportAttributes}
-use Rattle.deno_graph_dependency.specs.declared.static_dependency.StaticDependencyDescriptor.{StaticDependencyDescriptor}
+use Rattle.deno_graph_dependency.specs.declared.static_dependency.StaticDependencyDescriptor.{
+  StaticDependencyDescriptor,
+}
 
 -- the static dependency that it is, if it is one
 abbrev pub static_of : DependencyDescriptor → Option StaticDependencyDescriptor

@@ -1,9 +1,20 @@
 -- What a dynamic dependency is.
 use Rattle.std.specs.Prelude.{Bool, true, false}
-use Rattle.deno_graph_dependency.specs.declared.dynamic_dependency.DynamicDependencyKind.{DynamicDependencyKind}
-use Rattle.deno_graph_dependency.specs.declared.dynamic_dependency.DynamicDependencyKind.TheVariants.{Import, ImportDefer, ImportSource, Require}
+use Rattle.deno_graph_dependency.specs.declared.dynamic_dependency.DynamicDependencyKind.{
+  DynamicDependencyKind,
+}
+use Rattle.deno_graph_dependency.specs.declared.dynamic_dependency.DynamicDependencyKind.TheVariants.{
+  Import,
+  ImportDefer,
+  ImportSource,
+  Require,
+}
 use Rattle.deno_graph_dependency.specs.declared.dynamic_argument.DynamicArgument.{DynamicArgument}
-use Rattle.deno_graph_dependency.specs.declared.dynamic_argument.DynamicArgument.TheVariants.{String, Template, Expr}
+use Rattle.deno_graph_dependency.specs.declared.dynamic_argument.DynamicArgument.TheVariants.{
+  String,
+  Template,
+  Expr,
+}
 
 -- it is a plain `import(..)`
 abbrev pub is_plain_import : DynamicDependencyKind → Bool

@@ -1,10 +1,30 @@
 -- What is known of import attributes.
-use Rattle.std.specs.Prelude.{◌≡◌, ◌⊎◌, ℕ, List, Bool, true, false, codes, Option, Some, None, option_and_then}
+use Rattle.std.specs.Prelude.{
+  ◌≡◌,
+  ◌⊎◌,
+  ℕ,
+  List,
+  Bool,
+  true,
+  false,
+  codes,
+  Option,
+  Some,
+  None,
+  option_and_then,
+}
 use Rattle.deno_graph_text.specs.TextMap.{value_at}
 use Rattle.deno_graph_dependency.specs.declared.import_attributes.ImportAttribute.{ImportAttribute}
-use Rattle.deno_graph_dependency.specs.declared.import_attributes.ImportAttribute.TheVariants.{Unknown as UnknownValue, Known as KnownValue}
+use Rattle.deno_graph_dependency.specs.declared.import_attributes.ImportAttribute.TheVariants.{
+  Unknown as UnknownValue,
+  Known as KnownValue,
+}
 use Rattle.deno_graph_dependency.specs.declared.import_attributes.ImportAttributes.{ImportAttributes}
-use Rattle.deno_graph_dependency.specs.declared.import_attributes.ImportAttributes.TheVariants.{None as NoAttributes, Unknown, Known}
+use Rattle.deno_graph_dependency.specs.declared.import_attributes.ImportAttributes.TheVariants.{
+  None as NoAttributes,
+  Unknown,
+  Known,
+}
 
 -- the dependency states none
 abbrev pub is_none : ImportAttributes → Bool

@@ -1,10 +1,62 @@
 -- Dependencies that are converted one by one, and what conversion leaves when it is done again.
-use Rattle.std.proofs.Common.{◌≡◌, ℕ, zero, suc, ◌+◌, ◌<◌, codes, List, [], ◌∷◌, ◌++◌, map, length, get_or, take, Option, Some, None, option_map, IsSome, Result, Ok, Err, OnOk, OnErr, String, Vec, Global, string_bytes, string_cmp, true≢false, arith, inl, inr, refl, sym, ap, subst, ◌∙◌}
+use Rattle.std.proofs.Common.{
+  ◌≡◌,
+  ℕ,
+  zero,
+  suc,
+  ◌+◌,
+  ◌<◌,
+  codes,
+  List,
+  [],
+  ◌∷◌,
+  ◌++◌,
+  map,
+  length,
+  get_or,
+  take,
+  Option,
+  Some,
+  None,
+  option_map,
+  IsSome,
+  Result,
+  Ok,
+  Err,
+  OnOk,
+  OnErr,
+  String,
+  Vec,
+  Global,
+  string_bytes,
+  string_cmp,
+  true≢false,
+  arith,
+  inl,
+  inr,
+  refl,
+  sym,
+  ap,
+  subst,
+  ◌∙◌,
+}
 use Rattle.std.proofs.lemmas.List.{map-append, take_more}
 use Rattle.std.specs.BTreeMap.{insert_entry}
 use Rattle.std.specs.Map.{lookup}
 use Rattle.serde_json.proofs.Views.{get_member-put, members_view-insert_entry, view-Array, view-lookup}
-use Rattle.serde_json.specs.Data.{Data, null, boolean, number, string, array, object, Items, no_items, item, put}
+use Rattle.serde_json.specs.Data.{
+  Data,
+  null,
+  boolean,
+  number,
+  string,
+  array,
+  object,
+  Items,
+  no_items,
+  item,
+  put,
+}
 use Rattle.serde_json.specs.Find.{as_array, get_member}
 use Rattle.serde_json.specs.View.{view, items_of, items_view, members_view}
 use Rattle.serde_json.specs.declared.value.Value.{Value, Array}
@@ -12,7 +64,18 @@ use Rattle.deno_graph_dependency.specs.Read.Partial.{◌>>=◌, member_at, reads
 use Rattle.deno_graph_dependency.specs.declared.specifier_with_range.SpecifierWithRange.{SpecifierWithRange}
 use Rattle.deno_graph_info.proofs.MembersLemmas.{TextEntry, has_key, get_member-without, put_again}
 use Rattle.deno_graph_info.specs.Comment.{reads_comment}
-use Rattle.deno_graph_info.specs.Conversion.{with_member, without_member, with_types, comments_in, dependencies_in, IsConvertedDependency, DependencyOverflows, AreConverted, IsConverted, AnyOverflows}
+use Rattle.deno_graph_info.specs.Conversion.{
+  with_member,
+  without_member,
+  with_types,
+  comments_in,
+  dependencies_in,
+  IsConvertedDependency,
+  DependencyOverflows,
+  AreConverted,
+  IsConverted,
+  AnyOverflows,
+}
 use Rattle.deno_graph_info.specs.Types.{AreTypes}
 use Rattle.deno_graph_info.specs.declared.conversion.comment.Comment.{Comment}
 

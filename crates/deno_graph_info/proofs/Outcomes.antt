@@ -1,10 +1,39 @@
 -- How a part of the conversion ends.
-use Rattle.std.proofs.Common.{◌≡◌, ◌+◌, ◌-◌, ◌<◌, ◌≤◌, ◌^◌, ℕ, length, Bool, true, false, slice_get, Option, Some, None, Result, IfErr, IsErrAnd, inl, inr, refl, subst}
+use Rattle.std.proofs.Common.{
+  ◌≡◌,
+  ◌+◌,
+  ◌-◌,
+  ◌<◌,
+  ◌≤◌,
+  ◌^◌,
+  ℕ,
+  length,
+  Bool,
+  true,
+  false,
+  slice_get,
+  Option,
+  Some,
+  None,
+  Result,
+  IfErr,
+  IsErrAnd,
+  inl,
+  inr,
+  refl,
+  subst,
+}
 use Rattle.std.proofs.lemmas.Result.{err_from_is_err_and}
 use Rattle.serde_json.specs.Data.{Data}
 use Rattle.std.specs.Prelude.{codes, List}
 use Rattle.deno_graph_dependency.specs.declared.specifier_with_range.SpecifierWithRange.{SpecifierWithRange}
-use Rattle.deno_graph_info.specs.Conversion.{without_member, with_types, comments_in, IsConvertedDependency, DependencyOverflows}
+use Rattle.deno_graph_info.specs.Conversion.{
+  without_member,
+  with_types,
+  comments_in,
+  IsConvertedDependency,
+  DependencyOverflows,
+}
 use Rattle.deno_graph_info.specs.ConvertFault.{IsColumnFault}
 use Rattle.deno_graph_text.specs.declared.text.position.PositionRange.{PositionRange}
 use Rattle.deno_graph_pragmas.specs.Finders.{deno_types_pattern, quoteless_deno_types_pattern}
@@ -14,7 +43,11 @@ use Rattle.deno_graph_pragmas.specs.declared.finders.matches.DenoTypesPragmaMatc
 use Rattle.deno_graph_info.specs.Types.{NamesTypesAt, LastNames, AreTypes, HasNoColumn}
 use Rattle.deno_graph_info.specs.declared.conversion.comment.Comment.{Comment}
 use Rattle.deno_graph_info.specs.declared.conversion.fault.ConvertFault.{ConvertFault}
-use Rattle.deno_graph_info.specs.declared.conversion.fault.ConvertFault.TheVariants.{ColumnOverflow, Float, OutOfMemory}
+use Rattle.deno_graph_info.specs.declared.conversion.fault.ConvertFault.TheVariants.{
+  ColumnOverflow,
+  Float,
+  OutOfMemory,
+}
 
 -- a fault of a part is one of the whole
 pub column_fault-on : (P Q : Type 0) (fault : ConvertFault) → (P → Q) → IsColumnFault P fault
@@ -50,7 +83,8 @@ names_types : (text : List ℕ) (found : DenoTypesPragmaMatch) (quoteless : Bool
     → found.is_quoteless ≡ quoteless
     → (found.is_quoteless ≡ false → IsCaptured deno_types_pattern text (pragma_part_of found))
     → (found.is_quoteless ≡ true → ¬ HasSplit deno_types_pattern text
-    × IsCaptured quoteless_deno_types_pattern text (pragma_part_of found)) → NamesTypesAt text (pragma_part_of found)
+    × IsCaptured quoteless_deno_types_pattern text (pragma_part_of found))
+    → NamesTypesAt text (pragma_part_of found)
 names_types text found true is in_quotes bare = inr (bare is)
 names_types text found false is in_quotes bare = inl (in_quotes is)
 

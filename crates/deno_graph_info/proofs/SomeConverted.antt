@@ -1,5 +1,25 @@
 -- Every value is converted, or a column of it overflows.
-use Rattle.std.proofs.Common.{◌≡◌, ◌⊎◌, inl, inr, ⊎_elim, ◌-◌, ◌^◌, ℕ, List, length, codes, Option, Some, None, slice_get, refl, sym, subst, ◌∙◌}
+use Rattle.std.proofs.Common.{
+  ◌≡◌,
+  ◌⊎◌,
+  inl,
+  inr,
+  ⊎_elim,
+  ◌-◌,
+  ◌^◌,
+  ℕ,
+  List,
+  length,
+  codes,
+  Option,
+  Some,
+  None,
+  slice_get,
+  refl,
+  sym,
+  subst,
+  ◌∙◌,
+}
 use Rattle.std.specs.Prelude.{MatchOption}
 use Rattle.std.proofs.lemmas.Bool.{cases_lt}
 use Rattle.std.proofs.lemmas.Option.{none-some, same_Some}
@@ -8,7 +28,19 @@ use Rattle.deno_graph_pragmas.specs.Finders.{deno_types_pattern, quoteless_deno_
 use Rattle.deno_graph_pragmas.specs.Split.{TextPart, HasSplit, IsCaptured}
 use Rattle.deno_graph_pragmas.proofs.SomeSplit.{some_part}
 use Rattle.deno_graph_dependency.specs.declared.specifier_with_range.SpecifierWithRange.{SpecifierWithRange}
-use Rattle.deno_graph_info.specs.Conversion.{comments_in, dependencies_in, with_member, with_types, without_member, AnyOverflows, AreConverted, DependencyOverflows, IsConverted, IsConvertedDependency, Overflows}
+use Rattle.deno_graph_info.specs.Conversion.{
+  comments_in,
+  dependencies_in,
+  with_member,
+  with_types,
+  without_member,
+  AnyOverflows,
+  AreConverted,
+  DependencyOverflows,
+  IsConverted,
+  IsConvertedDependency,
+  Overflows,
+}
 use Rattle.deno_graph_info.specs.Types.{end_column, types_in, AreTypes, HasNoColumn, LastNames, NamesTypesAt}
 use Rattle.deno_graph_info.specs.declared.conversion.comment.Comment.{Comment}
 
@@ -17,7 +49,8 @@ named_at : (text : List ℕ)
     → ((part : TextPart) × NamesTypesAt text part) ⊎ ((part : TextPart) → NamesTypesAt text part → ⊥)
 named_at text = by_quotes (some_part deno_types_pattern text)
   where
-    by_quotes : ((part : TextPart) × IsCaptured deno_types_pattern text part) ⊎ (HasSplit deno_types_pattern text → ⊥)
+    by_quotes : ((part : TextPart) × IsCaptured deno_types_pattern text part)
+        ⊎ (HasSplit deno_types_pattern text → ⊥)
         → ((part : TextPart) × NamesTypesAt text part) ⊎ ((part : TextPart) → NamesTypesAt text part → ⊥)
     by_quotes (inl part) = inl (part.0, inl part.1)
     by_quotes (inr no_quotes) =

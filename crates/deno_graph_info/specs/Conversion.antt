@@ -1,6 +1,35 @@
 -- The conversion from version 1 to version 2, as a relation of a value and what comes of it.
-use Rattle.std.specs.Prelude.{◌≡◌, ◌⊎◌, ℕ, List, bytes_eq, codes, Option, Some, None, true, false, MatchOption, if◌then◌else◌}
-use Rattle.serde_json.specs.Data.{Data, null, boolean, number, string, array, object, Items, no_items, item, Members, no_members, member, put}
+use Rattle.std.specs.Prelude.{
+  ◌≡◌,
+  ◌⊎◌,
+  ℕ,
+  List,
+  bytes_eq,
+  codes,
+  Option,
+  Some,
+  None,
+  true,
+  false,
+  MatchOption,
+  if◌then◌else◌,
+}
+use Rattle.serde_json.specs.Data.{
+  Data,
+  null,
+  boolean,
+  number,
+  string,
+  array,
+  object,
+  Items,
+  no_items,
+  item,
+  Members,
+  no_members,
+  member,
+  put,
+}
 use Rattle.serde_json.specs.Find.{as_array, as_object}
 use Rattle.serde_json.specs.Written.{has_float}
 use Rattle.deno_graph_dependency.specs.Read.Partial.{◌>>=◌, member_at, reads_array}
@@ -10,7 +39,11 @@ use Rattle.deno_graph_info.specs.Comment.{reads_comment}
 use Rattle.deno_graph_info.specs.Types.{AreTypes, HasNoColumn}
 use Rattle.deno_graph_info.specs.declared.conversion.comment.Comment.{Comment}
 use Rattle.deno_graph_info.specs.declared.conversion.fault.ConvertFault.{ConvertFault}
-use Rattle.deno_graph_info.specs.declared.conversion.fault.ConvertFault.TheVariants.{ColumnOverflow, Float, OutOfMemory}
+use Rattle.deno_graph_info.specs.declared.conversion.fault.ConvertFault.TheVariants.{
+  ColumnOverflow,
+  Float,
+  OutOfMemory,
+}
 
 -- ---- members of an object
 

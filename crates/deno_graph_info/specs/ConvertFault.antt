@@ -1,6 +1,10 @@
 -- Why a part of a value isn't converted.
 use Rattle.deno_graph_info.specs.declared.conversion.fault.ConvertFault.{ConvertFault}
-use Rattle.deno_graph_info.specs.declared.conversion.fault.ConvertFault.TheVariants.{ColumnOverflow, Float, OutOfMemory}
+use Rattle.deno_graph_info.specs.declared.conversion.fault.ConvertFault.TheVariants.{
+  ColumnOverflow,
+  Float,
+  OutOfMemory,
+}
 
 -- the fault is ColumnOverflow, and it stands; or memory was refused
 abbrev pub IsColumnFault : Type 0 → ConvertFault → Type 0

@@ -8,7 +8,11 @@ use Rattle.deno_graph_text.specs.TextMap.{value_at}
 use Rattle.deno_graph_dependency.specs.declared.dependency.DependencyDescriptor.{DependencyDescriptor}
 use Rattle.deno_graph_dependency.specs.declared.dependency.DependencyDescriptor.TheVariants.{Static, Dynamic}
 use Rattle.deno_graph_dependency.specs.declared.dynamic_argument.DynamicArgument.{DynamicArgument}
-use Rattle.deno_graph_dependency.specs.declared.dynamic_argument.DynamicArgument.TheVariants.{String, Template, Expr}
+use Rattle.deno_graph_dependency.specs.declared.dynamic_argument.DynamicArgument.TheVariants.{
+  String,
+  Template,
+  Expr,
+}
 use Rattle.deno_graph_info.specs.declared.analysis.module_info.ModuleInfo.{ModuleInfo}
 
 -- the argument, where it is a string

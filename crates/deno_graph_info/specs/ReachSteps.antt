@@ -1,5 +1,21 @@
 -- How the search of `reach` goes on. No promise of a public call names it.
-use Rattle.std.specs.Prelude.{◌≡◌, ◌⊎◌, ◌+◌, ◌≤◌, ℕ, List, [], ◌∷◌, map, length, Contains, Option, Some, None, IsSome}
+use Rattle.std.specs.Prelude.{
+  ◌≡◌,
+  ◌⊎◌,
+  ◌+◌,
+  ◌≤◌,
+  ℕ,
+  List,
+  [],
+  ◌∷◌,
+  map,
+  length,
+  Contains,
+  Option,
+  Some,
+  None,
+  IsSome,
+}
 use Rattle.std.specs.Borrow.{Bor}
 use Rattle.deno_graph_text.specs.TextMap.{value_at}
 use Rattle.deno_graph_dependency.specs.declared.dependency.DependencyDescriptor.{DependencyDescriptor}

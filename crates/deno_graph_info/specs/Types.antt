@@ -1,5 +1,20 @@
 -- The types that the comments of a dependency name by `@deno-types`.
-use Rattle.std.specs.Prelude.{◌≡◌, ◌⊎◌, ◌+◌, ◌-◌, ◌<◌, ◌≤◌, ◌^◌, ℕ, List, length, Option, Some, None, slice_get}
+use Rattle.std.specs.Prelude.{
+  ◌≡◌,
+  ◌⊎◌,
+  ◌+◌,
+  ◌-◌,
+  ◌<◌,
+  ◌≤◌,
+  ◌^◌,
+  ℕ,
+  List,
+  length,
+  Option,
+  Some,
+  None,
+  slice_get,
+}
 use Rattle.deno_graph_pragmas.specs.Finders.{deno_types_pattern, quoteless_deno_types_pattern}
 use Rattle.deno_graph_pragmas.specs.Split.{TextPart, HasSplit, IsCaptured}
 use Rattle.deno_graph_dependency.specs.declared.specifier_with_range.SpecifierWithRange.{SpecifierWithRange}
@@ -8,7 +23,8 @@ use Rattle.deno_graph_info.specs.declared.conversion.comment.Comment.{Comment}
 -- the text names types: between quotes, or else without
 abbrev pub NamesTypesAt : List ℕ → TextPart → Type 0
 NamesTypesAt text part =
-    IsCaptured deno_types_pattern text part ⊎ (¬ HasSplit deno_types_pattern text × IsCaptured quoteless_deno_types_pattern text part)
+    IsCaptured deno_types_pattern text part
+    ⊎ (¬ HasSplit deno_types_pattern text × IsCaptured quoteless_deno_types_pattern text part)
 
 -- the last of the comments names types
 pub record LastNames (comments : List Comment) (comment : Comment) (part : TextPart) : Type 0 where
@@ -38,10 +54,11 @@ types_in comment part = record {
 abbrev pub AreTypes : List Comment → Option SpecifierWithRange → Type 0
 AreTypes comments None = (comment : Comment) (part : TextPart) → ¬ LastNames comments comment part
 AreTypes comments (Some types) =
-    (comment : Comment) × (part : TextPart) × LastNames comments comment part × (end_column comment part < 2 ^ 64)
-    × (types ≡ types_in comment part)
+    (comment : Comment) × (part : TextPart) × LastNames comments comment part
+    × (end_column comment part < 2 ^ 64) × (types ≡ types_in comment part)
 
 -- the last comment names types whose end has no column
 abbrev pub HasNoColumn : List Comment → Type 0
 HasNoColumn comments =
-    (comment : Comment) × (part : TextPart) × LastNames comments comment part × (2 ^ 64 ≤ end_column comment part)
+    (comment : Comment) × (part : TextPart) × LastNames comments comment part
+    × (2 ^ 64 ≤ end_column comment part)

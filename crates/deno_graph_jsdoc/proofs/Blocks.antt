@@ -9,7 +9,9 @@ use Rattle.deno_graph_jsdoc.specs.JsDocGrammar.{AreFurther, AreAttributes, IsBlo
 use Rattle.deno_graph_jsdoc.specs.JsDocGrammar.{mode_name, mode_of, Begins, Anything, NoSpace}
 use Rattle.deno_graph_jsdoc.specs.JsDocReading.{IsModeBlockEnd, Reads}
 use Rattle.deno_graph_text.specs.ResolutionMode.{mode_named}
-use Rattle.deno_graph_text.specs.declared.values.resolution_mode.TypeScriptTypesResolutionMode.{TypeScriptTypesResolutionMode}
+use Rattle.deno_graph_text.specs.declared.values.resolution_mode.TypeScriptTypesResolutionMode.{
+  TypeScriptTypesResolutionMode,
+}
 use Rattle.deno_graph_jsdoc.proofs.Alphabetic.{Alphabetic-is_whitespace}
 use Rattle.deno_graph_jsdoc.proofs.Attributes.{IsSolid-quote, key_no_brace}
 use Rattle.deno_graph_jsdoc.proofs.Readings.{Begins-split, Begins-join, IsSolid, IsSolid-append, IsSolid-word}

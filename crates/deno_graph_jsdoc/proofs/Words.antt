@@ -16,8 +16,12 @@ use lib.Utf8.{encodes}
 use Rattle.deno_graph_jsdoc.specs.JsDocGrammar.{Attribute, mode_name}
 use Rattle.deno_graph_jsdoc.specs.JsDocReading.{text_of}
 use Rattle.deno_graph_text.specs.ResolutionMode.{mode_named}
-use Rattle.deno_graph_text.specs.declared.values.resolution_mode.TypeScriptTypesResolutionMode.TheVariants.{Require}
-use Rattle.deno_graph_text.specs.declared.values.resolution_mode.TypeScriptTypesResolutionMode.TheVariants.{Import}
+use Rattle.deno_graph_text.specs.declared.values.resolution_mode.TypeScriptTypesResolutionMode.TheVariants.{
+  Require,
+}
+use Rattle.deno_graph_text.specs.declared.values.resolution_mode.TypeScriptTypesResolutionMode.TheVariants.{
+  Import,
+}
 
 -- whether a text is a word
 pub bytes_eq-chars : (text word : List ℕ) → IsUtf8 text → IsAscii word

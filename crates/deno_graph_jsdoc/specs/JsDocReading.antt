@@ -9,7 +9,9 @@ use Rattle.deno_graph_jsdoc.specs.JsDocGrammar.{IsSecond, AreAttributes, ends_id
 use Rattle.deno_graph_jsdoc.specs.JsDocImport.{Import, Mode, States, EndsDeclaration, EndsDynamicImport}
 use Rattle.deno_graph_jsdoc.specs.JsDocImport.{import_of}
 use Rattle.deno_graph_jsdoc.specs.declared.import.JsDocImport.{JsDocImport}
-use Rattle.deno_graph_text.specs.declared.values.resolution_mode.TypeScriptTypesResolutionMode.{TypeScriptTypesResolutionMode}
+use Rattle.deno_graph_text.specs.declared.values.resolution_mode.TypeScriptTypesResolutionMode.{
+  TypeScriptTypesResolutionMode,
+}
 
 -- what begins an identifier: an Alphabetic character
 abbrev pub begins_ident : List ℕ → Bool

@@ -1,5 +1,25 @@
 -- Two ways of a capturing parser's call: the source in the store is the answer, or the parser is asked.
-use Rattle.std.proofs.Common.{◌≡◌, ℕ, ◌+◌, ◌≤◌, ◌⊎◌, inr, Bool, Some, Result, Ok, Err, IfSome, IfOk, OnErr, sym, ap, subst, ◌∙◌, arith}
+use Rattle.std.proofs.Common.{
+  ◌≡◌,
+  ℕ,
+  ◌+◌,
+  ◌≤◌,
+  ◌⊎◌,
+  inr,
+  Bool,
+  Some,
+  Result,
+  Ok,
+  Err,
+  IfSome,
+  IfOk,
+  OnErr,
+  sym,
+  ap,
+  subst,
+  ◌∙◌,
+  arith,
+}
 use Rattle.deno_graph_source.specs.ParsedSource.{ParsedModule}
 use Rattle.deno_graph_parser.specs.Captures.{State, IsSoundState, Captures}
 use Rattle.deno_graph_parser.specs.Capturing.{IsFaithful, HasText, IsHit, asked_for}
@@ -7,7 +27,13 @@ use Rattle.deno_graph_parser.specs.Parsing.{ParseFunction, AnswerRelation, Input
 use Rattle.deno_graph_parser.specs.Sources.{Sources, source_at, with_source}
 use Rattle.deno_graph_parser.specs.declared.parse_error.ParseError.{ParseError}
 use Rattle.deno_graph_parser.specs.declared.parse_error.ParseError.TheVariants.{OutOfMemory}
-use Rattle.deno_graph_parser.proofs.Captured.{hit_before, hit_after, faithful_asked, faithful_answer, faithful_after}
+use Rattle.deno_graph_parser.proofs.Captured.{
+  hit_before,
+  hit_after,
+  faithful_asked,
+  faithful_answer,
+  faithful_after,
+}
 
 err_weaker : {X E A B : Type 0} (result : Result X E) → (A → B) → OnErr result A → OnErr result B
 err_weaker (Ok x) f err = tt

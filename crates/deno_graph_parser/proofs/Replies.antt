@@ -1,5 +1,34 @@
 -- What a capturing analyzer answers, begun sound, is what the parser alone answers.
-use Rattle.std.proofs.Common.{◌≡◌, ℕ, ◌+◌, ◌≤◌, Bool, true, false, not, ◌&&◌, cond, inl, inr, List, [], ◌∷◌, Option, Some, None, option_map, Result, Ok, Err, refl, sym, ap, subst, ◌∙◌, arith}
+use Rattle.std.proofs.Common.{
+  ◌≡◌,
+  ℕ,
+  ◌+◌,
+  ◌≤◌,
+  Bool,
+  true,
+  false,
+  not,
+  ◌&&◌,
+  cond,
+  inl,
+  inr,
+  List,
+  [],
+  ◌∷◌,
+  Option,
+  Some,
+  None,
+  option_map,
+  Result,
+  Ok,
+  Err,
+  refl,
+  sym,
+  ap,
+  subst,
+  ◌∙◌,
+  arith,
+}
 use denote.Enum.Bare.{same_true, true_same}
 use Rattle.std.specs.Option.{option_or}
 use Rattle.std.specs.Rc.{rc_str_bytes}
@@ -9,17 +38,41 @@ use Rattle.deno_graph_source.specs.contracts.tree.media_type.MediaType.{the_type
 use Rattle.deno_graph_source.specs.contracts.tree.media_type.MediaTypePartialEq.TheImpl as media_types
 use Rattle.deno_graph_info.specs.declared.analysis.module_info.ModuleInfo.{ModuleInfo}
 use Rattle.deno_graph_parser.specs.Capturing.{IsFaithful, HasText, IsHit, asked_for}
-use Rattle.deno_graph_parser.specs.Parsing.{ParseFunction, AnswerRelation, Input, IsParsed, AnswersAs, input_under, specifier_text}
+use Rattle.deno_graph_parser.specs.Parsing.{
+  ParseFunction,
+  AnswerRelation,
+  Input,
+  IsParsed,
+  AnswersAs,
+  input_under,
+  specifier_text,
+}
 use Rattle.deno_graph_parser.specs.Sources.{Sources, source_at, without}
 use Rattle.deno_graph_parser.specs.declared.parse_error.ParseDiagnostic.{ParseDiagnostic}
 use Rattle.deno_graph_parser.specs.declared.parse_error.ParseError.{ParseError}
 use Rattle.deno_graph_parser.specs.declared.parse_error.ParseError.TheVariants as parse
 use Rattle.deno_graph_parser.proofs.Analyses.{analysis_of_outcome}
-use Rattle.deno_graph_parser.proofs.KeptSources.{source_at-with_source, source_at-without, equal_text, same_text}
+use Rattle.deno_graph_parser.proofs.KeptSources.{
+  source_at-with_source,
+  source_at-without,
+  equal_text,
+  same_text,
+}
 use Rattle.deno_graph_parser.proofs.Captured.{MayBeMarked, as_before, now_marked, asked_at}
 use Rattle.deno_graph_parser.specs.Analysis.{IsAnalysisOf}
 use Rattle.deno_graph_parser.specs.Captures.{State, IsSoundState, Captures}
-use Rattle.deno_graph_parser.specs.Commands.{Unmarked, unmarked, source_of_outcome, input, latest, has_text, is_miss, misses, IsAnswer, AreAnswers}
+use Rattle.deno_graph_parser.specs.Commands.{
+  Unmarked,
+  unmarked,
+  source_of_outcome,
+  input,
+  latest,
+  has_text,
+  is_miss,
+  misses,
+  IsAnswer,
+  AreAnswers,
+}
 use Rattle.deno_graph_parser.specs.Runs.{as_called, Ran, Runs}
 use Rattle.deno_graph_parser.specs.declared.analyze_error.AnalyzeError.TheVariants as analyze
 use Rattle.deno_graph_parser.specs.declared.command.Command.{Command}

@@ -1,7 +1,9 @@
 -- What a capturing analyzer holds.
 use Rattle.deno_graph_parser.specs.Captures.{State, state}
 use Rattle.deno_graph_parser.specs.Sources.{Sources}
-use Rattle.deno_graph_parser.specs.declared.capturing_module_analyzer.CapturingModuleAnalyzer.{CapturingModuleAnalyzer}
+use Rattle.deno_graph_parser.specs.declared.capturing_module_analyzer.CapturingModuleAnalyzer.{
+  CapturingModuleAnalyzer,
+}
 
 module _ {P S : Type 0} where
   abbrev pub parser_of : CapturingModuleAnalyzer P S → P

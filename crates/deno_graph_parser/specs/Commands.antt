@@ -1,5 +1,23 @@
 -- Commands, and what the parser alone answers to a list of them.
-use Rattle.std.specs.Prelude.{◌≡◌, ℕ, ◌+◌, Bool, false, not, ◌&&◌, if◌then◌else◌, List, [], ◌∷◌, Option, Some, None, option_map, Ok, Err}
+use Rattle.std.specs.Prelude.{
+  ◌≡◌,
+  ℕ,
+  ◌+◌,
+  Bool,
+  false,
+  not,
+  ◌&&◌,
+  if◌then◌else◌,
+  List,
+  [],
+  ◌∷◌,
+  Option,
+  Some,
+  None,
+  option_map,
+  Ok,
+  Err,
+}
 use Rattle.std.specs.Option.{option_or}
 use Rattle.std.specs.Rc.{rc_str_bytes}
 use Rattle.std.specs.Str.{bytes_eq}
@@ -9,7 +27,16 @@ use Rattle.deno_graph_source.specs.ParsedSource.{ParsedModule}
 use Rattle.deno_graph_source.specs.declared.tree.media_type.MediaType.{MediaType}
 use Rattle.deno_graph_source.specs.contracts.tree.media_type.MediaTypePartialEq.TheImpl as media_types
 use Rattle.deno_graph_source.specs.declared.tree.node.Program.{Program}
-use Rattle.deno_graph_parser.specs.Parsing.{ParseFunction, Input, Outcome, parsed, refused, specifier_text, input_of, IsParsed}
+use Rattle.deno_graph_parser.specs.Parsing.{
+  ParseFunction,
+  Input,
+  Outcome,
+  parsed,
+  refused,
+  specifier_text,
+  input_of,
+  IsParsed,
+}
 use Rattle.deno_graph_parser.specs.Sources.{Sources, source_at}
 use Rattle.deno_graph_parser.specs.Analysis.{IsInfoOf}
 use Rattle.deno_graph_parser.specs.declared.command.Command.{Command}

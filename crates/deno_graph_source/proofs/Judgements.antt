@@ -3,12 +3,18 @@ use Rattle.std.proofs.Common.{◌≡◌, ℕ, zero, suc, List, [], ◌∷◌, Re
 use Rattle.std.specs.List.{Contains, Any}
 use Rattle.std.specs.Result.{IsErrAnd, MatchResult}
 use Rattle.std.proofs.lemmas.Result.{err_from_is_err_and}
-use Rattle.deno_graph_source.specs.Check.{RangeHas, NodeHas, CommentHas}
-use Rattle.deno_graph_source.specs.Node.{held_ranges}
+use Rattle.deno_graph_source.specs.FaultPlace.{RangeHas, CommentHas}
 use Rattle.deno_graph_source.specs.declared.tree.comments.DependencyComment.{DependencyComment}
 use Rattle.deno_graph_source.specs.declared.tree.fault.SourceFault.{SourceFault}
-use Rattle.deno_graph_source.specs.declared.tree.fault.SourceFault.TheVariants.{RangeReversed, RangeOutside, RangeOffBoundary, CommentText, CommentsOverlap, Shape, OutOfMemory}
-use Rattle.deno_graph_source.specs.declared.tree.node.Node.{Node}
+use Rattle.deno_graph_source.specs.declared.tree.fault.SourceFault.TheVariants.{
+  RangeReversed,
+  RangeOutside,
+  RangeOffBoundary,
+  CommentText,
+  CommentsOverlap,
+  Shape,
+  OutOfMemory,
+}
 
 -- what holds of some element of a list holds of some element of each list that has these
 pub Any-within : {X : Type 0} (P : X → Type 0) (xs ys : List X) → ((x : X) → Contains xs x → Contains ys x)
@@ -25,17 +31,6 @@ pub Any-only : {X : Type 0} (P : X → Type 0) (x : X) → Any P (x ∷ []) → 
 Any-only P x (zero, y, below, is, h) = subst P (sym is) h
 Any-only P x (suc k, y, below, is, h) = absurd (omega arith)
 
--- a fault of a range that a node holds is one of the node
-pub range_fault_in_node : (text : List ℕ) (fault : SourceFault) (node : Node)
-    → Any (RangeHas text fault) (held_ranges node) → NodeHas text fault node
-range_fault_in_node text Shape node h = absurd h.4
-range_fault_in_node text RangeReversed node h = h
-range_fault_in_node text RangeOutside node h = h
-range_fault_in_node text RangeOffBoundary node h = h
-range_fault_in_node text CommentText node h = h
-range_fault_in_node text CommentsOverlap node h = h
-range_fault_in_node text OutOfMemory node h = h
-
 -- a fault of a comment's range is one of the comment
 pub range_fault_in_comment : (text : List ℕ) (fault : SourceFault) (comment : DependencyComment)
     → RangeHas text fault comment.range → CommentHas text fault comment
@@ -48,9 +43,8 @@ range_fault_in_comment text CommentsOverlap comment h = h
 range_fault_in_comment text OutOfMemory comment h = h
 
 -- the answer where a `?` returns a fault
-pub returned : (Q : Type 0) (G : SourceFault → Type 0) (fault : SourceFault)
-    (result : Result (Unit {0}) SourceFault) → IsErrAnd result (λ other. other ≡ fault) → G fault
-    → MatchResult result (λ _. Q) G
+pub returned : {E : Type 0} (Q : Type 0) (G : E → Type 0) (fault : E) (result : Result (Unit {0}) E)
+    → IsErrAnd result (λ other. other ≡ fault) → G fault → MatchResult result (λ _. Q) G
 returned Q G fault result is h =
     let p = err_from_is_err_and result is in
     rw (p.1, p.2) h

@@ -1,13 +1,46 @@
 -- Comments in ascending order of their starts: those that overlap stand next to each other.
-use Rattle.std.proofs.Common.{◌≡◌, ◌≢◌, true, not, ◌&&◌, eqb, add-zero, ℕ, zero, suc, ◌+◌, ◌-◌, ◌<◌, ◌≤◌, List, [], ◌∷◌, map, length, drop, get_or, refl, sym, ap, ◌∙◌, subst, inl, inr, ⊎_elim, ◌⊎◌, arith}
+use Rattle.std.proofs.Common.{
+  ◌≡◌,
+  ◌≢◌,
+  true,
+  not,
+  ◌&&◌,
+  eqb,
+  add-zero,
+  ℕ,
+  zero,
+  suc,
+  ◌+◌,
+  ◌-◌,
+  ◌<◌,
+  ◌≤◌,
+  List,
+  [],
+  ◌∷◌,
+  map,
+  length,
+  drop,
+  get_or,
+  refl,
+  sym,
+  ap,
+  ◌∙◌,
+  subst,
+  inl,
+  inr,
+  ⊎_elim,
+  ◌⊎◌,
+  arith,
+}
 use Rattle.std.specs.List.{AllAdjacentBelow, Contains, All}
 use Rattle.std.specs.List.Sorted.{IsNonDecreasingBy}
 use Rattle.std.proofs.lemmas.List.{get_or_default, get_or-map, length-map, length-take}
-use Rattle.std.proofs.lemmas.List.Elements.{All-contains, All-get_or, Contains-get_or}
+use Rattle.std.proofs.lemmas.List.Elements.{All-contains, All-get_or}
 use Rattle.std.proofs.lemmas.Bool.{cases_lt}
 use Rattle.std.proofs.lemmas.Bool.Decides.{Decides-eqb}
-use Rattle.deno_graph_source.specs.Check.{Passes, RunsInto}
-use Rattle.deno_graph_source.specs.Source.{HasOverlap, IsSpelled, SharesByte, spelling}
+use Rattle.deno_graph_source.specs.Check.{AreNeighbours, Passes, RunsInto}
+use Rattle.deno_graph_source.specs.FaultPlace.{Overlap}
+use Rattle.deno_graph_source.specs.Source.{IsSpelled, SharesByte, spelling}
 use Rattle.deno_graph_text.specs.declared.text.position.SourceRange.{SourceRange}
 use Rattle.deno_graph_source.specs.declared.tree.comments.CommentKind.{CommentKind}
 use Rattle.deno_graph_source.specs.declared.tree.comments.CommentKind.TheVariants.{Line, Block}
@@ -105,26 +138,17 @@ apart_from_neighbours text xs spelled rising passes a b at bt shared =
     (rw (here, there) (shared.0, shared.3, shared.4, shared.1, shared.2))) ∙ ap (λ c. c.range) there)
     (le_or_ge at.0 bt.0))
 
-overlap_at : (text : List ℕ) (xs : List DependencyComment) → All (IsSpelled text) xs
-    → IsNonDecreasingBy (λ c. c.range.start) xs → (k : ℕ) → k + 1 < length xs → (d : DependencyComment)
-    → RunsInto (get_or xs k d) (get_or xs (k + 1) d) → HasOverlap xs
-overlap_at text xs spelled rising k below d into =
-    let a = get_or xs k d in
-    let b = get_or xs (k + 1) d in
-    let up = rising k (k + 1) d (omega arith) below in
-    let some = some_bytes text b (All-get_or (IsSpelled text) xs (k + 1) d below spelled) in (
-      a,
-      b,
-      Contains-get_or xs k d (omega arith),
-      Contains-get_or xs (k + 1) d below,
-      λ same. into.0 (ap (λ c. c.range) same),
-      (b.range.start, up, into.1, omega arith, some),
+-- two neighbours, of which the later runs into the earlier, overlap
+pub overlap_of_neighbours : (text : List ℕ) (xs : List DependencyComment) → All (IsSpelled text) xs
+    → IsNonDecreasingBy (λ c. c.range.start) xs → (a b : DependencyComment) → AreNeighbours xs a b
+    → Contains xs a × Contains xs b × Overlap a b
+overlap_of_neighbours text xs spelled rising a b are =
+    let k = are.at in
+    let up : a.range.start ≤ b.range.start =
+    rw (are.first a, are.second a) at (rising k (k + 1) a (omega arith) are.within) in
+    let written = rw are.second at (All-get_or (IsSpelled text) xs (k + 1) a are.within spelled) in
+    let some = some_bytes text b written in (
+      (k, omega (arith, are.within), are.first a),
+      (k + 1, are.within, are.second b),
+      (λ same. are.into.0 (ap (λ c. c.range) same), (b.range.start, up, are.into.1, omega arith, some)),
     )
-
--- where one of two neighbours runs into the other, two comments overlap
-pub overlap_from_neighbours : (text : List ℕ) (xs : List DependencyComment) → All (IsSpelled text) xs
-    → IsNonDecreasingBy (λ c. c.range.start) xs → (k : ℕ) → k + 1 < length xs
-    → ((d : DependencyComment) → RunsInto (get_or xs k d) (get_or xs (k + 1) d)) → HasOverlap xs
-overlap_from_neighbours text [] spelled rising k below into = absurd (omega arith)
-overlap_from_neighbours text (x ∷ xs) spelled rising k below into =
-    overlap_at text (x ∷ xs) spelled rising k below x (into x)

@@ -9,7 +9,18 @@ use Rattle.std.proofs.lemmas.Map.Made.{Contains-values_of}
 use Rattle.std.proofs.lemmas.Option.{slice_get_within, get_or_from_slice_get}
 use Rattle.deno_graph_source.specs.ByPosition.{value_at, all_items}
 use Rattle.deno_graph_source.specs.Comments.{FiledComments, comments_of}
-use Rattle.deno_graph_source.specs.Node.{kind_of, range_of, children_of, literal_of, ranges_in_kind, held_ranges, nodes_in, nodes_of, node_ranges, program_ranges}
+use Rattle.deno_graph_source.specs.Node.{
+  kind_of,
+  range_of,
+  children_of,
+  literal_of,
+  ranges_in_kind,
+  held_ranges,
+  nodes_in,
+  nodes_of,
+  node_ranges,
+  program_ranges,
+}
 use Rattle.deno_graph_source.specs.Source.{IsValid, ranges_of}
 use Rattle.deno_graph_text.specs.SourceRange.{IsTextRange}
 use Rattle.deno_graph_text.specs.declared.text.position.SourceRange.{SourceRange}
@@ -76,7 +87,7 @@ valid_comment text program comments comment valid at =
     (Contains-map (λ c. c.range) (comments_of comments) comment at))
 
 -- what stands in the list at a position is among the items at all positions
-Contains-at_position : {T : Type 0} (entries : List (ℕ × List T)) (pos : ℕ) (items : List T) (item : T)
+pub Contains-at_position : {T : Type 0} (entries : List (ℕ × List T)) (pos : ℕ) (items : List T) (item : T)
     → value_at entries pos ≡ Some items → Contains items item → Contains (all_items entries) item
 Contains-at_position entries pos items item found at =
     let place = place_from_lookup _ entries items found in

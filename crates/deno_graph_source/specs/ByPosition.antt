@@ -1,5 +1,21 @@
 -- Values by a position: a list of positions with their values.
-use Rattle.std.specs.Prelude.{◌≡◌, ◌≢◌, ℕ, List, [], ◌∷◌, ◌++◌, Option, Some, IsPermutation, unwrap_or}
+use Rattle.std.specs.Prelude.{
+  ◌≡◌,
+  ◌≢◌,
+  ℕ,
+  List,
+  [],
+  ◌∷◌,
+  ◌++◌,
+  Bool,
+  true,
+  Option,
+  Some,
+  IsPermutation,
+  IsSomeAnd,
+  slice_get,
+  unwrap_or,
+}
 use Rattle.std.specs.List.{flat_map}
 use Rattle.std.specs.Map.{lookup, values_of}
 use Rattle.std.specs.BTreeMap.{is_at}
@@ -18,3 +34,11 @@ pub record AddsItem {T : Type 0} (old new : List (ℕ × List T)) (pos : ℕ) (i
   pub added : value_at new pos ≡ Some (unwrap_or (value_at old pos) [] ++ item ∷ [])
   pub others : (q : ℕ) → q ≢ pos → value_at new q ≡ value_at old q
   pub items : IsPermutation (item ∷ all_items old) (all_items new)
+
+-- the item with this number at this position
+abbrev pub item_at : {T : Type 0} → List (ℕ × List T) → ℕ → ℕ → Option T
+item_at entries pos number = slice_get (unwrap_or (value_at entries pos) []) number
+
+-- there is one, and it is equal to another by this test
+abbrev pub HasEqualAt : {T : Type 0} → (T → T → Bool) → List (ℕ × List T) → ℕ → ℕ → T → Type 0
+HasEqualAt eq entries pos number other = IsSomeAnd (item_at entries pos number) (λ item. eq item other ≡ true)

@@ -1,7 +1,14 @@
 -- Two groups of kinds, by which the code is split. No promise of a public call names them.
 use Rattle.std.specs.Prelude.{Bool, true, false}
 use Rattle.deno_graph_source.specs.declared.tree.node.Kind.{Kind}
-use Rattle.deno_graph_source.specs.declared.tree.node.Kind.TheVariants.{ImportDecl, NamedExport, ExportAll, ExportOther, ImportEquals, ImportType}
+use Rattle.deno_graph_source.specs.declared.tree.node.Kind.TheVariants.{
+  ImportDecl,
+  NamedExport,
+  ExportAll,
+  ExportOther,
+  ImportEquals,
+  ImportType,
+}
 
 -- the kind is that of an import declaration, an `import name = ..` or an import type
 abbrev pub is_import : Kind → Bool

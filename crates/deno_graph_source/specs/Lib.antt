@@ -1,9 +1,12 @@
 pub mod ByPosition
 pub mod Check
 pub mod Comments
+pub mod FaultPlace
+pub mod Found
 pub mod KindGroups
 pub mod MediaType
 pub mod Node
+pub mod NodePath
 pub mod ParsedSource
 pub mod SharedModule
 pub mod Source

@@ -1,7 +1,15 @@
 -- Media types.
 use Rattle.std.specs.Prelude.{Bool, true, false}
 use Rattle.deno_graph_source.specs.declared.tree.media_type.MediaType.{MediaType}
-use Rattle.deno_graph_source.specs.declared.tree.media_type.MediaType.TheVariants.{TypeScript, Mts, Cts, Dts, Dmts, Dcts, Tsx}
+use Rattle.deno_graph_source.specs.declared.tree.media_type.MediaType.TheVariants.{
+  TypeScript,
+  Mts,
+  Cts,
+  Dts,
+  Dmts,
+  Dcts,
+  Tsx,
+}
 
 -- the media types whose files hold types
 abbrev pub is_typed : MediaType → Bool

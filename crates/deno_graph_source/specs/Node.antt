@@ -1,5 +1,27 @@
 -- A node of a syntax tree, read by its parts.
-use Rattle.std.specs.Prelude.{◌≡◌, ℕ, ◌+◌, ◌≤◌, ◌<◌, ⊤, Bool, true, false, IsTrue, length, List, [], ◌∷◌, ◌++◌, map, Option, Some, None, IsSomeAnd, slice_get}
+use Rattle.std.specs.Prelude.{
+  ◌≡◌,
+  ℕ,
+  ◌+◌,
+  ◌≤◌,
+  ◌<◌,
+  ⊤,
+  Bool,
+  true,
+  false,
+  IsTrue,
+  length,
+  List,
+  [],
+  ◌∷◌,
+  ◌++◌,
+  map,
+  Option,
+  Some,
+  None,
+  IsSomeAnd,
+  slice_get,
+}
 use Rattle.std.specs.List.{flat_map}
 use Rattle.std.specs.Option.{option_to_list}
 use Rattle.deno_graph_text.specs.declared.text.position.SourceRange.{SourceRange}
@@ -8,7 +30,19 @@ use Rattle.deno_graph_source.specs.declared.tree.node.Callee.{Callee}
 use Rattle.deno_graph_source.specs.declared.tree.node.Callee.TheVariants.{Expr}
 use Rattle.deno_graph_source.specs.declared.tree.node.StrLit.{StrLit}
 use Rattle.deno_graph_source.specs.declared.tree.node.Kind.{Kind}
-use Rattle.deno_graph_source.specs.declared.tree.node.Kind.TheVariants.{ImportDecl, NamedExport, ExportAll, ImportEquals, ImportType, ModuleDecl, Call, Template, Binary, Object, KeyValue}
+use Rattle.deno_graph_source.specs.declared.tree.node.Kind.TheVariants.{
+  ImportDecl,
+  NamedExport,
+  ExportAll,
+  ImportEquals,
+  ImportType,
+  ModuleDecl,
+  Call,
+  Template,
+  Binary,
+  Object,
+  KeyValue,
+}
 use Rattle.deno_graph_source.specs.declared.tree.node.Node.{Node, out-Node, roll-Node}
 use Rattle.deno_graph_source.specs.declared.tree.node.Program.{Program}
 use Rattle.deno_graph_source.specs.declared.tree.node.Node.TheOpen.{Node-F}

@@ -9,7 +9,15 @@ use Rattle.deno_graph_source.specs.declared.tree.comments.CommentKind.{CommentKi
 use Rattle.deno_graph_source.specs.declared.tree.comments.CommentKind.TheVariants.{Line, Block}
 use Rattle.deno_graph_source.specs.declared.tree.comments.DependencyComment.{DependencyComment}
 use Rattle.deno_graph_source.specs.declared.tree.fault.SourceFault.{SourceFault}
-use Rattle.deno_graph_source.specs.declared.tree.fault.SourceFault.TheVariants.{RangeReversed, RangeOutside, RangeOffBoundary, CommentText, CommentsOverlap, Shape, OutOfMemory}
+use Rattle.deno_graph_source.specs.declared.tree.fault.SourceFault.TheVariants.{
+  RangeReversed,
+  RangeOutside,
+  RangeOffBoundary,
+  CommentText,
+  CommentsOverlap,
+  Shape,
+  OutOfMemory,
+}
 use Rattle.deno_graph_source.specs.declared.tree.node.Program.{Program}
 
 -- every range that there is: of the program, of the nodes and of what they hold, and of the

@@ -4,14 +4,18 @@ mod by_position;
 mod check;
 pub mod comments;
 pub mod fault;
+pub mod fault_place;
 pub mod media_type;
 pub mod node;
 pub mod parsed_source;
 
-pub use check::source_fault;
+pub use check::{source_fault, source_fault_place};
 pub use comments::{CommentKind, Comments, DependencyComment};
 pub use deno_graph_text::values::ResolutionMode;
 pub use fault::SourceFault;
+pub use fault_place::{
+    CommentPlace, CommentSide, FaultPlace, NodePart, ShapeRule, SourceFaultPlace,
+};
 pub use media_type::MediaType;
 pub use node::{Arg, BinaryOp, Callee, ImportPhase, Kind, Node, Program, PropKey, StrLit};
 pub use parsed_source::ParsedSource;

@@ -1,5 +1,34 @@
 -- Lists of places in the order of a text, and how far they reach.
-use Rattle.std.proofs.Common.{◌≡◌, ℕ, ◌+◌, ◌-◌, ◌<◌, ◌≤◌, inl, inr, Bool, true, false, List, [], ◌∷◌, ◌++◌, length, get_or, zero, suc, All, not, refl, sym, ap, ◌∙◌, subst, arith, length-append}
+use Rattle.std.proofs.Common.{
+  ◌≡◌,
+  ℕ,
+  ◌+◌,
+  ◌-◌,
+  ◌<◌,
+  ◌≤◌,
+  inl,
+  inr,
+  Bool,
+  true,
+  false,
+  List,
+  [],
+  ◌∷◌,
+  ◌++◌,
+  length,
+  get_or,
+  zero,
+  suc,
+  All,
+  not,
+  refl,
+  sym,
+  ap,
+  ◌∙◌,
+  subst,
+  arith,
+  length-append,
+}
 use Rattle.std.proofs.lemmas.Bool.{cases_lt, cases_Bool, false≢true}
 use Rattle.std.proofs.lemmas.List.{get_or_append_left, get_or_push, get_or_default}
 use Rattle.std.proofs.lemmas.List.Elements.{All-append}
@@ -12,7 +41,12 @@ use Rattle.deno_graph_text.specs.Position.{IsAt, IsBefore, is_before, position_a
 use Rattle.deno_graph_text.specs.declared.text.place.Place.{Place}
 use Rattle.deno_graph_text.specs.declared.text.position.Position.{Position}
 use Rattle.deno_graph_text.proofs.PlaceLemmas.{before_from_lt}
-use Rattle.deno_graph_text.proofs.PositionLemmas.{IsBefore-trans, IsBefore-irreflexive, is_before-true, is_before-from}
+use Rattle.deno_graph_text.proofs.PositionLemmas.{
+  IsBefore-trans,
+  IsBefore-irreflexive,
+  is_before-true,
+  is_before-from,
+}
 
 -- the places that aren't beyond `wanted` come first
 pub partitioned : (text : List ℕ) (places : List Place) (wanted : Position) → IsUtf8 text

@@ -1,8 +1,49 @@
 -- Boundaries of a text, and the characters before and behind them.
-use Rattle.std.proofs.Common.{◌≡◌, ℕ, zero, suc, ◌+◌, ◌-◌, ◌<◌, ◌≤◌, inl, inr, List, [], ◌∷◌, ◌++◌, length, take, drop, refl, sym, ap, ◌∙◌, subst, arith, length-append, length-drop, append_assoc}
+use Rattle.std.proofs.Common.{
+  ◌≡◌,
+  ℕ,
+  zero,
+  suc,
+  ◌+◌,
+  ◌-◌,
+  ◌<◌,
+  ◌≤◌,
+  inl,
+  inr,
+  List,
+  [],
+  ◌∷◌,
+  ◌++◌,
+  length,
+  take,
+  drop,
+  refl,
+  sym,
+  ap,
+  ◌∙◌,
+  subst,
+  arith,
+  length-append,
+  length-drop,
+  append_assoc,
+}
 use Rattle.std.proofs.lemmas.Bool.{cases_lt}
 use Rattle.std.proofs.lemmas.List.{length-take-le, take-append-drop, take-append-le, take_all, append-nil}
-use Rattle.std.proofs.lemmas.Str.{IsCharBoundary-start, IsCharBoundary-past_char, IsUtf8-take, IsUtf8-drop, IsUtf8-between, chars-append, chars_past_char, chars-nil, encodes-chars, encode_same, length-encode, length-le-encodes, len_utf8_bounds}
+use Rattle.std.proofs.lemmas.Str.{
+  IsCharBoundary-start,
+  IsCharBoundary-past_char,
+  IsUtf8-take,
+  IsUtf8-drop,
+  IsUtf8-between,
+  chars-append,
+  chars_past_char,
+  chars-nil,
+  encodes-chars,
+  encode_same,
+  length-encode,
+  length-le-encodes,
+  len_utf8_bounds,
+}
 use Rattle.std.proofs.Math.Seq.{take-add}
 use Rattle.std.specs.Char.{len_utf8}
 use Rattle.std.specs.Cmp.{nat_cmp_is}
@@ -14,7 +55,16 @@ use Rattle.deno_graph_text.specs.Place.{IsPlace}
 use Rattle.deno_graph_text.specs.Position.{HasPosition, IsBefore, position_at, position_of}
 use Rattle.deno_graph_text.specs.declared.text.place.Place.{Place}
 use Rattle.deno_graph_text.specs.declared.text.position.Position.{Position}
-use Rattle.deno_graph_text.proofs.PositionLemmas.{line_of-le, character_of-le, before_longer, IsBefore-irreflexive, position_cmp, position_cmp-before, position_cmp-behind, position_cmp-same}
+use Rattle.deno_graph_text.proofs.PositionLemmas.{
+  line_of-le,
+  character_of-le,
+  before_longer,
+  IsBefore-irreflexive,
+  position_cmp,
+  position_cmp-before,
+  position_cmp-behind,
+  position_cmp-same,
+}
 
 -- a boundary has at most as many characters before it as bytes
 pub chars_le : (text : List ℕ) (pos : ℕ) → IsUtf8 text → IsCharBoundary text pos

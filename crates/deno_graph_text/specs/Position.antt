@@ -1,5 +1,21 @@
 -- Where a place in a text stands: its line, and its character in that line.
-use Rattle.std.specs.Prelude.{◌≡◌, ◌==◌, ◌<◌, ◌⊎◌, ◌||◌, ◌&&◌, ◌++◌, ℕ, Bool, List, length, take, count_by, nat_lt, encode_utf8_all}
+use Rattle.std.specs.Prelude.{
+  ◌≡◌,
+  ◌==◌,
+  ◌<◌,
+  ◌⊎◌,
+  ◌||◌,
+  ◌&&◌,
+  ◌++◌,
+  ℕ,
+  Bool,
+  List,
+  length,
+  take,
+  count_by,
+  nat_lt,
+  encode_utf8_all,
+}
 use Rattle.std.specs.List.{after_last}
 use Rattle.std.specs.Str.{IsCharBoundary, chars}
 use Rattle.deno_graph_text.specs.declared.text.position.Position.{Position}

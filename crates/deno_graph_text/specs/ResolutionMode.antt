@@ -3,8 +3,13 @@ use Rattle.std.specs.Prelude.{ℕ, List, Option, Some, None, codes, if◌then◌
 use Rattle.std.specs.Str.{bytes_eq}
 use Rattle.deno_graph_text.specs.declared.values.resolution_mode.ResolutionMode.{ResolutionMode}
 use Rattle.deno_graph_text.specs.declared.values.resolution_mode.ResolutionMode.TheVariants as graph
-use Rattle.deno_graph_text.specs.declared.values.resolution_mode.TypeScriptTypesResolutionMode.{TypeScriptTypesResolutionMode}
-use Rattle.deno_graph_text.specs.declared.values.resolution_mode.TypeScriptTypesResolutionMode.TheVariants.{Require, Import}
+use Rattle.deno_graph_text.specs.declared.values.resolution_mode.TypeScriptTypesResolutionMode.{
+  TypeScriptTypesResolutionMode,
+}
+use Rattle.deno_graph_text.specs.declared.values.resolution_mode.TypeScriptTypesResolutionMode.TheVariants.{
+  Require,
+  Import,
+}
 
 -- the mode of this name, which is given by its bytes
 abbrev pub mode_named : List ℕ → Option TypeScriptTypesResolutionMode

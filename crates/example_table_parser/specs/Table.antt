@@ -1,27 +1,39 @@
 -- What the parser of a table has as its outcomes.
-use Rattle.std.specs.Prelude.{ℕ, if◌then◌else◌, List, [], ◌∷◌, Option, Some, None, codes}
+use Rattle.std.specs.Prelude.{Bool, ◌&&◌, List, Option, Some, None, find, codes}
 use Rattle.std.specs.Str.{bytes_eq}
 use Rattle.deno_graph_source.specs.ParsedSource.{ParsedModule}
-use Rattle.deno_graph_parser.specs.Parsing.{ParseFunction, Outcome, refused, outcome_of}
+use Rattle.deno_graph_source.specs.contracts.tree.media_type.MediaTypePartialEq.TheImpl as media_types
+use Rattle.deno_graph_parser.specs.Parsing.{
+  ParseFunction,
+  Input,
+  Outcome,
+  refused,
+  specifier_text,
+  outcome_of,
+}
 use Rattle.deno_graph_parser.specs.declared.parse_error.ParseDiagnostic.{ParseDiagnostic}
 
--- the first source with a text
-abbrev pub source_with : List ℕ → List ParsedModule → Option ParsedModule
-source_with text [] = None
-source_with text (source ∷ sources) =
-    if bytes_eq source.text text then Some source else source_with text sources
+-- the source has the specifier, the text and the media type of the input
+abbrev pub is_for : Input → ParsedModule → Bool
+is_for input source = bytes_eq (specifier_text source.specifier) input.specifier
+    && bytes_eq source.text input.text
+    && (media_types.ghosts).eq source.media_type input.media_type
 
--- what is said of all other texts
-abbrev pub unknown_text : ParseDiagnostic
-unknown_text = record {
-  message = codes "unknown text";
+-- the first source that is for an input
+abbrev pub source_with : Input → List ParsedModule → Option ParsedModule
+source_with input sources = find (is_for input) sources
+
+-- what is said of all other inputs
+abbrev pub unknown_source : ParseDiagnostic
+unknown_source = record {
+  message = codes "unknown source";
   position = record { line = 0; character = 0 };
 }
 
 abbrev pub outcome_of_found : Option ParsedModule → Outcome
 outcome_of_found (Some source) = outcome_of source
-outcome_of_found None = refused unknown_text
+outcome_of_found None = refused unknown_source
 
--- the tree of the first source with the text, whatever the specifier and the media type
+-- the tree of the first source that is for the input
 abbrev pub outcome_in : List ParsedModule → ParseFunction
-outcome_in sources input = Some (outcome_of_found (source_with input.text sources))
+outcome_in sources input = Some (outcome_of_found (source_with input sources))

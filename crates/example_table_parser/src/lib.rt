@@ -5,7 +5,7 @@
 ghost use Rattle.std.specs.Prelude.{◌≡◌, IfOk, IfErr};
 ghost use Rattle.std.specs.Option.{option_copied};
 ghost use Rattle.deno_graph_parser.specs.Parsing.{asked, input_of, outcome_of};
-ghost use Rattle.example_table_parser.specs.Table.{source_with, unknown_text};
+ghost use Rattle.example_table_parser.specs.Table.{source_with, unknown_source};
 ghost use Rattle.example_table_parser.specs.TableParser.{known_of, count_of};
 
 use deno_graph_parser::{EsParser, ParseDiagnostic, ParseError, ParseOptions};
@@ -16,7 +16,7 @@ use std::alloc::{AllocError, Global};
 use std::cell::Cell;
 use std::rc::Rc;
 
-/// A parser that knows some texts, and refuses all others.
+/// A parser that knows some sources, each by its specifier, text and media type, and no others.
 #[derive(Drop)]
 pub struct TableParser {
     sources: Vec<ParsedSource>,
@@ -25,7 +25,7 @@ pub struct TableParser {
 }
 
 impl TableParser {
-    /// A parser of the texts of `sources`, which counts its calls in `calls` too.
+    /// A parser that knows `sources`, and counts its calls in `calls` too.
     pub fn new(sources: Vec<ParsedSource>, calls: Rc<Cell<u64>>) -> TableParser
         ensures sources { known_of result ≡ sources.items }
         ensures count { count_of result ≡ 0 }
@@ -54,23 +54,23 @@ impl EsParser for TableParser {
     ) -> Result<ParsedSource, ParseError> {
         self.calls.set(self.calls.get().saturating_add(1));
         self.count = self.count.saturating_add(1);
-        match find(&self.sources, options.source.as_str()) {
+        match find(&self.sources, &options) {
             Some(known) => parsed(alloc, known, options),
             None => Err(ParseError::Diagnostic(diagnostic(alloc)?)),
         }
     }
 }
 
-/// The first source with this text.
-fn find<'a>(sources: &'a [ParsedSource], text: &str) -> Option<&'a ParsedSource>
-    ensures { option_copied result ≡ source_with text.now sources.now }
+/// The first source with the specifier, the text and the media type of the options.
+#[tactic(auto, unfolding(deno_graph_parser::specs::Parsing::specifier_text))]
+fn find<'a>(sources: &'a [ParsedSource], options: &ParseOptions<'_>) -> Option<&'a ParsedSource>
+    ensures { option_copied result ≡ source_with (asked options.now) sources.now }
 {
-    for source in sources {
-        if source.text().as_str() == text {
-            return Some(source);
-        }
-    }
-    None
+    sources.iter().find(|source| {
+        source.specifier() == options.specifier
+            && source.text().as_str() == options.source.as_str()
+            && source.media_type() == options.media_type
+    })
 }
 
 /// The known tree as the answer to the options. What is wrong can only be want of memory, since
@@ -100,10 +100,10 @@ fn parsed(
 }
 
 fn diagnostic(alloc: Global) -> Result<ParseDiagnostic, AllocError>
-    ensures { IfOk result (λ diagnostic. diagnostic ≡ unknown_text) }
+    ensures { IfOk result (λ diagnostic. diagnostic ≡ unknown_source) }
 {
     Ok(ParseDiagnostic {
-        message: Text::from_str(alloc, "unknown text")?,
+        message: Text::from_str(alloc, "unknown source")?,
         position: Position::zeroed(),
     })
 }

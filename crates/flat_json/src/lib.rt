@@ -4,18 +4,15 @@
 //! value takes 24 bytes.
 #![tactic(auto)]
 
-ghost use Rattle.std.specs.Prelude.{◌<◌, ◌≤◌, ◌-◌, length, IfSome};
-ghost use Rattle.flat_json.specs.Tape.{nodes_of, left_of, nodes_of_members};
+ghost use Rattle.std.specs.Prelude.{◌≡◌, ◌<◌, ◌≤◌, ◌+◌, ◌-◌, ◌^◌, ◌↔◌, length, vec_len, IfSome, IsTrue};
 
 mod fault;
 mod parse;
+mod pointer;
 
 pub use fault::TapeFault;
-use json::{Reader, Scratch};
+use json::Scratch;
 use std::alloc::Global;
-
-/// How deep arrays and objects may nest.
-const MAX_DEPTH: usize = 127;
 
 /// What stands at one place of a tape.
 #[derive(Clone, Copy)]
@@ -40,29 +37,32 @@ pub enum Node<'a> {
 #[derive(Drop)]
 pub struct Tape<'a> {
     nodes: Vec<Node<'a>>,
+    ghost has_node: { 0 < vec_len nodes },
 }
 
 impl<'a> Tape<'a> {
+    ghost use Rattle.flat_json.specs.Tape.{node_count, nodes_of, number_of};
+
     /// Reads a text to its end. `Json` where it isn't one JSON value, nests deeper than 127 or has
-    /// a number too large for a float, and `OutOfMemory` where memory was refused.
+    /// a number too large for a float, with the offset in bytes at which that shows, and
+    /// `OutOfMemory` where memory was refused.
     pub fn read(
         alloc: Global,
         text: &'a str,
         scratch: &'a mut Scratch,
     ) -> Result<Tape<'a>, TapeFault> {
-        let mut reader = Reader::new(text, scratch)?;
-        let mut nodes = Vec::new(alloc);
-        parse::value(&mut reader, &mut nodes, MAX_DEPTH)?;
-        match reader.next() {
-            None => Ok(Tape { nodes }),
-            Some(_) => Err(TapeFault::Json),
-        }
+        let nodes = parse::read(alloc, text, scratch)?;
+        Ok(Tape { nodes })
     }
 
     /// The value of the whole text.
-    pub fn root(&self) -> Element<'_> {
+    pub fn root(&self) -> Element<'_>
+        ensures number { number_of result ≡ 0 }
+        ensures nodes { nodes_of result ≡ node_count self.now }
+    {
         Element {
             nodes: self.nodes.as_slice(),
+            number: 0,
         }
     }
 }
@@ -72,9 +72,29 @@ impl<'a> Tape<'a> {
 pub struct Element<'a> {
     /// The value's node, and those of what stands in it.
     nodes: &'a [Node<'a>],
+    number: usize,
+    ghost has_node: { 0 < length nodes.now },
+    ghost number_fits: { number + length nodes.now < 2 ^ 64 },
 }
 
 impl<'a> Element<'a> {
+    ghost use Rattle.flat_json.specs.Tape.{nodes_of, number_of, HasNode, TakesSame};
+    ghost use Rattle.flat_json.specs.Tape.{array_of, left_of, object_of};
+
+    /// The number of its node in the tape: 0 for the value of the whole text.
+    pub fn number(self) -> usize
+        ensures { result ≡ number_of self.entry }
+    {
+        self.number
+    }
+
+    /// Whether the node of this number is its own, or one of what stands in it.
+    pub(crate) fn has_node(self, number: usize) -> bool
+        ensures { IsTrue result ↔ HasNode self.entry number }
+    {
+        number >= self.number && number - self.number < self.nodes.len()
+    }
+
     /// Whether it is null.
     pub fn is_null(self) -> bool {
         matches!(self.nodes.first(), Some(Node::Null))
@@ -116,12 +136,13 @@ impl<'a> Element<'a> {
 
     /// The elements, where it is an array.
     pub fn elements(self) -> Option<Elements<'a>>
-        ensures { IfSome result (λ found. left_of found < nodes_of self.entry) }
+        ensures array { IfSome result (λ found. TakesSame (array_of found) self.entry) }
+        ensures left { IfSome result (λ found. left_of found < nodes_of self.entry) }
     {
         match self.nodes.first() {
             Some(Node::Array { elements, .. }) => Some(Elements {
+                array: self,
                 count: *elements,
-                nodes: self.nodes,
                 at: 1,
             }),
             _ => None,
@@ -130,52 +151,79 @@ impl<'a> Element<'a> {
 
     /// The members, where it is an object.
     pub fn members(self) -> Option<Members<'a>>
-        ensures { IfSome result (λ found. nodes_of_members found ≤ nodes_of self.entry) }
+        ensures { IfSome result (λ found. TakesSame (object_of found) self.entry) }
     {
         match self.nodes.first() {
-            Some(Node::Object { .. }) => Some(Members { nodes: self.nodes }),
+            Some(Node::Object { .. }) => Some(Members { object: self }),
             _ => None,
         }
+    }
+
+    /// The value that begins at a place of its nodes, and the place behind it.
+    fn value_at(self, at: usize) -> Option<(Element<'a>, usize)>
+        ensures end { IfSome result (λ found. (at < found.1) × (found.1 ≤ nodes_of self.entry)) }
+        ensures number { IfSome result (λ found. number_of found.0 ≡ number_of self.entry + at) }
+        ensures nodes { IfSome result (λ found. nodes_of found.0 ≡ found.1 - at) }
+    {
+        let inside = match self.nodes.get(at)? {
+            Node::Array { nodes, .. } | Node::Object { nodes } => *nodes,
+            _ => 0,
+        };
+        let end = at.saturating_add(1).saturating_add(inside);
+        let nodes = self.nodes.get(at..end)?;
+        let number = self.number + at;
+        Some((Element { nodes, number }, end))
     }
 }
 
 /// The elements of an array from one of them on.
 #[derive(Drop)]
 pub struct Elements<'a> {
+    array: Element<'a>,
     count: usize,
-    /// The nodes of the array, and the place of the next element.
-    nodes: &'a [Node<'a>],
+    /// The place of the next element among the array's nodes.
     at: usize,
+    ghost behind_bracket: { 0 < at },
 }
 
 impl<'a> Elements<'a> {
-    /// Those of an array that has none.
-    pub fn none() -> Elements<'a> {
-        Elements {
-            count: 0,
-            nodes: &[],
-            at: 0,
-        }
-    }
+    ghost use Rattle.flat_json.specs.Tape.{StandsIn, array_of};
 
     /// How many elements the array has.
     pub fn array_len(&self) -> usize {
         self.count
     }
+
+    /// The element of this number, from 0 on, of those that are still to come. It passes those
+    /// before it.
+    pub fn get(self, number: usize) -> Option<Element<'a>>
+        ensures { IfSome result (λ element. StandsIn element (array_of self.entry)) }
+    {
+        let mut left = number;
+        for element in self {
+            if left == 0 {
+                return Some(element);
+            }
+            left -= 1;
+        }
+        None
+    }
 }
 
 impl<'a> Iterator for Elements<'a> {
     ghost use Rattle.std.specs.Iterator.{at_most};
+    ghost use Rattle.flat_json.specs.Tape.{TakesSame, StandsIn, array_of, left_of};
 
     type Item = Element<'a>;
 
     ghost next_gives = { λ old found new.
-        IfSome found (λ element. (nodes_of element ≤ left_of old) × (left_of new < left_of old)) };
+        IfSome found (λ element. StandsIn element (array_of old)
+        × TakesSame (array_of new) (array_of old) × (left_of new < left_of old)) };
 
     ghost remaining = { λ elements. at_most (left_of elements) };
 
     fn next(&mut self) -> Option<Element<'a>> {
-        let (element, end) = value_at(self.nodes, self.at)?;
+        let (element, end) = self.array.value_at(self.at)?;
         self.at = end;
         Some(element)
     }
@@ -184,39 +232,71 @@ impl<'a> Iterator for Elements<'a> {
 /// The members of an object.
 #[derive(Clone, Copy)]
 pub struct Members<'a> {
-    nodes: &'a [Node<'a>],
+    object: Element<'a>,
 }
 
 impl<'a> Members<'a> {
+    ghost use Rattle.flat_json.specs.Tape.{number_of, TakesSame, StandsIn};
+    ghost use Rattle.flat_json.specs.Tape.{object_of, object_of_entries};
+
+    /// The number of the object's node in the tape.
+    pub fn number(self) -> usize
+        ensures { result ≡ number_of (object_of self.entry) }
+    {
+        self.object.number
+    }
+
     /// The value of the last member of this name. It looks at the name of each member.
     pub fn get(self, name: &str) -> Option<Element<'a>>
-        ensures { IfSome result (λ value. nodes_of value < nodes_of_members self.entry) }
+        ensures { IfSome result (λ value. StandsIn value (object_of self.entry)) }
     {
         let mut found = None;
-        let mut at = 1;
-        while let Some(Node::Key(key)) = self.nodes.get(at) {
-            let Some((value, end)) = value_at(self.nodes, at + 1) else {
-                return found;
-            };
-            if *key == name {
+        for (key, value) in self.entries() {
+            if key == name {
                 found = Some(value);
             }
-            at = end;
         }
         found
     }
+
+    /// Each member's name and value, in the order of the text.
+    pub fn entries(self) -> Entries<'a>
+        ensures { TakesSame (object_of_entries result) (object_of self.entry) }
+    {
+        Entries {
+            object: self.object,
+            at: 1,
+        }
+    }
 }
 
-/// The value that begins at a place of a list, and the place behind it.
-fn value_at<'a>(nodes: &'a [Node<'a>], at: usize) -> Option<(Element<'a>, usize)>
-    ensures { IfSome result (λ found. (at < found.1) × (found.1 ≤ length nodes.now)
-        × (nodes_of found.0 ≤ length nodes.now - at)) }
-{
-    let inside = match nodes.get(at)? {
-        Node::Array { nodes, .. } | Node::Object { nodes } => *nodes,
-        _ => 0,
-    };
-    let end = at.saturating_add(1).saturating_add(inside);
-    let nodes = nodes.get(at..end)?;
-    Some((Element { nodes }, end))
+/// The members of an object from one of them on.
+#[derive(Drop)]
+pub struct Entries<'a> {
+    object: Element<'a>,
+    /// The place of the next member among the object's nodes.
+    at: usize,
+}
+
+impl<'a> Iterator for Entries<'a> {
+    ghost use Rattle.std.specs.Iterator.{at_most};
+    ghost use Rattle.flat_json.specs.Tape.{TakesSame, StandsIn, object_of_entries, left_of_entries};
+
+    type Item = (&'a str, Element<'a>);
+
+    ghost next_gives = { λ old found new.
+        IfSome found (λ member. StandsIn member.1 (object_of_entries old)
+        × TakesSame (object_of_entries new) (object_of_entries old)
+        × (left_of_entries new < left_of_entries old)) };
+
+    ghost remaining = { λ entries. at_most (left_of_entries entries) };
+
+    fn next(&mut self) -> Option<(&'a str, Element<'a>)> {
+        let Some(Node::Key(name)) = self.object.nodes.get(self.at) else {
+            return None;
+        };
+        let (value, end) = self.object.value_at(self.at + 1)?;
+        self.at = end;
+        Some((*name, value))
+    }
 }

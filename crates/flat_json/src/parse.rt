@@ -1,92 +1,158 @@
-ghost use Rattle.std.specs.Prelude.{◌<◌, ◌≤◌, length, OnOk};
+ghost use Rattle.std.specs.Prelude.{◌≡◌, ◌<◌, length, vec_len, IfOk, OnOk};
 
 use crate::Node;
 use crate::fault::TapeFault;
-use json::{Reader, Token};
+use json::{Reader, Scratch, Token};
+use std::alloc::{AllocFailed, Global};
 
-/// Reads the next value. Arrays and objects may nest so deep in it.
-#[cycle(read)]
-pub fn value<'a>(
-    reader: &mut Reader<'a>,
-    nodes: &mut Vec<Node<'a>>,
-    depth: usize,
-) -> Result<(), TapeFault>
-    ensures shorter { OnOk result (length reader.new < length reader.old) }
-    ensures longer { length nodes.old.items ≤ length nodes.new.items }
+/// How deep arrays and objects may nest.
+const MAX_DEPTH: usize = 127;
+
+/// The nodes of a text that is one JSON value.
+pub fn read<'a>(
+    alloc: Global,
+    text: &'a str,
+    scratch: &'a mut Scratch,
+) -> Result<Vec<Node<'a>>, TapeFault>
+    ensures { IfOk result (λ nodes. 0 < vec_len nodes) }
 {
-    match reader.next() {
-        Some(Token::String(text)) => Ok(nodes.push(Node::String(text))?),
-        Some(Token::Number(digits)) => Ok(nodes.push(number(digits)?)?),
-        Some(Token::Bool(value)) => Ok(nodes.push(Node::Bool(value))?),
-        Some(Token::Null) => Ok(nodes.push(Node::Null)?),
-        Some(Token::BeginArray) if depth > 0 => array(reader, nodes, depth - 1),
-        Some(Token::BeginObject) if depth > 0 => object(reader, nodes, depth - 1),
-        _ => Err(TapeFault::Json),
+    let mut parser = Parser {
+        reader: Reader::new(text, scratch)?,
+        nodes: Vec::new(alloc),
+        offset: 0,
+    };
+    match parser.value(MAX_DEPTH) {
+        Ok(()) => parser.finish(text),
+        Err(Stop::Json) => Err(TapeFault::Json {
+            offset: parser.offset,
+        }),
+        Err(Stop::OutOfMemory) => Err(TapeFault::OutOfMemory),
+    }
+}
+
+/// Where more than the value of the text begins. The reader, which stands at `offset` behind the
+/// value, passes a comma there.
+fn behind_value(text: &str, offset: usize) -> usize {
+    let passed = text.as_bytes().get(..offset).unwrap_or(&[]);
+    match passed.iter().rposition(|byte| !byte.is_ascii_whitespace()) {
+        Some(last) if passed[last] == b',' => last,
+        _ => offset,
+    }
+}
+
+/// Why a value wasn't read.
+#[derive(Clone, Copy)]
+enum Stop {
+    /// The text is no JSON that is read, from the parser's offset on.
+    Json,
+    OutOfMemory,
+}
+
+impl<T: Drop> From<AllocFailed<T>> for Stop {
+    fn from(_refused: AllocFailed<T>) -> Stop {
+        Stop::OutOfMemory
+    }
+}
+
+/// A text on its way into the nodes of a tape.
+#[derive(Drop)]
+struct Parser<'a> {
+    reader: Reader<'a>,
+    nodes: Vec<Node<'a>>,
+    /// Where the token that was read last begins, in bytes.
+    offset: usize,
+}
+
+impl<'a> Parser<'a> {
+    /// Reads the next value. Arrays and objects may nest so deep in it.
+    #[cycle(read)]
+    fn value(&mut self, depth: usize) -> Result<(), Stop>
+        ensures shorter { OnOk result (length self.new.reader < length self.old.reader) }
+        ensures longer { OnOk result (length self.old.nodes.items < length self.new.nodes.items) }
+    {
+        self.offset = self.reader.offset();
+        match self.reader.next() {
+            Some(Token::String(text)) => Ok(self.nodes.push(Node::String(text))?),
+            Some(Token::Number(digits)) => Ok(self.nodes.push(number(digits)?)?),
+            Some(Token::Bool(value)) => Ok(self.nodes.push(Node::Bool(value))?),
+            Some(Token::Null) => Ok(self.nodes.push(Node::Null)?),
+            Some(Token::BeginArray) if depth > 0 => self.array(depth - 1),
+            Some(Token::BeginObject) if depth > 0 => self.object(depth - 1),
+            _ => Err(Stop::Json),
+        }
+    }
+
+    /// What stands behind the bracket that opens an array.
+    #[cycle(read)]
+    fn array(&mut self, depth: usize) -> Result<(), Stop>
+        ensures shorter { OnOk result (length self.new.reader < length self.old.reader) }
+        ensures longer { OnOk result (length self.old.nodes.items < length self.new.nodes.items) }
+    {
+        let at = self.nodes.len();
+        self.nodes.push(Node::Array {
+            elements: 0,
+            nodes: 0,
+        })?;
+        let mut elements = 0usize;
+        while !self.reader.take_end_array() {
+            self.value(depth)?;
+            elements = elements.saturating_add(1);
+        }
+        let nodes = self.nodes.len() - at - 1;
+        self.nodes[at] = Node::Array { elements, nodes };
+        Ok(())
+    }
+
+    /// What stands behind the brace that opens an object.
+    #[cycle(read)]
+    fn object(&mut self, depth: usize) -> Result<(), Stop>
+        ensures shorter { OnOk result (length self.new.reader < length self.old.reader) }
+        ensures longer { OnOk result (length self.old.nodes.items < length self.new.nodes.items) }
+    {
+        let at = self.nodes.len();
+        self.nodes.push(Node::Object { nodes: 0 })?;
+        loop {
+            self.offset = self.reader.offset();
+            match self.reader.next_key() {
+                Ok(Some(name)) => {
+                    self.nodes.push(Node::Key(name))?;
+                    self.value(depth)?;
+                }
+                Ok(None) => break,
+                Err(_) => return Err(Stop::Json),
+            }
+        }
+        let nodes = self.nodes.len() - at - 1;
+        self.nodes[at] = Node::Object { nodes };
+        Ok(())
+    }
+
+    /// The nodes, where nothing stands behind the value of the text.
+    fn finish(self, text: &str) -> Result<Vec<Node<'a>>, TapeFault>
+        ensures { IfOk result (λ nodes. vec_len nodes ≡ vec_len self.entry.nodes) }
+    {
+        let Parser {
+            mut reader,
+            nodes,
+            offset: _,
+        } = self;
+        let offset = reader.offset();
+        match reader.next() {
+            None => Ok(nodes),
+            Some(_) => Err(TapeFault::Json {
+                offset: behind_value(text, offset),
+            }),
+        }
     }
 }
 
 /// The node of a number.
-fn number<'a>(digits: &str) -> Result<Node<'a>, TapeFault> {
+fn number<'a>(digits: &str) -> Result<Node<'a>, Stop> {
     if let Ok(whole) = fast_float::parse_u64(digits.as_bytes()) {
         return Ok(Node::Whole(whole));
     }
     match fast_float::parse::<f64, _>(digits.as_bytes()) {
         Ok(number) if number.is_finite() => Ok(Node::Number),
-        _ => Err(TapeFault::Json),
+        _ => Err(Stop::Json),
     }
-}
-
-/// What stands behind the bracket that opens an array.
-#[cycle(read)]
-fn array<'a>(
-    reader: &mut Reader<'a>,
-    nodes: &mut Vec<Node<'a>>,
-    depth: usize,
-) -> Result<(), TapeFault>
-    ensures shorter { OnOk result (length reader.new < length reader.old) }
-    ensures longer { length nodes.old.items ≤ length nodes.new.items }
-{
-    let at = nodes.len();
-    nodes.push(Node::Array {
-        elements: 0,
-        nodes: 0,
-    })?;
-    let mut elements = 0usize;
-    while !reader.take_end_array() {
-        value(reader, nodes, depth)?;
-        elements = elements.saturating_add(1);
-    }
-    nodes[at] = Node::Array {
-        elements,
-        nodes: nodes.len() - at - 1,
-    };
-    Ok(())
-}
-
-/// What stands behind the brace that opens an object.
-#[cycle(read)]
-fn object<'a>(
-    reader: &mut Reader<'a>,
-    nodes: &mut Vec<Node<'a>>,
-    depth: usize,
-) -> Result<(), TapeFault>
-    ensures shorter { OnOk result (length reader.new < length reader.old) }
-    ensures longer { length nodes.old.items ≤ length nodes.new.items }
-{
-    let at = nodes.len();
-    nodes.push(Node::Object { nodes: 0 })?;
-    loop {
-        match reader.next_key() {
-            Ok(Some(name)) => {
-                nodes.push(Node::Key(name))?;
-                value(reader, nodes, depth)?;
-            }
-            Ok(None) => break,
-            Err(_) => return Err(TapeFault::Json),
-        }
-    }
-    nodes[at] = Node::Object {
-        nodes: nodes.len() - at - 1,
-    };
-    Ok(())
 }

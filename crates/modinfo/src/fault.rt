@@ -61,8 +61,8 @@ impl From<serde_json::Error> for Fault {
 impl From<NotationFault> for Fault {
     fn from(fault: NotationFault) -> Fault {
         match fault {
-            NotationFault::Json => Fault::Json,
-            NotationFault::NotInNotation => Fault::NotInNotation,
+            NotationFault::Json { .. } => Fault::Json,
+            NotationFault::NotInNotation(_) => Fault::NotInNotation,
             NotationFault::Specifier => Fault::Specifier,
             NotationFault::Source(fault) => Fault::Source(fault),
             NotationFault::OutOfMemory => Fault::OutOfMemory,

@@ -1,6 +1,7 @@
 //! The words behind the program's name, and what is printed about them.
 
 use crate::subcommand::Subcommand;
+use crate::task::Task;
 
 /// The line for words that are no invocation.
 pub const USAGE: &str = "modinfo: usage: modinfo analyze, modinfo convert or modinfo reach";
@@ -12,6 +13,7 @@ pub const VERSION: &str = "modinfo 0.1.0\n";
 pub const HELP: &str = r#"modinfo: what one JavaScript or TypeScript module depends on
 
 usage: modinfo analyze | convert | reach [--lines]
+       modinfo check [analyze | convert | reach] [--lines] [--strict]
        modinfo --help | --version
 
 Each command reads one JSON document from the standard input, and prints its answer as one line of
@@ -22,11 +24,15 @@ JSON.
   convert   reads the ModuleInfo of one module as version 1 stored it; prints that of version 2
   reach     reads {"root":KEY,"modules":{KEY:MODULEINFO,..}}; prints the keys that the root reaches,
             ascending
+  check     reads a document of that command, of analyze where none is named; prints {"valid":true}
+            with warnings where there are any, or {"fault":NAME,"pointer":..,"expected":..}, where
+            the pointer leads to the value that is at fault
   --lines   each line of the input is a document, and each line of the output the answer to one, in
-            the same order: {"answer":ANSWER} or {"fault":NAME}
+            the same order: {"answer":ANSWER} or {"fault":NAME}, of check the report alone
+  --strict  a warning counts as a fault does
 
 Status 0: answered; with --lines whatever the answers are. Status 1: a line `modinfo: NAME` on the
-error output, and no answer. Status 2: other words.
+error output, and no answer; of check a document with a fault. Status 2: other words.
 
   Input            a read fails, or the input isn't UTF-8
   Json             it is no JSON, nests deeper than 127, or has a number too large for a float
@@ -57,9 +63,9 @@ pub enum Invocation {
     /// `--version`
     Version,
     /// The input is one document.
-    Document(Subcommand),
+    Document(Task),
     /// Each line of the input is a document.
-    Lines(Subcommand),
+    Lines(Task),
 }
 
 impl Invocation {
@@ -68,11 +74,43 @@ impl Invocation {
         match words {
             [word] if *word == "--help" => Some(Invocation::Help),
             [word] if *word == "--version" => Some(Invocation::Version),
-            [name] => Subcommand::from_name(name).map(Invocation::Document),
+            [word, words @ ..] if *word == "check" => Invocation::from_check(words),
+            [name] => {
+                let task = Task::Answer(Subcommand::from_name(name)?);
+                Some(Invocation::Document(task))
+            }
             [name, word] if *word == "--lines" => {
-                Subcommand::from_name(name).map(Invocation::Lines)
+                let task = Task::Answer(Subcommand::from_name(name)?);
+                Some(Invocation::Lines(task))
             }
             _ => None,
+        }
+    }
+
+    /// What the words behind `check` ask for: a subcommand, or else that is `analyze`, and then
+    /// `--lines` and `--strict` in any order.
+    fn from_check(words: &[&str]) -> Option<Invocation> {
+        let (subcommand, flags) = match words {
+            [name, flags @ ..] if !name.starts_with("--") => (Subcommand::from_name(name)?, flags),
+            _ => (Subcommand::Analyze, words),
+        };
+        let mut is_strict = false;
+        let mut has_lines = false;
+        for flag in flags {
+            match *flag {
+                "--strict" if !is_strict => is_strict = true,
+                "--lines" if !has_lines => has_lines = true,
+                _ => return None,
+            }
+        }
+        let task = Task::Check {
+            subcommand,
+            is_strict,
+        };
+        if has_lines {
+            Some(Invocation::Lines(task))
+        } else {
+            Some(Invocation::Document(task))
         }
     }
 }

@@ -8,8 +8,10 @@ mod invocation;
 mod lines;
 mod program;
 pub mod subcommand;
+mod task;
 
 pub use fault::Fault;
+pub use modinfo_check as check;
 pub use modinfo_notation as notation;
 pub use modinfo_notation::parse_document;
 pub use program::serve;

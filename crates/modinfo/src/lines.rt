@@ -1,22 +1,23 @@
 //! A document a line, and an answer a line.
 
 use crate::fault::Fault;
-use crate::subcommand::Subcommand;
+use crate::task::{Printed, Task};
 use memchr::memchr;
 use std::alloc::Global;
 use std::io::{self, BufRead, BufReader, BufWriter, ErrorKind, Read, Write};
 
 const CHUNK: usize = 65536;
 
-/// Answers each line of the input by one of the output, `{"answer":..}` or `{"fault":"NAME"}`, in
-/// the same order. Answers are handed on when no further whole line was read. `Input` where a read
-/// fails, `Output` where a write does.
+/// Answers each line of the input by one of the output, `{"answer":..}`, a report or
+/// `{"fault":"NAME"}`, in the same order, and says whether each document of a check passed. Answers
+/// are handed on when no further whole line was read. `Input` where a read fails, `Output` where a
+/// write does.
 pub fn answer_lines<R: Read, W: Write>(
     alloc: Global,
-    subcommand: Subcommand,
+    task: Task,
     input: R,
     output: W,
-) -> Result<(), Fault>
+) -> Result<bool, Fault>
 where
     R: Drop,
     W: Drop,
@@ -24,18 +25,20 @@ where
     let refused = |_| Fault::OutOfMemory;
     let mut input = BufReader::with_capacity(alloc, CHUNK, input).map_err(refused)?;
     let mut output = BufWriter::with_capacity(alloc, CHUNK, output).map_err(refused)?;
+    let mut is_passed = true;
     for _ in 0..u64::MAX {
         let Some(line) = next_line(alloc, &mut input)? else {
             break;
         };
-        let answer = line.answer(alloc, subcommand);
+        let printed = line.print(alloc, task);
+        is_passed &= task.is_passed(&printed);
         let is_last_at_hand = memchr(b'\n', input.buffer()).is_none();
-        match write_answer(&mut output, answer, is_last_at_hand) {
+        match write_line(&mut output, task, printed, is_last_at_hand) {
             Ok(()) => {}
             Err(_) => return Err(Fault::Output),
         }
     }
-    Ok(())
+    Ok(is_passed)
 }
 
 /// A line without its line feed.
@@ -54,12 +57,12 @@ impl Line {
         }
     }
 
-    fn answer(self, alloc: Global, subcommand: Subcommand) -> Result<String, Fault> {
+    fn print(self, alloc: Global, task: Task) -> Result<Printed, Fault> {
         let Line { bytes, is_refused } = self;
         if is_refused {
             return Err(Fault::OutOfMemory);
         }
-        subcommand.answer_bytes(alloc, bytes)
+        task.print(alloc, bytes)
     }
 }
 
@@ -96,16 +99,18 @@ fn next_line<R: Read>(
     Err(Fault::Input)
 }
 
-fn write_answer<W: Write>(
+fn write_line<W: Write>(
     output: &mut W,
-    answer: Result<String, Fault>,
+    task: Task,
+    printed: Result<Printed, Fault>,
     is_last_at_hand: bool,
 ) -> io::Result<()> {
-    match answer {
-        Ok(text) => {
-            output.write_all(b"{\"answer\":")?;
-            output.write_all(text.as_bytes())?;
-            output.write_all(b"}\n")?;
+    match printed {
+        Ok(printed) => {
+            let (before, behind) = task.frame();
+            output.write_all(before.as_bytes())?;
+            output.write_all(printed.line.as_bytes())?;
+            output.write_all(behind.as_bytes())?;
         }
         Err(fault) => writeln!(output, "{{\"fault\":\"{fault}\"}}")?,
     }

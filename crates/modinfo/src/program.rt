@@ -1,7 +1,8 @@
 use crate::fault::Fault;
+use crate::input::read_to_end;
 use crate::invocation::{HELP, Invocation, USAGE, VERSION};
 use crate::lines::answer_lines;
-use crate::subcommand::Subcommand;
+use crate::task::{Printed, Task};
 use std::alloc::Global;
 use std::io::{self, Read, Write};
 
@@ -31,7 +32,8 @@ where
         return 2;
     };
     match answer(alloc, invocation, input, output) {
-        Ok(()) => 0,
+        Ok(true) => 0,
+        Ok(false) => 1,
         Err(fault) => {
             let _ = writeln!(errors, "modinfo: {fault}");
             1
@@ -44,30 +46,37 @@ fn answer<R: Read, W: Write>(
     invocation: Invocation,
     input: R,
     mut output: W,
-) -> Result<(), Fault>
+) -> Result<bool, Fault>
 where
     R: Drop,
     W: Drop,
 {
     match invocation {
-        Invocation::Help => print(&mut output, HELP),
-        Invocation::Version => print(&mut output, VERSION),
-        Invocation::Document(subcommand) => answer_document(alloc, subcommand, input, &mut output),
-        Invocation::Lines(subcommand) => answer_lines(alloc, subcommand, input, output),
+        Invocation::Help => print(&mut output, HELP)?,
+        Invocation::Version => print(&mut output, VERSION)?,
+        Invocation::Document(task) => return answer_document(alloc, task, input, &mut output),
+        Invocation::Lines(task) => return answer_lines(alloc, task, input, output),
     }
+    Ok(true)
 }
 
 fn answer_document<R: Read, W: Write>(
     alloc: Global,
-    subcommand: Subcommand,
+    task: Task,
     mut input: R,
     output: &mut W,
-) -> Result<(), Fault>
+) -> Result<bool, Fault>
 where
     R: Drop,
 {
-    let line = subcommand.answer(alloc, &mut input)?;
-    print(output, line.as_str())
+    let document = read_to_end(alloc, &mut input)?;
+    let Printed {
+        mut line,
+        is_passed,
+    } = task.print(alloc, document)?;
+    line.push('\n')?;
+    print(output, line.as_str())?;
+    Ok(is_passed)
 }
 
 fn print<W: Write>(output: &mut W, text: &str) -> Result<(), Fault> {

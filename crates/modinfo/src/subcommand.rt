@@ -5,8 +5,10 @@ use crate::input::{parse_json, parse_source, read_to_end};
 use deno_graph_ast::module_info;
 use deno_graph_info::analysis::{InfoFault, ModuleInfo, module_graph_1_to_2};
 use deno_graph_info::reach::reach;
+use modinfo_check::{Report, check_document, check_modules, check_stored, report_bytes};
 use serde_json::Value;
-use std::alloc::Global;
+use simdutf8::compat;
+use std::alloc::{AllocError, Global};
 use std::collections::BTreeMap;
 use std::io::Read;
 
@@ -48,6 +50,21 @@ impl Subcommand {
             Subcommand::Reach => reach_of(alloc, input)?,
         };
         Ok(value.to_string(alloc)?)
+    }
+}
+
+impl Subcommand {
+    /// The report on a document of this subcommand. The only error is that memory was refused.
+    pub fn check(self, alloc: Global, document: &[u8]) -> Result<Report, AllocError> {
+        let text = match compat::from_utf8(document) {
+            Ok(text) => text,
+            Err(error) => return report_bytes(alloc, document, error.valid_up_to()),
+        };
+        match self {
+            Subcommand::Analyze => check_document(alloc, text),
+            Subcommand::Convert => check_stored(alloc, text),
+            Subcommand::Reach => check_modules(alloc, text),
+        }
     }
 }
 

@@ -5,5 +5,6 @@ use Rattle.std.specs.Prelude.{◌≡◌, ℕ, List, ◌+◌, ◌<◌, ◌≤◌,
 -- those after them are as they were. With status 2 more bytes are needed than there are, and all are
 -- as they were.
 pub data IsAnswered (before after : List ℕ) (needed status : ℕ) : Type 0 where
-  answered : status < 2 → needed ≤ length before → length after ≡ length before → drop needed after ≡ drop needed before → IsAnswered before after needed status
+  answered : status < 2 → needed ≤ length before → length after ≡ length before
+      → drop needed after ≡ drop needed before → IsAnswered before after needed status
   too_small : status ≡ 2 → length before < needed → after ≡ before → IsAnswered before after needed status

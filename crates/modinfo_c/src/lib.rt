@@ -68,6 +68,71 @@ pub extern "C" fn modinfo_reach(
     call(alloc, Subcommand::Reach, document, answer, length)
 }
 
+/// `modinfo check`: the answer is the report on a document of `modinfo analyze`, also where that has
+/// a fault.
+#[unsafe(no_mangle)]
+pub extern "C" fn modinfo_check(
+    alloc: Global,
+    document: &[u8],
+    answer: &mut [u8],
+    length: &mut usize,
+) -> u8
+    ensures { IsAnswered answer.old answer.new length.new result }
+{
+    check(alloc, Subcommand::Analyze, document, answer, length)
+}
+
+/// `modinfo check convert`, likewise.
+#[unsafe(no_mangle)]
+pub extern "C" fn modinfo_check_convert(
+    alloc: Global,
+    document: &[u8],
+    answer: &mut [u8],
+    length: &mut usize,
+) -> u8
+    ensures { IsAnswered answer.old answer.new length.new result }
+{
+    check(alloc, Subcommand::Convert, document, answer, length)
+}
+
+/// `modinfo check reach`, likewise.
+#[unsafe(no_mangle)]
+pub extern "C" fn modinfo_check_reach(
+    alloc: Global,
+    document: &[u8],
+    answer: &mut [u8],
+    length: &mut usize,
+) -> u8
+    ensures { IsAnswered answer.old answer.new length.new result }
+{
+    check(alloc, Subcommand::Reach, document, answer, length)
+}
+
+fn check(
+    alloc: Global,
+    subcommand: Subcommand,
+    document: &[u8],
+    answer: &mut [u8],
+    length: &mut usize,
+) -> u8
+    ensures { IsAnswered answer.old answer.new length.new result }
+{
+    match report_line(alloc, subcommand, document) {
+        Ok(line) => put(line.as_str(), ANSWERED, answer, length),
+        Err(_) => put("OutOfMemory", FAULT, answer, length),
+    }
+}
+
+fn report_line(
+    alloc: Global,
+    subcommand: Subcommand,
+    document: &[u8],
+) -> Result<String, AllocError> {
+    let mut line = subcommand.check(alloc, document)?.to_line(alloc)?;
+    line.push('\n')?;
+    Ok(line)
+}
+
 fn call(
     alloc: Global,
     subcommand: Subcommand,

@@ -1,35 +1,45 @@
-use crate::fault::NotationFault;
-use crate::member::{array, elements_of, members_of, offset, range, required, text};
-use deno_graph_source::tree::{CommentKind, Comments, DependencyComment};
+ghost use Rattle.std.specs.Prelude.{IfErr};
+ghost use Rattle.flat_json.specs.Tape.{object_of};
+ghost use Rattle.modinfo_notation.specs.Misfit.{IsIn};
+
+use crate::fault::{Expected, NotationFault};
+use crate::member::{elements_of, members_of, misfit, offset, range, required, text, text_of};
+use deno_graph_source::tree::{CommentKind, CommentSide, Comments, DependencyComment};
 use deno_graph_source::values::Text;
-use flat_json::{Element, Elements, Members};
+use flat_json::{Element, Members};
 use std::alloc::Global;
 
-/// Where a comment is filed: before its position, or behind it.
-#[derive(Clone, Copy)]
-enum Side {
-    Leading,
-    Trailing,
+/// The name of the document's member that has the comments of this side.
+pub fn member_of(side: CommentSide) -> &'static str {
+    match side {
+        CommentSide::Leading => "leading",
+        CommentSide::Trailing => "trailing",
+    }
 }
 
 /// The comments of a document: its members `leading` and `trailing`, which are arrays of
 /// `{"pos":POSITION,"comments":[COMMENT ..]}`. They are filed in the order in which they stand.
-pub fn read_comments(alloc: Global, members: Members<'_>) -> Result<Comments, NotationFault> {
+pub fn read_comments(alloc: Global, members: Members<'_>) -> Result<Comments, NotationFault>
+    ensures { IfErr result (IsIn (object_of members.entry)) }
+{
     let mut comments = Comments::new(alloc);
-    let leading = array(members, "leading")?;
-    read_entries(alloc, leading, Side::Leading, &mut comments)?;
-    let trailing = array(members, "trailing")?;
-    read_entries(alloc, trailing, Side::Trailing, &mut comments)?;
+    for side in [CommentSide::Leading, CommentSide::Trailing] {
+        if let Some(entries) = members.get(member_of(side)) {
+            read_entries(alloc, entries, side, &mut comments)?;
+        }
+    }
     Ok(comments)
 }
 
 fn read_entries(
     alloc: Global,
-    entries: Elements<'_>,
-    side: Side,
+    entries: Element<'_>,
+    side: CommentSide,
     comments: &mut Comments,
-) -> Result<(), NotationFault> {
-    for entry in entries {
+) -> Result<(), NotationFault>
+    ensures { IfErr result (IsIn entries.entry) }
+{
+    for entry in elements_of(entries)? {
         read_entry(alloc, entry, side, comments)?;
     }
     Ok(())
@@ -39,34 +49,42 @@ fn read_entries(
 fn read_entry(
     alloc: Global,
     entry: Element<'_>,
-    side: Side,
+    side: CommentSide,
     comments: &mut Comments,
-) -> Result<(), NotationFault> {
+) -> Result<(), NotationFault>
+    ensures { IfErr result (IsIn entry.entry) }
+{
     let members = members_of(entry)?;
     let pos = offset(required(members, "pos")?)?;
     for value in elements_of(required(members, "comments")?)? {
         let comment = read_comment(alloc, value)?;
         match side {
-            Side::Leading => comments.add_leading(pos, comment)?,
-            Side::Trailing => comments.add_trailing(pos, comment)?,
+            CommentSide::Leading => comments.add_leading(pos, comment)?,
+            CommentSide::Trailing => comments.add_trailing(pos, comment)?,
         }
     }
     Ok(())
 }
 
 /// A comment, `{"kind":"line","range":[START,END],"text":TEXT}` or one of the kind `block`.
-fn read_comment(alloc: Global, value: Element<'_>) -> Result<DependencyComment, NotationFault> {
+fn read_comment(alloc: Global, value: Element<'_>) -> Result<DependencyComment, NotationFault>
+    ensures { IfErr result (IsIn value.entry) }
+{
     let members = members_of(value)?;
-    let kind = comment_kind(text(members, "kind")?)?;
+    let kind = read_comment_kind(required(members, "kind")?)?;
     let range = range(members)?;
     let text = Text::from_str(alloc, text(members, "text")?)?;
     Ok(DependencyComment { kind, range, text })
 }
 
-fn comment_kind(name: &str) -> Result<CommentKind, NotationFault> {
-    match name {
+const COMMENT_KINDS: &str = "line, block";
+
+fn read_comment_kind(value: Element<'_>) -> Result<CommentKind, NotationFault>
+    ensures { IfErr result (IsIn value.entry) }
+{
+    match text_of(value)? {
         "line" => Ok(CommentKind::Line),
         "block" => Ok(CommentKind::Block),
-        _ => Err(NotationFault::NotInNotation),
+        _ => Err(misfit(value, Expected::OneOf(COMMENT_KINDS))),
     }
 }

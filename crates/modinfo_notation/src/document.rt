@@ -1,3 +1,6 @@
+ghost use Rattle.std.specs.Prelude.{IfErr};
+ghost use Rattle.modinfo_notation.specs.Misfit.{IsIn};
+
 use crate::comments::read_comments;
 use crate::fault::NotationFault;
 use crate::media_type::read_media_type;
@@ -22,11 +25,14 @@ pub struct Document {
     pub comments: Comments,
 }
 
-/// Reads a document. `NotInNotation` where the value isn't in the notation.
-pub fn read_document(alloc: Global, value: Element<'_>) -> Result<Document, NotationFault> {
+/// Reads a document. `NotInNotation` where the value isn't in the notation, with the first place
+/// that was found where it isn't.
+pub fn read_document(alloc: Global, value: Element<'_>) -> Result<Document, NotationFault>
+    ensures { IfErr result (IsIn value.entry) }
+{
     let members = members_of(value)?;
     let specifier = Text::from_str(alloc, text(members, "specifier")?)?;
-    let media_type = read_media_type(text(members, "mediaType")?)?;
+    let media_type = read_media_type(required(members, "mediaType")?)?;
     let source = RcStr::from_str(alloc, text(members, "source")?)?;
     let comments = read_comments(alloc, members)?;
     let program = read_program(alloc, required(members, "program")?)?;
@@ -40,7 +46,7 @@ pub fn read_document(alloc: Global, value: Element<'_>) -> Result<Document, Nota
 }
 
 /// Reads a document. `Json` where the text is no JSON, nests deeper than 127 or has a number too
-/// large for a float, and `NotInNotation` where it isn't in the notation.
+/// large for a float, and `NotInNotation` where it isn't in the notation: each with its place.
 pub fn parse_document(alloc: Global, text: &str) -> Result<Document, NotationFault> {
     let mut scratch = Scratch::new(alloc);
     let tape = Tape::read(alloc, text, &mut scratch)?;

@@ -1,18 +1,20 @@
 use deno_graph_source::tree::SourceFault;
 use flat_json::TapeFault;
 use std::alloc::{AllocError, AllocFailed};
+use std::fmt;
 use thiserror::Error;
 use url::ParseError;
 
 /// Why a text gave no document, or a document no source. Each prints as the program prints it.
 #[derive(Debug, PartialEq, Eq, Drop, Error)]
 pub enum NotationFault {
-    /// The text is no JSON, nests deeper than 127 or has a number too large for a float.
+    /// The text is no JSON, nests deeper than 127 or has a number too large for a float. The
+    /// offset, in bytes, is that of `TapeFault::Json`.
     #[error("Json")]
-    Json,
+    Json { offset: usize },
     /// The JSON isn't in the notation.
     #[error("Tree")]
-    NotInNotation,
+    NotInNotation(Misfit),
     /// The specifier is no URL.
     #[error("Specifier")]
     Specifier,
@@ -22,6 +24,55 @@ pub enum NotationFault {
     /// Memory was refused.
     #[error("OutOfMemory")]
     OutOfMemory,
+}
+
+/// What isn't in the notation, and what would be in its place.
+#[derive(Clone, Copy, Debug, PartialEq, Eq)]
+pub struct Misfit {
+    /// The number of the value's node in the tape. `Tape::pointer` says where that stands.
+    pub element: usize,
+    pub expected: Expected,
+}
+
+/// What the notation has at a place. It prints as plain words, as `an array`.
+#[derive(Clone, Copy, Debug, PartialEq, Eq)]
+pub enum Expected {
+    Object,
+    Array,
+    String,
+    Bool,
+    /// A whole number from 0 to 2^64 - 1.
+    Whole,
+    /// Two whole numbers, `[start,end]`.
+    Range,
+    /// A string of the source: a string or an array of units of UTF-16.
+    SourceString,
+    /// A unit of UTF-16.
+    Unit,
+    /// The key of a property.
+    Key,
+    /// A member of this name. The value is the object that lacks it.
+    Member(&'static str),
+    /// One of these names.
+    OneOf(&'static str),
+}
+
+impl fmt::Display for Expected {
+    fn fmt<W: fmt::Write>(&self, f: &mut fmt::Formatter<W>) -> fmt::Result {
+        match self {
+            Expected::Object => write!(f, "an object"),
+            Expected::Array => write!(f, "an array"),
+            Expected::String => write!(f, "a string"),
+            Expected::Bool => write!(f, "true or false"),
+            Expected::Whole => write!(f, "a whole number from 0 to {}", u64::MAX),
+            Expected::Range => write!(f, "two whole numbers, [start,end]"),
+            Expected::SourceString => write!(f, "a string or an array of units of UTF-16"),
+            Expected::Unit => write!(f, "a whole number below 65536"),
+            Expected::Key => write!(f, "\"other\", or an object with either `str` or `ident`"),
+            Expected::Member(name) => write!(f, "a member `{name}`"),
+            Expected::OneOf(names) => write!(f, "one of {names}"),
+        }
+    }
 }
 
 impl From<AllocError> for NotationFault {
@@ -49,7 +100,7 @@ impl<T: Drop> From<AllocFailed<T>> for NotationFault {
 impl From<TapeFault> for NotationFault {
     fn from(fault: TapeFault) -> NotationFault {
         match fault {
-            TapeFault::Json => NotationFault::Json,
+            TapeFault::Json { offset } => NotationFault::Json { offset },
             TapeFault::OutOfMemory => NotationFault::OutOfMemory,
         }
     }

@@ -2,22 +2,35 @@
 //! exports and modules in `declaration`, calls in `call`, other expressions in `expression`, and
 //! properties in `property`.
 
+ghost use Rattle.std.specs.Prelude.{IfErr};
+ghost use Rattle.flat_json.specs.Tape.{object_of};
+ghost use Rattle.modinfo_notation.specs.Misfit.{IsIn};
+
 use crate::call::read_call;
 use crate::declaration::{
     read_export_all, read_import_decl, read_import_equals, read_import_type, read_module_decl,
     read_named_export,
 };
 use crate::expression::{read_binary, read_ident, read_str, read_template};
-use crate::fault::NotationFault;
-use crate::member::text;
+use crate::fault::{Expected, NotationFault};
+use crate::member::{misfit, required, text_of};
 use crate::property::read_key_value;
 use deno_graph_source::tree::Kind;
 use flat_json::Members;
 use std::alloc::Global;
 
+/// The names of all kinds.
+pub const KINDS: &str =
+    "ImportDecl, NamedExport, ExportAll, ExportOther, ImportEquals, ImportType, \
+    ModuleDecl, Call, Str, Template, Binary, Ident, Object, KeyValue, Await, Function, ImportMeta, \
+    Other";
+
 /// The kind that the member `kind` names, with what stands beside it.
-pub fn read_kind(alloc: Global, members: Members<'_>) -> Result<Kind, NotationFault> {
-    match text(members, "kind")? {
+pub fn read_kind(alloc: Global, members: Members<'_>) -> Result<Kind, NotationFault>
+    ensures { IfErr result (IsIn (object_of members.entry)) }
+{
+    let value = required(members, "kind")?;
+    match text_of(value)? {
         "ImportDecl" => read_import_decl(alloc, members),
         "NamedExport" => read_named_export(alloc, members),
         "ExportAll" => read_export_all(alloc, members),
@@ -36,6 +49,6 @@ pub fn read_kind(alloc: Global, members: Members<'_>) -> Result<Kind, NotationFa
         "Function" => Ok(Kind::Function),
         "ImportMeta" => Ok(Kind::ImportMeta),
         "Other" => Ok(Kind::Other),
-        _ => Err(NotationFault::NotInNotation),
+        _ => Err(misfit(value, Expected::OneOf(KINDS))),
     }
 }

@@ -12,8 +12,12 @@ pub mod kind;
 pub mod literal;
 pub mod media_type;
 pub mod member;
+pub mod names;
 pub mod node;
+pub mod place;
 pub mod property;
 
 pub use document::{Document, parse_document, read_document};
-pub use fault::NotationFault;
+pub use fault::{Expected, Misfit, NotationFault};
+pub use names::{Role, known_members};
+pub use place::{comment_at, node_at};

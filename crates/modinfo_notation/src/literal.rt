@@ -1,9 +1,13 @@
-use crate::fault::NotationFault;
-use crate::member::{elements_of, members_of, optional, range, required};
+ghost use Rattle.std.specs.Prelude.{IfErr};
+ghost use Rattle.flat_json.specs.Tape.{object_of};
+ghost use Rattle.modinfo_notation.specs.Misfit.{IsIn};
+
+use crate::fault::{Expected, NotationFault};
+use crate::member::{elements_of, members_of, misfit, optional, range, required};
 use deno_graph_source::text::JsString;
 use deno_graph_source::tree::StrLit;
 use deno_graph_source::values::Items;
-use flat_json::{Element, Elements, Members};
+use flat_json::{Element, Members};
 use std::alloc::Global;
 
 /// The string literal at the member `name`, or none where that is missing or null.
@@ -11,7 +15,9 @@ pub fn optional_literal(
     alloc: Global,
     members: Members<'_>,
     name: &str,
-) -> Result<Option<StrLit>, NotationFault> {
+) -> Result<Option<StrLit>, NotationFault>
+    ensures { IfErr result (IsIn (object_of members.entry)) }
+{
     match optional(members, name) {
         None => Ok(None),
         Some(value) => Ok(Some(read_literal(alloc, value)?)),
@@ -19,7 +25,9 @@ pub fn optional_literal(
 }
 
 /// A string literal, `{"value":STRING,"range":[START,END]}`.
-pub fn read_literal(alloc: Global, value: Element<'_>) -> Result<StrLit, NotationFault> {
+pub fn read_literal(alloc: Global, value: Element<'_>) -> Result<StrLit, NotationFault>
+    ensures { IfErr result (IsIn value.entry) }
+{
     let members = members_of(value)?;
     let range = range(members)?;
     let value = read_string(alloc, required(members, "value")?)?;
@@ -27,7 +35,9 @@ pub fn read_literal(alloc: Global, value: Element<'_>) -> Result<StrLit, Notatio
 }
 
 /// An array of strings.
-pub fn read_strings(alloc: Global, value: Element<'_>) -> Result<Items<JsString>, NotationFault> {
+pub fn read_strings(alloc: Global, value: Element<'_>) -> Result<Items<JsString>, NotationFault>
+    ensures { IfErr result (IsIn value.entry) }
+{
     let values = elements_of(value)?;
     let mut strings = Items::with_capacity(alloc, values.array_len())?;
     for value in values {
@@ -37,14 +47,21 @@ pub fn read_strings(alloc: Global, value: Element<'_>) -> Result<Items<JsString>
 }
 
 /// A string of the source: a text, or an array of units of UTF-16.
-pub fn read_string(alloc: Global, value: Element<'_>) -> Result<JsString, NotationFault> {
+pub fn read_string(alloc: Global, value: Element<'_>) -> Result<JsString, NotationFault>
+    ensures { IfErr result (IsIn value.entry) }
+{
     match value.as_str() {
         Some(text) => Ok(JsString::from_str(alloc, text)?),
-        None => read_units(alloc, elements_of(value)?),
+        None => read_units(alloc, value),
     }
 }
 
-fn read_units(alloc: Global, values: Elements<'_>) -> Result<JsString, NotationFault> {
+fn read_units(alloc: Global, value: Element<'_>) -> Result<JsString, NotationFault>
+    ensures { IfErr result (IsIn value.entry) }
+{
+    let values = value
+        .elements()
+        .ok_or(misfit(value, Expected::SourceString))?;
     let mut units = Vec::with_capacity(alloc, values.array_len())?;
     for value in values {
         units.push(read_unit(value)?)?;
@@ -52,9 +69,11 @@ fn read_units(alloc: Global, values: Elements<'_>) -> Result<JsString, NotationF
     Ok(JsString::from_units(alloc, units.as_slice())?)
 }
 
-fn read_unit(value: Element<'_>) -> Result<u16, NotationFault> {
+fn read_unit(value: Element<'_>) -> Result<u16, NotationFault>
+    ensures { IfErr result (IsIn value.entry) }
+{
     match value.as_u64() {
         Some(unit) if unit < 65536 => Ok(unit as u16),
-        _ => Err(NotationFault::NotInNotation),
+        _ => Err(misfit(value, Expected::Unit)),
     }
 }

@@ -1,5 +1,8 @@
 //! Syntax trees.
 
+ghost use Rattle.std.specs.Prelude.{IfErr};
+ghost use Rattle.modinfo_notation.specs.Misfit.{IsIn};
+
 use crate::fault::NotationFault;
 use crate::kind::read_kind;
 use crate::member::{elements_of, flag, members_of, range, required};
@@ -9,7 +12,9 @@ use flat_json::Element;
 use std::alloc::Global;
 
 /// A program, `{"range":[START,END],"body":[NODE ..],"shebang":BOOL}`.
-pub fn read_program(alloc: Global, value: Element<'_>) -> Result<Program, NotationFault> {
+pub fn read_program(alloc: Global, value: Element<'_>) -> Result<Program, NotationFault>
+    ensures { IfErr result (IsIn value.entry) }
+{
     let members = members_of(value)?;
     let range = range(members)?;
     let has_shebang = flag(members, "shebang")?;
@@ -22,7 +27,9 @@ pub fn read_program(alloc: Global, value: Element<'_>) -> Result<Program, Notati
 }
 
 #[cycle(read)]
-fn read_nodes(alloc: Global, value: Element<'_>) -> Result<Items<Node>, NotationFault> {
+fn read_nodes(alloc: Global, value: Element<'_>) -> Result<Items<Node>, NotationFault>
+    ensures { IfErr result (IsIn value.entry) }
+{
     let values = elements_of(value)?;
     let mut nodes = Vec::with_capacity(alloc, values.array_len())?;
     for value in values {
@@ -33,7 +40,9 @@ fn read_nodes(alloc: Global, value: Element<'_>) -> Result<Items<Node>, Notation
 
 /// A node, with all nodes below it.
 #[cycle(read)]
-pub fn read_node(alloc: Global, value: Element<'_>) -> Result<Node, NotationFault> {
+pub fn read_node(alloc: Global, value: Element<'_>) -> Result<Node, NotationFault>
+    ensures { IfErr result (IsIn value.entry) }
+{
     let members = members_of(value)?;
     let range = range(members)?;
     let kind = read_kind(alloc, members)?;

@@ -2,9 +2,10 @@
 
 use crate::fault::Fault;
 use crate::outcome::{Outcome, check};
-use crate::sources::{U, V, parser};
+use crate::sources::{U, V, options, parser, source};
 use deno_graph_analysis::ast::{
-    CapturingModuleAnalyzer, Command, DefaultParsedSourceStore, ParsedSourceStore, run,
+    Answer, CapturingModuleAnalyzer, Command, DefaultParsedSourceStore, EsParser,
+    ParsedSourceStore, run,
 };
 use deno_graph_source::tree::MediaType;
 use example_table_parser::TableParser;
@@ -16,60 +17,142 @@ use url::Url;
 /// How often the parser was called, and the texts under `U` and `V`.
 type State = (u64, Option<&'static str>, Option<&'static str>);
 
-type Analyzer = CapturingModuleAnalyzer<TableParser, DefaultParsedSourceStore>;
-
 /// The states after each command, and after the parts of one that can stand alone.
-const STATES: [State; 9] = [
-    (0, None, None),
-    (1, None, None),
-    (1, Some("a"), None),
-    (2, Some("a"), None),
-    (2, Some("a"), Some("b")),
-    (2, None, Some("b")),
-    (3, None, Some("b")),
-    (3, Some("b"), Some("b")),
+const STATES: [State; 10] = [
+    START,
+    (1, Some("c"), None),
+    (1, Some("c"), Some("b")),
+    (2, Some("c"), Some("b")),
+    (2, Some("c"), None),
+    (3, Some("c"), None),
+    (3, Some("a"), None),
+    (4, Some("a"), None),
+    (4, Some("a"), Some("b")),
     END,
 ];
 
-const END: State = (3, Some("b"), None);
+const START: State = (0, Some("c"), None);
+
+const END: State = (4, None, Some("b"));
+
+/// An analyzer, and what its state is read by.
+#[derive(Drop)]
+struct Tested {
+    analyzer: CapturingModuleAnalyzer<TableParser, DefaultParsedSourceStore>,
+    calls: Rc<Cell<u64>>,
+    u: Url,
+    v: Url,
+}
+
+impl Tested {
+    fn new(alloc: Global) -> Result<Tested, Fault> {
+        let calls = Rc::new(alloc, Cell::new(0))?;
+        let store = DefaultParsedSourceStore::new(alloc);
+        let mut tested = Tested {
+            analyzer: CapturingModuleAnalyzer::new(parser(alloc, &calls)?, store),
+            calls,
+            u: Url::parse(alloc, U)?,
+            v: Url::parse(alloc, V)?,
+        };
+        tested.keep_another(alloc)?;
+        Ok(tested)
+    }
+
+    /// Keeps a source under `U` that isn't the parser's: that refuses its text.
+    fn keep_another(&mut self, alloc: Global) -> Result<(), Fault> {
+        let source = source(alloc, U, "c")?;
+        drop(
+            self.analyzer
+                .set_parsed_source(alloc, self.u.clone()?, source)?,
+        );
+        Ok(())
+    }
+
+    /// Parses `b` under `V` by the analyzer's capturing parser, and then runs the commands.
+    fn carry_out(&mut self, alloc: Global, commands: &[Command]) -> Result<Vec<Answer>, Fault> {
+        let asked = options(alloc, &self.v, "b", false)?;
+        drop(
+            self.analyzer
+                .as_capturing_parser()
+                .parse_program(alloc, asked)?,
+        );
+        Ok(run(alloc, &mut self.analyzer, commands)?)
+    }
+
+    /// Whether this is one of the states. Takes no memory.
+    fn is_in(&self, alloc: Global, states: &[State]) -> Result<bool, Fault> {
+        for (calls, first, second) in states {
+            if self.calls.get() == *calls
+                && self.has_text(alloc, &self.u, *first)?
+                && self.has_text(alloc, &self.v, *second)?
+            {
+                return Ok(true);
+            }
+        }
+        Ok(false)
+    }
+
+    /// Whether the source under a specifier has this text, or there is none.
+    fn has_text(&self, alloc: Global, specifier: &Url, text: Option<&str>) -> Result<bool, Fault> {
+        let found = self.analyzer.get_parsed_source(alloc, specifier)?;
+        Ok(match (&found, text) {
+            (Some(source), Some(text)) => source.text().as_str() == text,
+            (None, None) => true,
+            _ => false,
+        })
+    }
+}
 
 /// The commands before the refused one have run in full, that one as far as it came and none after
 /// it, and a second run answers as if there had been none before it.
 pub fn run_all(alloc: Global) -> Result<Outcome, Fault> {
     let commands = commands(alloc)?;
-    let fresh_calls = Rc::new(alloc, Cell::new(0))?;
-    let mut fresh = analyzer(alloc, &fresh_calls)?;
-    let answers = run(alloc, &mut fresh, &commands)?;
-    check(
-        state_is_known(alloc, &fresh, fresh_calls.get(), &[END])?,
-        "a command didn't run",
-    )?;
+    let mut fresh = Tested::new(alloc)?;
+    let answers = fresh.carry_out(alloc, &commands)?;
+    check(fresh.is_in(alloc, &[END])?, "a command didn't run")?;
 
-    let calls = Rc::new(alloc, Cell::new(0))?;
-    let mut analyzer = analyzer(alloc, &calls)?;
-    let outcome = match run(alloc, &mut analyzer, &commands) {
+    let mut tested = Tested::new(alloc)?;
+    let outcome = match tested.carry_out(alloc, &commands) {
         Ok(again) => {
             check(again == answers, "the answers are others")?;
             Outcome::Answered
         }
-        Err(_) => Outcome::Refused,
+        Err(Fault::OutOfMemory) => Outcome::Refused,
+        Err(fault) => return Err(fault),
     };
     check(
-        state_is_known(alloc, &analyzer, calls.get(), &STATES)?,
+        tested.is_in(alloc, &STATES)?,
         "a state is left that none leaves",
     )?;
-    let again = run(alloc, &mut analyzer, &commands)?;
+    tested.keep_another(alloc)?;
+    let again = tested.carry_out(alloc, &commands)?;
     check(again == answers, "the answers after it are others")?;
     Ok(outcome)
 }
 
+/// A run that takes no memory but the room for its answer: where that is refused, no command ran.
+pub fn run_without_room(alloc: Global) -> Result<Outcome, Fault> {
+    let commands = [remove(alloc, U)?];
+    let mut tested = Tested::new(alloc)?;
+    let (outcome, state) = match run(alloc, &mut tested.analyzer, &commands) {
+        Ok(_) => (Outcome::Answered, (0, None, None)),
+        Err(_) => (Outcome::Refused, START),
+    };
+    check(tested.is_in(alloc, &[state])?, "a command ran without room")?;
+    Ok(outcome)
+}
+
+/// A source that was kept before the run and one of the caller's own are answered, a diagnostic
+/// keeps nothing, and then each specifier has another source.
 fn commands(alloc: Global) -> Result<Vec<Command>, Fault> {
     let mut commands = Vec::new(alloc);
-    commands.push(analyze(alloc, U, "a")?)?;
     commands.push(analyze(alloc, V, "b")?)?;
-    commands.push(remove(alloc, U)?)?;
-    commands.push(analyze(alloc, U, "b")?)?;
+    commands.push(analyze(alloc, U, "c")?)?;
+    commands.push(parse(alloc, U, "x", true)?)?;
     commands.push(remove(alloc, V)?)?;
+    commands.push(parse(alloc, U, "a", true)?)?;
+    commands.push(parse(alloc, V, "b", false)?)?;
+    commands.push(remove(alloc, U)?)?;
     Ok(commands)
 }
 
@@ -81,26 +164,22 @@ fn analyze(alloc: Global, specifier: &str, text: &str) -> Result<Command, Fault>
     })
 }
 
+fn parse(
+    alloc: Global,
+    specifier: &str,
+    text: &str,
+    scope_analysis: bool,
+) -> Result<Command, Fault> {
+    Ok(Command::Parse {
+        specifier: Url::parse(alloc, specifier)?,
+        source: RcStr::from_str(alloc, text)?,
+        media_type: MediaType::JavaScript,
+        scope_analysis,
+    })
+}
+
 fn remove(alloc: Global, specifier: &str) -> Result<Command, Fault> {
     Ok(Command::Remove {
         specifier: Url::parse(alloc, specifier)?,
     })
-}
-
-fn analyzer(alloc: Global, calls: &Rc<Cell<u64>>) -> Result<Analyzer, Fault> {
-    let store = DefaultParsedSourceStore::new(alloc);
-    Ok(CapturingModuleAnalyzer::new(parser(alloc, calls)?, store))
-}
-
-fn state_is_known(
-    alloc: Global,
-    analyzer: &Analyzer,
-    calls: u64,
-    known: &[State],
-) -> Result<bool, Fault> {
-    let first = analyzer.get_parsed_source(alloc, &Url::parse(alloc, U)?)?;
-    let second = analyzer.get_parsed_source(alloc, &Url::parse(alloc, V)?)?;
-    let first = first.as_ref().map(|source| source.text().as_str());
-    let second = second.as_ref().map(|source| source.text().as_str());
-    Ok(known.contains(&(calls, first, second)))
 }

@@ -8,9 +8,11 @@
 //! Status 1 where that isn't what it has to be, and 3 where memory was refused outside the call.
 #![tactic(auto)]
 
+mod analysis;
 mod commands;
 mod comments;
 mod conversion;
+mod copies;
 mod fault;
 mod outcome;
 mod sources;
@@ -24,13 +26,16 @@ use std::alloc::Global;
 use std::env;
 use std::process::ExitCode;
 
-const NAMES: [&str; 10] = [
+const NAMES: [&str; 13] = [
     "conversion",
     "set_another",
     "set_again",
     "parse",
     "parse_with_scopes",
+    "analyze",
     "commands",
+    "run_without_room",
+    "copies",
     "filings",
     "steps_through_a_deep_tree",
     "step_into_a_wide_tree",
@@ -72,7 +77,10 @@ fn outcome_of(alloc: Global, name: &str) -> Result<Outcome, Fault> {
         "set_again" => stores::set_again(alloc),
         "parse" => stores::parse(alloc),
         "parse_with_scopes" => stores::parse_with_scopes(alloc),
+        "analyze" => analysis::analyze(alloc),
         "commands" => commands::run_all(alloc),
+        "run_without_room" => commands::run_without_room(alloc),
+        "copies" => copies::copy_all(alloc),
         "filings" => comments::file_all(alloc),
         "steps_through_a_deep_tree" => steps::through_a_deep_tree(alloc),
         "step_into_a_wide_tree" => steps::into_a_wide_tree(alloc),

@@ -1,10 +1,12 @@
-//! Small sources, and a parser that knows two of them.
+//! Small sources, and a parser that knows two of them under each specifier.
 
 use crate::fault::Fault;
 use deno_graph_analysis::ast::ParseOptions;
 use deno_graph_source::text::SourceRange;
-use deno_graph_source::tree::{Comments, Kind, MediaType, Node, ParsedSource, Program};
-use deno_graph_source::values::Items;
+use deno_graph_source::tree::{
+    CommentKind, Comments, DependencyComment, Kind, MediaType, Node, ParsedSource, Program,
+};
+use deno_graph_source::values::{Items, Text};
 use example_table_parser::TableParser;
 use std::alloc::Global;
 use std::cell::Cell;
@@ -17,18 +19,38 @@ pub const V: &str = "file:///v.js";
 
 /// The source of a text, which is an export.
 pub fn source(alloc: Global, specifier: &str, text: &str) -> Result<ParsedSource, Fault> {
-    let range = SourceRange {
-        start: 0,
-        end: text.len(),
+    let node = Node::new(alloc, SourceRange::new(0, text.len()), Kind::ExportOther);
+    let body = Items::from_item(alloc, node)?;
+    source_of(alloc, specifier, text, body, Comments::new(alloc))
+}
+
+/// A source under `U` that is one comment of JSDoc: an import behind hundreds of braces.
+pub fn braces(alloc: Global) -> Result<ParsedSource, Fault> {
+    let mut text = String::from_str(alloc, "*")?;
+    for _ in 0..300 {
+        text.push('{')?;
+    }
+    text.push_str(" import('a') }")?;
+    let source = format!(in alloc; "/*{text}*/")?;
+    let comment = DependencyComment {
+        kind: CommentKind::Block,
+        range: SourceRange::new(0, source.len()),
+        text: Text::from_str(alloc, text.as_str())?,
     };
-    let mut body = Items::new(alloc);
-    body.push(Node {
-        range,
-        kind: Kind::ExportOther,
-        children: Items::new(alloc),
-    })?;
+    let mut comments = Comments::new(alloc);
+    comments.add_leading(0, comment)?;
+    source_of(alloc, U, source.as_str(), Items::new(alloc), comments)
+}
+
+fn source_of(
+    alloc: Global,
+    specifier: &str,
+    text: &str,
+    body: Items<Node>,
+    comments: Comments,
+) -> Result<ParsedSource, Fault> {
     let program = Program {
-        range,
+        range: SourceRange::new(0, text.len()),
         body,
         has_shebang: false,
     };
@@ -38,7 +60,7 @@ pub fn source(alloc: Global, specifier: &str, text: &str) -> Result<ParsedSource
         RcStr::from_str(alloc, text)?,
         MediaType::JavaScript,
         program,
-        Comments::new(alloc),
+        comments,
         false,
     )?)
 }
@@ -46,8 +68,9 @@ pub fn source(alloc: Global, specifier: &str, text: &str) -> Result<ParsedSource
 /// A parser of the texts `a` and `b`, which counts its calls.
 pub fn parser(alloc: Global, calls: &Rc<Cell<u64>>) -> Result<TableParser, Fault> {
     let mut sources = Vec::new(alloc);
-    sources.push(source(alloc, U, "a")?)?;
-    sources.push(source(alloc, U, "b")?)?;
+    for (specifier, text) in [(U, "a"), (U, "b"), (V, "a"), (V, "b")] {
+        sources.push(source(alloc, specifier, text)?)?;
+    }
     Ok(TableParser::new(sources, calls.clone()?))
 }
 

@@ -94,15 +94,15 @@ fn program(body: Items<Node>) -> Program {
 /// An import type inside another, under many nodes that are no dependencies; and a third beside these.
 fn deep(alloc: Global) -> Result<Items<Node>, AllocError> {
     let inner = import_type(alloc, "b", Items::new(alloc))?;
-    let mut node = import_type(alloc, "a", one(alloc, inner)?)?;
+    let mut node = import_type(alloc, "a", Items::from_item(alloc, inner)?)?;
     for _ in 0..DEPTH {
         node = Node {
             range: NOWHERE,
             kind: Kind::Other,
-            children: one(alloc, node)?,
+            children: Items::from_item(alloc, node)?,
         };
     }
-    let mut body = one(alloc, node)?;
+    let mut body = Items::from_item(alloc, node)?;
     body.push(import_type(alloc, "c", Items::new(alloc))?)?;
     Ok(body)
 }
@@ -128,10 +128,4 @@ fn import_type(alloc: Global, text: &str, children: Items<Node>) -> Result<Node,
         },
         children,
     })
-}
-
-fn one(alloc: Global, node: Node) -> Result<Items<Node>, AllocError> {
-    let mut items = Items::with_capacity(alloc, 1)?;
-    items.push(node)?;
-    Ok(items)
 }

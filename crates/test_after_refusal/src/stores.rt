@@ -20,39 +20,40 @@ fn store_of_one(alloc: Global) -> Result<DefaultParsedSourceStore, Fault> {
     Ok(store)
 }
 
-/// Whether a store has this source under a specifier, or nothing.
+/// Whether a store has this source under a specifier, or nothing. Takes no memory.
 fn holds<S: ParsedSourceStore>(
     alloc: Global,
     store: &S,
-    specifier: &str,
+    specifier: &Url,
     expected: Option<&ParsedSource>,
 ) -> Result<bool, Fault> {
-    let found = store.get_parsed_source(alloc, &Url::parse(alloc, specifier)?)?;
+    let found = store.get_parsed_source(alloc, specifier)?;
     Ok(found.as_ref() == expected)
 }
 
 /// A second source is there beside the first, or the first alone.
 pub fn set_another(alloc: Global) -> Result<Outcome, Fault> {
+    let (u, v) = (Url::parse(alloc, U)?, Url::parse(alloc, V)?);
     let mut store = store_of_one(alloc)?;
     let first = source(alloc, U, "a")?;
     let second = source(alloc, V, "b")?;
-    let (specifier, handed_in) = (Url::parse(alloc, V)?, source(alloc, V, "b")?);
+    let (specifier, handed_in) = (v.clone()?, source(alloc, V, "b")?);
     let set = store.set_parsed_source(alloc, specifier, handed_in);
     check(
-        holds(alloc, &store, U, Some(&first))?,
+        holds(alloc, &store, &u, Some(&first))?,
         "the first source is another",
     )?;
     match set {
         Ok(former) => {
             check(former.is_none(), "there was no source")?;
             check(
-                holds(alloc, &store, V, Some(&second))?,
+                holds(alloc, &store, &v, Some(&second))?,
                 "the second isn't there",
             )?;
             Ok(Outcome::Answered)
         }
         Err(_) => {
-            check(holds(alloc, &store, V, None)?, "a refused source is there")?;
+            check(holds(alloc, &store, &v, None)?, "a refused source is there")?;
             Ok(Outcome::Refused)
         }
     }
@@ -60,24 +61,25 @@ pub fn set_another(alloc: Global) -> Result<Outcome, Fault> {
 
 /// A source is replaced by another, or still there.
 pub fn set_again(alloc: Global) -> Result<Outcome, Fault> {
+    let (u, v) = (Url::parse(alloc, U)?, Url::parse(alloc, V)?);
     let mut store = store_of_one(alloc)?;
     let first = source(alloc, U, "a")?;
     let second = source(alloc, U, "b")?;
-    let (specifier, handed_in) = (Url::parse(alloc, U)?, source(alloc, U, "b")?);
+    let (specifier, handed_in) = (u.clone()?, source(alloc, U, "b")?);
     let set = store.set_parsed_source(alloc, specifier, handed_in);
-    check(holds(alloc, &store, V, None)?, "another source is there")?;
+    check(holds(alloc, &store, &v, None)?, "another source is there")?;
     match set {
         Ok(former) => {
             check(former.as_ref() == Some(&first), "another source was there")?;
             check(
-                holds(alloc, &store, U, Some(&second))?,
+                holds(alloc, &store, &u, Some(&second))?,
                 "the source isn't there",
             )?;
             Ok(Outcome::Answered)
         }
         Err(_) => {
             check(
-                holds(alloc, &store, U, Some(&first))?,
+                holds(alloc, &store, &u, Some(&first))?,
                 "the source was lost",
             )?;
             Ok(Outcome::Refused)
@@ -90,22 +92,22 @@ pub fn parse(alloc: Global) -> Result<Outcome, Fault> {
     let mut store = store_of_one(alloc)?;
     let calls = Rc::new(alloc, Cell::new(0))?;
     let mut table = parser(alloc, &calls)?;
-    let specifier = Url::parse(alloc, U)?;
+    let u = Url::parse(alloc, U)?;
     let first = source(alloc, U, "a")?;
     let second = source(alloc, U, "b")?;
-    let asked = options(alloc, &specifier, "b", false)?;
+    let asked = options(alloc, &u, "b", false)?;
     match CapturingEsParser::new(&mut table, &mut store).parse_program(alloc, asked) {
         Ok(answer) => {
             check(answer == second, "the parser's answer is another")?;
             check(
-                holds(alloc, &store, U, Some(&second))?,
+                holds(alloc, &store, &u, Some(&second))?,
                 "the answer isn't there",
             )?;
             Ok(Outcome::Answered)
         }
         Err(ParseError::OutOfMemory) => {
             check(
-                holds(alloc, &store, U, Some(&first))?,
+                holds(alloc, &store, &u, Some(&first))?,
                 "the source was lost",
             )?;
             Ok(Outcome::Refused)
@@ -119,23 +121,23 @@ pub fn parse_with_scopes(alloc: Global) -> Result<Outcome, Fault> {
     let mut store = store_of_one(alloc)?;
     let calls = Rc::new(alloc, Cell::new(0))?;
     let mut table = parser(alloc, &calls)?;
-    let specifier = Url::parse(alloc, U)?;
+    let u = Url::parse(alloc, U)?;
     let first = source(alloc, U, "a")?;
     let marked_first = source(alloc, U, "a")?.into_with_scope_analysis();
     let second = source(alloc, U, "b")?.into_with_scope_analysis();
-    let asked = options(alloc, &specifier, "b", true)?;
+    let asked = options(alloc, &u, "b", true)?;
     match CapturingEsParser::new(&mut table, &mut store).parse_program(alloc, asked) {
         Ok(answer) => {
             check(answer == second, "the parser's answer is another")?;
             check(
-                holds(alloc, &store, U, Some(&second))?,
+                holds(alloc, &store, &u, Some(&second))?,
                 "the answer isn't there",
             )?;
             Ok(Outcome::Answered)
         }
         Err(ParseError::OutOfMemory) => {
-            let is_unmarked = holds(alloc, &store, U, Some(&first))?;
-            let is_marked = holds(alloc, &store, U, Some(&marked_first))?;
+            let is_unmarked = holds(alloc, &store, &u, Some(&first))?;
+            let is_marked = holds(alloc, &store, &u, Some(&marked_first))?;
             check(is_unmarked || is_marked, "the source was lost")?;
             Ok(Outcome::Refused)
         }

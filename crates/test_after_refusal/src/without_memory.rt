@@ -1,6 +1,6 @@
 //! Calls that take no memory, made where each request would be refused.
 
-mod made;
+pub mod made;
 mod texts;
 mod values;
 

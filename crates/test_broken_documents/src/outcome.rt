@@ -25,7 +25,8 @@ pub struct Outcome {
 }
 
 impl Outcome {
-    /// The outcome of the analysis of a document, and none where it is no such one.
+    /// The outcome of the analysis of a document, and none where it is no such one or the report on
+    /// it has another.
     pub fn of(alloc: Global, document: &[u8]) -> Result<Option<Outcome>, AllocError> {
         let mut output = Vec::new(alloc);
         let mut errors = Vec::new(alloc);
@@ -35,7 +36,8 @@ impl Outcome {
         for (at, name) in OUTCOMES.iter().enumerate() {
             let line = format!(in alloc; "modinfo: {name}\n")?;
             if at == 0 && is_result || is_fault && errors.as_slice() == line.as_bytes() {
-                return Ok(Some(Outcome { at, output }));
+                let is_reported = reports(alloc, document, at, name)?;
+                return Ok(is_reported.then_some(Outcome { at, output }));
             }
         }
         Ok(None)
@@ -58,6 +60,20 @@ impl Outcome {
         }
         lines.extend_from_slice(b"}\n")
     }
+}
+
+/// Whether the report on a document has the outcome of this number and name.
+fn reports(alloc: Global, document: &[u8], at: usize, name: &str) -> Result<bool, AllocError> {
+    let mut output = Vec::new(alloc);
+    let mut errors = Vec::new(alloc);
+    let status = modinfo::serve(alloc, &["check"], document, &mut output, &mut errors);
+    let expected = if at == 0 {
+        String::from_str(alloc, "{\"valid\":true")?
+    } else {
+        format!(in alloc; "{{\"fault\":\"{name}\",")?
+    };
+    let is_status = status == if at == 0 { 0 } else { 1 };
+    Ok(is_status && errors.is_empty() && output.as_slice().starts_with(expected.as_bytes()))
 }
 
 /// Whether it is an object in one line.

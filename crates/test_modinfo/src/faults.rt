@@ -3,7 +3,7 @@
 use deno_graph_info::analysis::{ConvertFault, InfoFault};
 use deno_graph_source::tree::SourceFault;
 use modinfo::Fault;
-use modinfo::notation::NotationFault;
+use modinfo::notation::{Expected, Misfit, NotationFault};
 use serde_json::{Error, Value};
 use std::alloc::{AllocError, AllocFailed};
 use std::process::Abort;
@@ -18,11 +18,15 @@ fn assert_names(rt: &(impl Abort + AllocGlobal), faults: &[(Fault, &str)]) -> Re
 
 #[test]
 fn faults_of_a_document(rt: HostRuntime) -> Result<(), Fail> {
+    let misfit = Misfit {
+        element: 0,
+        expected: Expected::Object,
+    };
     assert_names(
         &rt,
         &[
-            (Fault::from(NotationFault::Json), "Json"),
-            (Fault::from(NotationFault::NotInNotation), "Tree"),
+            (Fault::from(NotationFault::Json { offset: 0 }), "Json"),
+            (Fault::from(NotationFault::NotInNotation(misfit)), "Tree"),
             (Fault::from(NotationFault::Specifier), "Specifier"),
             (Fault::from(NotationFault::OutOfMemory), "OutOfMemory"),
         ],

@@ -7,4 +7,6 @@ mod faults;
 #[cfg(test)]
 mod lines;
 #[cfg(test)]
+mod members;
+#[cfg(test)]
 mod streams;

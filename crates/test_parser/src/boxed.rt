@@ -1,4 +1,4 @@
-use crate::sources::{options, parsed, parser};
+use crate::sources::{U, options, parsed, parser};
 use deno_graph_parser::{
     CapturingModuleAnalyzer, DefaultParsedSourceStore, EsParser, ParsedSourceStore,
 };
@@ -15,15 +15,15 @@ fn assert_store<S: ParsedSourceStore>(
     alloc: Global,
     store: &mut S,
 ) -> Result<(), Fail> {
-    let u = Url::parse(alloc, "file:///u.js")?;
-    let a = parsed(alloc, "file:///u.js", "a")?;
-    let b = parsed(alloc, "file:///u.js", "b")?;
-    let marked = parsed(alloc, "file:///u.js", "b")?.into_with_scope_analysis();
+    let u = Url::parse(alloc, U)?;
+    let a = parsed(alloc, "a")?;
+    let b = parsed(alloc, "b")?;
+    let marked = parsed(alloc, "b")?.into_with_scope_analysis();
     assert!(rt; store.get_parsed_source(alloc, &u)?.is_none());
     assert!(rt; store.get_scope_analysis_parsed_source(alloc, &u)?.is_none());
-    let former = store.set_parsed_source(alloc, u.clone()?, parsed(alloc, "file:///u.js", "a")?)?;
+    let former = store.set_parsed_source(alloc, u.clone()?, parsed(alloc, "a")?)?;
     assert!(rt; former.is_none());
-    let former = store.set_parsed_source(alloc, u.clone()?, parsed(alloc, "file:///u.js", "b")?)?;
+    let former = store.set_parsed_source(alloc, u.clone()?, parsed(alloc, "b")?)?;
     assert!(rt; former.is_some_and(|source| source == a));
     assert!(rt;
         store
@@ -67,8 +67,8 @@ fn stores_answer_each_call(rt: HostRuntime) -> Result<(), Fail> {
 fn an_analyzer_of_boxes_parses_once(rt: HostRuntime) -> Result<(), Fail> {
     let alloc = rt.alloc();
     let calls = Rc::new(alloc, Cell::new(0))?;
-    let u = Url::parse(alloc, "file:///u.js")?;
-    let a = parsed(alloc, "file:///u.js", "a")?;
+    let u = Url::parse(alloc, U)?;
+    let a = parsed(alloc, "a")?;
     let table: Box<dyn EsParser> = Box::new(alloc, parser(alloc, &calls)?)?;
     let store: Box<dyn ParsedSourceStore> = Box::new(alloc, DefaultParsedSourceStore::new(alloc))?;
     let mut analyzer = CapturingModuleAnalyzer::new(table, store);

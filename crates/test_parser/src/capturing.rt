@@ -1,4 +1,4 @@
-use crate::sources::{options, parsed, parser};
+use crate::sources::{U, options, parsed, parser};
 use deno_graph_parser::{
     CapturingEsParser, CapturingModuleAnalyzer, DefaultParsedSourceStore, EsParser, ModuleAnalyzer,
     ParseError, ParsedSourceStore, ParserModuleAnalyzer,
@@ -13,9 +13,9 @@ use url::Url;
 fn the_mark_is_set_even_where_the_text_is_another(rt: HostRuntime) -> Result<(), Fail> {
     let alloc = rt.alloc();
     let calls = Rc::new(alloc, Cell::new(0))?;
-    let u = Url::parse(alloc, "file:///u.js")?;
-    let a = parsed(alloc, "file:///u.js", "a")?;
-    let marked = parsed(alloc, "file:///u.js", "a")?.into_with_scope_analysis();
+    let u = Url::parse(alloc, U)?;
+    let a = parsed(alloc, "a")?;
+    let marked = parsed(alloc, "a")?.into_with_scope_analysis();
     let mut table = parser(alloc, &calls)?;
 
     // The source in the store has the text.
@@ -28,7 +28,7 @@ fn the_mark_is_set_even_where_the_text_is_another(rt: HostRuntime) -> Result<(),
 
     // It has another text, which is no module.
     let mut store = DefaultParsedSourceStore::new(alloc);
-    drop(store.set_parsed_source(alloc, u.clone()?, parsed(alloc, "file:///u.js", "a")?)?);
+    drop(store.set_parsed_source(alloc, u.clone()?, parsed(alloc, "a")?)?);
     let mut capturing = CapturingEsParser::new(&mut table, &mut store);
     let answer = capturing.parse_program(alloc, options(alloc, &u, "x", true)?);
     assert!(rt; matches!(answer, Err(ParseError::Diagnostic(_))));
@@ -45,7 +45,7 @@ fn the_mark_is_set_even_where_the_text_is_another(rt: HostRuntime) -> Result<(),
 fn an_analyzer_keeps_what_its_capturing_parser_did(rt: HostRuntime) -> Result<(), Fail> {
     let alloc = rt.alloc();
     let calls = Rc::new(alloc, Cell::new(0))?;
-    let u = Url::parse(alloc, "file:///u.js")?;
+    let u = Url::parse(alloc, U)?;
     let mut analyzer = CapturingModuleAnalyzer::new(
         parser(alloc, &calls)?,
         DefaultParsedSourceStore::new(alloc),

@@ -1,4 +1,4 @@
-use crate::sources::{analyze, analyze_as, parse, parsed, parser, remove, source_with};
+use crate::sources::{U, V, analyze, analyze_as, parse, parsed, parser, remove, source_with};
 use deno_graph_info::analysis::{DependencyDescriptor, ModuleInfo};
 use deno_graph_parser::{
     Answer, CapturingModuleAnalyzer, DefaultParsedSourceStore, ParsedSourceStore, run,
@@ -39,36 +39,50 @@ fn letters(alloc: Global, answers: &[Answer]) -> Result<String, AllocError> {
 fn runs_from_an_empty_store(rt: HostRuntime) -> Result<(), Fail> {
     let alloc = rt.alloc();
     let calls = Rc::new(alloc, Cell::new(0))?;
-    let u = "file:///u.js";
-    let v = "file:///v.js";
     let mut analyzer = CapturingModuleAnalyzer::new(
         parser(alloc, &calls)?,
         DefaultParsedSourceStore::new(alloc),
     );
-    let mut commands = Vec::new(alloc);
-    commands.push(analyze(alloc, u, "a")?)?;
-    commands.push(analyze(alloc, u, "a")?)?;
-    commands.push(analyze(alloc, u, "b")?)?;
-    commands.push(remove(alloc, u)?)?;
-    commands.push(analyze(alloc, u, "b")?)?;
+    let commands = [
+        analyze(alloc, U, "a")?,
+        analyze(alloc, U, "a")?,
+        analyze(alloc, U, "b")?,
+        remove(alloc, U)?,
+        analyze(alloc, U, "b")?,
+    ];
     let answers = run(alloc, &mut analyzer, &commands)?;
     assert_eq!(rt; letters(alloc, &answers)?.as_str(), "aabrb");
     assert_eq!(rt; calls.get(), 3);
     if let [_, _, _, Answer::Removed(Some(source)), _] = answers.as_slice() {
-        assert!(rt; *source == parsed(alloc, u, "b")?);
+        assert!(rt; *source == parsed(alloc, "b")?);
     } else {
         assert!(rt; false);
     }
+    Ok(())
+}
 
-    // Another media type is parsed anew. A diagnostic stops nothing and is not kept.
-    let mut commands = Vec::new(alloc);
-    commands.push(analyze(alloc, v, "a")?)?;
-    commands.push(analyze_as(alloc, v, "a", MediaType::TypeScript)?)?;
-    commands.push(analyze(alloc, v, "x")?)?;
-    commands.push(analyze_as(alloc, v, "a", MediaType::TypeScript)?)?;
-    commands.push(remove(alloc, "file:///w.js")?)?;
+/// A text that is known under one specifier and media type is parsed anew under others, and refused
+/// where it isn't known. A diagnostic stops nothing and is not kept.
+#[test]
+fn one_text_has_several_sources(rt: HostRuntime) -> Result<(), Fail> {
+    let alloc = rt.alloc();
+    let calls = Rc::new(alloc, Cell::new(0))?;
+    let mut analyzer = CapturingModuleAnalyzer::new(
+        parser(alloc, &calls)?,
+        DefaultParsedSourceStore::new(alloc),
+    );
+    let commands = [
+        analyze(alloc, U, "a")?,
+        analyze(alloc, V, "a")?,
+        analyze_as(alloc, V, "a", MediaType::TypeScript)?,
+        analyze(alloc, V, "x")?,
+        analyze_as(alloc, V, "a", MediaType::TypeScript)?,
+        analyze(alloc, "file:///w.js", "a")?,
+        analyze_as(alloc, U, "a", MediaType::TypeScript)?,
+        remove(alloc, "file:///w.js")?,
+    ];
     let answers = run(alloc, &mut analyzer, &commands)?;
-    assert_eq!(rt; letters(alloc, &answers)?.as_str(), "aadan");
+    assert_eq!(rt; letters(alloc, &answers)?.as_str(), "avtdtddn");
     assert_eq!(rt; calls.get(), 6);
     Ok(())
 }
@@ -77,19 +91,19 @@ fn runs_from_an_empty_store(rt: HostRuntime) -> Result<(), Fail> {
 fn a_run_parses_with_scopes_or_without(rt: HostRuntime) -> Result<(), Fail> {
     let alloc = rt.alloc();
     let calls = Rc::new(alloc, Cell::new(0))?;
-    let u = "file:///u.js";
     let mut analyzer = CapturingModuleAnalyzer::new(
         parser(alloc, &calls)?,
         DefaultParsedSourceStore::new(alloc),
     );
-    let mut commands = Vec::new(alloc);
-    commands.push(parse(alloc, u, "a", false)?)?;
-    commands.push(parse(alloc, u, "x", true)?)?;
-    commands.push(parse(alloc, u, "a", false)?)?;
+    let commands = [
+        parse(alloc, U, "a", false)?,
+        parse(alloc, U, "x", true)?,
+        parse(alloc, U, "a", false)?,
+    ];
     let answers = run(alloc, &mut analyzer, &commands)?;
     assert_eq!(rt; calls.get(), 2);
-    let a = parsed(alloc, u, "a")?;
-    let marked = parsed(alloc, u, "a")?.into_with_scope_analysis();
+    let a = parsed(alloc, "a")?;
+    let marked = parsed(alloc, "a")?.into_with_scope_analysis();
     if let [
         Answer::Parsed(Ok(first)),
         Answer::Parsed(Err(_)),
@@ -109,15 +123,15 @@ fn a_source_of_the_callers_own_is_answered_until_the_text_changes(
 ) -> Result<(), Fail> {
     let alloc = rt.alloc();
     let calls = Rc::new(alloc, Cell::new(0))?;
-    let u = "file:///u.js";
     let mut store = DefaultParsedSourceStore::new(alloc);
-    let empty = source_with(alloc, u, "a", Items::new(alloc))?;
-    drop(store.set_parsed_source(alloc, Url::parse(alloc, u)?, empty)?);
+    let empty = source_with(alloc, U, "a", MediaType::JavaScript, Items::new(alloc))?;
+    drop(store.set_parsed_source(alloc, Url::parse(alloc, U)?, empty)?);
     let mut analyzer = CapturingModuleAnalyzer::new(parser(alloc, &calls)?, store);
-    let mut commands = Vec::new(alloc);
-    commands.push(analyze(alloc, u, "a")?)?;
-    commands.push(analyze(alloc, u, "b")?)?;
-    commands.push(analyze(alloc, u, "a")?)?;
+    let commands = [
+        analyze(alloc, U, "a")?,
+        analyze(alloc, U, "b")?,
+        analyze(alloc, U, "a")?,
+    ];
     let answers = run(alloc, &mut analyzer, &commands)?;
     assert_eq!(rt; letters(alloc, &answers)?.as_str(), "sba");
     assert_eq!(rt; calls.get(), 2);

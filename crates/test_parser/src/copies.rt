@@ -1,6 +1,6 @@
 //! Copies of commands, answers and errors.
 
-use crate::sources::{SPECIFIER, analyze, parse, parsed, remove};
+use crate::sources::{U, analyze, parse, parsed, remove};
 use deno_graph_parser::{AnalyzeError, Answer, ParseDiagnostic, ParseError};
 use deno_graph_source::text::Position;
 use deno_graph_source::values::{Text, TryClone};
@@ -11,10 +11,10 @@ use std::test::Fail;
 fn commands_are_copied(rt: HostRuntime) -> Result<(), Fail> {
     let alloc = rt.alloc();
     let commands = [
-        analyze(alloc, SPECIFIER, "a")?,
-        parse(alloc, SPECIFIER, "a", true)?,
-        parse(alloc, SPECIFIER, "a", false)?,
-        remove(alloc, SPECIFIER)?,
+        analyze(alloc, U, "a")?,
+        parse(alloc, U, "a", true)?,
+        parse(alloc, U, "a", false)?,
+        remove(alloc, U)?,
     ];
     for (i, command) in commands.iter().enumerate() {
         let copy = command.clone()?;
@@ -40,9 +40,9 @@ fn answers_and_errors_are_copied(rt: HostRuntime) -> Result<(), Fail> {
     assert!(rt; is_copied(alloc, &diagnostic)?);
     let answers = [
         Answer::Parsed(Err(diagnostic.try_clone(alloc)?)),
-        Answer::Parsed(Ok(parsed(alloc, SPECIFIER, "a")?)),
+        Answer::Parsed(Ok(parsed(alloc, "a")?)),
         Answer::Analyzed(Err(diagnostic.try_clone(alloc)?)),
-        Answer::Removed(Some(parsed(alloc, SPECIFIER, "a")?)),
+        Answer::Removed(Some(parsed(alloc, "a")?)),
         Answer::Removed(None),
     ];
     for answer in &answers {

@@ -1,6 +1,6 @@
 //! A parser that keeps the option of scopes, and who hands it on.
 
-use crate::sources::{SPECIFIER, options, parsed, parser};
+use crate::sources::{U, options, parsed, parser};
 use deno_graph_parser::{
     CapturingModuleAnalyzer, DefaultParsedSourceStore, EsParser, ModuleAnalyzer, ParseError,
     ParseOptions, ParserModuleAnalyzer,
@@ -47,13 +47,13 @@ fn a_boxed_parser_is_handed_the_option_of_scopes(rt: HostRuntime) -> Result<(), 
         last: last.clone()?,
     };
     let mut boxed: Box<dyn EsParser> = Box::new(alloc, recording)?;
-    let specifier = Url::parse(alloc, SPECIFIER)?;
+    let specifier = Url::parse(alloc, U)?;
     for scope_analysis in [true, false] {
         let answer = boxed.parse_program(alloc, options(alloc, &specifier, "a", scope_analysis)?);
         assert_eq!(rt; last.get(), Some(scope_analysis));
         assert!(rt; answer.is_ok_and(|source| source.has_scope_analysis() == scope_analysis));
     }
-    let marked = parsed(alloc, SPECIFIER, "a")?.into_with_scope_analysis();
+    let marked = parsed(alloc, "a")?.into_with_scope_analysis();
     let answer = boxed.parse_program(alloc, options(alloc, &specifier, "a", true)?);
     assert!(rt; answer.is_ok_and(|source| source == marked));
     Ok(())
@@ -66,7 +66,7 @@ fn assert_no_scopes<A: ModuleAnalyzer>(
     analyzer: &mut A,
     last: &Cell<Option<bool>>,
 ) -> Result<(), Fail> {
-    let specifier = Url::parse(alloc, SPECIFIER)?;
+    let specifier = Url::parse(alloc, U)?;
     let source = RcStr::from_str(alloc, "a")?;
     last.set(None);
     let info = analyzer.analyze_sync(alloc, &specifier, source, MediaType::JavaScript);

@@ -1,7 +1,7 @@
 //! Calls in which the parser or the store is refused memory once.
 
 use crate::failing::{RefusedParser, RefusedStore};
-use crate::sources::{SPECIFIER, analyze, options, parsed, parser};
+use crate::sources::{U, analyze, options, parsed, parser};
 use deno_graph_parser::{
     AnalyzeError, CapturingModuleAnalyzer, DefaultParsedSourceStore, EsParser, ModuleAnalyzer,
     ParseError, ParsedSourceStore, run,
@@ -37,7 +37,7 @@ fn is_refused<P: EsParser, S: ParsedSourceStore>(
     call: Call,
     text: &str,
 ) -> Result<bool, Fail> {
-    let specifier = Url::parse(alloc, SPECIFIER)?;
+    let specifier = Url::parse(alloc, U)?;
     let options = options(alloc, &specifier, text, false)?;
     match call {
         Call::CapturingParser => {
@@ -54,9 +54,7 @@ fn is_refused<P: EsParser, S: ParsedSourceStore>(
             Ok(matches!(answer, Err(AnalyzeError::OutOfMemory)))
         }
         Call::Run => {
-            let mut commands = Vec::new(alloc);
-            commands.push(analyze(alloc, SPECIFIER, "a")?)?;
-            commands.push(analyze(alloc, SPECIFIER, text)?)?;
+            let commands = [analyze(alloc, U, "a")?, analyze(alloc, U, text)?];
             Ok(run(alloc, analyzer, &commands).is_err())
         }
     }
@@ -69,14 +67,14 @@ fn assert_refused_once<P: EsParser, S: ParsedSourceStore>(
     analyzer: &mut CapturingModuleAnalyzer<P, S>,
     call: Call,
 ) -> Result<(), Fail> {
-    let specifier = Url::parse(alloc, SPECIFIER)?;
+    let specifier = Url::parse(alloc, U)?;
     for (text, refused, kept) in [("a", false, "a"), ("b", true, "a"), ("b", false, "b")] {
         assert_eq!(rt;
             is_refused(alloc, analyzer, call, text)?,
             refused,
             "{call:?} of {text}"
         );
-        let expected = parsed(alloc, SPECIFIER, kept)?;
+        let expected = parsed(alloc, kept)?;
         let found = analyzer.get_parsed_source(alloc, &specifier)?;
         assert!(rt;
             found.is_some_and(|source| source == expected),

@@ -1,4 +1,5 @@
-//! The sources of the tests: `a` and `b` parse, each as an import of itself, and no other text does.
+//! The sources of the tests, each an import of another module: `a` and `b` under one specifier, and
+//! `a` under another as JavaScript and as TypeScript. The parser of the tests knows no more.
 
 use deno_graph_parser::{Command, ParseOptions};
 use deno_graph_source::text::{JsString, SourceRange};
@@ -7,26 +8,26 @@ use deno_graph_source::tree::{
 };
 use deno_graph_source::values::Items;
 use example_table_parser::TableParser;
-use std::alloc::Global;
+use std::alloc::{AllocError, Global};
 use std::cell::Cell;
 use std::rc::{Rc, RcStr};
 use std::test::Fail;
 use url::Url;
 
-pub const SPECIFIER: &str = "file:///u.js";
+pub const U: &str = "file:///u.js";
 
-/// A module with this tree.
+pub const V: &str = "file:///v.js";
+
+/// A module with these items.
 pub fn source_with(
     alloc: Global,
     specifier: &str,
     text: &str,
+    media_type: MediaType,
     body: Items<Node>,
 ) -> Result<ParsedSource, Fail> {
     let program = Program {
-        range: SourceRange {
-            start: 0,
-            end: text.len(),
-        },
+        range: SourceRange::new(0, text.len()),
         body,
         has_shebang: false,
     };
@@ -34,40 +35,41 @@ pub fn source_with(
         alloc,
         Url::parse(alloc, specifier)?,
         RcStr::from_str(alloc, text)?,
-        MediaType::JavaScript,
+        media_type,
         program,
         Comments::new(alloc),
         false,
     )?)
 }
 
-/// What the parser of the tests has for `text`: an import of that text, so no script.
-pub fn parsed(alloc: Global, specifier: &str, text: &str) -> Result<ParsedSource, Fail> {
-    let range = SourceRange {
-        start: 0,
-        end: text.len(),
+/// An import of a module, so no script.
+fn import(alloc: Global, text: &str, imported: &str) -> Result<Items<Node>, AllocError> {
+    let range = SourceRange::new(0, text.len());
+    let kind = Kind::ImportDecl {
+        type_only: false,
+        phase: ImportPhase::Evaluation,
+        src: StrLit::new(JsString::from_str(alloc, imported)?, range),
+        has_specifiers: false,
+        has_with: false,
     };
-    let value = JsString::from_str(alloc, text)?;
-    let mut body = Items::new(alloc);
-    body.push(Node {
-        range,
-        kind: Kind::ImportDecl {
-            type_only: false,
-            phase: ImportPhase::Evaluation,
-            src: StrLit { value, range },
-            has_specifiers: false,
-            has_with: false,
-        },
-        children: Items::new(alloc),
-    })?;
-    source_with(alloc, specifier, text, body)
+    Items::from_item(alloc, Node::new(alloc, range, kind))
 }
 
-/// A parser of `a` and `b` that counts in `calls`.
+/// What the parser of the tests has for a text under `U`: an import of what it says.
+pub fn parsed(alloc: Global, text: &str) -> Result<ParsedSource, Fail> {
+    let body = import(alloc, text, text)?;
+    source_with(alloc, U, text, MediaType::JavaScript, body)
+}
+
+/// A parser of the four sources that counts in `calls`.
 pub fn parser(alloc: Global, calls: &Rc<Cell<u64>>) -> Result<TableParser, Fail> {
     let mut sources = Vec::new(alloc);
-    sources.push(parsed(alloc, SPECIFIER, "a")?)?;
-    sources.push(parsed(alloc, SPECIFIER, "b")?)?;
+    sources.push(parsed(alloc, "a")?)?;
+    sources.push(parsed(alloc, "b")?)?;
+    for (media_type, imported) in [(MediaType::JavaScript, "v"), (MediaType::TypeScript, "t")] {
+        let body = import(alloc, "a", imported)?;
+        sources.push(source_with(alloc, V, "a", media_type, body)?)?;
+    }
     Ok(TableParser::new(sources, calls.clone()?))
 }
 

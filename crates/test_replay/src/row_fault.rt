@@ -55,7 +55,7 @@ impl From<serde_json::Error> for RowFault {
 impl From<TapeFault> for RowFault {
     fn from(fault: TapeFault) -> RowFault {
         match fault {
-            TapeFault::Json => RowFault::Row("its input is no JSON"),
+            TapeFault::Json { .. } => RowFault::Row("its input is no JSON"),
             TapeFault::OutOfMemory => RowFault::OutOfMemory,
         }
     }

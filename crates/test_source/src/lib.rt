@@ -5,6 +5,8 @@
 #[cfg(test)]
 mod comments;
 #[cfg(test)]
+mod fault_places;
+#[cfg(test)]
 mod texts;
 #[cfg(test)]
 mod trees;

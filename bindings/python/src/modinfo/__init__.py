@@ -6,16 +6,33 @@ formats. Nothing is kept between calls, and calls may run in many threads at onc
 
 import json
 from collections.abc import Iterable, Iterator
-from typing import Any
+from typing import Any, Literal
 
 from . import _library
-from ._fault import Fault, FaultName
+from ._fault import DocumentFault, Fault, FaultName
 from .information import ModuleInfo
+from .report import Report
 
 __version__ = "0.1.0"
-__all__ = ["Document", "Fault", "FaultName", "ModuleInfo", "analyze", "analyze_lines", "convert", "reach"]
+__all__ = [
+    "Command",
+    "Document",
+    "DocumentFault",
+    "Fault",
+    "FaultName",
+    "ModuleInfo",
+    "Report",
+    "analyze",
+    "analyze_lines",
+    "check",
+    "convert",
+    "reach",
+]
 
 Document = dict[str, Any] | str | bytes
+Command = Literal["analyze", "convert", "reach"]
+
+_CHECKS = {"analyze": _library.CHECK, "convert": _library.CHECK_CONVERT, "reach": _library.CHECK_REACH}
 
 
 def analyze(document: Document) -> ModuleInfo:
@@ -40,6 +57,21 @@ def analyze_lines(lines: Iterable[bytes]) -> Iterator[bytes]:
             yield b'{"fault":"%b"}\n' % fault.name.encode()
 
 
+def check(document: Document, command: Command = "analyze") -> Report:
+    """What is wrong with a document of a command, and where; or that it is valid, with warnings.
+
+    `at` in the report of a dict is a place in what json.dumps makes of it, without white space. Raises Fault
+    only where memory was refused, its name OutOfMemory; TypeError where the document is none of the three types,
+    ValueError where there is no such command.
+    """
+    if command not in _CHECKS:
+        raise ValueError(f"a command is analyze, convert or reach, not {command!r}")
+    # What a lone surrogate is encoded as is no UTF-8, and is reported as such.
+    written = _bytes_of(document, surrogates="surrogatepass")
+    report: Report = json.loads(_library.call(_CHECKS[command], written))
+    return report
+
+
 def convert(document: Document) -> Any:
     """The information of one module, as version 1 stored it, in version 2.
 
@@ -61,20 +93,20 @@ def _answer(function: _library.Function, document: Document) -> Any:
     return json.loads(_library.call(function, _bytes_of(document)))
 
 
-def _bytes_of(document: Document) -> bytes:
+def _bytes_of(document: Document, surrogates: str = "strict") -> bytes:
     match document:
         case bytes():
             return document
         case str():
-            return _encoded(document)
+            return _encoded(document, surrogates)
         case dict():
-            return _encoded(json.dumps(document, ensure_ascii=False, separators=(",", ":")))
+            return _encoded(json.dumps(document, ensure_ascii=False, separators=(",", ":")), surrogates)
     raise TypeError(f"a document is a dict, a str or bytes, not {type(document).__name__}")
 
 
-def _encoded(text: str) -> bytes:
-    """The text in UTF-8, which has no lone surrogates."""
+def _encoded(text: str, surrogates: str) -> bytes:
+    """The text in UTF-8, which has no lone surrogates: the error handler `surrogates` says what they are."""
     try:
-        return text.encode()
+        return text.encode(errors=surrogates)
     except UnicodeEncodeError as error:
         raise Fault("Input") from error

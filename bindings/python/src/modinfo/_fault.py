@@ -1,6 +1,7 @@
 from typing import Literal
 
-FaultName = Literal[
+# Why a document is refused; docs/FORMATS.md of the repository says when each comes.
+DocumentFault = Literal[
     "Input",
     "Json",
     "Tree",
@@ -13,8 +14,8 @@ FaultName = Literal[
     "Shape",
     "Float",
     "ColumnOverflow",
-    "OutOfMemory",
 ]
+FaultName = Literal[DocumentFault, "OutOfMemory"]
 
 
 class Fault(Exception):

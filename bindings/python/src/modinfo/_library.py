@@ -11,6 +11,9 @@ Function = Callable[..., int]
 
 FAULT, TOO_SMALL = 1, 2
 
+# Nearly every answer is no longer than its document, but for the line feed, and nearly every report than this.
+LEAST_ROOM = 4096
+
 _library = ctypes.CDLL(str(Path(__file__).with_name("libmodinfo.so")))
 
 
@@ -30,17 +33,17 @@ def _function(name: str) -> Function:
 ANALYZE = _function("modinfo_analyze")
 CONVERT = _function("modinfo_convert")
 REACH = _function("modinfo_reach")
+CHECK = _function("modinfo_check")
+CHECK_CONVERT = _function("modinfo_check_convert")
+CHECK_REACH = _function("modinfo_check_reach")
 
 # The beginning of a room of any length. An array type of its own for each length costs more than a call.
 _Beginning = ctypes.c_char * 0
 
 
 def call(function: Function, document: bytes) -> bytes:
-    """The answer's line, with its line feed; a Fault where the document is refused.
-
-    Nearly every answer is no longer than its document, but for the line feed.
-    """
-    length = ctypes.c_size_t(len(document) + 1)
+    """The answer's line, with its line feed; a Fault where the document is refused."""
+    length = ctypes.c_size_t(max(len(document) + 1, LEAST_ROOM))
     status = TOO_SMALL
     while status == TOO_SMALL:
         room = bytearray(length.value)

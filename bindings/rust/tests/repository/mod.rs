@@ -20,6 +20,9 @@ impl Call {
             "analyze" => modinfo::analyze(&self.document),
             "convert" => modinfo::convert(&self.document),
             "reach" => modinfo::reach(&self.document),
+            "check" | "check analyze" => modinfo::check(&self.document),
+            "check convert" => modinfo::check_convert(&self.document),
+            "check reach" => modinfo::check_reach(&self.document),
             other => panic!("{}: there is no command {other}", self.name),
         }
     }
@@ -61,7 +64,7 @@ pub fn examples() -> Vec<Call> {
     .collect()
 }
 
-/// The rows of docs/ROWS.md that run the program on one command.
+/// The rows of docs/ROWS.md that run the program on one document.
 pub fn rows() -> Vec<Call> {
     let folder = root().join("crates/test_replay/data");
     files(&folder, ".rows")
@@ -115,10 +118,16 @@ pub fn field(row: &Row, word: &str) -> Option<String> {
     (!lines.is_empty()).then(|| lines.join("\n"))
 }
 
+/// Whether the words behind the program's name are those of one document.
+fn is_call(words: &str) -> bool {
+    let command = words.strip_prefix("check ").unwrap_or(words);
+    ["analyze", "convert", "reach"].contains(&command) || words == "check"
+}
+
 fn call(folder: &Path, row: &Row) -> Option<Call> {
     let called = field(row, "call")?;
     let command = called.strip_prefix("serve ")?.to_owned();
-    if !["analyze", "convert", "reach"].contains(&command.as_str()) {
+    if !is_call(&command) {
         return None;
     }
     Some(Call {

@@ -4,7 +4,12 @@ use Rattle.serde_json.specs.Written.{has_float}
 use Rattle.serde_json.specs.Find.{as_str}
 use Rattle.deno_graph_dependency.specs.declared.dependency.DependencyDescriptor.{DependencyDescriptor}
 use Rattle.deno_graph_dependency.specs.declared.dependency.DependencyDescriptor.TheVariants.{Static, Dynamic}
-use Rattle.deno_graph_dependency.specs.Json.Dependency.{json_of_dependency, IsHeldDependency, reads_dependency, dependency_of_type}
+use Rattle.deno_graph_dependency.specs.Json.Dependency.{
+  json_of_dependency,
+  IsHeldDependency,
+  reads_dependency,
+  dependency_of_type,
+}
 use Rattle.deno_graph_dependency.specs.Json.DynamicDependency.{dynamic_entries}
 use Rattle.deno_graph_dependency.specs.Json.StaticDependency.{static_entries}
 use Rattle.deno_graph_dependency.proofs.ReadBack.{member_at-table}

@@ -2,12 +2,25 @@
 use Rattle.std.proofs.Common.{◌≡◌, false, Some, refl, List, All}
 use Rattle.serde_json.specs.Written.{has_float}
 use Rattle.deno_graph_dependency.specs.declared.dynamic_argument.DynamicArgument.{DynamicArgument}
-use Rattle.deno_graph_dependency.specs.declared.dynamic_argument.DynamicArgument.TheVariants.{String, Template, Expr}
+use Rattle.deno_graph_dependency.specs.declared.dynamic_argument.DynamicArgument.TheVariants.{
+  String,
+  Template,
+  Expr,
+}
 use Rattle.deno_graph_dependency.specs.declared.dynamic_argument.DynamicTemplatePart.{DynamicTemplatePart}
-use Rattle.deno_graph_dependency.specs.declared.dynamic_argument.DynamicTemplatePart.TheVariants.{String as StringPart, Expr as ExprPart}
+use Rattle.deno_graph_dependency.specs.declared.dynamic_argument.DynamicTemplatePart.TheVariants.{
+  String as StringPart,
+  Expr as ExprPart,
+}
 use Rattle.deno_graph_dependency.specs.Object.{unless}
 use Rattle.deno_graph_dependency.specs.DynamicDependency.{is_expr}
-use Rattle.deno_graph_dependency.specs.Json.DynamicArgument.{json_of_argument, json_of_part, reads_argument, reads_part, part_of_type}
+use Rattle.deno_graph_dependency.specs.Json.DynamicArgument.{
+  json_of_argument,
+  json_of_part,
+  reads_argument,
+  reads_part,
+  part_of_type,
+}
 use Rattle.deno_graph_dependency.specs.Read.Partial.{read_or, member_at}
 use Rattle.deno_graph_dependency.proofs.NoFloats.{option_has_float, no_float-array_of}
 use Rattle.deno_graph_dependency.proofs.ReadBack.{reads_items-map}

@@ -2,12 +2,29 @@
 use Rattle.std.proofs.Common.{◌≡◌, false, Some, refl}
 use Rattle.serde_json.specs.Data.{string, no_members}
 use Rattle.serde_json.specs.Written.{has_float}
-use Rattle.deno_graph_dependency.specs.declared.dynamic_dependency.DynamicDependencyDescriptor.{DynamicDependencyDescriptor}
-use Rattle.deno_graph_dependency.specs.declared.dynamic_dependency.DynamicDependencyKind.{DynamicDependencyKind}
-use Rattle.deno_graph_dependency.specs.declared.dynamic_dependency.DynamicDependencyKind.TheVariants.{Import, ImportDefer, ImportSource, Require}
+use Rattle.deno_graph_dependency.specs.declared.dynamic_dependency.DynamicDependencyDescriptor.{
+  DynamicDependencyDescriptor,
+}
+use Rattle.deno_graph_dependency.specs.declared.dynamic_dependency.DynamicDependencyKind.{
+  DynamicDependencyKind,
+}
+use Rattle.deno_graph_dependency.specs.declared.dynamic_dependency.DynamicDependencyKind.TheVariants.{
+  Import,
+  ImportDefer,
+  ImportSource,
+  Require,
+}
 use Rattle.deno_graph_dependency.specs.Object.{unless, put_entries}
 use Rattle.deno_graph_dependency.specs.DynamicDependency.{is_plain_import}
-use Rattle.deno_graph_dependency.specs.Json.DynamicDependency.{dynamic_kind_name, dynamic_entries, json_of_dynamic, IsHeldDynamic, reads_dynamic, reads_dynamic_kind, dynamic_kind_named}
+use Rattle.deno_graph_dependency.specs.Json.DynamicDependency.{
+  dynamic_kind_name,
+  dynamic_entries,
+  json_of_dynamic,
+  IsHeldDynamic,
+  reads_dynamic,
+  reads_dynamic_kind,
+  dynamic_kind_named,
+}
 use Rattle.deno_graph_dependency.specs.Read.Partial.{read_or}
 use Rattle.deno_graph_dependency.proofs.NoFloats.{option_has_float, neither, no_float-object_of}
 use Rattle.deno_graph_dependency.proofs.ReadBack.{reads_at, reads_or, range_back}

@@ -2,14 +2,34 @@
 use Rattle.std.proofs.Common.{◌≡◌, [], ◌∷◌, false, codes, Some, refl}
 use Rattle.serde_json.specs.Written.{has_float}
 use Rattle.deno_graph_dependency.specs.declared.import_attributes.ImportAttribute.{ImportAttribute}
-use Rattle.deno_graph_dependency.specs.declared.import_attributes.ImportAttribute.TheVariants.{Unknown as UnknownValue, Known as KnownValue}
+use Rattle.deno_graph_dependency.specs.declared.import_attributes.ImportAttribute.TheVariants.{
+  Unknown as UnknownValue,
+  Known as KnownValue,
+}
 use Rattle.deno_graph_dependency.specs.declared.import_attributes.ImportAttributes.{ImportAttributes}
-use Rattle.deno_graph_dependency.specs.declared.import_attributes.ImportAttributes.TheVariants.{None as NoAttributes, Unknown, Known}
+use Rattle.deno_graph_dependency.specs.declared.import_attributes.ImportAttributes.TheVariants.{
+  None as NoAttributes,
+  Unknown,
+  Known,
+}
 use Rattle.deno_graph_dependency.specs.Object.{unless, map_object_of}
 use Rattle.deno_graph_dependency.specs.ImportAttributes.{is_none}
-use Rattle.deno_graph_dependency.specs.Json.ImportAttributes.{json_of_attribute, json_of_attributes, AreHeldAttributes, reads_attribute, reads_attributes, attributes_named, known_attributes}
+use Rattle.deno_graph_dependency.specs.Json.ImportAttributes.{
+  json_of_attribute,
+  json_of_attributes,
+  AreHeldAttributes,
+  reads_attribute,
+  reads_attributes,
+  attributes_named,
+  known_attributes,
+}
 use Rattle.deno_graph_dependency.specs.Read.Partial.{read_or, member_at}
-use Rattle.deno_graph_dependency.proofs.NoFloats.{option_has_float, neither, no_float-object_of, no_float-map_object_of}
+use Rattle.deno_graph_dependency.proofs.NoFloats.{
+  option_has_float,
+  neither,
+  no_float-object_of,
+  no_float-map_object_of,
+}
 use Rattle.deno_graph_dependency.proofs.ReadBack.{reads_map-map_object_of}
 use Rattle.deno_graph_dependency.proofs.Reading.{goes_on}
 

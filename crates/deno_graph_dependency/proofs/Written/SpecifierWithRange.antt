@@ -1,12 +1,32 @@
 -- What is written of a specifier is read back, and has no float.
-use Rattle.std.proofs.Common.{◌≡◌, false, codes, Option, Some, option_map, refl, List, true, None, IfSome, ap, ◌∙◌}
+use Rattle.std.proofs.Common.{
+  ◌≡◌,
+  false,
+  codes,
+  Option,
+  Some,
+  option_map,
+  refl,
+  List,
+  true,
+  None,
+  IfSome,
+  ap,
+  ◌∙◌,
+}
 use Rattle.serde_json.specs.Data.{string, no_members}
 use Rattle.serde_json.specs.Written.{has_float}
 use Rattle.serde_json.specs.Find.{as_str}
 use Rattle.deno_graph_dependency.specs.declared.specifier_with_range.SpecifierWithRange.{SpecifierWithRange}
 use Rattle.deno_graph_dependency.specs.Object.{Entry, put_entries}
 use Rattle.deno_graph_dependency.proofs.Objects.{has_distinct_keys, entry_at}
-use Rattle.deno_graph_dependency.specs.Json.SpecifierWithRange.{specifier_entries, json_of_specifier, IsHeldSpecifier, reads_specifier, specifier_of}
+use Rattle.deno_graph_dependency.specs.Json.SpecifierWithRange.{
+  specifier_entries,
+  json_of_specifier,
+  IsHeldSpecifier,
+  reads_specifier,
+  specifier_of,
+}
 use Rattle.deno_graph_dependency.specs.Json.Position.{json_of_range, reads_range}
 use Rattle.deno_graph_dependency.specs.Read.Partial.{◌>>=◌, reads_optional, read_or}
 use Rattle.deno_graph_dependency.proofs.NoFloats.{option_has_float, no_float-object_of, no_float-option}

@@ -2,11 +2,31 @@
 use Rattle.std.proofs.Common.{◌≡◌, false, Some, refl}
 use Rattle.serde_json.specs.Data.{string, no_members}
 use Rattle.serde_json.specs.Written.{has_float}
-use Rattle.deno_graph_dependency.specs.declared.static_dependency.StaticDependencyDescriptor.{StaticDependencyDescriptor}
+use Rattle.deno_graph_dependency.specs.declared.static_dependency.StaticDependencyDescriptor.{
+  StaticDependencyDescriptor,
+}
 use Rattle.deno_graph_dependency.specs.declared.static_dependency.StaticDependencyKind.{StaticDependencyKind}
-use Rattle.deno_graph_dependency.specs.declared.static_dependency.StaticDependencyKind.TheVariants.{Import as ImportKind, ImportDefer as ImportDeferKind, ImportSource as ImportSourceKind, ImportType, ImportEquals, Export, ExportType, ExportEquals, MaybeTsModuleAugmentation}
+use Rattle.deno_graph_dependency.specs.declared.static_dependency.StaticDependencyKind.TheVariants.{
+  Import as ImportKind,
+  ImportDefer as ImportDeferKind,
+  ImportSource as ImportSourceKind,
+  ImportType,
+  ImportEquals,
+  Export,
+  ExportType,
+  ExportEquals,
+  MaybeTsModuleAugmentation,
+}
 use Rattle.deno_graph_dependency.specs.Object.{put_entries}
-use Rattle.deno_graph_dependency.specs.Json.StaticDependency.{static_entries, json_of_static, IsHeldStatic, static_kind_name, reads_static, reads_static_kind, static_kind_named}
+use Rattle.deno_graph_dependency.specs.Json.StaticDependency.{
+  static_entries,
+  json_of_static,
+  IsHeldStatic,
+  static_kind_name,
+  reads_static,
+  reads_static_kind,
+  static_kind_named,
+}
 use Rattle.deno_graph_dependency.proofs.NoFloats.{neither, no_float-object_of, no_float-if_true}
 use Rattle.deno_graph_dependency.proofs.ReadBack.{reads_at, reads_or, range_back, flag_back}
 use Rattle.deno_graph_dependency.proofs.Written.SpecifierWithRange.{specifier_option_back, types_no_float}

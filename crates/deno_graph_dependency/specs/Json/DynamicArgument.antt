@@ -3,9 +3,16 @@ use Rattle.std.specs.Prelude.{[], ◌∷◌, codes, Some, ℕ, List, bytes_eq, O
 use Rattle.serde_json.specs.Data.{Data, null, string, boolean, number, array, object, Members}
 use Rattle.serde_json.specs.Find.{as_object, as_str}
 use Rattle.deno_graph_dependency.specs.declared.dynamic_argument.DynamicArgument.{DynamicArgument}
-use Rattle.deno_graph_dependency.specs.declared.dynamic_argument.DynamicArgument.TheVariants.{String, Template, Expr}
+use Rattle.deno_graph_dependency.specs.declared.dynamic_argument.DynamicArgument.TheVariants.{
+  String,
+  Template,
+  Expr,
+}
 use Rattle.deno_graph_dependency.specs.declared.dynamic_argument.DynamicTemplatePart.{DynamicTemplatePart}
-use Rattle.deno_graph_dependency.specs.declared.dynamic_argument.DynamicTemplatePart.TheVariants.{String as StringPart, Expr as ExprPart}
+use Rattle.deno_graph_dependency.specs.declared.dynamic_argument.DynamicTemplatePart.TheVariants.{
+  String as StringPart,
+  Expr as ExprPart,
+}
 use Rattle.deno_graph_dependency.specs.Object.{object_of, array_of}
 use Rattle.deno_graph_dependency.specs.Read.Partial.{◌>>=◌, member_at, reads_items}
 

@@ -1,19 +1,51 @@
 -- A dynamic dependency, as JSON and from it.
-use Rattle.std.specs.Prelude.{ℕ, List, [], ◌∷◌, codes, Some, option_map, bytes_eq, Option, None, if◌then◌else◌, IfSome}
+use Rattle.std.specs.Prelude.{
+  ℕ,
+  List,
+  [],
+  ◌∷◌,
+  codes,
+  Some,
+  option_map,
+  bytes_eq,
+  Option,
+  None,
+  if◌then◌else◌,
+  IfSome,
+}
 use Rattle.serde_json.specs.Data.{Data, string, Members}
 use Rattle.serde_json.specs.Find.{as_str}
-use Rattle.deno_graph_dependency.specs.declared.dynamic_dependency.DynamicDependencyKind.{DynamicDependencyKind}
-use Rattle.deno_graph_dependency.specs.declared.dynamic_dependency.DynamicDependencyKind.TheVariants.{Import, ImportDefer, ImportSource, Require}
-use Rattle.deno_graph_dependency.specs.declared.dynamic_dependency.DynamicDependencyDescriptor.{DynamicDependencyDescriptor}
+use Rattle.deno_graph_dependency.specs.declared.dynamic_dependency.DynamicDependencyKind.{
+  DynamicDependencyKind,
+}
+use Rattle.deno_graph_dependency.specs.declared.dynamic_dependency.DynamicDependencyKind.TheVariants.{
+  Import,
+  ImportDefer,
+  ImportSource,
+  Require,
+}
+use Rattle.deno_graph_dependency.specs.declared.dynamic_dependency.DynamicDependencyDescriptor.{
+  DynamicDependencyDescriptor,
+}
 use Rattle.deno_graph_dependency.specs.declared.dynamic_argument.DynamicArgument.TheVariants.{Expr}
-use Rattle.deno_graph_dependency.specs.declared.import_attributes.ImportAttributes.TheVariants.{None as NoAttributes}
+use Rattle.deno_graph_dependency.specs.declared.import_attributes.ImportAttributes.TheVariants.{
+  None as NoAttributes,
+}
 use Rattle.deno_graph_dependency.specs.DynamicDependency.{is_plain_import, is_expr}
 use Rattle.deno_graph_dependency.specs.ImportAttributes.{is_none}
 use Rattle.deno_graph_dependency.specs.Json.DynamicArgument.{json_of_argument, reads_argument}
-use Rattle.deno_graph_dependency.specs.Json.ImportAttributes.{json_of_attributes, AreHeldAttributes, reads_attributes}
+use Rattle.deno_graph_dependency.specs.Json.ImportAttributes.{
+  json_of_attributes,
+  AreHeldAttributes,
+  reads_attributes,
+}
 use Rattle.deno_graph_dependency.specs.Object.{Entry, object_of, unless}
 use Rattle.deno_graph_dependency.specs.Json.Position.{json_of_range, reads_range, IsHeldRange}
-use Rattle.deno_graph_dependency.specs.Json.SpecifierWithRange.{json_of_specifier, IsHeldSpecifier, reads_specifier}
+use Rattle.deno_graph_dependency.specs.Json.SpecifierWithRange.{
+  json_of_specifier,
+  IsHeldSpecifier,
+  reads_specifier,
+}
 use Rattle.deno_graph_dependency.specs.Read.Partial.{◌>>=◌, member_at, member_or, reads_optional}
 
 abbrev pub dynamic_kind_name : DynamicDependencyKind → List ℕ

@@ -4,9 +4,16 @@ use Rattle.serde_json.specs.Data.{Data, null, string, boolean, number, array, ob
 use Rattle.serde_json.specs.Events.{members_len}
 use Rattle.deno_graph_text.specs.TextMap.{IsAscending}
 use Rattle.deno_graph_dependency.specs.declared.import_attributes.ImportAttribute.{ImportAttribute}
-use Rattle.deno_graph_dependency.specs.declared.import_attributes.ImportAttribute.TheVariants.{Unknown as UnknownValue, Known as KnownValue}
+use Rattle.deno_graph_dependency.specs.declared.import_attributes.ImportAttribute.TheVariants.{
+  Unknown as UnknownValue,
+  Known as KnownValue,
+}
 use Rattle.deno_graph_dependency.specs.declared.import_attributes.ImportAttributes.{ImportAttributes}
-use Rattle.deno_graph_dependency.specs.declared.import_attributes.ImportAttributes.TheVariants.{None as NoAttributes, Unknown, Known}
+use Rattle.deno_graph_dependency.specs.declared.import_attributes.ImportAttributes.TheVariants.{
+  None as NoAttributes,
+  Unknown,
+  Known,
+}
 use Rattle.deno_graph_dependency.specs.Object.{object_of, map_object_of}
 use Rattle.deno_graph_dependency.specs.Read.Partial.{◌>>=◌, member_at, reads_map}
 

@@ -2,8 +2,13 @@
 use Rattle.std.specs.Prelude.{ℕ, List, codes, Option}
 use Rattle.serde_json.specs.Data.{Data, string}
 use Rattle.serde_json.specs.Find.{as_str}
-use Rattle.deno_graph_text.specs.declared.values.resolution_mode.TypeScriptTypesResolutionMode.{TypeScriptTypesResolutionMode}
-use Rattle.deno_graph_text.specs.declared.values.resolution_mode.TypeScriptTypesResolutionMode.TheVariants.{Require, Import}
+use Rattle.deno_graph_text.specs.declared.values.resolution_mode.TypeScriptTypesResolutionMode.{
+  TypeScriptTypesResolutionMode,
+}
+use Rattle.deno_graph_text.specs.declared.values.resolution_mode.TypeScriptTypesResolutionMode.TheVariants.{
+  Require,
+  Import,
+}
 use Rattle.deno_graph_text.specs.ResolutionMode.{mode_named}
 use Rattle.deno_graph_dependency.specs.Read.Partial.{◌>>=◌}
 

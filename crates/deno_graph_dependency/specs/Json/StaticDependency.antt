@@ -1,16 +1,52 @@
 -- A static dependency, as JSON and from it.
-use Rattle.std.specs.Prelude.{ℕ, List, [], ◌∷◌, codes, Some, option_map, false, bytes_eq, Option, None, if◌then◌else◌, IfSome}
+use Rattle.std.specs.Prelude.{
+  ℕ,
+  List,
+  [],
+  ◌∷◌,
+  codes,
+  Some,
+  option_map,
+  false,
+  bytes_eq,
+  Option,
+  None,
+  if◌then◌else◌,
+  IfSome,
+}
 use Rattle.serde_json.specs.Data.{Data, string, Members}
 use Rattle.serde_json.specs.Find.{as_bool, as_str}
 use Rattle.deno_graph_dependency.specs.declared.static_dependency.StaticDependencyKind.{StaticDependencyKind}
-use Rattle.deno_graph_dependency.specs.declared.static_dependency.StaticDependencyKind.TheVariants.{Import, ImportDefer, ImportSource, ImportType, ImportEquals, Export, ExportType, ExportEquals, MaybeTsModuleAugmentation}
-use Rattle.deno_graph_dependency.specs.declared.static_dependency.StaticDependencyDescriptor.{StaticDependencyDescriptor}
-use Rattle.deno_graph_dependency.specs.declared.import_attributes.ImportAttributes.TheVariants.{None as NoAttributes}
+use Rattle.deno_graph_dependency.specs.declared.static_dependency.StaticDependencyKind.TheVariants.{
+  Import,
+  ImportDefer,
+  ImportSource,
+  ImportType,
+  ImportEquals,
+  Export,
+  ExportType,
+  ExportEquals,
+  MaybeTsModuleAugmentation,
+}
+use Rattle.deno_graph_dependency.specs.declared.static_dependency.StaticDependencyDescriptor.{
+  StaticDependencyDescriptor,
+}
+use Rattle.deno_graph_dependency.specs.declared.import_attributes.ImportAttributes.TheVariants.{
+  None as NoAttributes,
+}
 use Rattle.deno_graph_dependency.specs.ImportAttributes.{is_none}
-use Rattle.deno_graph_dependency.specs.Json.ImportAttributes.{json_of_attributes, AreHeldAttributes, reads_attributes}
+use Rattle.deno_graph_dependency.specs.Json.ImportAttributes.{
+  json_of_attributes,
+  AreHeldAttributes,
+  reads_attributes,
+}
 use Rattle.deno_graph_dependency.specs.Object.{Entry, object_of, if_true, unless}
 use Rattle.deno_graph_dependency.specs.Json.Position.{json_of_range, reads_range, IsHeldRange}
-use Rattle.deno_graph_dependency.specs.Json.SpecifierWithRange.{json_of_specifier, IsHeldSpecifier, reads_specifier}
+use Rattle.deno_graph_dependency.specs.Json.SpecifierWithRange.{
+  json_of_specifier,
+  IsHeldSpecifier,
+  reads_specifier,
+}
 use Rattle.deno_graph_dependency.specs.Read.Partial.{◌>>=◌, member_at, member_or, reads_optional}
 
 abbrev pub static_kind_name : StaticDependencyKind → List ℕ

@@ -1,5 +1,17 @@
 -- Readers: partial functions from JSON data, with no value where the data hasn't the form that is read.
-use Rattle.std.specs.Prelude.{ℕ, ◌^◌, List, [], ◌∷◌, Option, Some, None, option_and_then, nat_lt, if◌then◌else◌}
+use Rattle.std.specs.Prelude.{
+  ℕ,
+  ◌^◌,
+  List,
+  [],
+  ◌∷◌,
+  Option,
+  Some,
+  None,
+  option_and_then,
+  nat_lt,
+  if◌then◌else◌,
+}
 use Rattle.serde_json.specs.Data.{Data, null, Items, no_items, item, Members, no_members, member}
 use Rattle.serde_json.specs.Find.{get_member, as_number, as_u64, as_array, as_object}
 

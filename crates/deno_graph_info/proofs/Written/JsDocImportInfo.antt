@@ -8,7 +8,12 @@ use Rattle.deno_graph_dependency.proofs.ReadBack.{member_or-table, mode_back}
 use Rattle.deno_graph_dependency.proofs.Reading.{goes_on}
 use Rattle.deno_graph_dependency.proofs.Written.SpecifierWithRange.{specifier_members_back}
 use Rattle.deno_graph_info.specs.declared.analysis.js_doc_import_info.JsDocImportInfo.{JsDocImportInfo}
-use Rattle.deno_graph_info.specs.Json.JsDocImportInfo.{IsHeldJsDocImport, js_doc_import_entries, json_of_js_doc_import, reads_js_doc_import}
+use Rattle.deno_graph_info.specs.Json.JsDocImportInfo.{
+  IsHeldJsDocImport,
+  js_doc_import_entries,
+  json_of_js_doc_import,
+  reads_js_doc_import,
+}
 use Rattle.deno_graph_info.proofs.Written.TypeScriptReference.{mode_no_float}
 
 pub js_doc_import_back : (i : JsDocImportInfo) → IsHeldJsDocImport i

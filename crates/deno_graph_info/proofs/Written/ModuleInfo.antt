@@ -1,21 +1,56 @@
 -- What is written of a `ModuleInfo` is read back, and has no float.
-use Rattle.std.proofs.Common.{List, All, option_map, ◌≡◌, [], false, Some, Result, Ok, Err, IfOk, OnOk, refl, ap, ◌∙◌}
+use Rattle.std.proofs.Common.{
+  List,
+  All,
+  option_map,
+  ◌≡◌,
+  [],
+  false,
+  Some,
+  Result,
+  Ok,
+  Err,
+  IfOk,
+  OnOk,
+  refl,
+  ap,
+  ◌∙◌,
+}
 use Rattle.serde_json.specs.declared.value.Value.{Value}
 use Rattle.serde_json.specs.View.{view}
 use Rattle.serde_json.specs.Written.{has_float}
 use Rattle.deno_graph_dependency.specs.declared.dependency.DependencyDescriptor.{DependencyDescriptor}
 use Rattle.deno_graph_dependency.specs.Object.{array_of, if_any}
 use Rattle.deno_graph_dependency.specs.Read.Partial.{read_or, reads_array}
-use Rattle.deno_graph_dependency.specs.Json.Dependency.{json_of_dependency, IsHeldDependency, reads_dependency}
-use Rattle.deno_graph_dependency.proofs.NoFloats.{neither, no_float-object_of, no_float-if_true, no_float-if_any}
+use Rattle.deno_graph_dependency.specs.Json.Dependency.{
+  json_of_dependency,
+  IsHeldDependency,
+  reads_dependency,
+}
+use Rattle.deno_graph_dependency.proofs.NoFloats.{
+  neither,
+  no_float-object_of,
+  no_float-if_true,
+  no_float-if_any,
+}
 use Rattle.deno_graph_dependency.proofs.ReadBack.{reads_or, list_back, flag_back}
 use Rattle.deno_graph_dependency.proofs.Written.SpecifierWithRange.{types_no_float, specifier_option_back}
 use Rattle.deno_graph_dependency.proofs.Written.Dependency.{dependency_no_float, dependency_back}
 use Rattle.deno_graph_info.specs.declared.analysis.js_doc_import_info.JsDocImportInfo.{JsDocImportInfo}
 use Rattle.deno_graph_info.specs.declared.analysis.module_info.ModuleInfo.{ModuleInfo}
-use Rattle.deno_graph_info.specs.declared.analysis.type_script_reference.TypeScriptReference.{TypeScriptReference}
-use Rattle.deno_graph_info.specs.Json.TypeScriptReference.{IsHeldReference, reads_reference, json_of_reference}
-use Rattle.deno_graph_info.specs.Json.JsDocImportInfo.{IsHeldJsDocImport, json_of_js_doc_import, reads_js_doc_import}
+use Rattle.deno_graph_info.specs.declared.analysis.type_script_reference.TypeScriptReference.{
+  TypeScriptReference,
+}
+use Rattle.deno_graph_info.specs.Json.TypeScriptReference.{
+  IsHeldReference,
+  reads_reference,
+  json_of_reference,
+}
+use Rattle.deno_graph_info.specs.Json.JsDocImportInfo.{
+  IsHeldJsDocImport,
+  json_of_js_doc_import,
+  reads_js_doc_import,
+}
 use Rattle.deno_graph_info.specs.Json.ModuleInfo.{IsHeldInfo, info_entries, json_of_info, reads_info}
 use Rattle.deno_graph_info.proofs.Written.TypeScriptReference.{reference_back, reference_no_float}
 use Rattle.deno_graph_info.proofs.Written.JsDocImportInfo.{js_doc_import_back, js_doc_import_no_float}

@@ -2,17 +2,35 @@
 use Rattle.std.proofs.Common.{◌≡◌, false, codes, Option, Some, None, option_map, refl}
 use Rattle.serde_json.specs.Find.{as_str}
 use Rattle.serde_json.specs.Written.{has_float}
-use Rattle.deno_graph_text.specs.declared.values.resolution_mode.TypeScriptTypesResolutionMode.{TypeScriptTypesResolutionMode}
-use Rattle.deno_graph_text.specs.declared.values.resolution_mode.TypeScriptTypesResolutionMode.TheVariants.{Require, Import}
+use Rattle.deno_graph_text.specs.declared.values.resolution_mode.TypeScriptTypesResolutionMode.{
+  TypeScriptTypesResolutionMode,
+}
+use Rattle.deno_graph_text.specs.declared.values.resolution_mode.TypeScriptTypesResolutionMode.TheVariants.{
+  Require,
+  Import,
+}
 use Rattle.deno_graph_dependency.specs.Read.Partial.{reads_optional}
 use Rattle.deno_graph_dependency.specs.Json.ResolutionMode.{reads_mode, json_of_mode}
 use Rattle.deno_graph_dependency.proofs.NoFloats.{option_has_float, neither, no_float-object_of}
 use Rattle.deno_graph_dependency.proofs.ReadBack.{member_at-table, member_or-table, mode_back}
 use Rattle.deno_graph_dependency.proofs.Reading.{goes_on}
 use Rattle.deno_graph_dependency.proofs.Written.SpecifierWithRange.{specifier_members_back}
-use Rattle.deno_graph_info.specs.declared.analysis.type_script_reference.TypeScriptReference.{TypeScriptReference}
-use Rattle.deno_graph_info.specs.declared.analysis.type_script_reference.TypeScriptReference.TheVariants.{Path, Types}
-use Rattle.deno_graph_info.specs.Json.TypeScriptReference.{IsHeldReference, reads_reference, reference_of_type, reference_to_types, path_entries, types_entries, json_of_reference}
+use Rattle.deno_graph_info.specs.declared.analysis.type_script_reference.TypeScriptReference.{
+  TypeScriptReference,
+}
+use Rattle.deno_graph_info.specs.declared.analysis.type_script_reference.TypeScriptReference.TheVariants.{
+  Path,
+  Types,
+}
+use Rattle.deno_graph_info.specs.Json.TypeScriptReference.{
+  IsHeldReference,
+  reads_reference,
+  reference_of_type,
+  reference_to_types,
+  path_entries,
+  types_entries,
+  json_of_reference,
+}
 
 pub reference_back : (r : TypeScriptReference) → IsHeldReference r
     → reads_reference (json_of_reference r) ≡ Some r

@@ -2,13 +2,29 @@
 use Rattle.std.specs.Prelude.{List, [], ◌∷◌, codes, false, option_map, Option, Some, None, All, IfSome}
 use Rattle.serde_json.specs.Data.{Data}
 use Rattle.serde_json.specs.Find.{as_bool, as_object}
-use Rattle.deno_graph_dependency.specs.Json.Dependency.{json_of_dependency, reads_dependency, IsHeldDependency}
+use Rattle.deno_graph_dependency.specs.Json.Dependency.{
+  json_of_dependency,
+  reads_dependency,
+  IsHeldDependency,
+}
 use Rattle.deno_graph_dependency.specs.Object.{Entry, object_of, array_of, if_true, if_any}
-use Rattle.deno_graph_dependency.specs.Json.SpecifierWithRange.{json_of_specifier, reads_specifier, IsHeldSpecifier}
+use Rattle.deno_graph_dependency.specs.Json.SpecifierWithRange.{
+  json_of_specifier,
+  reads_specifier,
+  IsHeldSpecifier,
+}
 use Rattle.deno_graph_dependency.specs.Read.Partial.{◌>>=◌, member_or, reads_array, reads_optional}
 use Rattle.deno_graph_info.specs.declared.analysis.module_info.ModuleInfo.{ModuleInfo}
-use Rattle.deno_graph_info.specs.Json.JsDocImportInfo.{json_of_js_doc_import, reads_js_doc_import, IsHeldJsDocImport}
-use Rattle.deno_graph_info.specs.Json.TypeScriptReference.{json_of_reference, reads_reference, IsHeldReference}
+use Rattle.deno_graph_info.specs.Json.JsDocImportInfo.{
+  json_of_js_doc_import,
+  reads_js_doc_import,
+  IsHeldJsDocImport,
+}
+use Rattle.deno_graph_info.specs.Json.TypeScriptReference.{
+  json_of_reference,
+  reads_reference,
+  IsHeldReference,
+}
 
 -- its table: `script` is left out where it is false, a list where it is empty, and a specifier where
 -- there is none

@@ -1,16 +1,35 @@
 -- A triple-slash reference, as JSON and from it.
-use Rattle.std.specs.Prelude.{List, [], ◌∷◌, codes, Option, Some, option_map, ℕ, bytes_eq, None, if◌then◌else◌}
+use Rattle.std.specs.Prelude.{
+  List,
+  [],
+  ◌∷◌,
+  codes,
+  Option,
+  Some,
+  option_map,
+  ℕ,
+  bytes_eq,
+  None,
+  if◌then◌else◌,
+}
 use Rattle.serde_json.specs.Data.{Data, string, Members}
 use Rattle.serde_json.specs.Find.{as_object, as_str}
-use Rattle.deno_graph_text.specs.declared.values.resolution_mode.TypeScriptTypesResolutionMode.{TypeScriptTypesResolutionMode}
+use Rattle.deno_graph_text.specs.declared.values.resolution_mode.TypeScriptTypesResolutionMode.{
+  TypeScriptTypesResolutionMode,
+}
 use Rattle.deno_graph_dependency.specs.declared.specifier_with_range.SpecifierWithRange.{SpecifierWithRange}
 use Rattle.deno_graph_dependency.specs.Object.{Entry, object_of}
 use Rattle.deno_graph_dependency.specs.Json.Position.{json_of_range}
 use Rattle.deno_graph_dependency.specs.Json.ResolutionMode.{json_of_mode, reads_mode}
 use Rattle.deno_graph_dependency.specs.Read.Partial.{◌>>=◌, member_at, member_or, reads_optional}
 use Rattle.deno_graph_dependency.specs.Json.SpecifierWithRange.{specifier_of, IsHeldSpecifier}
-use Rattle.deno_graph_info.specs.declared.analysis.type_script_reference.TypeScriptReference.{TypeScriptReference}
-use Rattle.deno_graph_info.specs.declared.analysis.type_script_reference.TypeScriptReference.TheVariants.{Path, Types}
+use Rattle.deno_graph_info.specs.declared.analysis.type_script_reference.TypeScriptReference.{
+  TypeScriptReference,
+}
+use Rattle.deno_graph_info.specs.declared.analysis.type_script_reference.TypeScriptReference.TheVariants.{
+  Path,
+  Types,
+}
 
 abbrev pub path_entries : SpecifierWithRange → List Entry
 path_entries s =

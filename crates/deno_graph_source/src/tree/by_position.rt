@@ -1,4 +1,5 @@
-ghost use Rattle.std.specs.Prelude.{◌≡◌, [], ◌++◌, map, IfOk, OnOk, OnErr};
+ghost use Rattle.std.specs.Prelude.{◌≡◌, [], ◌++◌, true, false, map, slice_get, IfOk, IsSomeAnd, MatchOption, OnOk, OnErr};
+ghost use Rattle.std.specs.List.{All};
 ghost use Rattle.std.specs.List.Sorted.{IsStrictlySortedBy};
 ghost use Rattle.std.specs.Map.{keys_of};
 ghost use Rattle.std.specs.Ordering.{nat_cmp};
@@ -79,6 +80,39 @@ fn push_each<'a, T>(all: &mut Vec<&'a T>, items: &'a [T]) -> Result<(), AllocErr
         all.push(item)?;
     }
     Ok(())
+}
+
+impl<T: PartialEq> ByPosition<Items<T>> {
+    ghost use Rattle.deno_graph_source.specs.ByPosition.{all_items, HasEqualAt};
+
+    /// The first position with an item that is equal to `wanted`, and which of the items there it
+    /// is. `None` where no item is equal.
+    pub(crate) fn place_of(&self, wanted: &T) -> Option<(usize, usize)>
+        ensures { MatchOption result
+            (All (λ item. T.eq item wanted.now ≡ false) (all_items self.now))
+            (λ place. HasEqualAt T.eq self.now place.0 place.1 wanted.now) }
+    {
+        for (pos, items) in &self.map {
+            if let Some(number) = number_of(items.as_slice(), wanted) {
+                return Some((*pos, number));
+            }
+        }
+        None
+    }
+}
+
+/// Which item, counted from zero, is the first that is equal to `wanted`.
+fn number_of<T: PartialEq>(items: &[T], wanted: &T) -> Option<usize>
+    ensures { MatchOption result
+        (All (λ item. T.eq item wanted.now ≡ false) items.now)
+        (λ number. IsSomeAnd (slice_get items.now number) (λ item. T.eq item wanted.now ≡ true)) }
+{
+    for (number, item) in items.iter().enumerate() {
+        if *item == *wanted {
+            return Some(number);
+        }
+    }
+    None
 }
 
 impl<T: Drop> ByPosition<Items<T>> {

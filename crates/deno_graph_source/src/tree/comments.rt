@@ -1,8 +1,9 @@
-ghost use Rattle.std.specs.Prelude.{◌≡◌, [], ◌∷◌, map, IfOk, OnOk, OnErr};
+ghost use Rattle.std.specs.Prelude.{◌≡◌, [], ◌∷◌, map, Contains, IfOk, OnOk, OnErr};
 ghost use Rattle.std.specs.List.Sorted.{IsPermutation};
 ghost use Rattle.std.specs.Option.{option_copied};
 
 use crate::tree::by_position::ByPosition;
+use crate::tree::fault_place::{CommentPlace, CommentSide};
 use deno_graph_text::text::SourceRange;
 use deno_graph_text::values::{Items, Text, TryClone};
 use std::alloc::{AllocError, Global};
@@ -59,6 +60,7 @@ impl Model for Comments {
 impl Comments {
     ghost use Rattle.deno_graph_source.specs.ByPosition.{AddsItem, value_at};
     ghost use Rattle.deno_graph_source.specs.Comments.{comments_of};
+    ghost use Rattle.deno_graph_source.specs.FaultPlace.{comment_at};
 
     /// No comments. Takes no memory.
     pub fn new(alloc: Global) -> Comments
@@ -119,6 +121,29 @@ impl Comments {
         self.leading.push_items(&mut all)?;
         self.trailing.push_items(&mut all)?;
         Ok(all)
+    }
+
+    /// The first place, of the leading ones and then of the trailing ones, where a comment is filed
+    /// that is equal to this one.
+    pub(crate) fn place_of(&self, comment: &DependencyComment) -> CommentPlace
+        requires { Contains (comments_of self.now) comment.now }
+        ensures { comment_at self.now result ≡ Some comment.now }
+    {
+        if let Some((position, number)) = self.leading.place_of(comment) {
+            return CommentPlace {
+                side: CommentSide::Leading,
+                position,
+                number,
+            };
+        }
+        match self.trailing.place_of(comment) {
+            Some((position, number)) => CommentPlace {
+                side: CommentSide::Trailing,
+                position,
+                number,
+            },
+            None => unreachable!(),
+        }
     }
 }
 

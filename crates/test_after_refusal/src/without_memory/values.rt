@@ -13,6 +13,7 @@ use deno_graph_info::analysis::{
 };
 use deno_graph_source::text::{JsString, Position, PositionRange, SourceRange, SourceTextInfo};
 use deno_graph_source::tree::{Comments, MediaType, ParsedSource};
+use deno_graph_source::values::TryClone;
 use std::alloc::Global;
 
 pub fn look_up(alloc: Global, made: &Made) -> Result<(), Fault> {
@@ -22,6 +23,10 @@ pub fn look_up(alloc: Global, made: &Made) -> Result<(), Fault> {
     )?;
     check(is_surrogate(&made.surrogate), "strings")?;
     check(parts_are_found(&made.source), "parts of a source")?;
+    check(
+        made.source.try_clone(alloc)? == made.source,
+        "a copy of a source",
+    )?;
     check(is_import(made.info.dependencies.first()), "dependencies")?;
     check(
         Walk::new(alloc, made.source.program()).entered() == 0,

@@ -40,14 +40,21 @@ impl Run {
     }
 
     /// The line that answers the same document among others.
-    fn line(&self, alloc: Global) -> Result<String, RowFault> {
+    fn line(&self, alloc: Global, word: &str) -> Result<String, RowFault> {
         let output = text_of(self.output.as_slice())?.trim_end();
+        if word == "check" {
+            return Ok(String::from_str(alloc, output)?);
+        }
         if self.status == 0 {
             return Ok(format!(in alloc; "{{\"answer\":{output}}}")?);
         }
+        Ok(format!(in alloc; "{{\"fault\":\"{}\"}}", self.fault()?)?)
+    }
+
+    /// The name on the error output.
+    fn fault(&self) -> Result<&str, RowFault> {
         let errors = text_of(self.errors.as_slice())?.trim_end();
-        let fault = errors.strip_prefix("modinfo: ").unwrap_or(errors);
-        Ok(format!(in alloc; "{{\"fault\":\"{fault}\"}}")?)
+        Ok(errors.strip_prefix("modinfo: ").unwrap_or(errors))
     }
 
     fn answer(&self, alloc: Global) -> Result<String, RowFault> {
@@ -73,7 +80,10 @@ pub fn serve(alloc: Global, words: &[&str], input: &[u8]) -> Result<String, RowF
         return Ok(answer);
     };
     if run.status < 2 && !input.is_empty() {
-        push_other_line(alloc, &mut answer, word, input, run.line(alloc)?.as_str())?;
+        push_other_lines(alloc, &mut answer, word, input, &run)?;
+    }
+    if run.status < 2 && *word != "check" && !word.starts_with("--") {
+        push_other_report(alloc, &mut answer, word, input, &run)?;
     }
     if run.status == 0 && *word == "analyze" {
         let ways = of_json(alloc, "every_way", &[], input)?;
@@ -84,14 +94,14 @@ pub fn serve(alloc: Global, words: &[&str], input: &[u8]) -> Result<String, RowF
     Ok(answer)
 }
 
-/// What a run over two lines, which are both this document, prints other than this line twice. Line
-/// feeds in a document are white space, and so become blanks.
-fn push_other_line(
+/// What a run over two lines, which are both this document, prints other than the line of this run
+/// twice. Line feeds in a document are white space, and so become blanks.
+fn push_other_lines(
     alloc: Global,
     answer: &mut String,
     word: &str,
     document: &[u8],
-    line: &str,
+    single: &Run,
 ) -> Result<(), RowFault> {
     let mut lines = Vec::new(alloc);
     for byte in document {
@@ -101,9 +111,33 @@ fn push_other_line(
     let once = lines.clone()?;
     lines.extend_from_slice(once.as_slice())?;
     let run = Run::of(alloc, &[word, "--lines"], lines.as_slice())?;
+    let line = single.line(alloc, word)?;
     let expected = format!(in alloc; "{line}\n{line}\n")?;
-    if run.status != 0 || run.output.as_slice() != expected.as_bytes() || !run.errors.is_empty() {
+    let status = if word == "check" { single.status } else { 0 };
+    let is_same = run.status == status && run.output.as_slice() == expected.as_bytes();
+    if !is_same || !run.errors.is_empty() {
         push_lines(answer, "lines", text_of(run.output.as_slice())?)?;
+    }
+    Ok(())
+}
+
+/// The report on the document, where it has another fault than this run, or none where this run has
+/// one.
+fn push_other_report(
+    alloc: Global,
+    answer: &mut String,
+    word: &str,
+    document: &[u8],
+    single: &Run,
+) -> Result<(), RowFault> {
+    let run = Run::of(alloc, &["check", word], document)?;
+    let expected = if single.status == 0 {
+        String::from_str(alloc, "{\"valid\":true")?
+    } else {
+        format!(in alloc; "{{\"fault\":\"{}\",", single.fault()?)?
+    };
+    if run.status != single.status || !run.output.as_slice().starts_with(expected.as_bytes()) {
+        push_lines(answer, "check", text_of(run.output.as_slice())?)?;
     }
     Ok(())
 }

@@ -1,5 +1,26 @@
 -- What a child makes, its parent makes; and a node none of whose children make a module makes none itself.
-use Rattle.std.proofs.Common.{◌≡◌, ℕ, ◌<◌, ◌||◌, false, Bool, Some, slice_get, length, sym, ap, refl, ◌∙◌, subst, ◌⊎◌, inl, inr, IsTrue, below_more, arith}
+use Rattle.std.proofs.Common.{
+  ◌≡◌,
+  ℕ,
+  ◌<◌,
+  ◌||◌,
+  false,
+  Bool,
+  Some,
+  slice_get,
+  length,
+  sym,
+  ap,
+  refl,
+  ◌∙◌,
+  subst,
+  ◌⊎◌,
+  inl,
+  inr,
+  IsTrue,
+  below_more,
+  arith,
+}
 use Rattle.std.proofs.lemmas.Option.{slice_get_read, slice_get_within}
 use Rattle.deno_graph_source.specs.Node.{kind_of, children_of}
 use Rattle.deno_graph_source.specs.declared.tree.node.Node.{Node}

@@ -1,5 +1,21 @@
 -- A body that is gone through is a script, and an item that ends the loop is none of a script.
-use Rattle.std.proofs.Common.{◌≡◌, ℕ, false, Bool, Some, slice_get, length, sym, ap, refl, ◌∙◌, subst, IsTrue, below_more, arith}
+use Rattle.std.proofs.Common.{
+  ◌≡◌,
+  ℕ,
+  false,
+  Bool,
+  Some,
+  slice_get,
+  length,
+  sym,
+  ap,
+  refl,
+  ◌∙◌,
+  subst,
+  IsTrue,
+  below_more,
+  arith,
+}
 use Rattle.std.proofs.lemmas.List.{take_all}
 use Rattle.std.proofs.lemmas.List.Elements.{All-more, All-same, All-get_or}
 use Rattle.std.proofs.lemmas.Option.{slice_get_read, slice_get_within}

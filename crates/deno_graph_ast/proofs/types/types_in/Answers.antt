@@ -22,6 +22,7 @@ returns-in_ok-specifier_with_range-in-Some-find_deno_types-clause-is c =
     (subst (λ t. ¬ HasSplit finder.ts_types_pattern t) text (c.in_default.ensures.none.0 refl))
     (λ is. subst (λ t. IsCaptured finder.deno_types_pattern t part) text
     (c.in-Some-find_deno_types.ensures.quoted is))
-    (λ is. subst (λ t. ¬ HasSplit finder.deno_types_pattern t × IsCaptured finder.quoteless_deno_types_pattern t part) text
+    (λ is. subst (λ t. ¬ HasSplit finder.deno_types_pattern t
+    × IsCaptured finder.quoteless_deno_types_pattern t part) text
     (c.in-Some-find_deno_types.ensures.quoteless is))
     (c.in_ok-specifier_with_range-in-Some-find_deno_types).ensures.is

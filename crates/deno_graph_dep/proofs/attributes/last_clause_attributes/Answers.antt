@@ -5,9 +5,19 @@ use Rattle.std.proofs.lemmas.Bool.{both_ways}
 use Rattle.std.proofs.lemmas.Result.{IfOk-weaker}
 use Rattle.deno_graph_source.specs.declared.tree.node.Node.{Node}
 use Rattle.deno_graph_dep.specs.Attributes.{ObjectGives, LookedAtGive}
-use Rattle.deno_graph_dep.proofs.LastClause.{LookedAtBelow, LookedAtBelow-skip, LookedAtBelow-clause, LookedAtGive-unknown, LookedAtGive-none, LookedAtGive-last}
+use Rattle.deno_graph_dep.proofs.LastClause.{
+  LookedAtBelow,
+  LookedAtBelow-skip,
+  LookedAtBelow-clause,
+  LookedAtGive-unknown,
+  LookedAtGive-none,
+  LookedAtGive-last,
+}
 use Rattle.deno_graph_dep.proofs.attributes.last_clause_attributes.Goals as goal
-use Rattle.deno_graph_dep.proofs.attributes.last_clause_attributes.Goals.{then-is_clause+in-Some, else-is_clause}
+use Rattle.deno_graph_dep.proofs.attributes.last_clause_attributes.Goals.{
+  then-is_clause+in-Some,
+  else-is_clause,
+}
 
 pub loop-property-preserved : goal.loop-property-preserved
 loop-property-preserved c =

@@ -4,7 +4,14 @@ use Rattle.std.specs.Borrow.{Bor}
 use Rattle.std.proofs.lemmas.List.{map-append}
 use Rattle.deno_graph_source.specs.declared.tree.node.Node.{Node}
 use Rattle.deno_graph_dep.specs.Item.{Item, item_of}
-use Rattle.deno_graph_dep.proofs.Given.{AreGiven, AreGiven-more, AreDependencies-given, AllStated-given, gives-listed, gives-shaped}
+use Rattle.deno_graph_dep.proofs.Given.{
+  AreGiven,
+  AreGiven-more,
+  AreDependencies-given,
+  AllStated-given,
+  gives-listed,
+  gives-shaped,
+}
 use Rattle.deno_graph_dep.proofs.SpelledItems.{dependencies_spell}
 use Rattle.deno_graph_dep.specs.Walk.{Gives}
 use Rattle.deno_graph_dep.proofs.dependencies.analyze_program_dependencies.Goals as goal

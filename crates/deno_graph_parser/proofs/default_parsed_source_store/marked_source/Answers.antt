@@ -2,7 +2,12 @@
 use Rattle.std.proofs.Common.{◌≡◌, ◌∙◌, ap, sym, Some, None, Result, Ok, Err, OnErr, rules}
 use Rattle.deno_graph_source.specs.ParsedSource.{marked}
 use Rattle.deno_graph_parser.specs.Sources.{source_at, sources_of, with_source, with_mark_of}
-use Rattle.deno_graph_parser.proofs.KeptSources.{source_at-sources_of, with_source-sources_of, with_source_again, source_at-with_source_here}
+use Rattle.deno_graph_parser.proofs.KeptSources.{
+  source_at-sources_of,
+  with_source-sources_of,
+  with_source_again,
+  source_at-with_source_here,
+}
 use Rattle.deno_graph_parser.proofs.default_parsed_source_store.marked_source.Goals as goal
 
 at_err : {T E P : Type 0} (result : Result T E) → P → OnErr result P

@@ -3,7 +3,15 @@ use Rattle.std.proofs.Common.{◌+◌, ◌≤◌, ℕ, List, [], Option, IfOk, O
 use Rattle.std.proofs.lemmas.Result.{IfOk-weaker}
 use Rattle.deno_graph_parser.specs.CapturingModuleAnalyzer.{parser_of, state_of}
 use Rattle.deno_graph_parser.specs.Commands.{Unmarked, misses, AreAnswers}
-use Rattle.deno_graph_parser.proofs.WholeRuns.{by_result, runs_function, early_function, ends_sound, run_replies, sound_empty, seen_empty}
+use Rattle.deno_graph_parser.proofs.WholeRuns.{
+  by_result,
+  runs_function,
+  early_function,
+  ends_sound,
+  run_replies,
+  sound_empty,
+  seen_empty,
+}
 use Rattle.deno_graph_parser.proofs.running.run.Goals as goal
 
 pub returns-clause-function : goal.returns-clause-function

@@ -2,18 +2,24 @@ ghost use Rattle.std.specs.Prelude.{◌≡◌, ◌≢◌, ℕ, List, map, MatchO
 ghost use Rattle.deno_graph_source.specs.Check.{JudgesComment, JudgesComments, JudgesNeighbours};
 ghost use Rattle.deno_graph_source.specs.Source.{spelling};
 
+use crate::tree::check::found::FoundComment;
 use crate::tree::check::ranges::check_range;
 use crate::tree::comments::{CommentKind, DependencyComment};
 use crate::tree::fault::SourceFault;
 
 /// Looks for a comment that isn't written in the text at its range.
-pub(crate) fn check_comments(text: &str, comments: &[&DependencyComment]) -> Result<(), SourceFault>
+pub(crate) fn check_comments<'a>(
+    text: &str,
+    comments: &[&'a DependencyComment],
+) -> Option<FoundComment<'a>>
     ensures { JudgesComments text.now (map (λ comment. comment.now) comments.now) result }
 {
     for comment in comments {
-        check_comment(text, comment)?;
+        if let Err(fault) = check_comment(text, comment) {
+            return Some(FoundComment { fault, comment });
+        }
     }
-    Ok(())
+    None
 }
 
 /// Looks for a fault of a comment: of its range, or of what the text has there.
@@ -42,15 +48,17 @@ fn inside(kind: CommentKind, written: &str) -> Option<&str>
 
 /// Looks for two comments that overlap, where they stand in ascending order of their starts: then
 /// two that overlap stand next to each other.
-pub(crate) fn check_neighbours(comments: &[&DependencyComment]) -> Result<(), SourceFault>
+pub(crate) fn check_neighbours<'a>(
+    comments: &[&'a DependencyComment],
+) -> Option<(&'a DependencyComment, &'a DependencyComment)>
     ensures { JudgesNeighbours (map (λ comment. comment.now) comments.now) result }
 {
     for i in 1..comments.len() {
-        let before = comments[i - 1].range;
-        let after = comments[i].range;
-        if after.start < before.end && after != before {
-            return Err(SourceFault::CommentsOverlap);
+        let before = comments[i - 1];
+        let after = comments[i];
+        if after.range.start < before.range.end && after.range != before.range {
+            return Some((before, after));
         }
     }
-    Ok(())
+    None
 }

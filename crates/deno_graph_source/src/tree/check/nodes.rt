@@ -1,72 +1,121 @@
 #![tactic(auto, unfolding(crate::specs::Node::kind_of, crate::specs::Node::children_of, crate::specs::Node::HasCountOfKind))]
 
-ghost use Rattle.std.specs.Prelude.{◌≡◌, ◌↔◌, map, IsTrue};
-ghost use Rattle.deno_graph_source.specs.Check.{JudgesNode, JudgesNodes, JudgesRanges};
-ghost use Rattle.deno_graph_source.specs.Node.{kind_of, nodes_in, nodes_of, ranges_in_kind, HasClause, HasCountOfKind, IsShaped};
+ghost use Rattle.std.specs.Prelude.{◌≡◌, ◌↔◌, map, IfOk, IsTrue, MatchOption};
+ghost use Rattle.deno_graph_source.specs.Check.{JudgesArgs, JudgesBelow, JudgesBody, JudgesLiteral, JudgesNode, JudgesPart};
+ghost use Rattle.deno_graph_source.specs.FaultPlace.{count_rule, BreaksRule};
+ghost use Rattle.deno_graph_source.specs.Node.{HasClause, HasCountOfKind, IsShaped};
 
+use crate::tree::check::found::{FoundNode, FoundPart};
 use crate::tree::check::ranges::check_range;
 use crate::tree::fault::SourceFault;
+use crate::tree::fault_place::{NodePart, ShapeRule};
 use crate::tree::node::{Arg, Callee, Kind, Node, Program};
+use deno_graph_text::text::SourceRange;
+use std::alloc::{AllocError, Global};
 
 /// Looks for a fault of the nodes of a program.
-pub(crate) fn check_nodes(text: &str, program: &Program) -> Result<(), SourceFault>
-    ensures { JudgesNodes text.now (nodes_of program.now) result }
+pub(crate) fn check_nodes(
+    alloc: Global,
+    text: &str,
+    program: &Program,
+) -> Result<Option<FoundNode>, AllocError>
+    ensures { IfOk result (JudgesBody text.now program.now) }
 {
-    for node in program.body.as_slice() {
-        check_node(text, node)?;
+    for (number, node) in program.body.as_slice().iter().enumerate() {
+        if let Some(found) = check_node(alloc, text, node)? {
+            return Ok(Some(found.below(number)?));
+        }
     }
-    Ok(())
+    Ok(None)
 }
 
 /// Looks for a fault of a node and of all nodes below it.
-fn check_node(text: &str, node: &Node) -> Result<(), SourceFault>
-    ensures { JudgesNodes text.now (nodes_in node.now) result }
+fn check_node(alloc: Global, text: &str, node: &Node) -> Result<Option<FoundNode>, AllocError>
+    ensures { IfOk result (JudgesBelow text.now node.now) }
 {
-    check_node_alone(text, node)?;
-    for child in node.children.as_slice() {
-        check_node(text, child)?;
+    if let Err(at) = check_node_alone(text, node) {
+        let way_back = Vec::new(alloc);
+        return Ok(Some(FoundNode { at, way_back }));
     }
-    Ok(())
+    for (number, child) in node.children.as_slice().iter().enumerate() {
+        if let Some(found) = check_node(alloc, text, child)? {
+            return Ok(Some(found.below(number)?));
+        }
+    }
+    Ok(None)
 }
 
 /// Looks for a fault of a node itself.
-fn check_node_alone(text: &str, node: &Node) -> Result<(), SourceFault>
+fn check_node_alone(text: &str, node: &Node) -> Result<(), FoundPart>
     ensures { JudgesNode text.now node.now result }
 {
-    check_range(text, node.range)?;
-    check_kind(text, &node.kind)?;
-    if is_shaped(node) {
-        Ok(())
-    } else {
-        Err(SourceFault::Shape)
+    check_part(text, node.range, NodePart::Range)?;
+    check_literal(text, &node.kind)?;
+    check_args(text, node.kind.args())?;
+    match broken_rule(node) {
+        Some(rule) => Err(FoundPart {
+            fault: SourceFault::Shape,
+            part: NodePart::Children(rule),
+        }),
+        None => Ok(()),
     }
 }
 
-/// Looks for a fault of the ranges that a kind holds.
-fn check_kind(text: &str, kind: &Kind) -> Result<(), SourceFault>
-    ensures { JudgesRanges text.now (ranges_in_kind kind.now) result }
+/// Looks for a fault of a range, which is that of this part of a node.
+fn check_part(text: &str, range: SourceRange, part: NodePart) -> Result<(), FoundPart>
+    ensures { JudgesPart text.now range part result }
 {
-    if let Some(literal) = kind.literal() {
-        check_range(text, literal.range)?;
+    match check_range(text, range) {
+        Ok(()) => Ok(()),
+        Err(fault) => Err(FoundPart { fault, part }),
     }
-    check_args(text, kind.args())
 }
 
-fn check_args(text: &str, args: &[Arg]) -> Result<(), SourceFault>
-    ensures { JudgesRanges text.now (map (λ arg. arg.range) args.now) result }
+/// Looks for a fault of the range of the string literal that a kind holds.
+fn check_literal(text: &str, kind: &Kind) -> Result<(), FoundPart>
+    ensures { JudgesLiteral text.now kind.now result }
 {
-    for arg in args {
-        check_range(text, arg.range)?;
+    match kind.literal() {
+        Some(literal) => check_part(text, literal.range, NodePart::Literal),
+        None => Ok(()),
+    }
+}
+
+/// Looks for a fault of the ranges of arguments.
+fn check_args(text: &str, args: &[Arg]) -> Result<(), FoundPart>
+    ensures { JudgesArgs text.now args.now result }
+{
+    for (number, arg) in args.iter().enumerate() {
+        check_part(text, arg.range, NodePart::Argument(number))?;
     }
     Ok(())
 }
 
-/// Whether the node has the children that its kind needs.
-fn is_shaped(node: &Node) -> bool
-    ensures { IsTrue result ↔ IsShaped node.now }
+/// The rule that the children of a node break: `None` where they break none.
+fn broken_rule(node: &Node) -> Option<ShapeRule>
+    ensures { MatchOption result (IsShaped node.now) (BreaksRule node.now) }
 {
     let children = node.children.as_slice();
-    has_clause(node.kind.has_with(), children) && has_count(&node.kind, children.len())
+    if !has_clause(node.kind.has_with(), children) {
+        return Some(ShapeRule::WithClause);
+    }
+    if has_count(&node.kind, children.len()) {
+        return None;
+    }
+    count_rule(&node.kind)
+}
+
+/// The rule on the number of children that a kind has.
+fn count_rule(kind: &Kind) -> Option<ShapeRule>
+    ensures { result ≡ count_rule kind.now }
+{
+    match kind {
+        Kind::Template(_) => Some(ShapeRule::Template),
+        Kind::Binary(_) => Some(ShapeRule::Binary),
+        Kind::KeyValue(_) => Some(ShapeRule::KeyValue),
+        Kind::Call { .. } => Some(ShapeRule::Call),
+        _ => None,
+    }
 }
 
 /// Whether a kind may have this number of children.

@@ -1,5 +1,4 @@
-use Rattle.std.proofs.Common.{◌<◌}
-use Rattle.flat_json.specs.Tape.{nodes_of, left_of}
+use Rattle.flat_json.specs.Tape.{TakesSame, array_of, nodes_of}
 use Rattle.modinfo_notation.proofs.node.+read.Given as goal
 
 abbrev pub decreases-read_node : goal.decreases-read_node
@@ -11,4 +10,4 @@ decreases-read_nodes l = nodes_of l.value
 abbrev pub invariant-read_nodes-loop-value : goal.invariant-read_nodes-loop-value
 invariant-read_nodes-loop-value l = (goal.iterator-read_nodes-loop-value).can_next l.value-iterator
     × (goal.iterator-read_nodes-loop-value).is_finite l.value-iterator
-    × (left_of l.value-iterator < nodes_of l.initial.value)
+    × TakesSame (array_of l.value-iterator) l.initial.value

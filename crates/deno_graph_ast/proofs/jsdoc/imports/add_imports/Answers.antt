@@ -1,5 +1,23 @@
 -- Each import that the scan found is put in.
-use Rattle.std.proofs.Common.{◌≡◌, ◌+◌, ◌<◌, ◌≤◌, ◌∷◌, ◌++◌, ◌∙◌, None, List, [], ap, length, map, sym, subst, arith, rules}
+use Rattle.std.proofs.Common.{
+  ◌≡◌,
+  ◌+◌,
+  ◌<◌,
+  ◌≤◌,
+  ◌∷◌,
+  ◌++◌,
+  ◌∙◌,
+  None,
+  List,
+  [],
+  ap,
+  length,
+  map,
+  sym,
+  subst,
+  arith,
+  rules,
+}
 use Rattle.std.proofs.lemmas.List.{map-append}
 use Rattle.std.specs.Str.{IsUtf8, chars}
 use Rattle.deno_graph_jsdoc.specs.JsDocHits.{AreHits, GainsImport}
@@ -43,7 +61,8 @@ moved-requires-clause-fits c =
     let here = (goal.at.moved-requires-clause-fits c).After-deref-import-items in
     let inside : c.loop-import.import-index < length c.deref-import-items.result.now = search rules in
     let bound = (hit_bounds c.args.comment.now.text _ (utf8 here)
-    (item_hit 0 c.deref-import-items.result.now c.loop-import.import-index no_import (chars c.args.comment.now.text) inside (hits here))).1 in
+    (item_hit 0 c.deref-import-items.result.now c.loop-import.import-index no_import
+    (chars c.args.comment.now.text) inside (hits here))).1 in
     omega (arith, bound, c.requires.fits)
 
 pub loop-import-preserved : goal.loop-import-preserved

@@ -1,5 +1,23 @@
 -- One JSDoc comment after another.
-use Rattle.std.proofs.Common.{◌≡◌, ◌+◌, ◌<◌, ◌≤◌, ℕ, List, length, take, map, get_or, sym, subst, arith, rules, Bor, Vec, Global}
+use Rattle.std.proofs.Common.{
+  ◌≡◌,
+  ◌+◌,
+  ◌<◌,
+  ◌≤◌,
+  ℕ,
+  List,
+  length,
+  take,
+  map,
+  get_or,
+  sym,
+  subst,
+  arith,
+  rules,
+  Bor,
+  Vec,
+  Global,
+}
 use Rattle.std.proofs.lemmas.List.{take_all}
 use Rattle.std.proofs.lemmas.List.Elements.{All-contains, Contains-get_or}
 use Rattle.std.specs.List.{Contains}
@@ -15,7 +33,11 @@ use Rattle.deno_graph_ast.proofs.ReadComments.{AreRead, AreRead-again, AreRead-m
 use Rattle.deno_graph_source.specs.Source.{IsSpelled}
 use Rattle.deno_graph_source.specs.declared.tree.comments.DependencyComment.{DependencyComment}
 use Rattle.deno_graph_ast.proofs.jsdoc.imports.imports_of.Goals as goal
-use Rattle.deno_graph_ast.proofs.jsdoc.imports.imports_of.Goals.{After-deref-comment-items, then-comment-end+in_ok-add_imports, else-comment-end}
+use Rattle.deno_graph_ast.proofs.jsdoc.imports.imports_of.Goals.{
+  After-deref-comment-items,
+  then-comment-end+in_ok-add_imports,
+  else-comment-end,
+}
 
 -- what was chosen
 are : (c : After-deref-comment-items)
@@ -51,7 +73,8 @@ sorted c =
 pub loop-comment-init : goal.loop-comment-init
 loop-comment-init c =
     subst (λ (is : List JsDocImport). AreRead (all c.args.comments.now) c.deref-comment-items.result.now 0
-    (map import_of is) 0) (sym c.new-imports.ensures.items) (AreRead-start (all c.args.comments.now) c.deref-comment-items.result.now)
+    (map import_of is) 0) (sym c.new-imports.ensures.items)
+    (AreRead-start (all c.args.comments.now) c.deref-comment-items.result.now)
 
 pub add_imports-requires-clause-before : goal.add_imports-requires-clause-before
 add_imports-requires-clause-before c = λ k d inside.
@@ -73,7 +96,8 @@ loop-comment-preserved c =
           let order : c.loop-comment.end ≤ item.now.range.start = search rules in
           subst (λ (v : Vec JsDocImport Global). AreRead comments items (k + 1) (map import_of v.items)
           c.if-comment-end.end) (sym w.imports-is)
-          (subst (AreRead comments items (k + 1) (map import_of w.add_imports.new.imports.items)) (sym w.end-is)
+          (subst (AreRead comments items (k + 1) (map import_of w.add_imports.new.imports.items))
+          (sym w.end-is)
           (AreRead-more c.requires.spelled.0 comments c.requires.spelled.1 c.requires.apart items (are here)
           (sorted here) k item inside c.comment-item.is (map import_of c.loop-comment.imports.items)
           (map import_of w.add_imports.new.imports.items) c.loop-comment.end order

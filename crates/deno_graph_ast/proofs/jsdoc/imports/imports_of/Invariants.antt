@@ -6,4 +6,5 @@ use Rattle.deno_graph_ast.proofs.jsdoc.imports.imports_of.Given as goal
 
 abbrev pub invariant-loop-comment : goal.invariant-loop-comment
 invariant-loop-comment l =
-    AreRead (map (λ c. c.now) l.comments) l.comment-items l.comment-index (map import_of l.imports.items) l.end
+    AreRead (map (λ c. c.now) l.comments) l.comment-items l.comment-index
+    (map import_of l.imports.items) l.end

@@ -1,11 +1,34 @@
 -- One comment after another, and then their order.
-use Rattle.std.proofs.Common.{◌<◌, ◌≤◌, List, [], ◌∷◌, ◌++◌, length, take, sym, ap, ◌∙◌, subst, rules, Bor, Vec, Global}
+use Rattle.std.proofs.Common.{
+  ◌<◌,
+  ◌≤◌,
+  List,
+  [],
+  ◌∷◌,
+  ◌++◌,
+  length,
+  take,
+  sym,
+  ap,
+  ◌∙◌,
+  subst,
+  rules,
+  Bor,
+  Vec,
+  Global,
+}
 use Rattle.std.proofs.lemmas.Bool.{both_ways}
 use Rattle.std.proofs.lemmas.List.{map-append, take_all}
 use Rattle.std.proofs.lemmas.List.Sorted.{IsNonDecreasingBy-from_sort_by_key, IsPermutation-map}
 use Rattle.deno_graph_ast.specs.CommentImportSteps.{AreJsDocOf}
 use Rattle.deno_graph_source.specs.declared.tree.comments.DependencyComment.{DependencyComment}
-use Rattle.deno_graph_ast.proofs.Chosen.{all, item_next, AreJsDocOf-more, AreJsDocOf-permuted, AreJsDocOf-skip}
+use Rattle.deno_graph_ast.proofs.Chosen.{
+  all,
+  item_next,
+  AreJsDocOf-more,
+  AreJsDocOf-permuted,
+  AreJsDocOf-skip,
+}
 use Rattle.deno_graph_ast.proofs.jsdoc.imports.jsdoc_by_start.Goals as goal
 use Rattle.deno_graph_ast.proofs.jsdoc.imports.jsdoc_by_start.Goals.{then-is_jsdoc+in_ok-push, else-is_jsdoc}
 

@@ -2,7 +2,18 @@
 use Rattle.std.proofs.Common.{OnErr, Result, Ok, Err, sym, ◌∙◌}
 use Rattle.std.proofs.lemmas.List.{nil_from_length}
 use Rattle.deno_graph_dep.proofs.Counts.{IsStackOf-enter, IsStackOf-leave}
-use Rattle.deno_graph_dep.proofs.Progress.{Progress-none, Progress-enter, Progress-leave, entered-rises, left-rises, gives-enter, gives-leave, gives-end, IsStackOf-same, to_come-same}
+use Rattle.deno_graph_dep.proofs.Progress.{
+  Progress-none,
+  Progress-enter,
+  Progress-leave,
+  entered-rises,
+  left-rises,
+  gives-enter,
+  gives-leave,
+  gives-end,
+  IsStackOf-same,
+  to_come-same,
+}
 use Rattle.deno_graph_dep.proofs.Steps.{rounds-enter, rounds-leave}
 use Rattle.deno_graph_dep.proofs.stack.Stack.next_listed.Goals as goal
 

@@ -1,6 +1,13 @@
 use Rattle.std.proofs.Common.{sym, ap, ◌∙◌, subst}
 use Rattle.serde_json.specs.View.{items_view}
-use Rattle.deno_graph_dependency.proofs.Reading.{before, before_nil, refuses, list_more, list_refused, list_done}
+use Rattle.deno_graph_dependency.proofs.Reading.{
+  before,
+  before_nil,
+  refuses,
+  list_more,
+  list_refused,
+  list_done,
+}
 use Rattle.deno_graph_dependency.specs.Read.Answer.{IsRefusal}
 use Rattle.deno_graph_dependency.specs.Read.Partial.{reads_items}
 use Rattle.deno_graph_dependency.proofs.json.read.read_items.Goals as goal

@@ -4,7 +4,7 @@ use Rattle.std.proofs.lemmas.List.Elements.{All-head}
 use Rattle.std.proofs.lemmas.Slice.Eq.{slice_eq-Decides}
 use Rattle.deno_graph_source.proofs.Judgements.{returned, range_fault_in_comment, Any-only}
 use Rattle.deno_graph_source.proofs.Spelling.{spelling-injective}
-use Rattle.deno_graph_source.specs.Check.{CommentHas, RangeHas}
+use Rattle.deno_graph_source.specs.FaultPlace.{CommentHas, RangeHas}
 use Rattle.deno_graph_source.specs.Source.{spelling}
 use Rattle.deno_graph_text.specs.SourceRange.{IsTextRange}
 use Rattle.deno_graph_source.proofs.tree.check.comments.check_comment.Goals as goal

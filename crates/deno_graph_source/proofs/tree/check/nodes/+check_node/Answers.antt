@@ -1,37 +1,40 @@
-use Rattle.std.specs.List.{Any}
-use Rattle.deno_graph_source.proofs.Judgements.{Any-from, Any-within, returned}
-use Rattle.deno_graph_source.proofs.Lists.{Contains-item, All-flat_map_more, All-flat_map_all}
-use Rattle.deno_graph_source.proofs.Nodes.{Contains-own_node, Contains-child_node, All-nodes_in}
-use Rattle.deno_graph_source.specs.Check.{IsSound, NodeHas}
+use Rattle.std.proofs.Common.{◌≡◌, Some, refl, subst}
+use Rattle.std.specs.List.{All, slice_get}
+use Rattle.std.proofs.lemmas.Option.{MatchOption-at_none, MatchOption-at_some, slice_get_read}
+use Rattle.deno_graph_source.proofs.FoundNodes.{found_from_child}
+use Rattle.deno_graph_source.proofs.Lists.{All-flat_map_more, All-flat_map_all}
+use Rattle.deno_graph_source.proofs.Nodes.{All-nodes_in}
+use Rattle.deno_graph_source.specs.Check.{IsSound}
+use Rattle.deno_graph_source.specs.Found.{IsFoundBelow}
 use Rattle.deno_graph_source.specs.Node.{children_of, nodes_in}
 use Rattle.deno_graph_source.proofs.tree.check.nodes.+check_node.Goals as goal
 
-pub returns-in_err-check_node_alone : goal.returns-in_err-check_node_alone
-returns-in_err-check_node_alone t c =
-    let text = c.args.text.now in
-    let node = c.args.node.now in
-    returned _ (λ fault. Any (NodeHas text fault) (nodes_in node)) _ _ c.from_residual.ensures.1
-    (Any-from _ (nodes_in node) node (Contains-own_node node) c.in_err-check_node_alone.ensures)
-
-pub returns-in_err-check_node : goal.returns-in_err-check_node
+pub returns-in-Some : goal.returns-in-Some
 unfolding children_of
-returns-in_err-check_node t c =
+returns-in-Some t c =
     let text = c.args.text.now in
     let node = c.args.node.now in
-    let at = Contains-item _ _ _ _ c.as_slice-child-items.ensures c.loop-child-test.true c.child-item.is in
-    returned _ (λ fault. Any (NodeHas text fault) (nodes_in node)) _ _
-    c.from_residual-in_err-check_node.ensures.1
-    (Any-within _ (nodes_in c.child-item.result) (nodes_in node)
-    (λ n. Contains-child_node node c.child-item.result n at) c.in_err-check_node.ensures)
+    let child = c.child-item.result in
+    let number = c.loop-number.number in
+    let at = slice_get_read _ _ number child refl c.loop-number-test.true c.child-item.is in
+    found_from_child text number c.in-Some.found c.in_ok-below.field-0 c.in_ok-below.ensures.at
+    c.in_ok-below.ensures.way_back node child
+    (subst (λ xs. slice_get xs number ≡ Some child) c.as_slice-child-items.ensures at)
+    (MatchOption-at_some (All (IsSound text) (nodes_in child)) (IsFoundBelow text child) c.in-Some.found
+    c.in-Some.is c.in_ok-found.ensures)
 
-pub loop-child-preserved : goal.loop-child-preserved
-loop-child-preserved t c =
-    All-flat_map_more (IsSound c.args.text.now) nodes_in _ _ _ c.loop-child-test.true c.child-item.is
-    c.loop-child.invariant c.in_ok-check_node.ensures
+pub loop-number-preserved : goal.loop-number-preserved
+loop-number-preserved t c =
+    let text = c.args.text.now in
+    let child = c.child-item.result in
+    All-flat_map_more (IsSound text) nodes_in _ _ _ c.loop-number-test.true c.child-item.is
+    c.loop-number.invariant
+    (MatchOption-at_none (All (IsSound text) (nodes_in child)) (IsFoundBelow text child) c.in_default-2.is
+    c.in_ok-found.ensures)
 
 pub returns : goal.returns
 returns t c =
     let text = c.args.text.now in
     let below = All-flat_map_all (IsSound text) nodes_in _ _ _ c.as_slice-child-items.ensures
-    c.loop-child-test.false c.loop-child.invariant in
-    All-nodes_in (IsSound text) c.args.node.now c.in_ok-check_node_alone.ensures (unfold children_of in below)
+    c.loop-number-test.false c.loop-number.invariant in
+    All-nodes_in (IsSound text) c.args.node.now c.in_default.ensures (unfold children_of in below)

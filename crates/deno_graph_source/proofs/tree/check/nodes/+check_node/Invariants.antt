@@ -5,5 +5,5 @@ use Rattle.deno_graph_source.specs.Check.{IsSound}
 use Rattle.deno_graph_source.specs.Node.{nodes_in}
 use Rattle.deno_graph_source.proofs.tree.check.nodes.+check_node.Given as goal
 
-abbrev pub invariant-loop-child : goal.invariant-loop-child
-invariant-loop-child l = All (IsSound l.text) (flat_map nodes_in (take l.child-index l.child-items))
+abbrev pub invariant-loop-number : goal.invariant-loop-number
+invariant-loop-number l = All (IsSound l.text) (flat_map nodes_in (take l.number l.child-items))

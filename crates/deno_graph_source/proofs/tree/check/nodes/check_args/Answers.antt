@@ -1,11 +1,15 @@
-use Rattle.std.proofs.Common.{◌∷◌, [], false, map, get_or}
-use Rattle.std.specs.List.{Any}
+use Rattle.std.proofs.Common.{◌≡◌, ℕ, false, get_or}
+use Rattle.std.specs.List.{slice_get}
+use Rattle.std.specs.Option.{IsSomeAnd}
 use Rattle.std.proofs.lemmas.List.{take_all}
-use Rattle.std.proofs.lemmas.List.Elements.{All-more, All-head, All-map, Contains-get_or}
-use Rattle.deno_graph_source.proofs.Judgements.{Any-within, returned}
-use Rattle.deno_graph_source.proofs.Lists.{Contains-map, Contains-only}
-use Rattle.deno_graph_source.specs.Check.{RangeHas}
+use Rattle.std.proofs.lemmas.List.Elements.{All-more}
+use Rattle.std.proofs.lemmas.Option.{slice_get-get_or}
+use Rattle.deno_graph_source.proofs.Judgements.{returned}
+use Rattle.deno_graph_source.proofs.NodePaths.{some_and}
+use Rattle.deno_graph_source.specs.FaultPlace.{RangeHas}
 use Rattle.deno_graph_text.specs.SourceRange.{IsTextRange}
+use Rattle.deno_graph_source.specs.declared.tree.check.found.FoundPart.{FoundPart}
+use Rattle.deno_graph_source.specs.declared.tree.fault_place.NodePart.TheVariants.{Argument}
 use Rattle.deno_graph_source.specs.declared.tree.node.Arg.{Arg}
 use Rattle.deno_graph_source.proofs.tree.check.nodes.check_args.Goals as goal
 
@@ -13,27 +17,24 @@ use Rattle.deno_graph_source.proofs.tree.check.nodes.check_args.Goals as goal
 abbrev no_arg : Arg
 no_arg = record { spread = false; range = record { start = 0; end = 0 } }
 
-pub returns-in_err-check_range : goal.returns-in_err-check_range
-returns-in_err-check_range c =
+pub returns-in_err-check_part : goal.returns-in_err-check_part
+returns-in_err-check_part c =
     let text = c.args.text.now in
     let args = c.args.args.now in
-    let arg = get_or args c.loop-arg.arg-index no_arg in
-    let at = Contains-map (λ a. a.range) args arg
-    (Contains-get_or args c.loop-arg.arg-index no_arg c.loop-arg-test.true) in
-    returned _ (λ fault. Any (RangeHas text fault) (map (λ a. a.range) args)) _ _ c.from_residual.ensures.1
-    (Any-within _ (arg.range ∷ []) (map (λ a. a.range) args) (λ range. Contains-only _ arg.range range at)
-    c.in_err-check_range.ensures)
+    let here = c.loop-number.number in
+    let G : FoundPart → Type 0 = λ found. (number : ℕ) × (found.part ≡ Argument number)
+    × IsSomeAnd (slice_get args number) (λ arg. RangeHas text found.fault arg.range) in
+    returned _ G _ _ c.from_residual.ensures.1 (
+      here,
+      c.in_err-check_part.ensures.0,
+      some_and _ (slice_get args here) (get_or args here no_arg)
+          (slice_get-get_or args here no_arg c.loop-number-test.true) c.in_err-check_part.ensures.1,
+    )
 
-pub loop-arg-preserved : goal.loop-arg-preserved
-loop-arg-preserved c =
-    let text = c.args.text.now in
-    let args = c.args.args.now in
-    let arg = get_or args c.loop-arg.arg-index no_arg in
-    All-more (λ a. IsTextRange text a.range) args _ no_arg c.loop-arg-test.true c.loop-arg.invariant
-    (All-head (IsTextRange text) arg.range [] c.in_ok-check_range.ensures)
+pub loop-number-preserved : goal.loop-number-preserved
+loop-number-preserved c =
+    All-more (λ a. IsTextRange c.args.text.now a.range) c.args.args.now _ no_arg c.loop-number-test.true
+    c.loop-number.invariant c.in_ok-check_part.ensures
 
 pub returns : goal.returns
-returns c =
-    let text = c.args.text.now in
-    let all = rw (take_all _ _ c.loop-arg-test.false) at c.loop-arg.invariant in
-    All-map (IsTextRange text) (λ arg. arg.range) _ all
+returns c = rw (take_all _ _ c.loop-number-test.false) at c.loop-number.invariant

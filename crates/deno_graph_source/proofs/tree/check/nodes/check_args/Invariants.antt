@@ -4,5 +4,5 @@ use Rattle.std.specs.List.{All}
 use Rattle.deno_graph_text.specs.SourceRange.{IsTextRange}
 use Rattle.deno_graph_source.proofs.tree.check.nodes.check_args.Given as goal
 
-abbrev pub invariant-loop-arg : goal.invariant-loop-arg
-invariant-loop-arg l = All (λ arg. IsTextRange l.text arg.range) (take l.arg-index l.args)
+abbrev pub invariant-loop-number : goal.invariant-loop-number
+invariant-loop-number l = All (λ arg. IsTextRange l.text arg.range) (take l.number l.args)

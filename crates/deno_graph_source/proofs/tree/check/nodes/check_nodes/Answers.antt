@@ -1,28 +1,36 @@
-use Rattle.std.specs.List.{Any}
-use Rattle.deno_graph_source.proofs.Judgements.{Any-within, returned}
-use Rattle.deno_graph_source.proofs.Lists.{Contains-flat_map, Contains-item, All-flat_map_more, All-flat_map_all}
-use Rattle.deno_graph_source.specs.Check.{IsSound, NodeHas}
+use Rattle.std.proofs.Common.{◌≡◌, Some, refl, subst}
+use Rattle.std.specs.List.{All, slice_get}
+use Rattle.std.proofs.lemmas.Option.{MatchOption-at_none, MatchOption-at_some, slice_get_read}
+use Rattle.deno_graph_source.proofs.FoundNodes.{found_from_item}
+use Rattle.deno_graph_source.proofs.Lists.{All-flat_map_more, All-flat_map_all}
+use Rattle.deno_graph_source.specs.Check.{IsSound}
+use Rattle.deno_graph_source.specs.Found.{IsFoundBelow}
 use Rattle.deno_graph_source.specs.Node.{nodes_in, nodes_of}
 use Rattle.deno_graph_source.proofs.tree.check.nodes.check_nodes.Goals as goal
 
-pub returns-in_err-check_node : goal.returns-in_err-check_node
-unfolding nodes_of
-returns-in_err-check_node c =
+pub returns-in-Some : goal.returns-in-Some
+returns-in-Some c =
     let text = c.args.text.now in
-    let program = c.args.program.now in
-    let at = Contains-item program.body _ _ _ c.as_slice-node-items.ensures c.loop-node-test.true
-    c.node-item.is in
-    returned _ (λ fault. Any (NodeHas text fault) (nodes_of program)) _ _ c.from_residual.ensures.1
-    (Any-within _ (nodes_in c.node-item.result) (nodes_of program)
-    (λ n. Contains-flat_map nodes_in program.body c.node-item.result n at) c.in_err-check_node.ensures)
+    let item = c.node-item.result in
+    let number = c.loop-number.number in
+    let at = slice_get_read _ _ number item refl c.loop-number-test.true c.node-item.is in
+    found_from_item text number c.in-Some.found c.in_ok-below.field-0 c.in_ok-below.ensures.at
+    c.in_ok-below.ensures.way_back c.args.program.now item
+    (subst (λ xs. slice_get xs number ≡ Some item) c.as_slice-node-items.ensures at)
+    (MatchOption-at_some (All (IsSound text) (nodes_in item)) (IsFoundBelow text item) c.in-Some.found
+    c.in-Some.is c.in_ok-found.ensures)
 
-pub loop-node-preserved : goal.loop-node-preserved
-loop-node-preserved c =
-    All-flat_map_more (IsSound c.args.text.now) nodes_in _ _ _ c.loop-node-test.true c.node-item.is
-    c.loop-node.invariant c.in_ok-check_node.ensures
+pub loop-number-preserved : goal.loop-number-preserved
+loop-number-preserved c =
+    let text = c.args.text.now in
+    let item = c.node-item.result in
+    All-flat_map_more (IsSound text) nodes_in _ _ _ c.loop-number-test.true c.node-item.is
+    c.loop-number.invariant
+    (MatchOption-at_none (All (IsSound text) (nodes_in item)) (IsFoundBelow text item) c.in_default.is
+    c.in_ok-found.ensures)
 
 pub returns : goal.returns
 unfolding nodes_of
 returns c =
     All-flat_map_all (IsSound c.args.text.now) nodes_in c.args.program.now.body _ _
-    c.as_slice-node-items.ensures c.loop-node-test.false c.loop-node.invariant
+    c.as_slice-node-items.ensures c.loop-number-test.false c.loop-number.invariant

@@ -5,5 +5,5 @@ use Rattle.deno_graph_source.specs.Check.{IsSound}
 use Rattle.deno_graph_source.specs.Node.{nodes_in}
 use Rattle.deno_graph_source.proofs.tree.check.nodes.check_nodes.Given as goal
 
-abbrev pub invariant-loop-node : goal.invariant-loop-node
-invariant-loop-node l = All (IsSound l.text) (flat_map nodes_in (take l.node-index l.node-items))
+abbrev pub invariant-loop-number : goal.invariant-loop-number
+invariant-loop-number l = All (IsSound l.text) (flat_map nodes_in (take l.number l.node-items))

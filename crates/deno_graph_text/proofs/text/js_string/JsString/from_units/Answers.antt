@@ -7,7 +7,15 @@ use Rattle.std.specs.String.{string_bytes}
 use Rattle.deno_graph_text.specs.JsString.{lossy_char, lossy_text, points_of_units}
 use Rattle.deno_graph_text.specs.StoredString.{lone_from, points_of}
 use Rattle.deno_graph_text.proofs.LossyText.{IsStored-lossy_text, points_of-lossy_text}
-use Rattle.deno_graph_text.proofs.Units.{text_pushed, lone_pushed, text_whole, lone_whole, IsPaired-points_of_units, all_scalars-points_of_units, flat_map-points_of_units}
+use Rattle.deno_graph_text.proofs.Units.{
+  text_pushed,
+  lone_pushed,
+  text_whole,
+  lone_whole,
+  IsPaired-points_of_units,
+  all_scalars-points_of_units,
+  flat_map-points_of_units,
+}
 use Rattle.deno_graph_text.proofs.text.js_string.JsString.from_units.Goals as goal
 
 pub loop-point-preserved : goal.loop-point-preserved

@@ -1,4 +1,21 @@
-use Rattle.std.proofs.Common.{◌≡◌, ◌+◌, ◌-◌, ◌==◌, ◌<◌, drop, length, slice_index, count_by, arith, sym, ap, ◌∙◌, subst, refl, length-drop}
+use Rattle.std.proofs.Common.{
+  ◌≡◌,
+  ◌+◌,
+  ◌-◌,
+  ◌==◌,
+  ◌<◌,
+  drop,
+  length,
+  slice_index,
+  count_by,
+  arith,
+  sym,
+  ap,
+  ◌∙◌,
+  subst,
+  refl,
+  length-drop,
+}
 use Rattle.std.proofs.lemmas.List.{take_all}
 use Rattle.std.specs.Fmt.{is_char_start}
 use Rattle.deno_graph_text.proofs.ByteCounts.{one_line, last_line, some_feed}

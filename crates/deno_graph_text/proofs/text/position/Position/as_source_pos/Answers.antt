@@ -1,4 +1,22 @@
-use Rattle.std.proofs.Common.{◌≡◌, ◌==◌, ◌&&◌, ◌↔◌, ℕ, Bool, true, false, List, Option, Some, IsNone, ap, sym, ◌∙◌, refl, subst}
+use Rattle.std.proofs.Common.{
+  ◌≡◌,
+  ◌==◌,
+  ◌&&◌,
+  ◌↔◌,
+  ℕ,
+  Bool,
+  true,
+  false,
+  List,
+  Option,
+  Some,
+  IsNone,
+  ap,
+  sym,
+  ◌∙◌,
+  refl,
+  subst,
+}
 use Rattle.std.proofs.lemmas.Bool.{false≢true}
 use Rattle.std.specs.Bool.{then_some}
 use Rattle.std.specs.Str.{IsUtf8}

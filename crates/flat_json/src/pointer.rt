@@ -1,0 +1,77 @@
+//! Where a value stands, as a JSON Pointer (RFC 6901).
+
+ghost use Rattle.std.specs.Prelude.{◌≡◌, [], IfOk, IfSome};
+ghost use Rattle.std.specs.String.{string_bytes};
+ghost use Rattle.flat_json.specs.Tape.{HasNode, StandsIn};
+
+use crate::{Element, Tape};
+use std::alloc::{AllocError, Global};
+
+impl<'a> Tape<'a> {
+    /// The JSON Pointer of the value whose node has this number, as `/program/body/0`: the empty
+    /// text for the value of the whole text. Where no value begins at that node, it is that of the
+    /// innermost value that the node is part of, and the empty text where the tape has no such
+    /// node. It takes time for each value on the way, and for those that stand before one of them
+    /// in the same array or object.
+    pub fn pointer(&self, alloc: Global, number: usize) -> Result<String, AllocError>
+        ensures root { number ≡ 0 → IfOk result (λ pointer. string_bytes pointer ≡ []) }
+    {
+        let mut pointer = String::new(alloc);
+        let mut value = self.root();
+        while let Some((step, inner)) = step_to(value, number) {
+            push_step(&mut pointer, step)?;
+            value = inner;
+        }
+        Ok(pointer)
+    }
+}
+
+/// How a value stands in an array or an object.
+#[derive(Clone, Copy)]
+enum Step<'a> {
+    Index(usize),
+    Name(&'a str),
+}
+
+/// The value right in `value` that has the node of this number.
+fn step_to<'a>(value: Element<'a>, number: usize) -> Option<(Step<'a>, Element<'a>)>
+    ensures inside { IfSome result (λ found. StandsIn found.1 value.entry) }
+    ensures node { IfSome result (λ found. HasNode found.1 number) }
+{
+    if let Some(members) = value.members() {
+        for (name, inner) in members.entries() {
+            if inner.has_node(number) {
+                return Some((Step::Name(name), inner));
+            }
+        }
+        return None;
+    }
+    let mut index = 0usize;
+    for inner in value.elements()? {
+        if inner.has_node(number) {
+            return Some((Step::Index(index), inner));
+        }
+        index = index.saturating_add(1);
+    }
+    None
+}
+
+fn push_step(pointer: &mut String, step: Step<'_>) -> Result<(), AllocError> {
+    match step {
+        Step::Index(index) => write!(pointer, "/{index}"),
+        Step::Name(name) => push_name(pointer, name),
+    }
+}
+
+/// Pushes a name with `~` as `~0` and `/` as `~1`.
+fn push_name(pointer: &mut String, name: &str) -> Result<(), AllocError> {
+    pointer.push('/')?;
+    for letter in name.chars() {
+        match letter {
+            '~' => pointer.push_str("~0")?,
+            '/' => pointer.push_str("~1")?,
+            _ => pointer.push(letter)?,
+        }
+    }
+    Ok(())
+}

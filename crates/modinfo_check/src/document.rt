@@ -1,0 +1,66 @@
+use crate::report::{Report, Wrong};
+use crate::source::wrong_source;
+use crate::syntax::wrong_text;
+use crate::warnings::find_warnings;
+use deno_graph_source::tree::source_fault_place;
+use flat_json::{Tape, TapeFault};
+use json::Scratch;
+use modinfo_notation::{Document, NotationFault, read_document};
+use std::alloc::{AllocError, Global};
+use url::{ParseError, Url};
+
+/// Checks a document of `analyze`: `Wrong` exactly where `analyze` has a fault, and of the same
+/// name. The only error is that memory was refused.
+pub fn check_document(alloc: Global, text: &str) -> Result<Report, AllocError> {
+    let mut scratch = Scratch::new(alloc);
+    match Tape::read(alloc, text, &mut scratch) {
+        Ok(tape) => check_tape(alloc, &tape),
+        Err(TapeFault::Json { offset }) => Ok(Report::Wrong(wrong_text(alloc, text, offset)?)),
+        Err(TapeFault::OutOfMemory) => Err(AllocError),
+    }
+}
+
+fn check_tape(alloc: Global, tape: &Tape<'_>) -> Result<Report, AllocError> {
+    match read_document(alloc, tape.root()) {
+        Ok(document) => check_parts(alloc, tape, &document),
+        Err(NotationFault::OutOfMemory) => Err(AllocError),
+        Err(fault) => Ok(Report::Wrong(wrong_notation(alloc, tape, &fault)?)),
+    }
+}
+
+fn wrong_notation(
+    alloc: Global,
+    tape: &Tape<'_>,
+    fault: &NotationFault,
+) -> Result<Wrong, AllocError> {
+    let name = format!(in alloc; "{fault}")?;
+    match fault {
+        NotationFault::NotInNotation(misfit) => {
+            let expected = format!(in alloc; "{}", misfit.expected)?;
+            let mut wrong = Wrong::new(name, expected);
+            wrong.pointer = Some(tape.pointer(alloc, misfit.element)?);
+            Ok(wrong)
+        }
+        _ => Ok(Wrong::new(name, String::from_str(alloc, "a document")?)),
+    }
+}
+
+fn check_parts(alloc: Global, tape: &Tape<'_>, document: &Document) -> Result<Report, AllocError> {
+    match Url::parse(alloc, document.specifier.as_str()) {
+        Ok(_) => {}
+        Err(ParseError::OutOfMemory) => return Err(AllocError),
+        Err(_) => return Ok(Report::Wrong(wrong_specifier(alloc)?)),
+    }
+    let text = document.source.as_str();
+    match source_fault_place(alloc, text, &document.program, &document.comments)? {
+        Some(found) => Ok(Report::Wrong(wrong_source(alloc, tape, text.len(), &found)?)),
+        None => Ok(Report::Valid(find_warnings(alloc, tape, document)?)),
+    }
+}
+
+fn wrong_specifier(alloc: Global) -> Result<Wrong, AllocError> {
+    let name = format!(in alloc; "{}", NotationFault::Specifier)?;
+    let mut wrong = Wrong::new(name, String::from_str(alloc, "an absolute URL")?);
+    wrong.pointer = Some(String::from_str(alloc, "/specifier")?);
+    Ok(wrong)
+}

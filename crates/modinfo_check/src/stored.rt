@@ -1,0 +1,185 @@
+//! Documents of `convert` and `reach`: stored information.
+
+use crate::form::{Form, FormFault, Search, find_float, members_of};
+use crate::pointer::{Step, pointer_of};
+use crate::report::{Report, Wrong};
+use crate::syntax::{read_json, wrong_json};
+use crate::warning::Warnings;
+use deno_graph_info::analysis::{ConvertFault, InfoFault, ModuleInfo, module_graph_1_to_2};
+use deno_graph_source::values::Text;
+use serde_json::{Map, Value};
+use std::alloc::{AllocError, AllocFailed, Global};
+
+/// What is wrong with stored information: the fault, and why the value that the search has come to
+/// can't be read.
+#[derive(Drop)]
+struct Misread {
+    fault: InfoFault,
+    why: FormFault,
+}
+
+impl From<FormFault> for Misread {
+    fn from(why: FormFault) -> Misread {
+        Misread {
+            fault: InfoFault::Shape,
+            why,
+        }
+    }
+}
+
+impl<T: Drop> From<AllocFailed<T>> for Misread {
+    fn from(_refused: AllocFailed<T>) -> Misread {
+        Misread::from(FormFault::OutOfMemory)
+    }
+}
+
+/// Checks a document of `reach`, a root and the information of many modules: `Wrong` exactly where
+/// `reach` has a fault, and of the same name. The only error is that memory was refused.
+pub fn check_modules(alloc: Global, text: &str) -> Result<Report, AllocError> {
+    let Some(value) = read_json(alloc, text)? else {
+        return Ok(Report::Wrong(wrong_json(alloc, text)?));
+    };
+    let mut search = Search::new(alloc);
+    match find_in_document(&mut search, &value) {
+        Ok(()) => Ok(Report::Valid(Warnings::new(alloc))),
+        Err(Misread { fault, why }) => {
+            let name = format!(in alloc; "{fault}")?;
+            Ok(Report::Wrong(wrong_form(alloc, name, &search, why)?))
+        }
+    }
+}
+
+// `modules` is looked for before `root`, and both before any information is read.
+fn find_in_document<'a>(search: &mut Search<'a>, value: &'a Value) -> Result<(), Misread> {
+    let document = members_of(value)?;
+    let modules = object_at(search, document, "modules")?;
+    search.required::<Text>(document, "root")?;
+    search.steps.push(Step::Member("modules"))?;
+    for (key, module) in modules.iter() {
+        search.steps.push(Step::Member(key.as_str()))?;
+        find_in_module(search, module)?;
+        search.steps.pop();
+    }
+    Ok(())
+}
+
+/// The object that is the member of this name.
+fn object_at<'a>(
+    search: &mut Search<'a>,
+    document: &'a Map<String, Value>,
+    name: &'static str,
+) -> Result<&'a Map<String, Value>, FormFault> {
+    let Some(value) = document.get(name) else {
+        return Err(FormFault::Missing(name));
+    };
+    search.steps.push(Step::Member(name))?;
+    let members = members_of(value)?;
+    search.steps.pop();
+    Ok(members)
+}
+
+fn find_in_module<'a>(search: &mut Search<'a>, module: &'a Value) -> Result<(), Misread> {
+    let fault = match ModuleInfo::from_value(search.alloc, module) {
+        Ok(_) => return Ok(()),
+        Err(InfoFault::OutOfMemory) => return Err(Misread::from(FormFault::OutOfMemory)),
+        Err(fault) => fault,
+    };
+    let found = match fault {
+        InfoFault::Float => find_float(search, module),
+        _ => ModuleInfo::find(search, module),
+    };
+    match found {
+        Ok(()) => Err(Misread::from(FormFault::OutOfMemory)),
+        Err(why) => Err(Misread { fault, why }),
+    }
+}
+
+/// Checks a document of `convert`, the stored information of one module: `Wrong` exactly where
+/// `convert` has a fault, and of the same name. The only error is that memory was refused.
+pub fn check_stored(alloc: Global, text: &str) -> Result<Report, AllocError> {
+    let Some(mut value) = read_json(alloc, text)? else {
+        return Ok(Report::Wrong(wrong_json(alloc, text)?));
+    };
+    let fault = match module_graph_1_to_2(alloc, &mut value) {
+        Ok(()) => return Ok(Report::Valid(Warnings::new(alloc))),
+        Err(ConvertFault::OutOfMemory) => return Err(AllocError),
+        Err(fault) => fault,
+    };
+    let mut search = Search::new(alloc);
+    let found = match fault {
+        ConvertFault::Float => find_float(&mut search, &value),
+        _ => find_overflow(&mut search, &value),
+    };
+    match found {
+        Ok(()) => Err(AllocError),
+        Err(why) => {
+            let name = format!(in alloc; "{fault}")?;
+            Ok(Report::Wrong(wrong_form(alloc, name, &search, why)?))
+        }
+    }
+}
+
+/// Looks for the first dependency whose types would end beyond the largest column.
+fn find_overflow<'a>(search: &mut Search<'a>, value: &'a Value) -> Result<(), FormFault> {
+    let Some(dependencies) = value.get("dependencies").and_then(|value| value.as_array()) else {
+        return Ok(());
+    };
+    for (number, dependency) in dependencies.iter().enumerate() {
+        if overflows(search, dependency)? {
+            push_column(search, number, dependency)?;
+            return Err(FormFault::Expected("a column from which the types end below 2^64"));
+        }
+    }
+    Ok(())
+}
+
+/// The way to the column of the last comment of a dependency.
+fn push_column(
+    search: &mut Search<'_>,
+    number: usize,
+    dependency: &Value,
+) -> Result<(), FormFault> {
+    let comments = dependency.get("leadingComments");
+    let count = comments
+        .and_then(|value| value.as_array())
+        .map_or(0, |comments| comments.len());
+    search.steps.push(Step::Member("dependencies"))?;
+    search.steps.push(Step::Item(number))?;
+    search.steps.push(Step::Member("leadingComments"))?;
+    search.steps.push(Step::Item(count.saturating_sub(1)))?;
+    search.steps.push(Step::Member("range"))?;
+    search.steps.push(Step::Item(0))?;
+    search.steps.push(Step::Item(1))?;
+    Ok(())
+}
+
+/// Whether a dependency, as the only one of a module, has that fault.
+fn overflows(search: &Search<'_>, dependency: &Value) -> Result<bool, FormFault> {
+    let alloc = search.alloc;
+    let mut dependencies = Vec::new(alloc);
+    dependencies.push(dependency.clone()?)?;
+    let mut module = Map::new(alloc);
+    let name = String::from_str(alloc, "dependencies")?;
+    drop(module.insert(name, Value::Array(dependencies))?);
+    match module_graph_1_to_2(alloc, &mut Value::Object(module)) {
+        Ok(()) => Ok(false),
+        Err(ConvertFault::OutOfMemory) => Err(FormFault::OutOfMemory),
+        Err(_) => Ok(true),
+    }
+}
+
+fn wrong_form(
+    alloc: Global,
+    fault: String,
+    search: &Search<'_>,
+    why: FormFault,
+) -> Result<Wrong, AllocError> {
+    let expected = match why {
+        FormFault::Expected(expected) => String::from_str(alloc, expected)?,
+        FormFault::Missing(name) => format!(in alloc; "a member `{name}`")?,
+        FormFault::OutOfMemory => return Err(AllocError),
+    };
+    let mut wrong = Wrong::new(fault, expected);
+    wrong.pointer = Some(pointer_of(alloc, search.steps.as_slice())?);
+    Ok(wrong)
+}

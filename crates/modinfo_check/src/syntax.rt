@@ -1,0 +1,50 @@
+//! Documents that are no JSON, or no text.
+
+use crate::first_wrong::first_wrong;
+use crate::report::{Report, Wrong};
+use crate::text_place::TextPlace;
+use flat_json::{Tape, TapeFault};
+use json::Scratch;
+use modinfo_notation::NotationFault;
+use serde_json::Value;
+use simdutf8::basic;
+use std::alloc::{AllocError, Global};
+
+/// The JSON value that the text is, if it is one.
+pub fn read_json(alloc: Global, text: &str) -> Result<Option<Value>, AllocError> {
+    match Value::from_str(alloc, text) {
+        Ok(value) => Ok(Some(value)),
+        Err(error) if error.is_memory() => Err(AllocError),
+        Err(_) => Ok(None),
+    }
+}
+
+/// The fault of a text that is no JSON.
+pub fn wrong_json(alloc: Global, text: &str) -> Result<Wrong, AllocError> {
+    let mut scratch = Scratch::new(alloc);
+    match Tape::read(alloc, text, &mut scratch) {
+        Err(TapeFault::Json { offset }) => wrong_text(alloc, text, offset),
+        _ => Err(AllocError),
+    }
+}
+
+/// The fault of a text that is no JSON or, from the token behind `offset` bytes on, isn't read, since
+/// that is a number or a string that isn't taken.
+pub fn wrong_text(alloc: Global, text: &str, offset: usize) -> Result<Wrong, AllocError> {
+    let offset = first_wrong(alloc, text)?.unwrap_or(offset);
+    let fault = format!(in alloc; "{}", NotationFault::Json { offset })?;
+    let expected = String::from_str(alloc, "one JSON value, at most 127 deep")?;
+    let mut wrong = Wrong::new(fault, expected);
+    wrong.at = Some(TextPlace::new(text, offset));
+    Ok(wrong)
+}
+
+/// The report on bytes that are no text: so many of them are UTF-8.
+pub fn report_bytes(alloc: Global, bytes: &[u8], valid: usize) -> Result<Report, AllocError> {
+    let before = bytes.get(..valid).unwrap_or(&[]);
+    let text = basic::from_utf8(before).unwrap_or("");
+    let fault = String::from_str(alloc, "Input")?;
+    let mut wrong = Wrong::new(fault, String::from_str(alloc, "UTF-8")?);
+    wrong.at = Some(TextPlace::new(text, text.len()));
+    Ok(Report::Wrong(wrong))
+}

@@ -1,0 +1,7 @@
+use Rattle.flat_json.specs.Tape.{TakesSame, array_of}
+use Rattle.modinfo_notation.proofs.literal.read_strings.Given as goal
+
+abbrev pub invariant-loop-value : goal.invariant-loop-value
+invariant-loop-value l = (goal.iterator-loop-value).can_next l.value-iterator
+    × (goal.iterator-loop-value).is_finite l.value-iterator
+    × TakesSame (array_of l.value-iterator) l.initial.value

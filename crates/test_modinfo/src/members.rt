@@ -1,0 +1,171 @@
+//! The names of a document's members: of those that `known_members` names each is read, and no
+//! other.
+
+use deno_graph_source::tree::CommentSide;
+use flat_json::{Element, Tape};
+use json::Scratch;
+use modinfo::notation::kind::KINDS;
+use modinfo::notation::{Role, comment_at, known_members, node_at, parse_document};
+use std::alloc::{AllocError, Global};
+use std::process::Abort;
+use std::test::Fail;
+
+/// A document of which each object has every member that is read of it, so that it would be read
+/// as something else without that member. Only the nodes in `children` have none themselves, and a
+/// key has one of its two members.
+const DOCUMENT: &str = r#"{
+"specifier":"file:///a.ts","mediaType":"TypeScript","source":"a",
+"leading":[{"pos":0,"comments":[{"kind":"line","range":[0,0],"text":"a"}]}],
+"trailing":[{"pos":1,"comments":[{"kind":"block","range":[0,1],"text":"b"}]}],
+"program":{"range":[0,1],"shebang":true,"body":[
+{"kind":"ImportDecl","range":[0,1],"children":[{"kind":"Other","range":[0,0]}],"typeOnly":true,
+"phase":"defer","src":{"value":"a","range":[0,1]},"hasSpecifiers":true,"hasWith":true},
+{"kind":"NamedExport","range":[0,1],"children":[{"kind":"Other","range":[0,0]}],"typeOnly":true,
+"src":{"value":"a","range":[0,1]},"hasWith":true},
+{"kind":"ExportAll","range":[0,1],"children":[{"kind":"Other","range":[0,0]}],"typeOnly":true,
+"src":{"value":"a","range":[0,1]},"hasWith":true},
+{"kind":"ExportOther","range":[0,1],"children":[{"kind":"Other","range":[0,0]}]},
+{"kind":"ImportEquals","range":[0,1],"children":[{"kind":"Other","range":[0,0]}],"typeOnly":true,
+"isExport":true,"external":{"value":"a","range":[0,1]}},
+{"kind":"ImportType","range":[0,1],"children":[{"kind":"Other","range":[0,0]}],
+"arg":{"value":"a","range":[0,1]},"hasWith":true},
+{"kind":"ModuleDecl","range":[0,1],"children":[{"kind":"Other","range":[0,0]}],
+"name":{"value":"a","range":[0,1]}},
+{"kind":"Call","range":[0,1],"children":[{"kind":"Other","range":[0,0]}],"callee":"super",
+"args":[{"range":[0,1],"spread":true}]},
+{"kind":"Str","range":[0,1],"children":[{"kind":"Other","range":[0,0]}],"value":"a"},
+{"kind":"Template","range":[0,1],"children":[{"kind":"Other","range":[0,0]}],"quasis":["a"]},
+{"kind":"Binary","range":[0,1],"children":[{"kind":"Other","range":[0,0]}],"op":"add"},
+{"kind":"Ident","range":[0,1],"children":[{"kind":"Other","range":[0,0]}],"value":"a"},
+{"kind":"Object","range":[0,1],"children":[{"kind":"Other","range":[0,0]}]},
+{"kind":"KeyValue","range":[0,1],"children":[{"kind":"Other","range":[0,0]}],"key":{"str":"a"}},
+{"kind":"KeyValue","range":[0,1],"children":[{"kind":"Other","range":[0,0]}],"key":{"ident":"a"}},
+{"kind":"Await","range":[0,1],"children":[{"kind":"Other","range":[0,0]}]},
+{"kind":"Function","range":[0,1],"children":[{"kind":"Other","range":[0,0]}]},
+{"kind":"ImportMeta","range":[0,1],"children":[{"kind":"Other","range":[0,0]}]},
+{"kind":"Other","range":[0,1],"children":[{"kind":"Other","range":[0,0]}]}
+]}}"#;
+
+/// What stands behind the name of each member, and nowhere else.
+const BEHIND_NAME: &str = "\":";
+
+#[test]
+fn each_member_is_read(rt: HostRuntime) -> Result<(), Fail> {
+    let alloc = rt.alloc();
+    let read = read_of(alloc, DOCUMENT)?;
+    assert!(rt; read.is_some());
+    for number in 1..DOCUMENT.split(BEHIND_NAME).count() {
+        let text = with_renamed(alloc, number)?;
+        assert!(rt;
+            read_of(alloc, text.as_str())? != read,
+            "the member {number}"
+        );
+    }
+    Ok(())
+}
+
+/// The document, with another name of its member of this number, from 1 on.
+fn with_renamed(alloc: Global, number: usize) -> Result<String, AllocError> {
+    let mut text = String::new(alloc);
+    for (place, part) in DOCUMENT.split(BEHIND_NAME).enumerate() {
+        if place == number {
+            text.push('_')?;
+        }
+        if place > 0 {
+            text.push_str(BEHIND_NAME)?;
+        }
+        text.push_str(part)?;
+    }
+    Ok(text)
+}
+
+/// What is read of a text, if it is a document.
+fn read_of(alloc: Global, text: &str) -> Result<Option<String>, AllocError> {
+    match parse_document(alloc, text) {
+        Ok(document) => Ok(Some(format!(in alloc; "{document:?}")?)),
+        Err(_) => Ok(None),
+    }
+}
+
+#[test]
+fn each_member_is_known(rt: HostRuntime) -> Result<(), Fail> {
+    let mut scratch = Scratch::new(rt.alloc());
+    let tape = Tape::read(rt.alloc(), DOCUMENT, &mut scratch)?;
+    let root = tape.root();
+    let kinds = KINDS.split(", ").count();
+    assert_members(&rt, Role::Document, Some(root));
+    assert_members(&rt, Role::Program, node_at(root, &[]));
+    for name in ["leading", "trailing"] {
+        let entry = member(Some(root), name).and_then(first);
+        assert_members(&rt, Role::CommentEntry, entry);
+    }
+    assert_members(
+        &rt,
+        Role::Comment,
+        comment_at(root, CommentSide::Leading, 0, 0),
+    );
+    assert_members(
+        &rt,
+        Role::Comment,
+        comment_at(root, CommentSide::Trailing, 1, 0),
+    );
+    for number in 0..=kinds {
+        assert_node(&rt, node_at(root, &[number]));
+    }
+    assert!(rt; node_at(root, &[kinds + 1]).is_none());
+    Ok(())
+}
+
+/// A node of the body, and what stands in it beside its children.
+fn assert_node(rt: &impl Abort, node: Option<Element<'_>>) {
+    let kind = member(node, "kind").and_then(|kind| kind.as_str());
+    let kind = kind.unwrap_or("");
+    assert!(rt;
+        KINDS.split(", ").any(|known| known == kind),
+        "the kind {kind}"
+    );
+    assert_members(rt, Role::Node(kind), node);
+    for name in ["src", "external", "arg", "name"] {
+        if let Some(literal) = member(node, name) {
+            assert_members(rt, Role::Literal, Some(literal));
+        }
+    }
+    if let Some(args) = member(node, "args") {
+        assert_members(rt, Role::Argument, first(args));
+    }
+    if let Some(key) = member(node, "key") {
+        assert_known(rt, Role::Key, key);
+    }
+}
+
+/// An object that has each member of its role, and no other.
+fn assert_members(rt: &impl Abort, role: Role<'_>, object: Option<Element<'_>>) {
+    let Some(object) = object else {
+        panic!(rt; "{role:?} isn't there");
+    };
+    for name in known_members(role) {
+        assert!(rt;
+            member(Some(object), name).is_some(),
+            "{role:?} has no {name}"
+        );
+    }
+    assert_known(rt, role, object);
+}
+
+fn assert_known(rt: &impl Abort, role: Role<'_>, object: Element<'_>) {
+    let Some(members) = object.members() else {
+        panic!(rt; "{role:?} is no object");
+    };
+    for (name, _) in members.entries() {
+        let is_known = known_members(role).iter().any(|known| *known == name);
+        assert!(rt; is_known, "{role:?} has {name}");
+    }
+}
+
+fn member<'a>(object: Option<Element<'a>>, name: &str) -> Option<Element<'a>> {
+    object?.members()?.get(name)
+}
+
+fn first<'a>(array: Element<'a>) -> Option<Element<'a>> {
+    array.elements()?.get(0)
+}
