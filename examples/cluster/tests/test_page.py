@@ -11,7 +11,8 @@ from conftest import ROOT, analyzed
 
 BLOCK = re.compile(r"^```bash\n(.*?)^```$", re.DOTALL | re.MULTILINE)
 PARTS = ["adapters", "bench", "build", "docs", "examples"]
-# In the place of ssh: what it would run on the machine that is named, behind the options, runs here.
+# In the place of ssh: what it would run on the machine that is named, behind the options, runs here, with
+# the environment variable SHELL, which sshd sets and the machine of these tests may lack.
 SSH = """#!/bin/sh
 while [ "${1#-}" != "$1" ]; do
     case $1 in -[EliFoSp]) shift ;; esac
@@ -20,7 +21,7 @@ done
 echo "$1" >> ssh-machines
 shift
 [ "$1" != -- ] || shift
-exec sh -c "$*"
+SHELL=/bin/sh exec sh -c "$*"
 """
 
 
@@ -52,7 +53,7 @@ def path_with_stand_ins(tmp_path: Path) -> str:
 
 
 def test_the_page_s_commands(clone: Path, path_with_stand_ins: str) -> None:
-    script = f"set -euo pipefail\ntrap 'kill $(jobs -p) || true; wait' EXIT\n{commands()}"
+    script = f"set -euo pipefail\ntrap 'jobs -p | xargs --no-run-if-empty kill; wait' EXIT\n{commands()}"
     done = subprocess.run(
         ["bash", "-c", script], cwd=clone, env={**os.environ, "PATH": path_with_stand_ins}, capture_output=True
     )
