@@ -1,4 +1,4 @@
-ghost use Rattle.std.specs.Prelude.{◌≡◌, ◌<◌, length, vec_len, IfOk, OnOk};
+ghost use Rattle.std.specs.Prelude.{◌≡◌, ◌<◌, ◌≤◌, length, vec_len, IfOk, OnOk};
 
 use crate::Node;
 use crate::fault::TapeFault;
@@ -21,7 +21,7 @@ pub fn read<'a>(
         nodes: Vec::new(alloc),
         offset: 0,
     };
-    match parser.value(MAX_DEPTH) {
+    match parser.root() {
         Ok(()) => parser.finish(text),
         Err(Stop::Json) => Err(TapeFault::Json {
             offset: parser.offset,
@@ -64,28 +64,48 @@ struct Parser<'a> {
 }
 
 impl<'a> Parser<'a> {
-    /// Reads the next value. Arrays and objects may nest so deep in it.
-    #[cycle(read)]
-    fn value(&mut self, depth: usize) -> Result<(), Stop>
+    /// Reads the value of the text.
+    fn root(&mut self) -> Result<(), Stop>
+        ensures { OnOk result (length self.old.nodes.items < length self.new.nodes.items) }
+    {
+        let first = self.token()?;
+        self.value(first, MAX_DEPTH)
+    }
+
+    /// Reads the next token, and keeps its place.
+    #[inline(always)]
+    fn token(&mut self) -> Result<Token<'a>, Stop>
         ensures shorter { OnOk result (length self.new.reader < length self.old.reader) }
-        ensures longer { OnOk result (length self.old.nodes.items < length self.new.nodes.items) }
+        ensures same { self.new.nodes ≡ self.old.nodes }
     {
         self.offset = self.reader.offset();
-        match self.reader.next() {
-            Some(Token::String(text)) => Ok(self.nodes.push(Node::String(text))?),
-            Some(Token::Number(digits)) => Ok(self.nodes.push(number(digits)?)?),
-            Some(Token::Bool(value)) => Ok(self.nodes.push(Node::Bool(value))?),
-            Some(Token::Null) => Ok(self.nodes.push(Node::Null)?),
-            Some(Token::BeginArray) if depth > 0 => self.array(depth - 1),
-            Some(Token::BeginObject) if depth > 0 => self.object(depth - 1),
+        self.reader.next().ok_or(Stop::Json)
+    }
+
+    /// Reads what is left of the value that begins with the token. Arrays and objects may nest so
+    /// deep in it.
+    #[cycle(read)]
+    #[inline(always)]
+    fn value(&mut self, first: Token<'a>, depth: usize) -> Result<(), Stop>
+        ensures shorter { OnOk result (length self.new.reader ≤ length self.old.reader) }
+        ensures longer { OnOk result (length self.old.nodes.items < length self.new.nodes.items) }
+    {
+        match first {
+            Token::String(text) => Ok(self.nodes.push(Node::String(text))?),
+            Token::Number(digits) => Ok(self.nodes.push(number(digits)?)?),
+            Token::Bool(value) => Ok(self.nodes.push(Node::Bool(value))?),
+            Token::Null => Ok(self.nodes.push(Node::Null)?),
+            Token::BeginArray if depth > 0 => self.array(depth - 1),
+            Token::BeginObject if depth > 0 => self.object(depth - 1),
             _ => Err(Stop::Json),
         }
     }
 
     /// What stands behind the bracket that opens an array.
     #[cycle(read)]
+    #[inline(never)]
     fn array(&mut self, depth: usize) -> Result<(), Stop>
-        ensures shorter { OnOk result (length self.new.reader < length self.old.reader) }
+        ensures shorter { OnOk result (length self.new.reader ≤ length self.old.reader) }
         ensures longer { OnOk result (length self.old.nodes.items < length self.new.nodes.items) }
     {
         let at = self.nodes.len();
@@ -94,8 +114,11 @@ impl<'a> Parser<'a> {
             nodes: 0,
         })?;
         let mut elements = 0usize;
-        while !self.reader.take_end_array() {
-            self.value(depth)?;
+        'elements: loop {
+            match self.token()? {
+                Token::EndArray => break,
+                first => self.value(first, depth)?,
+            }
             elements = elements.saturating_add(1);
         }
         let nodes = self.nodes.len() - at - 1;
@@ -105,22 +128,21 @@ impl<'a> Parser<'a> {
 
     /// What stands behind the brace that opens an object.
     #[cycle(read)]
+    #[inline(never)]
     fn object(&mut self, depth: usize) -> Result<(), Stop>
-        ensures shorter { OnOk result (length self.new.reader < length self.old.reader) }
+        ensures shorter { OnOk result (length self.new.reader ≤ length self.old.reader) }
         ensures longer { OnOk result (length self.old.nodes.items < length self.new.nodes.items) }
     {
         let at = self.nodes.len();
         self.nodes.push(Node::Object { nodes: 0 })?;
-        loop {
-            self.offset = self.reader.offset();
-            match self.reader.next_key() {
-                Ok(Some(name)) => {
-                    self.nodes.push(Node::Key(name))?;
-                    self.value(depth)?;
-                }
-                Ok(None) => break,
-                Err(_) => return Err(Stop::Json),
+        'members: loop {
+            match self.token()? {
+                Token::Key(name) => self.nodes.push(Node::Key(name))?,
+                Token::EndObject => break,
+                _ => return Err(Stop::Json),
             }
+            let first = self.token()?;
+            self.value(first, depth)?;
         }
         let nodes = self.nodes.len() - at - 1;
         self.nodes[at] = Node::Object { nodes };

@@ -10,18 +10,18 @@ decreases-array l = 2 * l.depth + 1
 abbrev pub decreases-object : goal.decreases-object
 decreases-object l = 2 * l.depth + 1
 
-abbrev pub invariant-array-loop-self : goal.invariant-array-loop-self
-invariant-array-loop-self l =
+abbrev pub invariant-array-elements : goal.invariant-array-elements
+invariant-array-elements l =
     (length l.self.reader ≤ length l.initial.self.reader) × (l.at < length l.self.nodes.items)
     × (length l.initial.self.nodes.items ≤ length l.self.nodes.items)
 
-abbrev pub decreases-array-loop-self : goal.decreases-array-loop-self
-decreases-array-loop-self l = length l.self.reader
+abbrev pub decreases-array-elements : goal.decreases-array-elements
+decreases-array-elements l = length l.self.reader
 
-abbrev pub invariant-object-loop-name : goal.invariant-object-loop-name
-invariant-object-loop-name l =
+abbrev pub invariant-object-members : goal.invariant-object-members
+invariant-object-members l =
     (length l.self.reader ≤ length l.initial.self.reader) × (l.at < length l.self.nodes.items)
     × (length l.initial.self.nodes.items ≤ length l.self.nodes.items)
 
-abbrev pub decreases-object-loop-name : goal.decreases-object-loop-name
-decreases-object-loop-name l = length l.self.reader
+abbrev pub decreases-object-members : goal.decreases-object-members
+decreases-object-members l = length l.self.reader
