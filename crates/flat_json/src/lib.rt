@@ -6,6 +6,7 @@
 
 ghost use Rattle.std.specs.Prelude.{◌≡◌, ◌<◌, ◌≤◌, ◌+◌, ◌-◌, ◌^◌, ◌↔◌, length, vec_len, IfSome, IsTrue};
 
+mod digits;
 mod fault;
 mod parse;
 mod pointer;
@@ -160,6 +161,7 @@ impl<'a> Element<'a> {
     }
 
     /// The value that begins at a place of its nodes, and the place behind it.
+    #[inline(always)]
     fn value_at(self, at: usize) -> Option<(Element<'a>, usize)>
         ensures end { IfSome result (λ found. (at < found.1) × (found.1 ≤ nodes_of self.entry)) }
         ensures number { IfSome result (λ found. number_of found.0 ≡ number_of self.entry + at) }
@@ -169,8 +171,11 @@ impl<'a> Element<'a> {
             Node::Array { nodes, .. } | Node::Object { nodes } => *nodes,
             _ => 0,
         };
-        let end = at.saturating_add(1).saturating_add(inside);
-        let nodes = self.nodes.get(at..end)?;
+        if inside >= self.nodes.len() - at {
+            return None;
+        }
+        let end = at + 1 + inside;
+        let nodes = &self.nodes[at..end];
         let number = self.number + at;
         Some((Element { nodes, number }, end))
     }

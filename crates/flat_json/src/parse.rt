@@ -1,6 +1,7 @@
 ghost use Rattle.std.specs.Prelude.{◌≡◌, ◌<◌, ◌≤◌, length, vec_len, IfOk, OnOk};
 
 use crate::Node;
+use crate::digits::short_whole;
 use crate::fault::TapeFault;
 use json::{Reader, Scratch, Token};
 use std::alloc::{AllocFailed, Global};
@@ -92,7 +93,7 @@ impl<'a> Parser<'a> {
     {
         match first {
             Token::String(text) => Ok(self.nodes.push(Node::String(text))?),
-            Token::Number(digits) => Ok(self.nodes.push(number(digits)?)?),
+            Token::Number(digits) => Ok(self.nodes.push(node_of(digits)?)?),
             Token::Bool(value) => Ok(self.nodes.push(Node::Bool(value))?),
             Token::Null => Ok(self.nodes.push(Node::Null)?),
             Token::BeginArray if depth > 0 => self.array(depth - 1),
@@ -169,7 +170,16 @@ impl<'a> Parser<'a> {
 }
 
 /// The node of a number.
-fn number<'a>(digits: &str) -> Result<Node<'a>, Stop> {
+#[inline(always)]
+fn node_of<'a>(digits: &str) -> Result<Node<'a>, Stop> {
+    match short_whole(digits.as_bytes()) {
+        Some(whole) => Ok(Node::Whole(whole)),
+        None => long_number(digits),
+    }
+}
+
+#[inline(never)]
+fn long_number<'a>(digits: &str) -> Result<Node<'a>, Stop> {
     if let Ok(whole) = fast_float::parse_u64(digits.as_bytes()) {
         return Ok(Node::Whole(whole));
     }
