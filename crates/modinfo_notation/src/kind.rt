@@ -3,7 +3,7 @@
 //! properties in `property`.
 
 ghost use Rattle.std.specs.Prelude.{IfErr};
-ghost use Rattle.flat_json.specs.Tape.{object_of};
+ghost use Rattle.flat_json.specs.Tape.{StandsIn, object_of};
 ghost use Rattle.modinfo_notation.specs.Misfit.{IsIn};
 
 use crate::call::read_call;
@@ -13,10 +13,10 @@ use crate::declaration::{
 };
 use crate::expression::{read_binary, read_ident, read_str, read_template};
 use crate::fault::{Expected, NotationFault};
-use crate::member::{misfit, required, text_of};
+use crate::member::{misfit, text_of};
 use crate::property::read_key_value;
 use deno_graph_source::tree::Kind;
-use flat_json::Members;
+use flat_json::{Element, Members};
 use std::alloc::Global;
 
 /// The names of all kinds.
@@ -25,12 +25,17 @@ pub const KINDS: &str =
     ModuleDecl, Call, Str, Template, Binary, Ident, Object, KeyValue, Await, Function, ImportMeta, \
     Other";
 
-/// The kind that the member `kind` names, with what stands beside it.
-pub fn read_kind(alloc: Global, members: Members<'_>) -> Result<Kind, NotationFault>
-    ensures { IfErr result (IsIn (object_of members.entry)) }
+/// The kind that `value` names, with what stands among the members beside it.
+pub fn read_kind(
+    alloc: Global,
+    members: Members<'_>,
+    value: Element<'_>,
+) -> Result<Kind, NotationFault>
+    ensures { StandsIn value.entry (object_of members.entry)
+        → IfErr result (IsIn (object_of members.entry)) }
 {
-    let value = required(members, "kind")?;
     match text_of(value)? {
+        "Other" => Ok(Kind::Other),
         "ImportDecl" => read_import_decl(alloc, members),
         "NamedExport" => read_named_export(alloc, members),
         "ExportAll" => read_export_all(alloc, members),
@@ -48,7 +53,6 @@ pub fn read_kind(alloc: Global, members: Members<'_>) -> Result<Kind, NotationFa
         "Await" => Ok(Kind::Await),
         "Function" => Ok(Kind::Function),
         "ImportMeta" => Ok(Kind::ImportMeta),
-        "Other" => Ok(Kind::Other),
         _ => Err(misfit(value, Expected::OneOf(KINDS))),
     }
 }

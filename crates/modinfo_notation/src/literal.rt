@@ -1,9 +1,9 @@
-ghost use Rattle.std.specs.Prelude.{IfErr};
-ghost use Rattle.flat_json.specs.Tape.{object_of};
+ghost use Rattle.std.specs.Prelude.{IfErr, IfSome};
+ghost use Rattle.flat_json.specs.Tape.{StandsIn, object_of};
 ghost use Rattle.modinfo_notation.specs.Misfit.{IsIn};
 
 use crate::fault::{Expected, NotationFault};
-use crate::member::{elements_of, members_of, misfit, optional, range, required};
+use crate::member::{elements_of, members_of, misfit, optional, present, range_of};
 use deno_graph_source::text::JsString;
 use deno_graph_source::tree::StrLit;
 use deno_graph_source::values::Items;
@@ -29,9 +29,27 @@ pub fn read_literal(alloc: Global, value: Element<'_>) -> Result<StrLit, Notatio
     ensures { IfErr result (IsIn value.entry) }
 {
     let members = members_of(value)?;
-    let range = range(members)?;
-    let value = read_string(alloc, required(members, "value")?)?;
+    let (range, value) = literal_members(members);
+    let range = range_of(present(members, "range", range)?)?;
+    let value = read_string(alloc, present(members, "value", value)?)?;
     Ok(StrLit { value, range })
+}
+
+/// The last members `range` and `value`.
+fn literal_members<'a>(members: Members<'a>) -> (Option<Element<'a>>, Option<Element<'a>>)
+    ensures range { IfSome result.0 (λ found. StandsIn found (object_of members.entry)) }
+    ensures value { IfSome result.1 (λ found. StandsIn found (object_of members.entry)) }
+{
+    let mut range = None;
+    let mut value = None;
+    for (name, found) in members.entries() {
+        match name {
+            "range" => range = Some(found),
+            "value" => value = Some(found),
+            _ => (),
+        }
+    }
+    (range, value)
 }
 
 /// An array of strings.

@@ -1,6 +1,6 @@
 //! The members of a JSON object, each read as what the notation asks for.
 
-ghost use Rattle.std.specs.Prelude.{IfErr, IfOk, IfSome};
+ghost use Rattle.std.specs.Prelude.{◌≡◌, Some, IfErr, IfOk, IfSome};
 ghost use Rattle.flat_json.specs.Tape.{TakesSame, StandsIn, array_of, object_of};
 ghost use Rattle.modinfo_notation.specs.Misfit.{IsIn};
 
@@ -44,11 +44,21 @@ pub fn required<'a>(members: Members<'a>, name: &'static str) -> Result<Element<
     ensures member { IfOk result (λ value. StandsIn value (object_of members.entry)) }
     ensures misfit { IfErr result (IsIn (object_of members.entry)) }
 {
+    present(members, name, members.get(name))
+}
+
+/// What was found of the member `name`, which has to be there.
+pub fn present<'a>(
+    members: Members<'a>,
+    name: &'static str,
+    found: Option<Element<'a>>,
+) -> Result<Element<'a>, NotationFault>
+    ensures member { IfOk result (λ value. found.entry ≡ Some value) }
+    ensures misfit { IfErr result (IsIn (object_of members.entry)) }
+{
     let element = members.number();
     let expected = Expected::Member(name);
-    members
-        .get(name)
-        .ok_or(NotationFault::NotInNotation(Misfit { element, expected }))
+    found.ok_or(NotationFault::NotInNotation(Misfit { element, expected }))
 }
 
 /// The member `name`, where it is there and isn't null.
@@ -71,15 +81,28 @@ pub fn flag(members: Members<'_>, name: &str) -> Result<bool, NotationFault>
 {
     match members.get(name) {
         None => Ok(false),
-        Some(value) => value.as_bool().ok_or(misfit(value, Expected::Bool)),
+        Some(value) => truth(value),
     }
+}
+
+/// A truth value.
+pub fn truth(value: Element<'_>) -> Result<bool, NotationFault>
+    ensures { IfErr result (IsIn value.entry) }
+{
+    value.as_bool().ok_or(misfit(value, Expected::Bool))
 }
 
 /// The member `range`: two offsets in bytes.
 pub fn range(members: Members<'_>) -> Result<SourceRange, NotationFault>
     ensures { IfErr result (IsIn (object_of members.entry)) }
 {
-    let value = required(members, "range")?;
+    range_of(required(members, "range")?)
+}
+
+/// Two offsets in bytes.
+pub fn range_of(value: Element<'_>) -> Result<SourceRange, NotationFault>
+    ensures { IfErr result (IsIn value.entry) }
+{
     match value.as_pair() {
         Some((start, end)) => Ok(SourceRange {
             start: start as usize,

@@ -1,14 +1,15 @@
 //! Syntax trees.
 
-ghost use Rattle.std.specs.Prelude.{IfErr};
+ghost use Rattle.std.specs.Prelude.{IfErr, IfSome};
+ghost use Rattle.flat_json.specs.Tape.{StandsIn, object_of};
 ghost use Rattle.modinfo_notation.specs.Misfit.{IsIn};
 
 use crate::fault::NotationFault;
 use crate::kind::read_kind;
-use crate::member::{elements_of, flag, members_of, range, required};
+use crate::member::{elements_of, flag, members_of, present, range, range_of, required};
 use deno_graph_source::tree::{Node, Program};
 use deno_graph_source::values::Items;
-use flat_json::Element;
+use flat_json::{Element, Members};
 use std::alloc::Global;
 
 /// A program, `{"range":[START,END],"body":[NODE ..],"shebang":BOOL}`.
@@ -44,9 +45,10 @@ pub fn read_node(alloc: Global, value: Element<'_>) -> Result<Node, NotationFaul
     ensures { IfErr result (IsIn value.entry) }
 {
     let members = members_of(value)?;
-    let range = range(members)?;
-    let kind = read_kind(alloc, members)?;
-    let children = match members.get("children") {
+    let found = NodeMembers::find(members);
+    let range = range_of(present(members, "range", found.range)?)?;
+    let kind = read_kind(alloc, members, present(members, "kind", found.kind)?)?;
+    let children = match found.children {
         None => Items::new(alloc),
         Some(children) => read_nodes(alloc, children)?,
     };
@@ -55,4 +57,39 @@ pub fn read_node(alloc: Global, value: Element<'_>) -> Result<Node, NotationFaul
         kind,
         children,
     })
+}
+
+/// The members that a node of any kind may have.
+#[derive(Clone, Copy)]
+struct NodeMembers<'a> {
+    range: Option<Element<'a>>,
+    kind: Option<Element<'a>>,
+    children: Option<Element<'a>>,
+}
+
+impl<'a> NodeMembers<'a> {
+    /// The last of each name.
+    fn find(members: Members<'a>) -> NodeMembers<'a>
+        ensures range { IfSome result.range (λ value. StandsIn value (object_of members.entry)) }
+        ensures kind { IfSome result.kind (λ value. StandsIn value (object_of members.entry)) }
+        ensures children { IfSome result.children
+            (λ value. StandsIn value (object_of members.entry)) }
+    {
+        let mut range = None;
+        let mut kind = None;
+        let mut children = None;
+        for (name, value) in members.entries() {
+            match name {
+                "range" => range = Some(value),
+                "kind" => kind = Some(value),
+                "children" => children = Some(value),
+                _ => (),
+            }
+        }
+        NodeMembers {
+            range,
+            kind,
+            children,
+        }
+    }
 }
