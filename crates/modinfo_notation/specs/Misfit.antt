@@ -1,6 +1,8 @@
 -- Where what isn't in the notation stands.
 use Rattle.flat_json.specs.declared.Element.{Element}
-use Rattle.flat_json.specs.Tape.{HasNode}
+use Rattle.std.specs.Prelude.{Some, None, Option}
+use Rattle.flat_json.specs.declared.Members.{Members}
+use Rattle.flat_json.specs.Tape.{HasNode, StandsIn, object_of}
 use Rattle.modinfo_notation.specs.declared.fault.NotationFault.{NotationFault}
 use Rattle.modinfo_notation.specs.declared.fault.NotationFault.TheVariants.{Json, NotInNotation, Specifier, Source, OutOfMemory}
 
@@ -11,3 +13,12 @@ IsIn value (Json _) = Unit {0}
 IsIn value Specifier = Unit {0}
 IsIn value (Source _) = Unit {0}
 IsIn value OutOfMemory = Unit {0}
+
+-- there is a value, and it is one of its nodes
+abbrev pub IsInFound : Option Element → NotationFault → Type 0
+IsInFound None _ = ⊥
+IsInFound (Some value) fault = IsIn value fault
+
+-- the value stands in the object that has the members
+abbrev pub IsMemberOf : Members → Element → Type 0
+IsMemberOf members value = StandsIn value (object_of members)

@@ -1,25 +1,26 @@
 //! Imports, exports and modules.
 
-ghost use Rattle.std.specs.Prelude.{IfErr};
+ghost use Rattle.std.specs.Prelude.{IfErr, IfSome};
 ghost use Rattle.flat_json.specs.Tape.{object_of};
-ghost use Rattle.modinfo_notation.specs.Misfit.{IsIn};
+ghost use Rattle.modinfo_notation.specs.Misfit.{IsIn, IsInFound, IsMemberOf};
 
 use crate::fault::{Expected, NotationFault};
 use crate::literal::{optional_literal, read_literal};
-use crate::member::{flag, misfit, required, text_of};
+use crate::member::{flag, misfit, present, required, text_of, truth_or_false};
 use deno_graph_source::tree::{ImportPhase, Kind};
-use flat_json::Members;
+use flat_json::{Element, Members};
 use std::alloc::Global;
 
 /// An import declaration.
 pub fn read_import_decl(alloc: Global, members: Members<'_>) -> Result<Kind, NotationFault>
     ensures { IfErr result (IsIn (object_of members.entry)) }
 {
-    let type_only = flag(members, "typeOnly")?;
-    let phase = import_phase(members)?;
-    let has_specifiers = flag(members, "hasSpecifiers")?;
-    let has_with = flag(members, "hasWith")?;
-    let src = read_literal(alloc, required(members, "src")?)?;
+    let found = SourceMembers::find(members);
+    let type_only = truth_or_false(found.type_only)?;
+    let phase = import_phase(found.phase)?;
+    let has_specifiers = truth_or_false(found.has_specifiers)?;
+    let has_with = truth_or_false(found.has_with)?;
+    let src = read_literal(alloc, present(members, "src", found.src)?)?;
     Ok(Kind::ImportDecl {
         type_only,
         phase,
@@ -29,12 +30,56 @@ pub fn read_import_decl(alloc: Global, members: Members<'_>) -> Result<Kind, Not
     })
 }
 
+/// The members that an import or an export of another module may have beside those of any node.
+#[derive(Clone, Copy)]
+struct SourceMembers<'a> {
+    type_only: Option<Element<'a>>,
+    phase: Option<Element<'a>>,
+    has_specifiers: Option<Element<'a>>,
+    has_with: Option<Element<'a>>,
+    src: Option<Element<'a>>,
+}
+
+impl<'a> SourceMembers<'a> {
+    /// The last of each name.
+    fn find(members: Members<'a>) -> SourceMembers<'a>
+        ensures type_only { IfSome result.type_only (IsMemberOf members.entry) }
+        ensures phase { IfSome result.phase (IsMemberOf members.entry) }
+        ensures has_specifiers { IfSome result.has_specifiers (IsMemberOf members.entry) }
+        ensures has_with { IfSome result.has_with (IsMemberOf members.entry) }
+        ensures src { IfSome result.src (IsMemberOf members.entry) }
+    {
+        let mut type_only = None;
+        let mut phase = None;
+        let mut has_specifiers = None;
+        let mut has_with = None;
+        let mut src = None;
+        for (name, value) in members.entries() {
+            match name {
+                "src" => src = Some(value),
+                "typeOnly" => type_only = Some(value),
+                "hasSpecifiers" => has_specifiers = Some(value),
+                "hasWith" => has_with = Some(value),
+                "phase" => phase = Some(value),
+                _ => (),
+            }
+        }
+        SourceMembers {
+            type_only,
+            phase,
+            has_specifiers,
+            has_with,
+            src,
+        }
+    }
+}
+
 const PHASES: &str = "evaluation, source, defer";
 
-fn import_phase(members: Members<'_>) -> Result<ImportPhase, NotationFault>
-    ensures { IfErr result (IsIn (object_of members.entry)) }
+fn import_phase(found: Option<Element<'_>>) -> Result<ImportPhase, NotationFault>
+    ensures { IfErr result (IsInFound found.entry) }
 {
-    let Some(value) = members.get("phase") else {
+    let Some(value) = found else {
         return Ok(ImportPhase::Evaluation);
     };
     match text_of(value)? {
@@ -63,9 +108,10 @@ pub fn read_named_export(alloc: Global, members: Members<'_>) -> Result<Kind, No
 pub fn read_export_all(alloc: Global, members: Members<'_>) -> Result<Kind, NotationFault>
     ensures { IfErr result (IsIn (object_of members.entry)) }
 {
-    let type_only = flag(members, "typeOnly")?;
-    let has_with = flag(members, "hasWith")?;
-    let src = read_literal(alloc, required(members, "src")?)?;
+    let found = SourceMembers::find(members);
+    let type_only = truth_or_false(found.type_only)?;
+    let has_with = truth_or_false(found.has_with)?;
+    let src = read_literal(alloc, present(members, "src", found.src)?)?;
     Ok(Kind::ExportAll {
         type_only,
         src,

@@ -1,6 +1,6 @@
 ghost use Rattle.std.specs.Prelude.{IfErr, IfSome};
-ghost use Rattle.flat_json.specs.Tape.{StandsIn, object_of};
-ghost use Rattle.modinfo_notation.specs.Misfit.{IsIn};
+ghost use Rattle.flat_json.specs.Tape.{object_of};
+ghost use Rattle.modinfo_notation.specs.Misfit.{IsIn, IsMemberOf};
 
 use crate::fault::{Expected, NotationFault};
 use crate::member::{elements_of, members_of, misfit, optional, present, range_of};
@@ -37,8 +37,8 @@ pub fn read_literal(alloc: Global, value: Element<'_>) -> Result<StrLit, Notatio
 
 /// The last members `range` and `value`.
 fn literal_members<'a>(members: Members<'a>) -> (Option<Element<'a>>, Option<Element<'a>>)
-    ensures range { IfSome result.0 (λ found. StandsIn found (object_of members.entry)) }
-    ensures value { IfSome result.1 (λ found. StandsIn found (object_of members.entry)) }
+    ensures range { IfSome result.0 (IsMemberOf members.entry) }
+    ensures value { IfSome result.1 (IsMemberOf members.entry) }
 {
     let mut range = None;
     let mut value = None;

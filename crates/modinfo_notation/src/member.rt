@@ -2,7 +2,7 @@
 
 ghost use Rattle.std.specs.Prelude.{◌≡◌, Some, IfErr, IfOk, IfSome};
 ghost use Rattle.flat_json.specs.Tape.{TakesSame, StandsIn, array_of, object_of};
-ghost use Rattle.modinfo_notation.specs.Misfit.{IsIn};
+ghost use Rattle.modinfo_notation.specs.Misfit.{IsIn, IsInFound};
 
 use crate::fault::{Expected, Misfit, NotationFault};
 use deno_graph_source::text::SourceRange;
@@ -79,17 +79,17 @@ pub fn text<'a>(members: Members<'a>, name: &'static str) -> Result<&'a str, Not
 pub fn flag(members: Members<'_>, name: &str) -> Result<bool, NotationFault>
     ensures { IfErr result (IsIn (object_of members.entry)) }
 {
-    match members.get(name) {
-        None => Ok(false),
-        Some(value) => truth(value),
-    }
+    truth_or_false(members.get(name))
 }
 
-/// A truth value.
-pub fn truth(value: Element<'_>) -> Result<bool, NotationFault>
-    ensures { IfErr result (IsIn value.entry) }
+/// What was found as a truth value: false where it is missing.
+pub fn truth_or_false(found: Option<Element<'_>>) -> Result<bool, NotationFault>
+    ensures { IfErr result (IsInFound found.entry) }
 {
-    value.as_bool().ok_or(misfit(value, Expected::Bool))
+    match found {
+        None => Ok(false),
+        Some(value) => value.as_bool().ok_or(misfit(value, Expected::Bool)),
+    }
 }
 
 /// The member `range`: two offsets in bytes.

@@ -1,8 +1,7 @@
 //! Syntax trees.
 
 ghost use Rattle.std.specs.Prelude.{IfErr, IfSome};
-ghost use Rattle.flat_json.specs.Tape.{StandsIn, object_of};
-ghost use Rattle.modinfo_notation.specs.Misfit.{IsIn};
+ghost use Rattle.modinfo_notation.specs.Misfit.{IsIn, IsMemberOf};
 
 use crate::fault::NotationFault;
 use crate::kind::read_kind;
@@ -70,10 +69,9 @@ struct NodeMembers<'a> {
 impl<'a> NodeMembers<'a> {
     /// The last of each name.
     fn find(members: Members<'a>) -> NodeMembers<'a>
-        ensures range { IfSome result.range (λ value. StandsIn value (object_of members.entry)) }
-        ensures kind { IfSome result.kind (λ value. StandsIn value (object_of members.entry)) }
-        ensures children { IfSome result.children
-            (λ value. StandsIn value (object_of members.entry)) }
+        ensures range { IfSome result.range (IsMemberOf members.entry) }
+        ensures kind { IfSome result.kind (IsMemberOf members.entry) }
+        ensures children { IfSome result.children (IsMemberOf members.entry) }
     {
         let mut range = None;
         let mut kind = None;

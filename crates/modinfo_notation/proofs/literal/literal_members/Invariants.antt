@@ -1,10 +1,11 @@
 use Rattle.std.specs.Prelude.{IfSome}
-use Rattle.flat_json.specs.Tape.{TakesSame, StandsIn, object_of, object_of_entries}
+use Rattle.flat_json.specs.Tape.{TakesSame, object_of, object_of_entries}
+use Rattle.modinfo_notation.specs.Misfit.{IsMemberOf}
 use Rattle.modinfo_notation.proofs.literal.literal_members.Given as goal
 
 abbrev pub invariant-loop-name : goal.invariant-loop-name
 invariant-loop-name l = (goal.iterator-loop-name).can_next l.name-iterator
     × (goal.iterator-loop-name).is_finite l.name-iterator
     × TakesSame (object_of_entries l.name-iterator) (object_of l.fn.members)
-    × IfSome l.range (λ found. StandsIn found (object_of l.fn.members))
-    × IfSome l.value (λ found. StandsIn found (object_of l.fn.members))
+    × IfSome l.range (IsMemberOf l.fn.members)
+    × IfSome l.value (IsMemberOf l.fn.members)
