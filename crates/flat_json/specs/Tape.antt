@@ -1,9 +1,11 @@
 -- Which nodes of a tape something takes.
-use Rattle.std.specs.Prelude.{◌≡◌, ℕ, ◌+◌, ◌-◌, ◌<◌, ◌≤◌, length, vec_len}
+use Rattle.std.specs.Prelude.{◌≡◌, ℕ, ◌+◌, ◌-◌, ◌<◌, ◌≤◌, [], ◌∷◌, Option, Some, None, length, drop, slice_get, vec_len, ⊤}
 use Rattle.flat_json.specs.declared.Element.{Element}
 use Rattle.flat_json.specs.declared.Elements.{Elements}
 use Rattle.flat_json.specs.declared.Entries.{Entries}
 use Rattle.flat_json.specs.declared.Members.{Members}
+use Rattle.flat_json.specs.declared.Node.{Node}
+use Rattle.flat_json.specs.declared.Node.TheVariants.{Null, Bool, Whole, Number, String, Key, Array, Object}
 use Rattle.flat_json.specs.declared.Tape.{Tape}
 
 abbrev pub node_count : Tape → ℕ
@@ -15,6 +17,40 @@ number_of element = element.number
 
 abbrev pub nodes_of : Element → ℕ
 nodes_of element = length element.nodes.now
+
+-- the value's own node
+abbrev pub node_of : Element → Option Node
+node_of element = slice_get element.nodes.now 0
+
+-- the node says that the value is an array
+abbrev pub IsArray : Element → Type 0
+IsArray element = (count : ℕ) × (nodes : ℕ) × (node_of element ≡ Some (Array count nodes))
+
+-- the same of so many elements
+abbrev pub HasCount : Element → ℕ → Type 0
+HasCount element count = (nodes : ℕ) × (node_of element ≡ Some (Array count nodes))
+
+-- the node is one of a string
+abbrev pub IsStringNode : Option Node → Type 0
+IsStringNode None = ⊥
+IsStringNode (Some Null) = ⊥
+IsStringNode (Some (Bool _)) = ⊥
+IsStringNode (Some (Whole _)) = ⊥
+IsStringNode (Some Number) = ⊥
+IsStringNode (Some (String _)) = ⊤
+IsStringNode (Some (Key _)) = ⊥
+IsStringNode (Some (Array _ _)) = ⊥
+IsStringNode (Some (Object _)) = ⊥
+
+abbrev pub IsObject : Element → Type 0
+IsObject element = (nodes : ℕ) × (node_of element ≡ Some (Object nodes))
+
+abbrev pub IsString : Element → Type 0
+IsString element = IsStringNode (node_of element)
+
+-- behind its own node there are two whole numbers, and no more
+abbrev pub HoldsPair : Element → ℕ → ℕ → Type 0
+HoldsPair element first second = drop 1 element.nodes.now ≡ Whole first ∷ Whole second ∷ []
 
 -- the number is that of one of the value's nodes
 abbrev pub HasNode : Element → ℕ → Type 0
@@ -32,6 +68,10 @@ StandsIn inner outer = (number_of outer < number_of inner)
 -- the array whose elements they are
 abbrev pub array_of : Elements → Element
 array_of elements = elements.array
+
+-- how many elements the array has, as its node says
+abbrev pub count_of : Elements → ℕ
+count_of elements = elements.count
 
 -- how many nodes the elements take at most that are still to come
 abbrev pub left_of : Elements → ℕ

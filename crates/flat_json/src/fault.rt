@@ -15,12 +15,22 @@ pub enum TapeFault {
 }
 
 impl From<AllocError> for TapeFault {
+    ghost use Rattle.std.specs.Prelude.{◌≡◌};
+    ghost use Rattle.flat_json.specs.declared.fault.TapeFault.TheVariants.{OutOfMemory};
+
+    ghost from_gives = { λ _ fault. fault ≡ OutOfMemory };
+
     fn from(_refused: AllocError) -> TapeFault {
         TapeFault::OutOfMemory
     }
 }
 
 impl<T: Drop> From<AllocFailed<T>> for TapeFault {
+    ghost use Rattle.std.specs.Prelude.{◌≡◌};
+    ghost use Rattle.flat_json.specs.declared.fault.TapeFault.TheVariants.{OutOfMemory};
+
+    ghost from_gives = { λ _ fault. fault ≡ OutOfMemory };
+
     fn from(_refused: AllocFailed<T>) -> TapeFault {
         TapeFault::OutOfMemory
     }

@@ -79,7 +79,9 @@ pub struct Element<'a> {
 }
 
 impl<'a> Element<'a> {
-    ghost use Rattle.flat_json.specs.Tape.{nodes_of, number_of, HasNode, TakesSame};
+    ghost use Rattle.std.specs.Prelude.{ℕ, Bool, Some, IsSome};
+    ghost use Rattle.flat_json.specs.Tape.{nodes_of, number_of, node_of, count_of, HasNode, TakesSame};
+    ghost use Rattle.flat_json.specs.Tape.{IsArray, IsObject, IsString, HasCount, HoldsPair};
     ghost use Rattle.flat_json.specs.Tape.{array_of, left_of, object_of};
 
     /// The number of its node in the tape: 0 for the value of the whole text.
@@ -97,12 +99,17 @@ impl<'a> Element<'a> {
     }
 
     /// Whether it is null.
-    pub fn is_null(self) -> bool {
+    pub fn is_null(self) -> bool
+        ensures { IsTrue result ↔ (node_of self.entry ≡ Some Node.Null) }
+    {
         matches!(self.nodes.first(), Some(Node::Null))
     }
 
     /// The truth value, where it is one.
-    pub fn as_bool(self) -> Option<bool> {
+    pub fn as_bool(self) -> Option<bool>
+        ensures { (value : Bool) → (result ≡ Some value)
+            ↔ (node_of self.entry ≡ Some (Node.Bool value)) }
+    {
         match self.nodes.first() {
             Some(Node::Bool(value)) => Some(*value),
             _ => None,
@@ -110,7 +117,10 @@ impl<'a> Element<'a> {
     }
 
     /// The whole number, where it is one from 0 to 2^64 - 1.
-    pub fn as_u64(self) -> Option<u64> {
+    pub fn as_u64(self) -> Option<u64>
+        ensures { (number : ℕ) → (result ≡ Some number)
+            ↔ (node_of self.entry ≡ Some (Node.Whole number)) }
+    {
         match self.nodes.first() {
             Some(Node::Whole(number)) => Some(*number),
             _ => None,
@@ -118,7 +128,12 @@ impl<'a> Element<'a> {
     }
 
     /// The two whole numbers of an array, where it holds just them.
-    pub fn as_pair(self) -> Option<(u64, u64)> {
+    pub fn as_pair(self) -> Option<(u64, u64)>
+        ensures array { IsSome result → IsArray self.entry }
+        ensures pair { IfSome result (λ pair. HoldsPair self.entry pair.0 pair.1) }
+        ensures some { (first : ℕ) → (second : ℕ) → IsArray self.entry
+            → HoldsPair self.entry first second → result ≡ Some (first, second) }
+    {
         match self.nodes {
             [Node::Array { .. }, Node::Whole(first), Node::Whole(second)] => Some((
                 *first, *second,
@@ -128,7 +143,10 @@ impl<'a> Element<'a> {
     }
 
     /// The text, where it is a string.
-    pub fn as_str(self) -> Option<&'a str> {
+    pub fn as_str(self) -> Option<&'a str>
+        ensures text { IfSome result (λ text. node_of self.entry ≡ Some (Node.String text)) }
+        ensures some { IsString self.entry → IsSome result }
+    {
         match self.nodes.first() {
             Some(Node::String(text)) => Some(*text),
             _ => None,
@@ -137,7 +155,9 @@ impl<'a> Element<'a> {
 
     /// The elements, where it is an array.
     pub fn elements(self) -> Option<Elements<'a>>
+        ensures some { IsSome result ↔ IsArray self.entry }
         ensures array { IfSome result (λ found. TakesSame (array_of found) self.entry) }
+        ensures count { IfSome result (λ found. HasCount self.entry (count_of found)) }
         ensures left { IfSome result (λ found. left_of found < nodes_of self.entry) }
     {
         match self.nodes.first() {
@@ -152,7 +172,8 @@ impl<'a> Element<'a> {
 
     /// The members, where it is an object.
     pub fn members(self) -> Option<Members<'a>>
-        ensures { IfSome result (λ found. TakesSame (object_of found) self.entry) }
+        ensures some { IsSome result ↔ IsObject self.entry }
+        ensures object { IfSome result (λ found. TakesSame (object_of found) self.entry) }
     {
         match self.nodes.first() {
             Some(Node::Object { .. }) => Some(Members { object: self }),
@@ -192,10 +213,12 @@ pub struct Elements<'a> {
 }
 
 impl<'a> Elements<'a> {
-    ghost use Rattle.flat_json.specs.Tape.{StandsIn, array_of};
+    ghost use Rattle.flat_json.specs.Tape.{StandsIn, array_of, count_of};
 
     /// How many elements the array has.
-    pub fn array_len(&self) -> usize {
+    pub fn array_len(&self) -> usize
+        ensures { result ≡ count_of self.now }
+    {
         self.count
     }
 

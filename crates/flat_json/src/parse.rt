@@ -50,6 +50,11 @@ enum Stop {
 }
 
 impl<T: Drop> From<AllocFailed<T>> for Stop {
+    ghost use Rattle.std.specs.Prelude.{◌≡◌};
+    ghost use Rattle.flat_json.specs.declared.parse.Stop.TheVariants.{OutOfMemory};
+
+    ghost from_gives = { λ _ stop. stop ≡ OutOfMemory };
+
     fn from(_refused: AllocFailed<T>) -> Stop {
         Stop::OutOfMemory
     }
