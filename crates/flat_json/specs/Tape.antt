@@ -1,5 +1,6 @@
 -- Which nodes of a tape something takes.
-use Rattle.std.specs.Prelude.{◌≡◌, ℕ, ◌+◌, ◌-◌, ◌<◌, ◌≤◌, [], ◌∷◌, Option, Some, None, length, drop, slice_get, vec_len, ⊤}
+use Rattle.std.specs.Prelude.{◌≡◌, ℕ, ◌+◌, ◌-◌, ◌<◌, ◌≤◌, [], ◌∷◌, Option, Some, None, length, drop, slice_get, vec_len, ⊤, List}
+use Rattle.std.specs.Borrow.{Bor}
 use Rattle.flat_json.specs.declared.Element.{Element}
 use Rattle.flat_json.specs.declared.Elements.{Elements}
 use Rattle.flat_json.specs.declared.Entries.{Entries}
@@ -60,6 +61,22 @@ HasNode element number = (number_of element ≤ number) × (number < number_of e
 abbrev pub TakesSame : Element → Element → Type 0
 TakesSame a b = (number_of a ≡ number_of b) × (nodes_of a ≡ nodes_of b)
 
+-- how many nodes stand in the value of this node
+abbrev pub inside_of : Node → ℕ
+inside_of Null = 0
+inside_of (Bool _) = 0
+inside_of (Whole _) = 0
+inside_of Number = 0
+inside_of (String _) = 0
+inside_of (Key _) = 0
+inside_of (Array _ nodes) = nodes
+inside_of (Object nodes) = nodes
+
+-- at this place among an element's nodes there is one, and behind it those that stand in its value
+abbrev pub HasValueAt : Element → ℕ → Type 0
+HasValueAt element at = (node : Node) × (slice_get element.nodes.now at ≡ Some node)
+    × (at + inside_of node < nodes_of element)
+
 -- the nodes of the one value are some of those behind the other's first one
 abbrev pub StandsIn : Element → Element → Type 0
 StandsIn inner outer = (number_of outer < number_of inner)
@@ -72,6 +89,10 @@ array_of elements = elements.array
 -- how many elements the array has, as its node says
 abbrev pub count_of : Elements → ℕ
 count_of elements = elements.count
+
+-- the place of the next one among the array's nodes
+abbrev pub place_of : Elements → ℕ
+place_of elements = elements.at
 
 -- how many nodes the elements take at most that are still to come
 abbrev pub left_of : Elements → ℕ
@@ -88,3 +109,13 @@ object_of_entries entries = entries.object
 -- how many nodes they take at most
 abbrev pub left_of_entries : Entries → ℕ
 left_of_entries entries = nodes_of (object_of_entries entries) - entries.at
+
+-- the place of the next one's name among the object's nodes
+abbrev pub place_of_entries : Entries → ℕ
+place_of_entries entries = entries.at
+
+-- right before the value, which stands in the object, there is a name, and it is this text
+abbrev pub IsNamed : Element → List ℕ → Element → Type 0
+IsNamed object text value = (name : Bor (List ℕ))
+    × (slice_get object.nodes.now (number_of value - number_of object - 1) ≡ Some (Key name))
+    × (name.now ≡ text)

@@ -81,7 +81,7 @@ pub struct Element<'a> {
 impl<'a> Element<'a> {
     ghost use Rattle.std.specs.Prelude.{ℕ, Bool, Some, IsSome};
     ghost use Rattle.flat_json.specs.Tape.{nodes_of, number_of, node_of, count_of, HasNode, TakesSame};
-    ghost use Rattle.flat_json.specs.Tape.{IsArray, IsObject, IsString, HasCount, HoldsPair};
+    ghost use Rattle.flat_json.specs.Tape.{IsArray, IsObject, IsString, HasCount, HasValueAt, HoldsPair};
     ghost use Rattle.flat_json.specs.Tape.{array_of, left_of, object_of};
 
     /// The number of its node in the tape: 0 for the value of the whole text.
@@ -184,6 +184,7 @@ impl<'a> Element<'a> {
     /// The value that begins at a place of its nodes, and the place behind it.
     #[inline(always)]
     fn value_at(self, at: usize) -> Option<(Element<'a>, usize)>
+        ensures some { IsSome result ↔ HasValueAt self.entry at }
         ensures end { IfSome result (λ found. (at < found.1) × (found.1 ≤ nodes_of self.entry)) }
         ensures number { IfSome result (λ found. number_of found.0 ≡ number_of self.entry + at) }
         ensures nodes { IfSome result (λ found. nodes_of found.0 ≡ found.1 - at) }
@@ -240,12 +241,16 @@ impl<'a> Elements<'a> {
 
 impl<'a> Iterator for Elements<'a> {
     ghost use Rattle.std.specs.Iterator.{at_most};
-    ghost use Rattle.flat_json.specs.Tape.{TakesSame, StandsIn, array_of, left_of};
+    ghost use Rattle.std.specs.Prelude.{IsSome};
+    ghost use Rattle.flat_json.specs.Tape.{TakesSame, StandsIn, HasValueAt, number_of, array_of};
+    ghost use Rattle.flat_json.specs.Tape.{left_of, place_of};
 
     type Item = Element<'a>;
 
     ghost next_gives = { λ old found new.
-        IfSome found (λ element. StandsIn element (array_of old)
+        (IsSome found ↔ HasValueAt (array_of old) (place_of old))
+        × IfSome found (λ element. StandsIn element (array_of old)
+        × (number_of element ≡ number_of (array_of old) + place_of old)
         × TakesSame (array_of new) (array_of old) × (left_of new < left_of old)) };
 
     ghost remaining = { λ elements. at_most (left_of elements) };
@@ -264,7 +269,7 @@ pub struct Members<'a> {
 }
 
 impl<'a> Members<'a> {
-    ghost use Rattle.flat_json.specs.Tape.{number_of, TakesSame, StandsIn};
+    ghost use Rattle.flat_json.specs.Tape.{number_of, StandsIn, IsNamed};
     ghost use Rattle.flat_json.specs.Tape.{object_of, object_of_entries};
 
     /// The number of the object's node in the tape.
@@ -276,7 +281,8 @@ impl<'a> Members<'a> {
 
     /// The value of the last member of this name. It looks at the name of each member.
     pub fn get(self, name: &str) -> Option<Element<'a>>
-        ensures { IfSome result (λ value. StandsIn value (object_of self.entry)) }
+        ensures inside { IfSome result (λ value. StandsIn value (object_of self.entry)) }
+        ensures named { IfSome result (IsNamed (object_of self.entry) name.now) }
     {
         let mut found = None;
         for (key, value) in self.entries() {
@@ -289,7 +295,7 @@ impl<'a> Members<'a> {
 
     /// Each member's name and value, in the order of the text.
     pub fn entries(self) -> Entries<'a>
-        ensures { TakesSame (object_of_entries result) (object_of self.entry) }
+        ensures { object_of_entries result ≡ object_of self.entry }
     {
         Entries {
             object: self.object,
@@ -308,12 +314,15 @@ pub struct Entries<'a> {
 
 impl<'a> Iterator for Entries<'a> {
     ghost use Rattle.std.specs.Iterator.{at_most};
-    ghost use Rattle.flat_json.specs.Tape.{TakesSame, StandsIn, object_of_entries, left_of_entries};
+    ghost use Rattle.flat_json.specs.Tape.{TakesSame, StandsIn, IsNamed};
+    ghost use Rattle.flat_json.specs.Tape.{object_of_entries, left_of_entries};
 
     type Item = (&'a str, Element<'a>);
 
     ghost next_gives = { λ old found new.
         IfSome found (λ member. StandsIn member.1 (object_of_entries old)
+        × IsNamed (object_of_entries old) member.0.now member.1
+        × (object_of_entries new ≡ object_of_entries old)
         × TakesSame (object_of_entries new) (object_of_entries old)
         × (left_of_entries new < left_of_entries old)) };
 

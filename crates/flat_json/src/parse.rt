@@ -98,12 +98,23 @@ impl<'a> Parser<'a> {
     {
         match first {
             Token::String(text) => Ok(self.nodes.push(Node::String(text))?),
-            Token::Number(digits) => Ok(self.nodes.push(node_of(digits)?)?),
+            Token::Number(digits) => self.number(digits),
             Token::Bool(value) => Ok(self.nodes.push(Node::Bool(value))?),
             Token::Null => Ok(self.nodes.push(Node::Null)?),
             Token::BeginArray if depth > 0 => self.array(depth - 1),
             Token::BeginObject if depth > 0 => self.object(depth - 1),
             _ => Err(Stop::Json),
+        }
+    }
+
+    #[inline(always)]
+    fn number(&mut self, digits: &str) -> Result<(), Stop>
+        ensures reader { self.new.reader ≡ self.old.reader }
+        ensures longer { OnOk result (length self.old.nodes.items < length self.new.nodes.items) }
+    {
+        match short_whole(digits.as_bytes()) {
+            Some(whole) => Ok(self.nodes.push(Node::Whole(whole))?),
+            None => Ok(self.nodes.push(any_number(digits)?)?),
         }
     }
 
@@ -174,17 +185,9 @@ impl<'a> Parser<'a> {
     }
 }
 
-/// The node of a number.
-#[inline(always)]
-fn node_of<'a>(digits: &str) -> Result<Node<'a>, Stop> {
-    match short_whole(digits.as_bytes()) {
-        Some(whole) => Ok(Node::Whole(whole)),
-        None => long_number(digits),
-    }
-}
-
+/// The node of any number.
 #[inline(never)]
-fn long_number<'a>(digits: &str) -> Result<Node<'a>, Stop> {
+fn any_number<'a>(digits: &str) -> Result<Node<'a>, Stop> {
     if let Ok(whole) = fast_float::parse_u64(digits.as_bytes()) {
         return Ok(Node::Whole(whole));
     }

@@ -1,9 +1,10 @@
-use Rattle.std.specs.Prelude.{IfSome}
-use Rattle.flat_json.specs.Tape.{TakesSame, StandsIn, object_of, object_of_entries}
+use Rattle.std.specs.Prelude.{◌≡◌, IfSome}
+use Rattle.flat_json.specs.Tape.{StandsIn, IsNamed, object_of, object_of_entries}
 use Rattle.flat_json.proofs.Members.get.Given as goal
 
 abbrev pub invariant-loop-key : goal.invariant-loop-key
 invariant-loop-key l = (goal.iterator-loop-key).can_next l.key-iterator
     × (goal.iterator-loop-key).is_finite l.key-iterator
-    × TakesSame (object_of_entries l.key-iterator) (object_of l.self)
+    × (object_of_entries l.key-iterator ≡ object_of l.self)
     × IfSome l.found (λ value. StandsIn value (object_of l.self))
+    × IfSome l.found (IsNamed (object_of l.self) l.fn.name)
