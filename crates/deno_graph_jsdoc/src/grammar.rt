@@ -3,5 +3,6 @@
 pub(crate) mod attributes;
 pub(crate) mod declaration;
 pub(crate) mod dynamic;
+pub(crate) mod known;
 pub mod laws;
 pub(crate) mod parts;

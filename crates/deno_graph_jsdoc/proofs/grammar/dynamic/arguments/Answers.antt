@@ -8,6 +8,7 @@ use Rattle.deno_graph_jsdoc.specs.JsDocImport.{byte_count}
 use Rattle.deno_graph_jsdoc.proofs.Arguments.{open_none, open_read, arguments_end}
 use Rattle.deno_graph_jsdoc.proofs.Imports.{no_head, no_quote, no_tail, stated, byte_count_before}
 use Rattle.deno_graph_jsdoc.proofs.Imports.{States-within}
+use Rattle.deno_graph_jsdoc.proofs.Known.{AreKnown-behind, AreKnown-skipped}
 use Rattle.deno_graph_jsdoc.proofs.grammar.dynamic.arguments.Goals as goal
 use Rattle.deno_graph_jsdoc.proofs.grammar.dynamic.arguments.Goals.{In_ok-quoted}
 
@@ -70,3 +71,13 @@ pub returns-clause-within : goal.returns-clause-within
 returns-clause-within c =
     States-within (IsSpace · Is (codes "(") · IsSpace) EndsArguments c.args.input.now _ _ c.utf8.input
     (returns-clause-parsed c).0
+
+pub options-requires : goal.options-requires
+options-requires c =
+    let known = c.args.lists.now in
+    AreKnown-skipped (chars c.in_ok-behind.behind.now) (chars c.skip_space-behind.result.now) known
+    c.skip_space-behind.ensures
+    (AreKnown-behind known c.in_ok-behind.ensures.0
+    (AreKnown-behind known c.in_ok-quoted.ensures.0
+    (AreKnown-skipped (chars c.args.input.now) (chars c.skip_space.result.now) known c.skip_space.ensures
+    c.requires)))

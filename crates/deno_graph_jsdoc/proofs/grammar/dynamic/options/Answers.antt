@@ -3,6 +3,7 @@ use Rattle.std.proofs.Common.{Some, None}
 use Rattle.std.specs.Str.{chars}
 use Rattle.deno_graph_jsdoc.proofs.Arguments.{options_no_comma, options_no_brace, options_no_with}
 use Rattle.deno_graph_jsdoc.proofs.Arguments.{options_no_colon, options_no_block, options_read}
+use Rattle.deno_graph_jsdoc.proofs.Known.{AreKnown-behind}
 use Rattle.deno_graph_jsdoc.proofs.grammar.dynamic.options.Goals as goal
 
 pub returns-in_err-rest : goal.returns-in_err-rest
@@ -54,3 +55,10 @@ returns c =
     (chars c.in_ok-token.field-0.now) c.in_ok-token.ensures
     (chars c.in_ok-rest-4.rest.now) c.in_ok-rest-4.mode (Some (chars c.in_ok-word.field-0.now, tt))
     c.in_ok-rest-4.ensures (rw c.skip_space.ensures at c.in_ok-word.ensures)
+
+pub block-requires : goal.block-requires
+block-requires c =
+    let known = c.args.lists.now in
+    AreKnown-behind known c.in_ok-token.ensures.0 (AreKnown-behind known c.in_ok-rest-3.ensures.0
+    (AreKnown-behind known c.in_ok-rest-2.ensures.0
+    (AreKnown-behind known c.in_ok-rest.ensures.0 c.requires)))
