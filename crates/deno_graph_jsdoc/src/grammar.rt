@@ -6,3 +6,4 @@ pub(crate) mod dynamic;
 pub(crate) mod known;
 pub mod laws;
 pub(crate) mod parts;
+pub(crate) mod spaces;

@@ -10,6 +10,7 @@ ghost use Rattle.deno_graph_jsdoc.specs.JsDocPass.{LeavesOpen, EndsWithAt};
 
 use crate::grammar::known::known_lists;
 use crate::grammar::parts::unclosed_len;
+use crate::grammar::spaces::known_spaces;
 use crate::grammar::{declaration, dynamic};
 use crate::import::{JsDocImport, Scan};
 use std::alloc::{AllocError, Global};
@@ -31,6 +32,8 @@ pub fn scan<'a>(alloc: Global, text: &'a str) -> Result<Scan<'a>, AllocError>
     let unclosed = unclosed_len(text);
     let table = known_lists(alloc, text)?;
     let lists = table.as_slice();
+    let space_table = known_spaces(alloc, text)?;
+    let spaces = space_table.as_slice();
     let mut known = None;
     let mut imports = Vec::new(alloc);
     let mut dynamic_starts = 0;
@@ -47,7 +50,7 @@ pub fn scan<'a>(alloc: Global, text: &'a str) -> Result<Scan<'a>, AllocError>
             dynamic_starts += 1;
             add(
                 &mut imports,
-                dynamic::find_import(behind, unclosed, lists),
+                dynamic::find_import(behind, unclosed, lists, spaces),
                 by,
             )?;
         }

@@ -10,11 +10,11 @@ use Rattle.deno_graph_jsdoc.specs.declared.grammar.declaration.NamesEnd.{NamesEn
 use Rattle.deno_graph_jsdoc.specs.declared.import.JsDocImport.{JsDocImport}
 use Rattle.deno_graph_jsdoc.specs.JsDocImport.{import_of, moved, byte_count}
 use Rattle.deno_graph_jsdoc.specs.JsDocBraces.{Keeps}
-use Rattle.deno_graph_jsdoc.specs.JsDocKnown.{AreKnown}
+use Rattle.deno_graph_jsdoc.specs.JsDocKnown.{AreKnown, AreSpaces}
 use Rattle.deno_graph_jsdoc.specs.JsDocHits.{GainsImport, occurrences}
 use Rattle.deno_graph_jsdoc.proofs.Braces.{IsUnclosed-back, Keeps-back}
 use Rattle.deno_graph_jsdoc.proofs.Imports.{byte_count_before}
-use Rattle.deno_graph_jsdoc.proofs.Known.{AreKnown-back}
+use Rattle.deno_graph_jsdoc.proofs.Known.{AreKnown-back, AreSpaces-back}
 use Rattle.deno_graph_jsdoc.proofs.Passes.{Found, Found-start, Found-hits, Found-dynamics, Found-decls, Takes}
 use Rattle.deno_graph_jsdoc.proofs.Passes.{dynamic_skip, dynamic_take, decl_skip, decl_take, next, next_whole}
 use Rattle.deno_graph_jsdoc.proofs.Passes.{next_cut, next_longer, next_skips, declaration_here}
@@ -131,6 +131,17 @@ find_import-found-requires-clause-lists c = lists (goal.at.find_import-found-req
 
 pub find_import-requires-clause-lists : goal.find_import-requires-clause-lists
 find_import-requires-clause-lists c = lists (goal.at.find_import-requires-clause-lists c).In-Some
+
+-- what is known of the white space in it
+spaces : (c : In-Some) → AreSpaces (chars c.in-Some.behind.now) c.as_slice-spaces.result.now
+spaces c =
+    AreSpaces-back (chars c.args.text.now) (after c) (chars c.in-Some.behind.now) c.as_slice-spaces.result.now
+    (through c)
+    (subst (AreSpaces (chars c.args.text.now)) (sym c.as_slice-spaces.ensures.value)
+    c.in_ok-space_table.ensures)
+
+pub find_import-requires-clause-spaces : goal.find_import-requires-clause-spaces
+find_import-requires-clause-spaces c = spaces (goal.at.find_import-requires-clause-spaces c).In-Some
 
 skips : (c : In-Some) → Skips (chars c.args.text.now) c.loop-before.invariant.front (after c)
 skips c = next_skips (chars c.args.text.now) c.loop-before.invariant.front (chars c.in-Some.before.now)
