@@ -118,6 +118,47 @@ block_no_attribute input rest name so_far none mode end _ b =
         let parts = Begins-split (ungroup begins) in
         none a parts.0 tt parts.1
 
+-- what is left is known
+module _ (input rest : List ℕ) (name : Option (List ℕ)) (so_far : SoFar input rest name) where
+  left_of : {mode : Option TypeScriptTypesResolutionMode} {end : List ℕ}
+      → Begins (IsModeBlockEnd mode) input end
+      → (more : List Attribute) × (mode ≡ mode_of (so_far.before ++ more))
+      × Begins (IsModeBlockEnd (mode_of more)) rest end
+  left_of {mode} {end} b =
+      let left = so_far.complete b.is.0 end b.is.1
+      (record { piece = b.piece; whole = b.whole; is = b.is.3 }) in (
+        left.0,
+        b.is.2 ∙ ap mode_of left.2,
+        record { piece = left.3.piece; whole = left.3.whole; is = (left.0, left.1, refl, left.3.is) },
+      )
+
+  pub block_fails : Reads Anything IsModeBlockEnd rest None → Reads Anything IsModeBlockEnd input None
+  block_fails none mode end _ b =
+      let left = left_of b in
+      none (mode_of left.0) end tt left.2
+
+  pub block_known : (end : List ℕ) (mode whole_mode : Option TypeScriptTypesResolutionMode)
+      → Reads Anything IsModeBlockEnd rest (Some (end, mode))
+      → ((before others : List Attribute) → name ≡ mode_name before → mode ≡ mode_of others
+      → whole_mode ≡ mode_of (before ++ others))
+      → Reads Anything IsModeBlockEnd input (Some (end, whole_mode))
+  block_known end mode whole_mode found named =
+      let more = found.0.is in
+      let all : List Attribute = so_far.before ++ more.0 in
+      let some : 0 < length all = omega (arith, length-append so_far.before more.0, more.1) in
+      let begins = so_far.sound more.0 end more.1
+      (record { piece = found.0.piece; whole = found.0.whole; is = more.3 }) in (
+        record {
+          piece = begins.piece;
+          whole = begins.whole;
+          is = (all, some, named so_far.before more.0 so_far.named more.2, begins.is);
+        },
+        λ other behind _ b.
+            let left = left_of b in
+            let same = found.1 (mode_of left.0) behind tt left.2 in
+            (left.1 ∙ sym (named so_far.before left.0 so_far.named (sym same.0)), same.1),
+      )
+
 -- one attribute more
 module _ (input rest behind : List ℕ) (name next : Option (List ℕ)) (a : Attribute)
     (so_far : SoFar input rest name)

@@ -205,7 +205,7 @@ next_name None a = cond (bytes_eq a.key (codes "resolution-mode")) (Some a.value
 
 next_named : (name : Option (List ℕ)) (a : Attribute) (before : List Attribute) → name ≡ mode_name before
     → next_name name a ≡ mode_name (before ++ a ∷ [])
-next_named (Some name) a before is = mode_name-kept before a name is
+next_named (Some name) a before is = mode_name-kept before (a ∷ []) name is
 next_named None a before is = mode_name-first before a (bytes_eq a.key (codes "resolution-mode")) is refl
 
 abbrev Again : ℕ → List ℕ → Type 0

@@ -5,6 +5,7 @@ pub mod Blocks
 pub mod Clauses
 pub mod Declarations
 pub mod Imports
+pub mod Known
 pub mod Braces
 pub mod Parts
 pub mod Readings

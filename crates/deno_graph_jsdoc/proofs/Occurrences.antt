@@ -1,5 +1,5 @@
 -- How often a word begins in a text, and in what is behind one of its occurrences.
-use Rattle.std.proofs.Common.{◌≡◌, ℕ, ◌+◌, ◌≤◌, List, [], ◌∷◌, ◌++◌, ap, arith, codes}
+use Rattle.std.proofs.Common.{◌≡◌, ℕ, ◌+◌, ◌≤◌, List, [], ◌∷◌, ◌++◌, ap, arith}
 use Rattle.deno_graph_jsdoc.specs.JsDocHits.{occurrences}
 use Rattle.deno_graph_jsdoc.proofs.Sites.{word}
 

@@ -4,10 +4,12 @@ use Rattle.std.proofs.Common.{[], ◌∷◌, ◌++◌, length, take, drop, get_o
 use Rattle.std.proofs.Common.{append_assoc, length-append}
 use Rattle.std.proofs.lemmas.List.{append_cancel_left, append-nil, drop_all, drop_at, take-append-drop}
 use Rattle.std.proofs.lemmas.List.{take_all}
+use Rattle.std.proofs.Math.Seq.{get_or-append_seam}
 use Rattle.std.proofs.lemmas.Bool.{eqb-false}
 use Rattle.std.proofs.lemmas.Str.{IsUtf8-from_ascii, IsUtf8-past_char, IsUtf8-take, IsUtf8-drop, chars-append}
 use Rattle.std.proofs.lemmas.Str.{chars-nil, chars-IsAscii, chars_from_encodes, chars_past_char}
 use Rattle.std.proofs.lemmas.Str.{encodes-append, encodes-chars, encodes-IsAscii, IsCharBoundary-before_ascii}
+use Rattle.std.proofs.lemmas.Str.{IsCharBoundary-after_ascii, encode_ascii}
 use Rattle.std.proofs.lemmas.Str.{length-le-encodes, len_utf8_bounds}
 use Rattle.std.specs.List.{AllByRecursion}
 use Rattle.std.specs.Option.{MatchOption, unwrap_or}
@@ -113,6 +115,33 @@ rsplit_chars mark input before rest utf8 ascii (i, j, found, front, back, order,
       subst (λ t. Lacks mark (chars t)) (sym back) (Lacks-chars mark (drop j input) past found.0),
       whole ∙ (λ k. chars (sym front k) ++ mark ∷ chars (sym back k)),
     )
+
+-- where a text is cut behind the last of a mark
+pub rsplit_bytes : (mark : ℕ) (input before rest : List ℕ) → mark < 128
+    → SplitsAroundMatch (RFindsChar mark) input before rest
+    → (behind : List ℕ) × (input ≡ before ++ mark ∷ behind)
+rsplit_bytes mark input before rest ascii (i, j, found, front, back, order, front_size, back_size) =
+    let one : encode mark ≡ mark ∷ [] = encode_ascii mark ascii in (
+      drop j input,
+      sym (take-append-drop i input) ∙ ap (λ t. take i input ++ t) found.1.split
+          ∙ ap (λ t. take i input ++ (t ++ drop j input)) one
+          ∙ ap (λ t. t ++ mark ∷ drop j input) (sym front),
+    )
+
+module _ (mark : ℕ) (text before behind : List ℕ) (utf8 : IsUtf8 text) (ascii : mark < 128)
+    (whole : text ≡ before ++ mark ∷ behind) where
+  pub behind_mark : IsCharBoundary text (length before + 1)
+  behind_mark = IsCharBoundary-after_ascii text (length before) utf8
+      (omega (arith, ap length whole, length-append before (mark ∷ behind)))
+      (omega
+      (arith, ascii, ap (λ t. get_or t (length before) 0) whole, get_or-append_seam before mark behind 0))
+
+  pub cut_behind_mark : chars text
+      ≡ chars (take (length before + 1) text) ++ chars (drop (length before + 1) text)
+  cut_behind_mark =
+      ap chars (sym (take-append-drop (length before + 1) text))
+      ∙ chars-append (take (length before + 1) text) (drop (length before + 1) text)
+      (IsUtf8-take text (length before + 1) utf8 behind_mark)
 
 -- the characters before and behind the first that passes a test
 from_none : (test : ℕ → Bool) (cs : List ℕ) → NonePass test cs → AllByRecursion (λ c. test c ≡ false) cs

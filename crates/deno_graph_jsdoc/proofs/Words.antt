@@ -46,43 +46,46 @@ mode_named-chars text utf8 =
     let as_require = bytes_eq-chars text (codes "require") utf8 (IsAscii-from_test (codes "require") refl) in
     λ i. cond (as_import i) (Some Import) (cond (as_require i) (Some Require) None)
 
--- the name of the mode behind one attribute more
+-- the name of the mode behind more attributes
 abbrev is_mode : Attribute → Bool
 is_mode attribute = bytes_eq attribute.key (codes "resolution-mode")
 
-mode_name-append : (before : List Attribute) (attribute : Attribute) → mode_name (before ++ attribute ∷ [])
-    ≡ option_map (λ (a : Attribute). a.value)
-    (option_or (find is_mode before) (cond (is_mode attribute) (Some attribute) None))
-mode_name-append before attribute =
-    ap (option_map (λ (a : Attribute). a.value)) (find-append is_mode before (attribute ∷ []))
+mode_name-append : (before others : List Attribute) → mode_name (before ++ others)
+    ≡ option_map (λ (a : Attribute). a.value) (option_or (find is_mode before) (find is_mode others))
+mode_name-append before others =
+    ap (option_map (λ (a : Attribute). a.value)) (find-append is_mode before others)
 
-pub mode_name-kept : (before : List Attribute) (attribute : Attribute) (name : List ℕ)
-    → Some name ≡ mode_name before → Some name ≡ mode_name (before ++ attribute ∷ [])
-mode_name-kept before attribute name is = by_found (find is_mode before) is
-    ∙ sym (mode_name-append before attribute)
+pub mode_name-kept : (before others : List Attribute) (name : List ℕ)
+    → Some name ≡ mode_name before → Some name ≡ mode_name (before ++ others)
+mode_name-kept before others name is = by_found (find is_mode before) is
+    ∙ sym (mode_name-append before others)
   where
     by_found : (found : Option Attribute) → Some name ≡ option_map (λ (a : Attribute). a.value) found
-        → Some name ≡ option_map (λ (a : Attribute). a.value)
-        (option_or found (cond (is_mode attribute) (Some attribute) None))
+        → Some name ≡ option_map (λ (a : Attribute). a.value) (option_or found (find is_mode others))
     by_found None is = absurd (cc)
     by_found (Some a) is = is
+
+pub mode_name-later : (before others : List Attribute) → None ≡ mode_name before
+    → mode_name others ≡ mode_name (before ++ others)
+mode_name-later before others is = by_found (find is_mode before) is ∙ sym (mode_name-append before others)
+  where
+    by_found : (found : Option Attribute) → None ≡ option_map (λ (a : Attribute). a.value) found
+        → mode_name others
+        ≡ option_map (λ (a : Attribute). a.value) (option_or found (find is_mode others))
+    by_found None is = refl
+    by_found (Some a) is = absurd (cc)
 
 pub mode_name-first : (before : List Attribute) (attribute : Attribute) (test : Bool)
     → None ≡ mode_name before → test ≡ is_mode attribute
     → cond test (Some attribute.value) None ≡ mode_name (before ++ attribute ∷ [])
 mode_name-first before attribute test is tested =
-    by_found (find is_mode before) is ∙ sym (mode_name-append before attribute)
+    ap (λ t. cond t (Some attribute.value) None) tested ∙ by_test (is_mode attribute)
+    ∙ mode_name-later before (attribute ∷ []) is
   where
     by_test : (t : Bool) → cond t (Some attribute.value) None ≡ option_map (λ (a : Attribute). a.value)
         (cond t (Some attribute) None)
     by_test true = refl
     by_test false = refl
-
-    by_found : (found : Option Attribute) → None ≡ option_map (λ (a : Attribute). a.value) found
-        → cond test (Some attribute.value) None ≡ option_map (λ (a : Attribute). a.value)
-        (option_or found (cond (is_mode attribute) (Some attribute) None))
-    by_found None is = ap (λ t. cond t (Some attribute.value) None) tested ∙ by_test (is_mode attribute)
-    by_found (Some a) is = absurd (cc)
 
 pub is_mode-chars : (key : List ℕ) → IsUtf8 key
     → bytes_eq (chars key) (codes "resolution-mode") ≡ bytes_eq key (codes "resolution-mode")

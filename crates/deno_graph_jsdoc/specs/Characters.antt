@@ -9,6 +9,10 @@ double_quote = 34
 abbrev pub apostrophe : ℕ
 apostrophe = 39
 
+-- `,`
+abbrev pub comma : ℕ
+comma = 44
+
 -- `-`
 abbrev pub hyphen : ℕ
 hyphen = 45

@@ -3,5 +3,7 @@
 pub(crate) mod attributes;
 pub(crate) mod declaration;
 pub(crate) mod dynamic;
+pub(crate) mod known;
 pub mod laws;
 pub(crate) mod parts;
+pub(crate) mod spaces;

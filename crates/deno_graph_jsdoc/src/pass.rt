@@ -8,7 +8,9 @@ ghost use Rattle.deno_graph_jsdoc.specs.JsDocHits.{Ascend, AreHits, HasFronts, E
 ghost use Rattle.deno_graph_jsdoc.specs.JsDocHits.{EndsAtDeclaration, GainsImport, occurrences};
 ghost use Rattle.deno_graph_jsdoc.specs.JsDocPass.{LeavesOpen, EndsWithAt};
 
+use crate::grammar::known::known_lists;
 use crate::grammar::parts::unclosed_len;
+use crate::grammar::spaces::known_spaces;
 use crate::grammar::{declaration, dynamic};
 use crate::import::{JsDocImport, Scan};
 use std::alloc::{AllocError, Global};
@@ -28,6 +30,10 @@ pub fn scan<'a>(alloc: Global, text: &'a str) -> Result<Scan<'a>, AllocError>
         (λ scan. HasFronts EndsAtDeclaration (chars text.now) scan.decl_starts) }
 {
     let unclosed = unclosed_len(text);
+    let table = known_lists(alloc, text)?;
+    let lists = table.as_slice();
+    let space_table = known_spaces(alloc, text)?;
+    let spaces = space_table.as_slice();
     let mut known = None;
     let mut imports = Vec::new(alloc);
     let mut dynamic_starts = 0;
@@ -37,12 +43,16 @@ pub fn scan<'a>(alloc: Global, text: &'a str) -> Result<Scan<'a>, AllocError>
         let by = text.len() - behind.len();
         if ends_with_at(before) {
             decl_starts += 1;
-            let found = declaration::find_import(behind, unclosed, &mut known);
+            let found = declaration::find_import(behind, unclosed, lists, &mut known);
             add(&mut imports, found, by)?;
         }
         if leaves_open(before) {
             dynamic_starts += 1;
-            add(&mut imports, dynamic::find_import(behind, unclosed), by)?;
+            add(
+                &mut imports,
+                dynamic::find_import(behind, unclosed, lists, spaces),
+                by,
+            )?;
         }
         rest = behind;
     }

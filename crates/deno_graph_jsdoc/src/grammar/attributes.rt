@@ -3,29 +3,41 @@
 ghost use Rattle.std.specs.Prelude.{◌≡◌, List, ◌∷◌, [], ◌++◌, option_and_then};
 ghost use Rattle.std.specs.Str.{chars};
 ghost use Rattle.deno_graph_jsdoc.specs.JsDocGrammar.{IsKey, IsAttribute, IsModeBlock, Attribute};
-ghost use Rattle.deno_graph_jsdoc.specs.JsDocGrammar.{mode_name, Anything};
+ghost use Rattle.deno_graph_jsdoc.specs.JsDocGrammar.{mode_name, mode_of, Anything};
+ghost use Rattle.deno_graph_jsdoc.specs.JsDocKnown.{AreKnown};
 ghost use Rattle.deno_graph_jsdoc.specs.JsDocReading.{IsModeBlockEnd, Reads, EndOfIdent};
 ghost use Rattle.deno_graph_jsdoc.specs.JsDocReading.{rest_and_text, rest_and_mode};
 ghost use Rattle.deno_graph_jsdoc.specs.JsDocReading.{rest_and_attribute, text_of};
 ghost use Rattle.deno_graph_text.specs.ResolutionMode.{mode_named};
 
+use super::known::{KnownList, known_from};
 use super::parts::{ident, quote, skip_space, token, word};
 use deno_graph_text::values::TypeScriptTypesResolutionMode;
 
 /// What is behind attributes in braces, and the mode that they give: the one that the first
 /// `resolution-mode` names.
-pub(crate) fn block(input: &str) -> Option<(&str, Option<TypeScriptTypesResolutionMode>)>
+///
+/// `known` is what was read beforehand of the attributes of the text that `input` ends.
+pub(crate) fn block<'a>(
+    input: &'a str,
+    known: &[KnownList<'a>],
+) -> Option<(&'a str, Option<TypeScriptTypesResolutionMode>)>
+    requires { AreKnown (chars input.now) known.now }
     ensures { Reads Anything IsModeBlock (chars input.now) (rest_and_mode result) }
 {
     let rest = token(input, "{")?;
     match word(rest, "}") {
         Some(rest) => Some((rest, None)),
-        None => attributes(rest),
+        None => attributes(rest, known),
     }
 }
 
 /// What is behind one attribute or more and a closing brace, and the mode that they give.
-fn attributes(input: &str) -> Option<(&str, Option<TypeScriptTypesResolutionMode>)>
+pub(crate) fn attributes<'a>(
+    input: &'a str,
+    known: &[KnownList<'a>],
+) -> Option<(&'a str, Option<TypeScriptTypesResolutionMode>)>
+    requires { AreKnown (chars input.now) known.now }
     ensures { Reads Anything IsModeBlockEnd (chars input.now) (rest_and_mode result) }
 {
     let mut rest = input;
@@ -38,6 +50,25 @@ fn attributes(input: &str) -> Option<(&str, Option<TypeScriptTypesResolutionMode
             return Some((end, mode_of(name)));
         }
         rest = token(behind, ",")?;
+        if let Some(list) = known_from(known, rest) {
+            let (end, mode) = list.read?;
+            return Some((end, mode_with(name, mode)));
+        }
+    }
+}
+
+/// The mode that attributes give, where `name` is the one of the first of them and `mode` is what
+/// the others give.
+fn mode_with(
+    name: Option<&str>,
+    mode: Option<TypeScriptTypesResolutionMode>,
+) -> Option<TypeScriptTypesResolutionMode>
+    ensures { (before others : List Attribute) → text_of name.entry ≡ mode_name before
+        → mode ≡ mode_of others → result ≡ mode_of (before ++ others) }
+{
+    match name {
+        Some(_) => mode_of(name),
+        None => mode,
     }
 }
 

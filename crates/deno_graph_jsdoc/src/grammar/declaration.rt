@@ -10,9 +10,11 @@ ghost use Rattle.deno_graph_jsdoc.specs.JsDocReading.{IsDeclarationEnd, IsSource
 ghost use Rattle.deno_graph_jsdoc.specs.JsDocReading.{rest_and_import, ReadsImportAlone, Reads};
 ghost use Rattle.deno_graph_jsdoc.specs.JsDocReading.{rest_of, rest_and_mode};
 ghost use Rattle.deno_graph_jsdoc.specs.JsDocImport.{Import, IsDeclaration, import_of};
+ghost use Rattle.deno_graph_jsdoc.specs.JsDocKnown.{AreKnown};
 ghost use Rattle.deno_graph_jsdoc.specs.JsDocBraces.{IsNextEnd, IsUnclosed, IsWithin, Keeps};
 
 use super::attributes::block;
+use super::known::KnownList;
 use super::parts::{gap, ident, quote, skip_space, through_brace, token, word};
 use crate::import::{JsDocImport, NoParse};
 use deno_graph_text::values::TypeScriptTypesResolutionMode;
@@ -31,17 +33,21 @@ pub fn parse_jsdoc_import_decl(input: &str) -> Result<(&str, JsDocImport<'_>), N
         (import ≡ import_of parsed.1) × (rest ≡ chars parsed.0.now)) }
 {
     let behind = word(input, "@import").ok_or(NoParse)?;
-    let (rest, import) = behind_import(behind).ok_or(NoParse)?;
+    let (rest, import) = behind_import(behind, &[]).ok_or(NoParse)?;
     Ok((rest, import.moved(input.len() - behind.len())))
 }
 
 /// The declaration from behind its `@import` on, and what is behind it.
-pub(crate) fn behind_import(input: &str) -> Option<(&str, JsDocImport<'_>)>
+pub(crate) fn behind_import<'a>(
+    input: &'a str,
+    lists: &[KnownList<'a>],
+) -> Option<(&'a str, JsDocImport<'a>)>
+    requires { AreKnown (chars input.now) lists.now }
     ensures parsed { ReadsImport IsDeclarationEnd (chars input.now) (rest_and_import result) }
     ensures within { IfSome result (λ parsed. IsWithin parsed.1 (length input.now)) }
 {
     let from = clause_behind(input)?;
-    let (rest, import) = source(from)?;
+    let (rest, import) = source(from, lists)?;
     Some((rest, import.moved(input.len() - from.len())))
 }
 
@@ -60,12 +66,14 @@ pub(crate) struct NamesEnd<'a> {
 ///
 /// The last `unclosed` bytes of `input` have no `}`, and no more. `known` is kept from one
 /// declaration of a text to the next, so that no `}` is looked for twice and nothing behind one is
-/// read twice.
+/// read twice. `lists` is what was read beforehand of the attributes of that text.
 pub(crate) fn find_import<'a>(
     input: &'a str,
     unclosed: usize,
+    lists: &[KnownList<'a>],
     known: &mut Option<NamesEnd<'a>>,
 ) -> Option<JsDocImport<'a>>
+    requires lists { AreKnown (chars input.now) lists.now }
     requires unclosed { IsUnclosed (chars input.now) unclosed }
     requires keeps { Keeps (chars input.now) known.old }
     ensures found { ReadsImportAlone IsDeclarationEnd
@@ -75,23 +83,29 @@ pub(crate) fn find_import<'a>(
 {
     let clause = gap(input)?;
     let Some(inside) = word(clause, "{") else {
-        let (_, import) = behind_import(input)?;
+        let (_, import) = behind_import(input, lists)?;
         return Some(import);
     };
-    advance(known, inside, unclosed);
+    advance(known, inside, unclosed, lists);
     let end = known.as_ref()?;
     let (_, import) = end.source.as_ref()?;
     Some(import.moved(input.len() - end.from.len()))
 }
 
 /// Makes `known` what is behind the next `}` of `input`, None where it has none.
-fn advance<'a>(known: &mut Option<NamesEnd<'a>>, input: &'a str, unclosed: usize)
+fn advance<'a>(
+    known: &mut Option<NamesEnd<'a>>,
+    input: &'a str,
+    unclosed: usize,
+    lists: &[KnownList<'a>],
+)
+    requires lists { AreKnown (chars input.now) lists.now }
     requires unclosed { IsUnclosed (chars input.now) unclosed }
     requires keeps { Keeps (chars input.now) known.old }
     ensures { IsNextEnd (chars input.now) known.new }
 {
     if !is_ahead(known, input) {
-        *known = names_end(input, unclosed);
+        *known = names_end(input, unclosed, lists);
     }
 }
 
@@ -107,8 +121,9 @@ fn is_ahead(known: &Option<NamesEnd<'_>>, input: &str) -> bool
 }
 
 /// What is behind the next `}` of `input`.
-fn names_end(input: &str, unclosed: usize) -> Option<NamesEnd<'_>>
-    requires { IsUnclosed (chars input.now) unclosed }
+fn names_end<'a>(input: &'a str, unclosed: usize, lists: &[KnownList<'a>]) -> Option<NamesEnd<'a>>
+    requires lists { AreKnown (chars input.now) lists.now }
+    requires unclosed { IsUnclosed (chars input.now) unclosed }
     ensures { IsNextEnd (chars input.now) result }
 {
     if input.len() <= unclosed {
@@ -119,7 +134,7 @@ fn names_end(input: &str, unclosed: usize) -> Option<NamesEnd<'_>>
     Some(NamesEnd {
         behind,
         from,
-        source: source(from),
+        source: source(from, lists),
     })
 }
 
@@ -167,14 +182,18 @@ fn name(input: &str) -> Option<&str>
 }
 
 /// The import that a declaration states, from its `from` on, and what is behind it.
-pub(crate) fn source(input: &str) -> Option<(&str, JsDocImport<'_>)>
+pub(crate) fn source<'a>(
+    input: &'a str,
+    lists: &[KnownList<'a>],
+) -> Option<(&'a str, JsDocImport<'a>)>
+    requires { AreKnown (chars input.now) lists.now }
     ensures parsed { ReadsImport IsSource (chars input.now) (rest_and_import result) }
     ensures within { IfSome result (λ parsed. IsWithin parsed.1 (length input.now)) }
 {
     let quoted = token(input, "from")?;
     let (behind, specifier) = quote(quoted)?;
     let behind = skip_space(behind);
-    let (rest, resolution_mode) = with_attributes(behind).unwrap_or((behind, None));
+    let (rest, resolution_mode) = with_attributes(behind, lists).unwrap_or((behind, None));
     let start = input.len() - quoted.len() + 1;
     let import = JsDocImport {
         specifier,
@@ -185,8 +204,12 @@ pub(crate) fn source(input: &str) -> Option<(&str, JsDocImport<'_>)>
 }
 
 /// What is behind `with` and attributes, and the mode that they give.
-fn with_attributes(input: &str) -> Option<(&str, Option<TypeScriptTypesResolutionMode>)>
+fn with_attributes<'a>(
+    input: &'a str,
+    lists: &[KnownList<'a>],
+) -> Option<(&'a str, Option<TypeScriptTypesResolutionMode>)>
+    requires { AreKnown (chars input.now) lists.now }
     ensures { Reads Anything IsWith (chars input.now) (rest_and_mode result) }
 {
-    block(token(input, "with")?)
+    block(token(input, "with")?, lists)
 }

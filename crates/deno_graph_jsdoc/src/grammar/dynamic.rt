@@ -9,10 +9,13 @@ ghost use Rattle.deno_graph_jsdoc.specs.JsDocReading.{HasArguments, IsDynamicEnd
 ghost use Rattle.deno_graph_jsdoc.specs.JsDocReading.{rest_and_import, ReadsImportAlone, Reads};
 ghost use Rattle.deno_graph_jsdoc.specs.JsDocReading.{rest_of, rest_and_mode};
 ghost use Rattle.deno_graph_jsdoc.specs.JsDocImport.{Import, IsDynamicImport, import_of};
+ghost use Rattle.deno_graph_jsdoc.specs.JsDocKnown.{AreKnown, AreSpaces};
 ghost use Rattle.deno_graph_jsdoc.specs.JsDocBraces.{IsUnclosed, IsWithin};
 
 use super::attributes::block;
+use super::known::KnownList;
 use super::parts::{quote, skip_space, through_brace, token, word};
+use super::spaces::{KnownSpace, skip_known};
 use crate::import::{JsDocImport, NoParse};
 use deno_graph_text::values::TypeScriptTypesResolutionMode;
 
@@ -39,7 +42,7 @@ pub(crate) fn behind_import(input: &str) -> Option<(&str, JsDocImport<'_>)>
     ensures parsed { ReadsImport IsDynamicEnd (chars input.now) (rest_and_import result) }
     ensures within { IfSome result (λ parsed. IsWithin parsed.1 (length input.now)) }
 {
-    let (rest, import) = arguments(input)?;
+    let (rest, import) = arguments(input, &[], &[])?;
     let rest = through_brace(rest)?;
     Some((rest, import))
 }
@@ -47,13 +50,20 @@ pub(crate) fn behind_import(input: &str) -> Option<(&str, JsDocImport<'_>)>
 /// The import that a dynamic import states, from behind its `import` on.
 ///
 /// The last `unclosed` bytes of `input` have no `}`, and no more, so the closing one isn't looked
-/// for.
-pub(crate) fn find_import(input: &str, unclosed: usize) -> Option<JsDocImport<'_>>
-    requires { IsUnclosed (chars input.now) unclosed }
+/// for. `lists` and `spaces` are what was read beforehand of the text that `input` ends.
+pub(crate) fn find_import<'a>(
+    input: &'a str,
+    unclosed: usize,
+    lists: &[KnownList<'a>],
+    spaces: &[KnownSpace<'a>],
+) -> Option<JsDocImport<'a>>
+    requires lists { AreKnown (chars input.now) lists.now }
+    requires spaces { AreSpaces (chars input.now) spaces.now }
+    requires unclosed { IsUnclosed (chars input.now) unclosed }
     ensures found { ReadsImportAlone IsDynamicEnd (chars input.now) (option_map import_of result) }
     ensures within { IfSome result (λ import. IsWithin import (length input.now)) }
 {
-    let (rest, import) = arguments(input)?;
+    let (rest, import) = arguments(input, lists, spaces)?;
     (rest.len() > unclosed).then_some(import)
 }
 
@@ -81,15 +91,21 @@ fn up_to_import(input: &str) -> Option<&str>
 }
 
 /// The import that the argument list behind an `import` states, and what is behind the list.
-pub(crate) fn arguments(input: &str) -> Option<(&str, JsDocImport<'_>)>
+pub(crate) fn arguments<'a>(
+    input: &'a str,
+    lists: &[KnownList<'a>],
+    spaces: &[KnownSpace<'a>],
+) -> Option<(&'a str, JsDocImport<'a>)>
+    requires lists { AreKnown (chars input.now) lists.now }
+    requires spaces { AreSpaces (chars input.now) spaces.now }
     ensures parsed { ReadsImport HasArguments (chars input.now) (rest_and_import result) }
     ensures within { IfSome result (λ parsed. IsWithin parsed.1 (length input.now)) }
 {
     let quoted = token(skip_space(input), "(")?;
     let (behind, specifier) = quote(quoted)?;
     let behind = skip_space(behind);
-    let (behind, resolution_mode) = options(behind).unwrap_or((behind, None));
-    let rest = word(skip_space(behind), ")")?;
+    let (behind, resolution_mode) = options(behind, lists, spaces).unwrap_or((behind, None));
+    let rest = word(skip_known(behind, spaces), ")")?;
     let start = input.len() - quoted.len() + 1;
     let import = JsDocImport {
         specifier,
@@ -100,12 +116,18 @@ pub(crate) fn arguments(input: &str) -> Option<(&str, JsDocImport<'_>)>
 }
 
 /// What is behind the second argument and the comma before it, and the mode of its attributes.
-fn options(input: &str) -> Option<(&str, Option<TypeScriptTypesResolutionMode>)>
+fn options<'a>(
+    input: &'a str,
+    lists: &[KnownList<'a>],
+    spaces: &[KnownSpace<'a>],
+) -> Option<(&'a str, Option<TypeScriptTypesResolutionMode>)>
+    requires lists { AreKnown (chars input.now) lists.now }
+    requires spaces { AreSpaces (chars input.now) spaces.now }
     ensures { Reads Anything IsOptions (chars input.now) (rest_and_mode result) }
 {
     let rest = token(input, ",")?;
     let rest = token(rest, "{")?;
     let rest = token(rest, "with")?;
-    let (rest, mode) = block(token(rest, ":")?)?;
-    Some((word(skip_space(rest), "}")?, mode))
+    let (rest, mode) = block(token(rest, ":")?, lists)?;
+    Some((word(skip_known(rest, spaces), "}")?, mode))
 }

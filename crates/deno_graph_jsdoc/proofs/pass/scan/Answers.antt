@@ -10,9 +10,11 @@ use Rattle.deno_graph_jsdoc.specs.declared.grammar.declaration.NamesEnd.{NamesEn
 use Rattle.deno_graph_jsdoc.specs.declared.import.JsDocImport.{JsDocImport}
 use Rattle.deno_graph_jsdoc.specs.JsDocImport.{import_of, moved, byte_count}
 use Rattle.deno_graph_jsdoc.specs.JsDocBraces.{Keeps}
+use Rattle.deno_graph_jsdoc.specs.JsDocKnown.{AreKnown, AreSpaces}
 use Rattle.deno_graph_jsdoc.specs.JsDocHits.{GainsImport, occurrences}
 use Rattle.deno_graph_jsdoc.proofs.Braces.{IsUnclosed-back, Keeps-back}
 use Rattle.deno_graph_jsdoc.proofs.Imports.{byte_count_before}
+use Rattle.deno_graph_jsdoc.proofs.Known.{AreKnown-back, AreSpaces-back}
 use Rattle.deno_graph_jsdoc.proofs.Passes.{Found, Found-start, Found-hits, Found-dynamics, Found-decls, Takes}
 use Rattle.deno_graph_jsdoc.proofs.Passes.{dynamic_skip, dynamic_take, decl_skip, decl_take, next, next_whole}
 use Rattle.deno_graph_jsdoc.proofs.Passes.{next_cut, next_longer, next_skips, declaration_here}
@@ -111,11 +113,35 @@ still c =
 pub find_import-found-requires-clause-keeps : goal.find_import-found-requires-clause-keeps
 find_import-found-requires-clause-keeps c = still (goal.at.find_import-found-requires-clause-keeps c).In-Some
 
-pub find_import-requires : goal.find_import-requires
-find_import-requires c =
-    let here = (goal.at.find_import-requires c).In-Some in
+pub find_import-requires-clause-unclosed : goal.find_import-requires-clause-unclosed
+find_import-requires-clause-unclosed c =
+    let here = (goal.at.find_import-requires-clause-unclosed c).In-Some in
     IsUnclosed-back (chars c.args.text.now) (after here) (chars c.in-Some.behind.now)
     c.unclosed_len-unclosed.result (through here) c.unclosed_len-unclosed.ensures
+
+-- what was read of the attributes behind it
+lists : (c : In-Some) → AreKnown (chars c.in-Some.behind.now) c.as_slice-lists.result.now
+lists c =
+    AreKnown-back (chars c.args.text.now) (after c) (chars c.in-Some.behind.now) c.as_slice-lists.result.now
+    (through c)
+    (subst (AreKnown (chars c.args.text.now)) (sym c.as_slice-lists.ensures.value) c.in_ok-table.ensures)
+
+pub find_import-found-requires-clause-lists : goal.find_import-found-requires-clause-lists
+find_import-found-requires-clause-lists c = lists (goal.at.find_import-found-requires-clause-lists c).In-Some
+
+pub find_import-requires-clause-lists : goal.find_import-requires-clause-lists
+find_import-requires-clause-lists c = lists (goal.at.find_import-requires-clause-lists c).In-Some
+
+-- what is known of the white space in it
+spaces : (c : In-Some) → AreSpaces (chars c.in-Some.behind.now) c.as_slice-spaces.result.now
+spaces c =
+    AreSpaces-back (chars c.args.text.now) (after c) (chars c.in-Some.behind.now) c.as_slice-spaces.result.now
+    (through c)
+    (subst (AreSpaces (chars c.args.text.now)) (sym c.as_slice-spaces.ensures.value)
+    c.in_ok-space_table.ensures)
+
+pub find_import-requires-clause-spaces : goal.find_import-requires-clause-spaces
+find_import-requires-clause-spaces c = spaces (goal.at.find_import-requires-clause-spaces c).In-Some
 
 skips : (c : In-Some) → Skips (chars c.args.text.now) c.loop-before.invariant.front (after c)
 skips c = next_skips (chars c.args.text.now) c.loop-before.invariant.front (chars c.in-Some.before.now)
@@ -236,17 +262,17 @@ none c = split_word (codes "import") c.loop-before.rest.now None (search rules)
 pub returns-clause-hits : goal.returns-clause-hits
 returns-clause-hits c =
     let i = c.loop-before.invariant in
-    Found-hits (chars c.args.text.now) i.front (chars c.loop-before.rest.now) i.cut i.whole (none c) (map
+    Found-hits (chars c.args.text.now) i.front (chars c.loop-before.rest.now) i.cut i.whole (none (goal.at.returns-clause-hits c).In_default) (map
     import_of c.loop-before.imports.items) c.loop-before.dynamic_starts c.loop-before.decl_starts i.found
 
 pub returns-clause-dynamic : goal.returns-clause-dynamic
 returns-clause-dynamic c =
     let i = c.loop-before.invariant in
-    Found-dynamics (chars c.args.text.now) i.front (chars c.loop-before.rest.now) i.cut i.whole (none c) (map
+    Found-dynamics (chars c.args.text.now) i.front (chars c.loop-before.rest.now) i.cut i.whole (none (goal.at.returns-clause-dynamic c).In_default) (map
     import_of c.loop-before.imports.items) c.loop-before.dynamic_starts c.loop-before.decl_starts i.found
 
 pub returns-clause-declarations : goal.returns-clause-declarations
 returns-clause-declarations c =
     let i = c.loop-before.invariant in
-    Found-decls (chars c.args.text.now) i.front (chars c.loop-before.rest.now) i.cut i.whole (none c) (map
+    Found-decls (chars c.args.text.now) i.front (chars c.loop-before.rest.now) i.cut i.whole (none (goal.at.returns-clause-declarations c).In_default) (map
     import_of c.loop-before.imports.items) c.loop-before.dynamic_starts c.loop-before.decl_starts i.found

@@ -2,6 +2,7 @@
 use Rattle.std.specs.Str.{chars}
 use Rattle.deno_graph_jsdoc.specs.JsDocReading.{rest_and_mode}
 use Rattle.deno_graph_jsdoc.proofs.Blocks.{block_unopened, block_empty, block_attributes}
+use Rattle.deno_graph_jsdoc.proofs.Known.{AreKnown-behind}
 use Rattle.deno_graph_jsdoc.proofs.grammar.attributes.block.Goals as goal
 
 pub returns-in_err-rest : goal.returns-in_err-rest
@@ -16,3 +17,6 @@ pub returns-in-None : goal.returns-in-None
 returns-in-None c =
     block_attributes (chars c.args.input.now) (chars c.in_ok-rest.rest.now) c.in_ok-rest.ensures
     (rest_and_mode c.attributes.result) c.in-None.ensures c.attributes.ensures
+
+pub attributes-requires : goal.attributes-requires
+attributes-requires c = AreKnown-behind c.args.known.now c.in_ok-rest.ensures.0 c.requires

@@ -1,5 +1,5 @@
 -- The first of two names stays.
-use Rattle.std.proofs.Common.{sym, ap, ◌∙◌}
+use Rattle.std.proofs.Common.{◌∷◌, [], sym, ap, ◌∙◌}
 use Rattle.std.specs.Str.{chars}
 use Rattle.deno_graph_jsdoc.specs.JsDocReading.{text_of}
 use Rattle.deno_graph_jsdoc.proofs.Words.{mode_name-kept, mode_name-first, is_mode-chars, text_of-then_some}
@@ -7,7 +7,7 @@ use Rattle.deno_graph_jsdoc.proofs.grammar.attributes.name_after.Goals as goal
 
 pub returns-in-Some : goal.returns-in-Some
 returns-in-Some c = λ before is.
-    mode_name-kept before (record { key = chars c.args.key.now; value = chars c.args.value.now })
+    mode_name-kept before (record { key = chars c.args.key.now; value = chars c.args.value.now } ∷ [])
     (chars c.in-Some.name.now) (sym (ap text_of c.in-Some.is) ∙ is)
 
 pub returns-in-None : goal.returns-in-None

@@ -14,6 +14,7 @@ use Rattle.deno_graph_jsdoc.proofs.Braces.{IsUnclosed-back, Keeps-back, Keeps-ne
 use Rattle.deno_graph_jsdoc.proofs.Clauses.{Head, head_no_gap}
 use Rattle.deno_graph_jsdoc.proofs.Declarations.{no_clause, names_without_end, names_head, behind_clause}
 use Rattle.deno_graph_jsdoc.proofs.Imports.{States-within, byte_count_before, counted_from}
+use Rattle.deno_graph_jsdoc.proofs.Known.{AreKnown-behind}
 use Rattle.deno_graph_jsdoc.proofs.grammar.declaration.find_import.Goals as goal
 use Rattle.deno_graph_jsdoc.proofs.grammar.declaration.find_import.Goals.{In-Some, In_ok-end, In_ok-import-2}
 
@@ -36,6 +37,11 @@ advance-requires-clause-unclosed c =
     let front = before (goal.at.advance-requires-clause-unclosed c).In-Some in
     IsUnclosed-back (chars c.args.input.now) front.0
     (chars c.in-Some.inside.now) c.args.unclosed front.2 c.requires.unclosed
+
+pub advance-requires-clause-lists : goal.advance-requires-clause-lists
+advance-requires-clause-lists c =
+    AreKnown-behind c.args.lists.now c.in-Some.ensures.0
+    (AreKnown-behind c.args.lists.now c.in_ok-clause.ensures.0 c.requires.lists)
 
 pub advance-requires-clause-keeps : goal.advance-requires-clause-keeps
 advance-requires-clause-keeps c =

@@ -4,10 +4,17 @@ use Rattle.std.proofs.lemmas.Str.{encodes-chars}
 use Rattle.std.specs.Str.{chars}
 use Rattle.deno_graph_jsdoc.specs.JsDocImport.{byte_count}
 use Rattle.deno_graph_jsdoc.proofs.Braces.{no_brace_left}
+use Rattle.deno_graph_jsdoc.proofs.Known.{AreKnown-behind, AreKnown-skipped}
 use Rattle.deno_graph_jsdoc.proofs.grammar.declaration.names_end.Goals as goal
 
 pub returns-then-input-unclosed : goal.returns-then-input-unclosed
 returns-then-input-unclosed c =
     let fits : byte_count (chars c.args.input.now) ≤ c.args.unclosed =
     omega (arith, c.if-input-unclosed.true, ap length (encodes-chars c.args.input.now c.utf8.input)) in
-    record { is_end = tt; is_next = no_brace_left (chars c.args.input.now) c.args.unclosed c.requires fits }
+    record { is_end = tt; is_next = no_brace_left (chars c.args.input.now) c.args.unclosed c.requires.unclosed fits }
+
+pub source-requires : goal.source-requires
+source-requires c =
+    AreKnown-skipped (chars c.in_ok-behind.behind.now) (chars c.skip_space-from.result.now) c.args.lists.now
+    c.skip_space-from.ensures
+    (AreKnown-behind c.args.lists.now c.in_ok-behind.ensures.0 c.requires.lists)

@@ -6,6 +6,7 @@ use Rattle.deno_graph_jsdoc.specs.JsDocGrammar.{◌·◌, Is, IsSpace}
 use Rattle.deno_graph_jsdoc.specs.JsDocImport.{EndsDeclaration, byte_count}
 use Rattle.deno_graph_jsdoc.proofs.Imports.{no_head, no_quote, stated, ends_at, byte_count_before}
 use Rattle.deno_graph_jsdoc.proofs.Imports.{States-within}
+use Rattle.deno_graph_jsdoc.proofs.Known.{AreKnown-behind, AreKnown-skipped}
 use Rattle.deno_graph_jsdoc.proofs.grammar.declaration.source.Goals as goal
 use Rattle.deno_graph_jsdoc.proofs.grammar.declaration.source.Goals.{In_ok-quoted}
 
@@ -46,3 +47,10 @@ pub returns-clause-within : goal.returns-clause-within
 returns-clause-within c =
     States-within (Is (codes "from") · IsSpace) EndsDeclaration c.args.input.now _ _ c.utf8.input
     (returns-clause-parsed c).0
+
+pub with_attributes-requires : goal.with_attributes-requires
+with_attributes-requires c =
+    AreKnown-skipped (chars c.in_ok-behind.behind.now) (chars c.skip_space-behind.result.now) c.args.lists.now
+    c.skip_space-behind.ensures
+    (AreKnown-behind c.args.lists.now c.in_ok-behind.ensures.0
+    (AreKnown-behind c.args.lists.now c.in_ok-quoted.ensures.0 c.requires))

@@ -50,4 +50,4 @@ pub returns-clause-found : goal.returns-clause-found
 returns-clause-found c =
     let utf8 : IsUtf8 c.in_ok-rest.rest.now = search rules in
     rw c.then_some.ensures (closed c.args.input.now c.in_ok-rest.rest.now c.in_ok-rest.import c.args.unclosed
-    utf8 c.requires c.in_ok-rest.ensures.parsed)
+    utf8 c.requires.unclosed c.in_ok-rest.ensures.parsed)

@@ -1,0 +1,18 @@
+-- What was read behind the commas from the end of the text up to where the search for the next one begins.
+use Rattle.std.proofs.Common.{◌≡◌, ℕ, List, ◌++◌, length}
+use denote.Text.{Utf8}
+use denote.Shadow.{shadow}
+use Rattle.std.specs.Str.{chars}
+use Rattle.deno_graph_jsdoc.specs.JsDocKnown.{AreKnown}
+use Rattle.deno_graph_jsdoc.proofs.grammar.known.known_lists.Given as goal
+
+abbrev pub invariant-loop-sooner : goal.invariant-loop-sooner
+invariant-loop-sooner l = record {
+  utf8 : shadow (Utf8 l.before);
+  back : List ℕ;
+  whole : l.text ≡ l.before ++ back;
+  known : AreKnown (chars l.text) l.known.items;
+}
+
+abbrev pub decreases-loop-sooner : goal.decreases-loop-sooner
+decreases-loop-sooner l = length l.before
