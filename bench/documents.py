@@ -142,12 +142,23 @@ def heads(count):
 
 
 def one_start(count):
-    """Imports that all start behind one long comment, which each of them reads."""
+    """Imports that all start behind one long comment."""
     text = " " * (10 * count)
     comment = f"/*{text}*/"
     statement, node = imported(0, len(comment))
     entry = filed(len(comment), "block", [0, len(comment)], text)
     return document(comment + statement, [node] * count, leading=[entry])
+
+
+def two_starts(count):
+    """Imports that start in turn behind one long comment and behind another."""
+    text = " " * (5 * count)
+    comment = f"/*{text}*/"
+    starts = [len(comment), 2 * len(comment)]
+    statement, _ = imported(0, 0)
+    nodes = [imported(0, start)[1] for start in starts]
+    entries = [filed(start, "block", [start - len(comment), start], text) for start in starts]
+    return document(comment * 2 + statement, nodes * (count // 2), leading=entries)
 
 
 def white_space(size):
@@ -245,5 +256,6 @@ BY_COUNT = {
     "parts": template_parts,
     "keys": different_keys,
     "equal keys": equal_keys,
+    "one start": one_start,
+    "two starts": two_starts,
 }
-ONE_START = {"one start": one_start}

@@ -186,7 +186,7 @@ pub same_specifier : (one other : SpecifierWithRange) → one.text ≡ other.tex
     → one ≡ other
 same_specifier one other text range = λ i. record { text = text i; range = range i }
 
-same_range : (one other : SourceRange) → one.start ≡ other.start → one.end ≡ other.end → one ≡ other
+pub same_range : (one other : SourceRange) → one.start ≡ other.start → one.end ≡ other.end → one ≡ other
 same_range one other start end = λ i. record { start = start i; end = end i }
 
 has_between : (source : List ℕ) (range : SourceRange) (bytes : List ℕ) → IsTextRange source range

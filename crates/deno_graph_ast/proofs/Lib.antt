@@ -9,6 +9,7 @@ pub mod Named
 pub mod Places
 pub mod Pushed
 pub mod ReadComments
+pub mod ReadTypes
 pub mod ReferenceLists
 pub mod Scripts
 pub mod SomeInfo

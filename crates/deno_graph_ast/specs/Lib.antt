@@ -5,6 +5,7 @@ pub mod HeadTail
 pub mod JsDocInfo
 pub mod ModuleInfo
 pub mod Pragma
+pub mod ReadTypes
 pub mod References
 pub mod Script
 pub mod ScriptSteps

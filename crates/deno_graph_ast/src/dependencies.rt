@@ -1,11 +1,12 @@
-ghost use Rattle.std.specs.Prelude.{◌≡◌, All, IfOk, map};
+ghost use Rattle.std.specs.Prelude.{◌≡◌, All, IfOk, OnOk, map};
 ghost use Rattle.deno_graph_source.specs.Source.{IsValid};
 ghost use Rattle.deno_graph_dep.specs.Argument.{form_seen, part_seen};
 ghost use Rattle.deno_graph_dep.specs.Item.{dynamic_item, dynamic_item_of, item_of, static_item, static_item_of};
 ghost use Rattle.deno_graph_ast.specs.ModuleInfo.{argument_of_form, template_part_of, AreDescribed, CoversTypes, Describes, FitsText};
+ghost use Rattle.deno_graph_ast.specs.ReadTypes.{AreRead};
 ghost use Rattle.deno_graph_dependency.specs.declared.dependency.DependencyDescriptor.TheVariants.{Static, Dynamic};
 
-use crate::types::analyze_ts_or_deno_types;
+use crate::read_types::{ReadTypes, types_before};
 use deno_graph_dep as dep;
 use deno_graph_dep::analyze_program_dependencies;
 use deno_graph_dependency::{
@@ -31,8 +32,9 @@ pub(crate) fn analyze_dependencies(
 {
     let found = analyze_program_dependencies(alloc, program, comments)?;
     let mut dependencies = Items::with_capacity(alloc, found.len())?;
+    let mut read = ReadTypes::new(alloc);
     for descriptor in found {
-        dependencies.push(dependency(alloc, text_info, descriptor)?)?;
+        dependencies.push(dependency(alloc, text_info, descriptor, &mut read)?)?;
     }
     Ok(dependencies)
 }
@@ -41,17 +43,20 @@ fn dependency(
     alloc: Global,
     text_info: &SourceTextInfo,
     descriptor: dep::DependencyDescriptor<'_>,
+    read: &mut ReadTypes,
 ) -> Result<DependencyDescriptor, AllocError>
-    requires { FitsText text_info.now (item_of descriptor) }
+    requires fits { FitsText text_info.now (item_of descriptor) }
+    requires read { AreRead text_info.now read.old }
     ensures is { IfOk result (Describes text_info.now (item_of descriptor.entry)) }
     ensures covers { IfOk result (CoversTypes text_info.now) }
+    ensures read { OnOk result (AreRead text_info.now read.new) }
 {
     match descriptor {
         dep::DependencyDescriptor::Static(found) => {
-            Ok(static_dependency(alloc, text_info, found)?.into())
+            Ok(static_dependency(alloc, text_info, found, read)?.into())
         }
         dep::DependencyDescriptor::Dynamic(found) => {
-            Ok(dynamic_dependency(alloc, text_info, found)?.into())
+            Ok(dynamic_dependency(alloc, text_info, found, read)?.into())
         }
     }
 }
@@ -60,15 +65,18 @@ fn static_dependency(
     alloc: Global,
     text_info: &SourceTextInfo,
     found: dep::StaticDependencyDescriptor<'_>,
+    read: &mut ReadTypes,
 ) -> Result<StaticDependencyDescriptor, AllocError>
-    requires { FitsText text_info.now (static_item (static_item_of found)) }
+    requires fits { FitsText text_info.now (static_item (static_item_of found)) }
+    requires read { AreRead text_info.now read.old }
     ensures is { IfOk result (λ dependency.
         Describes text_info.now (static_item (static_item_of found.entry)) (Static dependency)) }
     ensures covers { IfOk result (λ dependency. CoversTypes text_info.now (Static dependency)) }
+    ensures read { OnOk result (AreRead text_info.now read.new) }
 {
     Ok(StaticDependencyDescriptor {
         kind: found.kind,
-        types_specifier: analyze_ts_or_deno_types(alloc, text_info, found.leading_comments)?,
+        types_specifier: types_before(alloc, text_info, found.leading_comments, read)?,
         specifier: Text::from_str(alloc, found.specifier)?,
         specifier_range: PositionRange::from_source_range(found.specifier_range, text_info),
         is_side_effect: found.is_side_effect,
@@ -80,15 +88,18 @@ fn dynamic_dependency(
     alloc: Global,
     text_info: &SourceTextInfo,
     found: dep::DynamicDependencyDescriptor<'_>,
+    read: &mut ReadTypes,
 ) -> Result<DynamicDependencyDescriptor, AllocError>
-    requires { FitsText text_info.now (dynamic_item (dynamic_item_of found)) }
+    requires fits { FitsText text_info.now (dynamic_item (dynamic_item_of found)) }
+    requires read { AreRead text_info.now read.old }
     ensures is { IfOk result (λ dependency.
         Describes text_info.now (dynamic_item (dynamic_item_of found.entry)) (Dynamic dependency)) }
     ensures covers { IfOk result (λ dependency. CoversTypes text_info.now (Dynamic dependency)) }
+    ensures read { OnOk result (AreRead text_info.now read.new) }
 {
     Ok(DynamicDependencyDescriptor {
         kind: found.kind,
-        types_specifier: analyze_ts_or_deno_types(alloc, text_info, found.leading_comments)?,
+        types_specifier: types_before(alloc, text_info, found.leading_comments, read)?,
         argument: owned_argument(alloc, &found.argument)?,
         argument_range: PositionRange::from_source_range(found.argument_range, text_info),
         import_attributes: found.import_attributes,

@@ -7,6 +7,7 @@ mod head_tail;
 mod info;
 pub mod jsdoc;
 pub mod laws;
+mod read_types;
 mod references;
 mod script;
 mod source_map;

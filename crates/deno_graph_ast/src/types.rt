@@ -29,7 +29,7 @@ pub fn analyze_ts_or_deno_types(
 }
 
 /// What the comment names as the types of the dependency behind it.
-fn types_in(
+pub(crate) fn types_in(
     alloc: Global,
     text_info: &SourceTextInfo,
     comment: &DependencyComment,

@@ -4,6 +4,7 @@ use Rattle.std.specs.List.{AllZip}
 use Rattle.deno_graph_dep.specs.Item.{item_of}
 use Rattle.deno_graph_ast.specs.ModuleInfo.{CoversTypes, Describes, FitsText}
 use Rattle.deno_graph_ast.proofs.ItemComments.{dependencies_fit}
+use Rattle.deno_graph_ast.proofs.ReadTypes.{read_none}
 use Rattle.deno_graph_ast.proofs.ReferenceLists.{AllZip-push}
 use Rattle.deno_graph_ast.proofs.dependencies.analyze_dependencies.Goals as goal
 
@@ -16,13 +17,14 @@ loop-descriptor-init c =
       whole = refl;
       described = subst (λ made. AllZip (Describes text) [] made) (sym c.in_ok-dependencies.ensures) tt;
       cover = subst (All (CoversTypes text)) (sym c.in_ok-dependencies.ensures) (All-nil (CoversTypes text));
+      read = read_none text c.new-read.result c.new-read.ensures.empty;
       fits = subst (All (FitsText text)) (ap (map item_of) (sym items))
           (dependencies_fit text c.args.program.now c.args.comments.now _ c.requires
           c.in_ok-found.ensures.listing);
     }
 
-pub dependency-requires : goal.dependency-requires
-dependency-requires c =
+pub dependency-requires-clause-fits : goal.dependency-requires-clause-fits
+dependency-requires-clause-fits c =
     let step : map item_of c.loop-descriptor.descriptor-iterator.rest.items
     ≡ item_of c.in-Some.descriptor ∷ map item_of c.next.new.self.rest.items =
     ap (map item_of) c.in-Some.ensures.steps.0 in
@@ -48,5 +50,6 @@ loop-descriptor-preserved c =
       cover = subst (All (CoversTypes text)) (sym c.in_ok-push.ensures.ok)
           (All-push (CoversTypes text) c.loop-descriptor.dependencies c.in_ok-dependency.field-0 before.cover
           c.in_ok-dependency.ensures.covers);
+      read = c.in_ok-dependency.ensures.read;
       fits = All-tail (FitsText text) item rest (subst (All (FitsText text)) step before.fits);
     }

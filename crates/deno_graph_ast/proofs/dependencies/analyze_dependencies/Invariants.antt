@@ -3,6 +3,7 @@ use Rattle.std.proofs.Common.{◌≡◌, ◌++◌, List, map, All}
 use Rattle.std.specs.List.{AllZip}
 use Rattle.deno_graph_dep.specs.Item.{Item, item_of}
 use Rattle.deno_graph_ast.specs.ModuleInfo.{CoversTypes, Describes, FitsText}
+use Rattle.deno_graph_ast.specs.ReadTypes.{AreRead}
 use Rattle.deno_graph_ast.proofs.dependencies.analyze_dependencies.Given as goal
 
 abbrev pub invariant-loop-descriptor : goal.invariant-loop-descriptor
@@ -12,5 +13,6 @@ invariant-loop-descriptor l = record {
       ++ map item_of l.descriptor-iterator.rest.items;
   described : AllZip (Describes l.text_info) done l.dependencies;
   cover : All (CoversTypes l.text_info) l.dependencies;
+  read : AreRead l.text_info l.read;
   fits : All (FitsText l.text_info) (map item_of l.descriptor-iterator.rest.items);
 }
