@@ -1,5 +1,7 @@
 //! What the program can be asked for, each from a text to the JSON value that is printed.
 
+ghost use Rattle.std.specs.Prelude.{◌≡◌, ◌↔◌, Some, codes};
+
 use crate::fault::Fault;
 use crate::input::{parse_json, parse_source, read_to_end};
 use deno_graph_ast::module_info;
@@ -25,7 +27,11 @@ pub enum Subcommand {
 
 impl Subcommand {
     /// The subcommand of this name, if it is one.
-    pub fn from_name(name: &str) -> Option<Subcommand> {
+    pub fn from_name(name: &str) -> Option<Subcommand>
+        ensures analyze { (result ≡ Some Subcommand.Analyze) ↔ (name.now ≡ codes "analyze") }
+        ensures convert { (result ≡ Some Subcommand.Convert) ↔ (name.now ≡ codes "convert") }
+        ensures reach { (result ≡ Some Subcommand.Reach) ↔ (name.now ≡ codes "reach") }
+    {
         match name {
             "analyze" => Some(Subcommand::Analyze),
             "convert" => Some(Subcommand::Convert),
