@@ -37,18 +37,35 @@ pub enum Fault {
 }
 
 impl From<AllocError> for Fault {
+    ghost use Rattle.std.specs.Prelude.{◌≡◌};
+    ghost use Rattle.modinfo.specs.declared.fault.Fault.TheVariants.{OutOfMemory};
+
+    ghost from_gives = { λ error fault. fault ≡ OutOfMemory };
+
     fn from(_refused: AllocError) -> Fault {
         Fault::OutOfMemory
     }
 }
 
 impl<T: Drop> From<AllocFailed<T>> for Fault {
+    ghost use Rattle.std.specs.Prelude.{◌≡◌};
+    ghost use Rattle.modinfo.specs.declared.fault.Fault.TheVariants.{OutOfMemory};
+
+    ghost from_gives = { λ error fault. fault ≡ OutOfMemory };
+
     fn from(_refused: AllocFailed<T>) -> Fault {
         Fault::OutOfMemory
     }
 }
 
 impl From<serde_json::Error> for Fault {
+    ghost use Rattle.std.specs.Prelude.{◌≡◌};
+    ghost use Rattle.serde_json.specs.Errors.{IsMemory};
+    ghost use Rattle.modinfo.specs.declared.fault.Fault.TheVariants.{Json, OutOfMemory};
+
+    ghost from_gives = { λ error fault. (IsMemory error → fault ≡ OutOfMemory)
+        × (¬ IsMemory error → fault ≡ Json) };
+
     fn from(error: serde_json::Error) -> Fault {
         if error.is_memory() {
             Fault::OutOfMemory
@@ -59,6 +76,11 @@ impl From<serde_json::Error> for Fault {
 }
 
 impl From<NotationFault> for Fault {
+    ghost use Rattle.std.specs.Prelude.{◌≡◌};
+    ghost use Rattle.modinfo.specs.Fault.{fault_of_notation};
+
+    ghost from_gives = { λ notation_fault fault. fault ≡ fault_of_notation notation_fault };
+
     fn from(fault: NotationFault) -> Fault {
         match fault {
             NotationFault::Json { .. } => Fault::Json,
@@ -71,6 +93,11 @@ impl From<NotationFault> for Fault {
 }
 
 impl From<ConvertFault> for Fault {
+    ghost use Rattle.std.specs.Prelude.{◌≡◌};
+    ghost use Rattle.modinfo.specs.Fault.{fault_of_conversion};
+
+    ghost from_gives = { λ convert_fault fault. fault ≡ fault_of_conversion convert_fault };
+
     fn from(fault: ConvertFault) -> Fault {
         match fault {
             ConvertFault::OutOfMemory => Fault::OutOfMemory,
@@ -80,6 +107,11 @@ impl From<ConvertFault> for Fault {
 }
 
 impl From<InfoFault> for Fault {
+    ghost use Rattle.std.specs.Prelude.{◌≡◌};
+    ghost use Rattle.modinfo.specs.Fault.{fault_of_info};
+
+    ghost from_gives = { λ info_fault fault. fault ≡ fault_of_info info_fault };
+
     fn from(fault: InfoFault) -> Fault {
         match fault {
             InfoFault::OutOfMemory => Fault::OutOfMemory,

@@ -1,5 +1,9 @@
 //! From the bytes of an input to what a subcommand reads.
 
+ghost use Rattle.std.specs.Prelude.{◌≡◌, Some, None, Err, IfOk, IsUtf8, MatchResult};
+ghost use Rattle.serde_json.specs.View.{view};
+ghost use Rattle.serde_json.specs.Read.{read as read_text};
+
 use crate::fault::Fault;
 use deno_graph_source::tree::ParsedSource;
 use modinfo_notation::{Document, parse_document};
@@ -21,11 +25,18 @@ fn document_of(alloc: Global, input: Vec<u8>) -> Result<Document, Fault> {
 }
 
 /// The one JSON value that the input is.
-pub fn parse_json(alloc: Global, input: Vec<u8>) -> Result<Value, Fault> {
+pub fn parse_json(alloc: Global, input: Vec<u8>) -> Result<Value, Fault>
+    ensures ok { IfOk result (λ value. read_text input.items ≡ Some (view value)) }
+    ensures input { result ≡ Err Fault.Input → ¬ (IsUtf8 input.items) }
+    ensures json { result ≡ Err Fault.Json → read_text input.items ≡ None }
+{
     Ok(Value::from_str(alloc, text_of(input.as_slice())?)?)
 }
 
-fn text_of(bytes: &[u8]) -> Result<&str, Fault> {
+fn text_of(bytes: &[u8]) -> Result<&str, Fault>
+    ensures { MatchResult result (λ text. (text.now ≡ bytes.now) × IsUtf8 bytes.now)
+        (λ fault. (fault ≡ Fault.Input) × ¬ (IsUtf8 bytes.now)) }
+{
     basic::from_utf8(bytes).map_err(|_| Fault::Input)
 }
 

@@ -1,5 +1,13 @@
 //! What the program can be asked for, each from a text to the JSON value that is printed.
 
+ghost use Rattle.std.specs.Prelude.{◌≡◌, ◌↔◌, false, IfOk, Some, codes};
+ghost use Rattle.std.specs.String.{string_bytes};
+ghost use Rattle.serde_json.specs.View.{view};
+ghost use Rattle.serde_json.specs.Written.{has_float as float_stands};
+ghost use Rattle.deno_graph_info.specs.Json.ModuleInfo.{json_of_info};
+ghost use Rattle.deno_graph_info.specs.declared.analysis.module_info.ModuleInfo.{ModuleInfo};
+ghost use Rattle.modinfo.specs.Answer.{IsConversionOf, IsConvertedText, IsInfoText};
+
 use crate::fault::Fault;
 use crate::input::{parse_json, parse_source, read_to_end};
 use deno_graph_ast::module_info;
@@ -25,7 +33,11 @@ pub enum Subcommand {
 
 impl Subcommand {
     /// The subcommand of this name, if it is one.
-    pub fn from_name(name: &str) -> Option<Subcommand> {
+    pub fn from_name(name: &str) -> Option<Subcommand>
+        ensures analyze { (result ≡ Some Subcommand.Analyze) ↔ (name.now ≡ codes "analyze") }
+        ensures convert { (result ≡ Some Subcommand.Convert) ↔ (name.now ≡ codes "convert") }
+        ensures reach { (result ≡ Some Subcommand.Reach) ↔ (name.now ≡ codes "reach") }
+    {
         match name {
             "analyze" => Some(Subcommand::Analyze),
             "convert" => Some(Subcommand::Convert),
@@ -43,7 +55,12 @@ impl Subcommand {
     }
 
     /// The answer to a whole input: compact JSON, without a line feed.
-    pub fn answer_bytes(self, alloc: Global, input: Vec<u8>) -> Result<String, Fault> {
+    pub fn answer_bytes(self, alloc: Global, input: Vec<u8>) -> Result<String, Fault>
+        ensures analyze { self ≡ Subcommand.Analyze
+            → IfOk result (λ text. IsInfoText (string_bytes text)) }
+        ensures convert { self ≡ Subcommand.Convert
+            → IfOk result (λ text. IsConvertedText input.items (string_bytes text)) }
+    {
         let value = match self {
             Subcommand::Analyze => analyze(alloc, input)?,
             Subcommand::Convert => convert(alloc, input)?,
@@ -68,7 +85,10 @@ impl Subcommand {
     }
 }
 
-fn analyze(alloc: Global, input: Vec<u8>) -> Result<Value, Fault> {
+fn analyze(alloc: Global, input: Vec<u8>) -> Result<Value, Fault>
+    ensures form { IfOk result (λ value. (info : ModuleInfo) × (view value ≡ json_of_info info)) }
+    ensures no_float { IfOk result (λ value. float_stands (view value) ≡ false) }
+{
     Ok(info_of(alloc, input)?.to_value(alloc)?)
 }
 
@@ -78,7 +98,9 @@ fn info_of(alloc: Global, input: Vec<u8>) -> Result<ModuleInfo, Fault> {
     Ok(module_info(alloc, &source)?)
 }
 
-fn convert(alloc: Global, input: Vec<u8>) -> Result<Value, Fault> {
+fn convert(alloc: Global, input: Vec<u8>) -> Result<Value, Fault>
+    ensures { IfOk result (λ after. IsConversionOf input.items (view after)) }
+{
     let mut value = parse_json(alloc, input)?;
     module_graph_1_to_2(alloc, &mut value)?;
     Ok(value)
