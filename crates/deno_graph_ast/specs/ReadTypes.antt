@@ -13,7 +13,8 @@ use Rattle.deno_graph_ast.specs.Spelled.{CoversAsWritten}
 abbrev pub place_cmp : ℕ × ℕ → ℕ × ℕ → Ordering
 place_cmp a b = ordering_then (nat_cmp a.0 b.0) (nat_cmp a.1 b.1)
 
--- what is held at the place of a comment of the text, that the comment names
+-- where something is kept at the place of a comment of the text, it is what the comment names, and its
+-- range covers the specifier as it is written
 abbrev pub AreRead : List ℕ → BTreeMap (ℕ × ℕ) (Option SpecifierWithRange) → Type 0
 AreRead source read = (comment : DependencyComment) (types : Option SpecifierWithRange)
     → IsSpelled source comment
