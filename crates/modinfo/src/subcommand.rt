@@ -1,6 +1,6 @@
 //! What the program can be asked for, each from a text to the JSON value that is printed.
 
-ghost use Rattle.std.specs.Prelude.{◌≡◌, ◌↔◌, false, IfOk, Some, codes};
+ghost use Rattle.std.specs.Prelude.{◌≡◌, ◌↔◌, ◌++◌, ℕ, false, IfOk, List, Some, codes};
 ghost use Rattle.std.specs.String.{string_bytes};
 ghost use Rattle.serde_json.specs.View.{view};
 ghost use Rattle.serde_json.specs.Written.{has_float as float_stands};
@@ -47,7 +47,11 @@ impl Subcommand {
     }
 
     /// Reads the input to its end, and gives the line that answers it: compact JSON and a line feed.
-    pub fn answer<R: Read>(self, alloc: Global, input: &mut R) -> Result<String, Fault> {
+    pub fn answer<R: Read>(self, alloc: Global, input: &mut R) -> Result<String, Fault>
+        ensures line { IfOk result (λ line. (text : List ℕ)
+            × (self ≡ Subcommand.Analyze → IsInfoText text)
+            × (string_bytes line ≡ text ++ codes "\n")) }
+    {
         let bytes = read_to_end(alloc, input)?;
         let mut line = self.answer_bytes(alloc, bytes)?;
         line.push('\n')?;
