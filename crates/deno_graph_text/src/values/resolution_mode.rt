@@ -21,8 +21,10 @@ impl TypeScriptTypesResolutionMode {
 
     /// The mode of this name, `import` or `require`. None for any other text.
     pub fn from_str(text: &str) -> Option<Self>
-        ensures import { (result ≡ Some TypeScriptTypesResolutionMode.Import) ↔ (text.now ≡ codes "import") }
-        ensures require { (result ≡ Some TypeScriptTypesResolutionMode.Require) ↔ (text.now ≡ codes "require") }
+        ensures import { (result ≡ Some TypeScriptTypesResolutionMode.Import)
+            ↔ (text.now ≡ codes "import") }
+        ensures require { (result ≡ Some TypeScriptTypesResolutionMode.Require)
+            ↔ (text.now ≡ codes "require") }
         ensures named { result ≡ mode_named text.now }
     {
         match text {
