@@ -48,6 +48,18 @@ def lists_in_lists(count):
     return jsdoc('{import("a",{with:{' + "a{import(':\"',{with:{x\",y:\"v\"," * count + 'k:"v"}})}')
 
 
+def declared_lists(count):
+    """Declarations in the attributes of those before them."""
+    return jsdoc("@import a from 'b' with {" + "k:\"@import x from 'q' with {z\",y:\"v\"," * count + 'k:"v"}')
+
+
+def space_behind_lists(count):
+    """Such dynamic imports, and much white space before each mark that closes their lists."""
+    space = " " * (10 * count)
+    lists = '{import("a",{with:{' + "a{import(':\"',{with:{x\",y:\"v\"," * count + 'k:"v"'
+    return jsdoc(lists + space + "}" + space + "}" + space + ")}")
+
+
 def one_after_another(count):
     """Dynamic imports and declarations as they should be."""
     return jsdoc("{import('a')} @import {b} from 'c' with {d:'e'}\n" * count)
@@ -91,6 +103,8 @@ ONE_COMMENT = {
     "space": long_space,
     "attributes": long_attributes,
     "lists": lists_in_lists,
+    "declared": declared_lists,
+    "list space": space_behind_lists,
 }
 MANY_COMMENTS = {
     "ascending": ascending,

@@ -8,7 +8,8 @@ use Rattle.deno_graph_jsdoc.specs.JsDocReading.{ReadsImport}
 use Rattle.deno_graph_jsdoc.specs.JsDocImport.{Import, IsDeclaration, IsDynamicImport, moved, byte_count}
 use Rattle.deno_graph_jsdoc.specs.JsDocHits.{Ascend, AreHits, IsHit, GainsImport}
 use Rattle.deno_graph_jsdoc.proofs.Ascending.{GainsImport-insert, GainsImport-same, tail_pairs}
-use Rattle.deno_graph_jsdoc.proofs.Existence.{read_declaration, read_dynamic}
+use Rattle.deno_graph_jsdoc.proofs.ExistenceOfDeclarations.{read_declaration}
+use Rattle.deno_graph_jsdoc.proofs.ExistenceOfDynamicImports.{read_dynamic}
 use Rattle.deno_graph_jsdoc.proofs.Passes.{gained, gained_sound}
 use Rattle.deno_graph_jsdoc.proofs.Sites.{same_front, same_behind}
 

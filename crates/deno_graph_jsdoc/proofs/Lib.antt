@@ -17,7 +17,9 @@ pub mod UniqueImports
 pub mod Sites
 pub mod Occurrences
 pub mod Hits
-pub mod Existence
+pub mod ExistenceOfParts
+pub mod ExistenceOfDeclarations
+pub mod ExistenceOfDynamicImports
 pub mod Collected
 pub mod Ascending
 pub mod Passes
