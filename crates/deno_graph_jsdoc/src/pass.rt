@@ -32,7 +32,7 @@ pub fn scan<'a>(alloc: Global, text: &'a str) -> Result<Scan<'a>, AllocError>
     let unclosed = unclosed_len(text);
     let table = known_lists(alloc, text)?;
     let lists = table.as_slice();
-    let space_table = known_spaces(alloc, text)?;
+    let space_table = known_spaces(alloc, text, lists)?;
     let spaces = space_table.as_slice();
     let mut known = None;
     let mut imports = Vec::new(alloc);

@@ -21,13 +21,24 @@ pub(crate) struct KnownList<'a> {
     pub(crate) read: Option<(&'a str, Option<TypeScriptTypesResolutionMode>)>,
 }
 
-/// What attributes give, from each one on that may follow another, by ascending `left`.
-///
-/// They are read from the end of the text on, so each is read up to the next one.
+/// What attributes give, from each one on that may follow another, by ascending `left`; nothing
+/// where the text has no import, so that no attributes are read.
 pub(crate) fn known_lists<'a>(
     alloc: Global,
     text: &'a str,
 ) -> Result<Vec<KnownList<'a>>, AllocError>
+    ensures { IfOk result (λ known. AreKnown (chars text.now) known.items) }
+{
+    if text.contains("import") {
+        lists_from_the_end(alloc, text)
+    } else {
+        Ok(Vec::new(alloc))
+    }
+}
+
+/// The same, whatever the text has. They are read from its end on, so each is read up to the next
+/// one.
+fn lists_from_the_end<'a>(alloc: Global, text: &'a str) -> Result<Vec<KnownList<'a>>, AllocError>
     ensures { IfOk result (λ known. AreKnown (chars text.now) known.items) }
 {
     let mut known = Vec::new(alloc);

@@ -5,6 +5,7 @@ ghost use Rattle.std.specs.Prelude.{◌≡◌, IfOk};
 ghost use Rattle.std.specs.Str.{chars, skip_leading_whitespace};
 ghost use Rattle.deno_graph_jsdoc.specs.JsDocKnown.{AreSpaces};
 
+use super::known::KnownList;
 use super::parts::skip_space;
 use std::alloc::{AllocError, Global};
 
@@ -18,11 +19,23 @@ pub(crate) struct KnownSpace<'a> {
 }
 
 /// The white space behind each `}` that may close attributes, or what they stand in, by ascending
-/// `left`.
+/// `left`; nothing where there are no lists that end there.
 pub(crate) fn known_spaces<'a>(
     alloc: Global,
     text: &'a str,
+    lists: &[KnownList<'a>],
 ) -> Result<Vec<KnownSpace<'a>>, AllocError>
+    ensures { IfOk result (λ known. AreSpaces (chars text.now) known.items) }
+{
+    if lists.is_empty() {
+        Ok(Vec::new(alloc))
+    } else {
+        spaces_from_the_end(alloc, text)
+    }
+}
+
+/// The same, whatever lists there are.
+fn spaces_from_the_end<'a>(alloc: Global, text: &'a str) -> Result<Vec<KnownSpace<'a>>, AllocError>
     ensures { IfOk result (λ known. AreSpaces (chars text.now) known.items) }
 {
     let mut known = Vec::new(alloc);

@@ -9,8 +9,8 @@ use Rattle.deno_graph_jsdoc.specs.JsDocKnown.{AreKnown, IsKnown}
 use Rattle.deno_graph_jsdoc.specs.declared.grammar.known.KnownList.{KnownList}
 use Rattle.deno_graph_jsdoc.proofs.Known.{AreKnown-back, OfEnd-one, behind_mark_and_space}
 use Rattle.deno_graph_jsdoc.proofs.Texts.{rsplit_bytes, behind_mark}
-use Rattle.deno_graph_jsdoc.proofs.grammar.known.known_lists.Goals as goal
-use Rattle.deno_graph_jsdoc.proofs.grammar.known.known_lists.Goals.{In-Some, After-as_slice}
+use Rattle.deno_graph_jsdoc.proofs.grammar.known.lists_from_the_end.Goals as goal
+use Rattle.deno_graph_jsdoc.proofs.grammar.known.lists_from_the_end.Goals.{In-Some, After-as_slice}
 
 -- the comma that was found
 split : (c : In-Some) → (behind : List ℕ) × (c.args.text.now ≡ c.in-Some.sooner.now ++ comma ∷ behind)

@@ -4,7 +4,7 @@ use denote.Text.{Utf8}
 use denote.Shadow.{shadow}
 use Rattle.std.specs.Str.{chars}
 use Rattle.deno_graph_jsdoc.specs.JsDocKnown.{AreKnown}
-use Rattle.deno_graph_jsdoc.proofs.grammar.known.known_lists.Given as goal
+use Rattle.deno_graph_jsdoc.proofs.grammar.known.lists_from_the_end.Given as goal
 
 abbrev pub invariant-loop-sooner : goal.invariant-loop-sooner
 invariant-loop-sooner l = record {

@@ -9,8 +9,8 @@ use Rattle.deno_graph_jsdoc.specs.JsDocKnown.{AreSpaces, IsKnownSpace}
 use Rattle.deno_graph_jsdoc.specs.declared.grammar.spaces.KnownSpace.{KnownSpace}
 use Rattle.deno_graph_jsdoc.proofs.Known.{OfEnd-one}
 use Rattle.deno_graph_jsdoc.proofs.Texts.{rsplit_bytes, behind_mark, cut_behind_mark}
-use Rattle.deno_graph_jsdoc.proofs.grammar.spaces.known_spaces.Goals as goal
-use Rattle.deno_graph_jsdoc.proofs.grammar.spaces.known_spaces.Goals.{In-Some}
+use Rattle.deno_graph_jsdoc.proofs.grammar.spaces.spaces_from_the_end.Goals as goal
+use Rattle.deno_graph_jsdoc.proofs.grammar.spaces.spaces_from_the_end.Goals.{In-Some}
 
 -- the brace that was found
 split : (c : In-Some)
