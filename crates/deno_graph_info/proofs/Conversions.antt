@@ -1,50 +1,11 @@
 -- Dependencies that are converted one by one, and what conversion leaves when it is done again.
-use Rattle.std.proofs.Common.{
-  ◌≡◌,
-  ℕ,
-  zero,
-  suc,
-  ◌+◌,
-  ◌<◌,
-  codes,
-  List,
-  [],
-  ◌∷◌,
-  ◌++◌,
-  map,
-  length,
-  get_or,
-  take,
-  Option,
-  Some,
-  None,
-  option_map,
-  IsSome,
-  Result,
-  Ok,
-  Err,
-  OnOk,
-  OnErr,
-  String,
-  Vec,
-  Global,
-  string_bytes,
-  string_cmp,
-  true≢false,
-  arith,
-  inl,
-  inr,
-  refl,
-  sym,
-  ap,
-  subst,
-  ◌∙◌,
-}
-use Rattle.std.proofs.lemmas.List.{map-append, take_more}
+use Rattle.std.proofs.Common.{◌≡◌, ℕ, codes, List, [], ◌∷◌, ◌++◌, map, Option, Some, None, option_map, IsSome, IfSome, Result, Ok, Err, OnOk, OnErr, String, Global, string_bytes, string_cmp, true≢false, inl, inr, refl, sym, ap, subst, ◌∙◌}
+use Rattle.std.proofs.lemmas.List.{append_assoc, map-append}
 use Rattle.std.specs.BTreeMap.{insert_entry}
 use Rattle.std.specs.Map.{lookup}
-use Rattle.serde_json.proofs.Views.{get_member-put, members_view-insert_entry, view-Array, view-lookup}
+use Rattle.serde_json.proofs.Views.{get_member-put, members_view-insert_entry, view-lookup}
 use Rattle.serde_json.specs.Data.{
+  Members,
   Data,
   null,
   boolean,
@@ -59,7 +20,7 @@ use Rattle.serde_json.specs.Data.{
 }
 use Rattle.serde_json.specs.Find.{as_array, get_member}
 use Rattle.serde_json.specs.View.{view, items_of, items_view, members_view}
-use Rattle.serde_json.specs.declared.value.Value.{Value, Array}
+use Rattle.serde_json.specs.declared.value.Value.{Value}
 use Rattle.deno_graph_dependency.specs.Read.Partial.{◌>>=◌, member_at, reads_array}
 use Rattle.deno_graph_dependency.specs.declared.specifier_with_range.SpecifierWithRange.{SpecifierWithRange}
 use Rattle.deno_graph_info.proofs.MembersLemmas.{TextEntry, has_key, get_member-without, put_again}
@@ -89,24 +50,26 @@ AreConverted-push (x ∷ ds) [] d e so_far h = absurd so_far
 AreConverted-push (x ∷ ds) (y ∷ es) d e so_far h = (so_far.0, AreConverted-push ds es d e so_far.1 h)
 
 -- one dependency more is converted
-pub converted_more : (all new newer : List Value) (i : ℕ) (v w : Value) → i < length all → v ≡ get_or all i v
-    → AreConverted (items_of (map view (take i all))) (items_of (map view new))
-    → IsConvertedDependency (view v) (view w) → newer ≡ new ++ w ∷ []
-    → AreConverted (items_of (map view (take (i + 1) all))) (items_of (map view newer))
-converted_more all new newer i v w below is so_far h pushed =
-    let old : map view (take (i + 1) all) ≡ map view (take i all) ++ view v ∷ [] =
-    ap (map view) (take_more all i v below ∙ ap (λ x. take i all ++ x ∷ []) (sym is))
-    ∙ map-append view (take i all) (v ∷ []) in
+pub converted_more : (passed new newer : List Value) (v w : Value)
+    → AreConverted (items_view passed) (items_view new) → IsConvertedDependency (view v) (view w)
+    → newer ≡ new ++ w ∷ [] → AreConverted (items_view (passed ++ v ∷ [])) (items_view newer)
+converted_more passed new newer v w so_far h pushed =
     let made : map view newer ≡ map view new ++ view w ∷ [] =
     ap (map view) pushed ∙ map-append view new (w ∷ []) in
-    rw (old, made) (AreConverted-push (map view (take i all)) (map view new) (view v) (view w) so_far h)
+    rw (map-append view passed (v ∷ []), made)
+    (AreConverted-push (map view passed) (map view new) (view v) (view w) so_far h)
+
+-- one value more is passed
+pub passed_more : {A : Type 0} (all passed rest left : List A) (x : A) → all ≡ passed ++ rest
+    → rest ≡ x ∷ left → all ≡ (passed ++ x ∷ []) ++ left
+passed_more all passed rest left x so_far next =
+    so_far ∙ ap (λ r. passed ++ r) next ∙ sym (append_assoc passed (x ∷ []) left)
 
 -- a dependency that overflows is among them
-pub overflow_at : (all : List Value) (i : ℕ) (v : Value) → i < length all → v ≡ get_or all i v
-    → DependencyOverflows (view v) → AnyOverflows (items_view all)
-overflow_at [] i v below is h = absurd (omega (arith, below))
-overflow_at (x ∷ all) zero v below is h = inl (subst (λ w. DependencyOverflows (view w)) is h)
-overflow_at (x ∷ all) (suc i) v below is h = inr (overflow_at all i v (omega (arith, below)) is h)
+pub overflow_among : (passed : List Value) (v : Value) (rest : List Value) → DependencyOverflows (view v)
+    → AnyOverflows (items_view (passed ++ v ∷ rest))
+overflow_among [] v rest h = inl h
+overflow_among (x ∷ passed) v rest h = inr (overflow_among passed v rest h)
 
 -- ---- in the place of the old ones
 
@@ -124,20 +87,54 @@ not_there : (es : List TextEntry) → IsSome (dependencies_in (object (members_v
 unfolding dependencies_in member_at
 not_there es present none = not_there_at (get_member (codes "dependencies") (members_view es)) none present
 
--- an insertion at a key that is there doesn't fail
-pub dependencies_stay : {A E : Type 0} (answer : Result A E) (old new : List TextEntry) (key : String Global)
-    (items : Vec Value Global) → string_bytes key ≡ codes "dependencies"
-    → IsSome (dependencies_in (object (members_view old)))
-    → OnOk answer (new ≡ insert_entry string_cmp old key (Array items))
-    → OnErr answer (lookup (has_key (string_bytes key)) old ≡ None)
-    → object (members_view new) ≡ with_member (codes "dependencies") (array (items_view items.items))
-    (object (members_view old))
-dependencies_stay (Ok x) old new key items named present made absent =
-    ap (λ es. object (members_view es)) made ∙ ap object (members_view-insert_entry old key (Array items))
-    ∙ (λ i. object (put (named i) (view-Array items i) (members_view old)))
-dependencies_stay (Err e) old new key items named present made absent =
+-- an object with dependencies has a value at their key
+pub dependencies_stay : {A : Type 0} (old : List TextEntry) (key : String Global)
+    → string_bytes key ≡ codes "dependencies" → IsSome (dependencies_in (object (members_view old)))
+    → lookup (has_key (string_bytes key)) old ≡ None → A
+dependencies_stay old key named present none =
     absurd (not_there old present (absent_key (codes "dependencies") old
-    (subst (λ k. lookup (has_key k) old ≡ None) named absent)))
+    (subst (λ k. lookup (has_key k) old ≡ None) named none)))
+
+-- an insertion at a key that is there doesn't fail
+pub dependencies_left : {A E : Type 0} (answer : Result A E) (old new : List TextEntry) (key : String Global)
+    (v : Value) → string_bytes key ≡ codes "dependencies"
+    → IsSome (dependencies_in (object (members_view old)))
+    → OnOk answer (new ≡ insert_entry string_cmp old key v)
+    → OnErr answer (lookup (has_key (string_bytes key)) old ≡ None)
+    → members_view new ≡ put (codes "dependencies") (view v) (members_view old)
+dependencies_left (Ok x) old new key v named present made absent =
+    ap members_view made ∙ members_view-insert_entry old key v
+    ∙ (λ i. put (named i) (view v) (members_view old))
+dependencies_left (Err e) old new key v named present made absent =
+    dependencies_stay old key named present absent
+
+-- the dependencies are what was there as an array
+pub dependencies_taken : (old : List TextEntry) (key : String Global) (v : Value)
+    → string_bytes key ≡ codes "dependencies" → Some v ≡ lookup (has_key (string_bytes key)) old
+    → dependencies_in (object (members_view old)) ≡ as_array (view v)
+unfolding dependencies_in member_at
+dependencies_taken old key v named is =
+    ap (λ o. o >>= as_array) (sym (view-lookup (codes "dependencies") old)
+    ∙ ap (option_map view) (subst (λ k. lookup (has_key k) old ≡ Some v) named (sym is)))
+
+converted_members_at : (ms after : Members) (o : Option Items) (made : Data)
+    → dependencies_in (object ms) ≡ o → IsSome o
+    → IfSome o (λ old. (new : Items) × AreConverted old new × (made ≡ array new))
+    → after ≡ put (codes "dependencies") made ms → IsConverted (object ms) (object after)
+converted_members_at ms after None made is present h put_there = absurd (true≢false (sym present))
+converted_members_at ms after (Some old) made is present h put_there =
+    rw is (h.0, h.1, ap object (put_there ∙ ap (λ d. put (codes "dependencies") d ms) h.2))
+
+-- what the dependencies are converted to is put in their place
+pub converted_members : (ms left after : Members) (found emptied made : Data)
+    → IsSome (dependencies_in (object ms)) → dependencies_in (object ms) ≡ as_array found
+    → left ≡ put (codes "dependencies") emptied ms
+    → IfSome (as_array found) (λ old. (new : Items) × AreConverted old new × (made ≡ array new))
+    → after ≡ put (codes "dependencies") made left → IsConverted (object ms) (object after)
+converted_members ms left after found emptied made present is was h put_there =
+    converted_members_at ms after (as_array found) made is (subst IsSome is present) h
+    (put_there ∙ ap (put (codes "dependencies") made) was
+    ∙ put_again (codes "dependencies") made emptied ms)
 
 -- ---- again
 

@@ -5,7 +5,7 @@ pub mod js_doc_import_info;
 pub mod module_info;
 pub mod type_script_reference;
 
-pub use crate::conversion::{ConvertFault, laws, module_graph_1_to_2};
+pub use crate::conversion::{ConvertFault, laws, module_graph_1_into_2, module_graph_1_to_2};
 pub use deno_graph_dependency::{
     DependencyDescriptor, DynamicArgument, DynamicDependencyDescriptor, DynamicDependencyKind,
     DynamicTemplatePart, ImportAttribute, ImportAttributes, SpecifierWithRange,

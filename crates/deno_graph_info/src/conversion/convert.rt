@@ -1,9 +1,10 @@
-ghost use Rattle.std.specs.Prelude.{◌≡◌, codes, false, OnOk, OnErr, IfOk, IfErr, IsSome, option_map};
+ghost use Rattle.std.specs.Prelude.{◌≡◌, ◌↔◌, codes, false, OnOk, OnErr, IfOk, IfErr, IfSome, IsSome, IsTrue, MatchOption};
 ghost use Rattle.std.specs.String.{string_bytes};
-ghost use Rattle.serde_json.specs.Data.{array, object};
+ghost use Rattle.serde_json.specs.Data.{Items as DataItems, array, object};
+ghost use Rattle.serde_json.specs.Find.{as_array};
 ghost use Rattle.serde_json.specs.View.{view, items_view, members_view};
 ghost use Rattle.serde_json.specs.Written.{has_float as float_stands};
-ghost use Rattle.deno_graph_info.specs.Conversion.{AnyOverflows, AreConverted, DependencyOverflows, IsConverted, IsConvertedDependency, IsConvertFault, comments_in, dependencies_in, with_member, with_types, without_member};
+ghost use Rattle.deno_graph_info.specs.Conversion.{AnyOverflows, AreConverted, DependencyOverflows, IsConverted, IsConvertedDependency, IsConvertFault, Overflows, comments_in, dependencies_in, with_types, without_member};
 ghost use Rattle.deno_graph_info.specs.ConvertFault.{IsColumnFault};
 
 use crate::conversion::comment::Comment;
@@ -36,30 +37,113 @@ pub fn module_graph_1_to_2(alloc: Global, value: &mut Value) -> Result<(), Conve
     if has_float(value) {
         return Err(ConvertFault::Float);
     }
-    let Some(dependencies) = find_dependencies(value) else {
-        return Ok(());
-    };
-    let converted = convert_all(alloc, dependencies)?;
-    let key = String::from_str(alloc, "dependencies")?;
-    set_dependencies(value, key, converted);
+    let copy = value.clone()?;
+    *value = convert_value(alloc, copy)?;
     Ok(())
 }
 
-/// The array `dependencies` of an object.
-#[tactic(auto, unfolding(crate::specs::Conversion::dependencies_in, deno_graph_dependency::specs::Read::Partial::member_at))]
-fn find_dependencies(value: &Value) -> Option<&Vec<Value>>
-    ensures { option_map (λ items. items_view items.now.items) result
-        ≡ dependencies_in (view value.now) }
+/// The same of a value that nobody else needs: nothing of it is copied.
+pub fn module_graph_1_into_2(alloc: Global, value: Value) -> Result<Value, ConvertFault>
+    ensures no_float { IfOk result (λ _. float_stands (view value) ≡ false) }
+    ensures ok { IfOk result (λ after. IsConverted (view value) (view after)) }
+    ensures err { IfErr result (IsConvertFault (view value)) }
 {
-    find_member(value.as_object()?, "dependencies")?.as_array()
+    if has_float(&value) {
+        return Err(ConvertFault::Float);
+    }
+    convert_value(alloc, value)
+}
+
+/// The value, with its dependencies converted where it has any.
+fn convert_value(alloc: Global, value: Value) -> Result<Value, ConvertFault>
+    ensures ok { IfOk result (λ after. IsConverted (view value) (view after)) }
+    ensures err { IfErr result (IsColumnFault (Overflows (view value))) }
+{
+    if has_dependencies(&value) {
+        convert_object(alloc, value)
+    } else {
+        Ok(value)
+    }
+}
+
+/// Whether it is an object with an array `dependencies`.
+#[tactic(auto, unfolding(crate::specs::Conversion::dependencies_in, deno_graph_dependency::specs::Read::Partial::member_at))]
+fn has_dependencies(value: &Value) -> bool
+    ensures { IsTrue result ↔ IsSome (dependencies_in (view value.now)) }
+{
+    let Some(members) = value.as_object() else {
+        return false;
+    };
+    let Some(dependencies) = find_member(members, "dependencies") else {
+        return false;
+    };
+    dependencies.is_array()
+}
+
+/// An object that has dependencies, with these converted.
+#[tactic(auto, unfolding(crate::specs::Conversion::dependencies_in))]
+fn convert_object(alloc: Global, value: Value) -> Result<Value, ConvertFault>
+    requires { IsSome (dependencies_in (view value)) }
+    ensures ok { IfOk result (λ after. IsConverted (view value) (view after)) }
+    ensures err { IfErr result (IsColumnFault (Overflows (view value))) }
+{
+    match value {
+        Value::Object(members) => {
+            let key = String::from_str(alloc, "dependencies")?;
+            let converted = convert_members(alloc, members, key)?;
+            Ok(Value::Object(converted))
+        }
+        other => Ok(other),
+    }
+}
+
+/// The members of an object that has dependencies, with these converted.
+fn convert_members(
+    alloc: Global,
+    members: Map<String, Value>,
+    key: String,
+) -> Result<Map<String, Value>, ConvertFault>
+    requires key { string_bytes key ≡ codes "dependencies" }
+    requires present { IsSome (dependencies_in (object (members_view members.entries))) }
+    ensures ok { IfOk result (λ after. IsConverted (object (members_view members.entries))
+        (object (members_view after.entries))) }
+    ensures err { IfErr result
+        (IsColumnFault (Overflows (object (members_view members.entries)))) }
+{
+    let mut converted = members;
+    // The key is there, so that no memory is asked for.
+    let Ok(found) = converted.insert(key, Value::Null) else {
+        return Ok(converted);
+    };
+    let Some(dependencies) = found else {
+        return Ok(converted);
+    };
+    let array = convert_array(alloc, dependencies)?;
+    put(&mut converted, alloc, "dependencies", array)?;
+    Ok(converted)
+}
+
+/// The dependencies, converted, where they are an array.
+fn convert_array(alloc: Global, dependencies: Value) -> Result<Value, ConvertFault>
+    ensures ok { IfOk result (λ after. IfSome (as_array (view dependencies))
+        (λ old. (new : DataItems) × AreConverted old new × (view after ≡ array new))) }
+    ensures err { IfErr result
+        (IsColumnFault (MatchOption (as_array (view dependencies)) ⊥ AnyOverflows)) }
+{
+    match dependencies {
+        Value::Array(items) => {
+            let converted = convert_all(alloc, items)?;
+            Ok(Value::Array(converted))
+        }
+        other => Ok(other),
+    }
 }
 
 /// Each dependency, converted.
-fn convert_all(alloc: Global, dependencies: &Vec<Value>) -> Result<Vec<Value>, ConvertFault>
+fn convert_all(alloc: Global, dependencies: Vec<Value>) -> Result<Vec<Value>, ConvertFault>
     ensures ok { IfOk result
-        (λ new. AreConverted (items_view dependencies.now.items) (items_view new.items)) }
-    ensures err { IfErr result
-        (IsColumnFault (AnyOverflows (items_view dependencies.now.items))) }
+        (λ new. AreConverted (items_view dependencies.items) (items_view new.items)) }
+    ensures err { IfErr result (IsColumnFault (AnyOverflows (items_view dependencies.items))) }
 {
     let mut converted = Vec::with_capacity(alloc, dependencies.len())?;
     for dependency in dependencies {
@@ -70,18 +154,17 @@ fn convert_all(alloc: Global, dependencies: &Vec<Value>) -> Result<Vec<Value>, C
 }
 
 /// The dependency, converted.
-fn convert_dependency(alloc: Global, dependency: &Value) -> Result<Value, ConvertFault>
+fn convert_dependency(alloc: Global, dependency: Value) -> Result<Value, ConvertFault>
     ensures ok { IfOk result
-        (λ converted. IsConvertedDependency (view dependency.now) (view converted)) }
-    ensures err { IfErr result (IsColumnFault (DependencyOverflows (view dependency.now))) }
+        (λ converted. IsConvertedDependency (view dependency) (view converted)) }
+    ensures err { IfErr result (IsColumnFault (DependencyOverflows (view dependency))) }
 {
-    match read_comments(alloc, dependency)? {
+    match read_comments(alloc, &dependency)? {
         Some(comments) => {
             let types = types_named(alloc, &comments)?;
-            let replaced = replace_comments(alloc, dependency.clone()?, types)?;
-            Ok(replaced)
+            Ok(replace_comments(alloc, dependency, types)?)
         }
-        None => Ok(dependency.clone()?),
+        None => Ok(dependency),
     }
 }
 
@@ -148,35 +231,4 @@ fn put_types(
         put(&mut typed, alloc, "typesSpecifier", form)?;
     }
     Ok(typed)
-}
-
-/// Puts the array at `dependencies`, where the object has one.
-fn set_dependencies(value: &mut Value, key: String, items: Vec<Value>)
-    requires key { string_bytes key ≡ codes "dependencies" }
-    requires present { IsSome (dependencies_in (view value.old)) }
-    ensures { view value.new
-        ≡ with_member (codes "dependencies") (array (items_view items.items)) (view value.old) }
-{
-    match value.take() {
-        Value::Object(members) => *value = Value::Object(put_dependencies(members, key, items)),
-        other => *value = other,
-    }
-}
-
-/// The members with the array at `dependencies`, where there is a member already.
-fn put_dependencies(
-    members: Map<String, Value>,
-    key: String,
-    items: Vec<Value>,
-) -> Map<String, Value>
-    requires key { string_bytes key ≡ codes "dependencies" }
-    requires present { IsSome (dependencies_in (object (members_view members.entries))) }
-    ensures { object (members_view result.entries)
-        ≡ with_member (codes "dependencies") (array (items_view items.items))
-        (object (members_view members.entries)) }
-{
-    let mut replaced = members;
-    // The key is there, so that no memory is asked for.
-    drop(replaced.insert(key, Value::Array(items)));
-    replaced
 }
