@@ -91,7 +91,18 @@ def other(number, at):
 MAKERS = [imported, exported, other]
 
 
-# Documents with a number of one thing, all in one line.
+# Documents with a number of one thing, all in one line but for `imports`.
+
+
+def imports(count):
+    """Imports, one a line."""
+    parts, body, at = [], [], 0
+    for number in range(count):
+        statement, node = imported(number, at)
+        parts.append(statement)
+        body.append(node)
+        at += len(statement.encode()) + 1
+    return document("\n".join(parts), body)
 
 
 def calls(count):
