@@ -11,10 +11,10 @@ ghost use Rattle.modinfo.specs.Answer.{IsConversionOf, IsConvertedText, IsInfoTe
 use crate::fault::Fault;
 use crate::input::{parse_json, parse_source, read_to_end};
 use deno_graph_ast::module_info;
-use deno_graph_info::analysis::{InfoFault, ModuleInfo, module_graph_1_to_2};
+use deno_graph_info::analysis::{InfoFault, ModuleInfo, module_graph_1_into_2};
 use deno_graph_info::reach::reach;
 use modinfo_check::{Report, check_document, check_modules, check_stored, report_bytes};
-use serde_json::Value;
+use serde_json::{Map, Value};
 use simdutf8::compat;
 use std::alloc::{AllocError, Global};
 use std::collections::BTreeMap;
@@ -105,34 +105,40 @@ fn info_of(alloc: Global, input: Vec<u8>) -> Result<ModuleInfo, Fault> {
 fn convert(alloc: Global, input: Vec<u8>) -> Result<Value, Fault>
     ensures { IfOk result (λ after. IsConversionOf input.items (view after)) }
 {
-    let mut value = parse_json(alloc, input)?;
-    module_graph_1_to_2(alloc, &mut value)?;
-    Ok(value)
+    let before = parse_json(alloc, input)?;
+    Ok(module_graph_1_into_2(alloc, before)?)
 }
 
 // `modules` is looked for before `root`, and both before any information is read.
 fn reach_of(alloc: Global, input: Vec<u8>) -> Result<Value, Fault> {
-    let value = parse_json(alloc, input)?;
-    let modules = value.get("modules").and_then(|modules| modules.as_object());
-    let modules = modules.ok_or(Fault::Info(InfoFault::Shape))?;
-    let root = value.get("root").and_then(|root| root.as_str());
-    let root = root.ok_or(Fault::Info(InfoFault::Shape))?;
+    let Value::Object(members) = parse_json(alloc, input)? else {
+        return Err(Fault::Info(InfoFault::Shape));
+    };
+    let mut members = members;
+    let Some(Value::Object(modules)) = members.remove("modules") else {
+        return Err(Fault::Info(InfoFault::Shape));
+    };
+    let Some(Value::String(root)) = members.remove("root") else {
+        return Err(Fault::Info(InfoFault::Shape));
+    };
     let infos = read_infos(alloc, modules)?;
     let mut keys = Vec::new(alloc);
-    for key in reach(alloc, &infos, root)? {
+    for key in reach(alloc, &infos, root.as_str())? {
         keys.push(Value::String(key))?;
     }
     Ok(Value::Array(keys))
 }
 
+// The JSON of a module is gone before that of the next is read.
 fn read_infos(
     alloc: Global,
-    modules: &BTreeMap<String, Value>,
+    modules: Map<String, Value>,
 ) -> Result<BTreeMap<String, ModuleInfo>, Fault> {
     let mut infos = BTreeMap::new(alloc);
     for (key, value) in modules {
-        let info = ModuleInfo::from_value(alloc, value)?;
-        drop(infos.insert(key.clone()?, info)?);
+        let info = ModuleInfo::from_value(alloc, &value)?;
+        drop(value);
+        drop(infos.insert(key, info)?);
     }
     Ok(infos)
 }

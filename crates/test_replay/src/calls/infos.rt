@@ -2,7 +2,9 @@
 
 use crate::answer::{named, valued};
 use crate::row_fault::RowFault;
-use deno_graph_info::analysis::{ConvertFault, InfoFault, ModuleInfo, module_graph_1_to_2};
+use deno_graph_info::analysis::{
+    ConvertFault, InfoFault, ModuleInfo, module_graph_1_into_2, module_graph_1_to_2,
+};
 use deno_graph_info::reach::reach;
 use serde_json::Value;
 use std::alloc::Global;
@@ -17,11 +19,20 @@ pub fn read(alloc: Global, value: &Value) -> Result<String, RowFault> {
     }
 }
 
-/// What `module_graph_1_to_2` makes of a value. Where it refuses, the value has to be unchanged.
+/// What `module_graph_1_to_2` makes of a value. Where it refuses, the value has to be unchanged, and
+/// `module_graph_1_into_2` has to make the same of it.
 pub fn converted(alloc: Global, value: &Value) -> Result<String, RowFault> {
+    let by_value = match module_graph_1_into_2(alloc, value.clone()?) {
+        Ok(after) => Some(after),
+        Err(ConvertFault::OutOfMemory) => return Err(RowFault::OutOfMemory),
+        Err(_) => None,
+    };
     let mut again = value.clone()?;
     match module_graph_1_to_2(alloc, &mut again) {
-        Ok(()) => valued(alloc, &again),
+        Ok(()) => match by_value {
+            Some(after) if after == again => valued(alloc, &after),
+            _ => named(alloc, "another by value"),
+        },
         Err(_) if again != *value => named(alloc, "refused, and changed"),
         Err(ConvertFault::OutOfMemory) => Err(RowFault::OutOfMemory),
         Err(fault) => named(alloc, format!(in alloc; "{fault}")?.as_str()),
