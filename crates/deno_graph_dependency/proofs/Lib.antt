@@ -1,4 +1,6 @@
+pub mod Ascending
 pub mod Floats
+pub mod Texts
 pub mod Written
 pub mod NoFloats
 pub mod Objects

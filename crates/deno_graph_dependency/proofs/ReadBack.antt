@@ -1,41 +1,7 @@
 -- What is written is read back: members of tables, lists, maps, flags, positions and modes.
-use Rattle.std.proofs.Common.{
-  ◌≡◌,
-  ℕ,
-  ◌<◌,
-  ◌^◌,
-  List,
-  [],
-  ◌∷◌,
-  ◌++◌,
-  map,
-  Bool,
-  true,
-  false,
-  Option,
-  Some,
-  None,
-  option_map,
-  nat_lt,
-  All,
-  refl,
-  sym,
-  ap,
-  ◌∙◌,
-  subst,
-  lt-ltb,
-  append_assoc,
-  append-nil,
-}
-use Rattle.std.proofs.lemmas.Cmp.{nat_list_cmp_total}
+use Rattle.std.proofs.Common.{◌≡◌, ℕ, ◌<◌, ◌^◌, List, [], ◌∷◌, map, Bool, true, false, Option, Some, None, option_map, nat_lt, All, refl, ap, ◌∙◌, lt-ltb}
 use Rattle.std.proofs.lemmas.List.Elements.{All-head, All-tail}
-use Rattle.std.specs.Cmp.Lexicographic.{slice_cmp}
-use Rattle.std.specs.List.{AllByRecursion}
-use Rattle.std.specs.List.Sorted.{IsStrictlySortedBy}
-use Rattle.std.specs.Map.{keys_of}
-use Rattle.std.specs.Ordering.{nat_cmp, ordering_reverse}
-use Rattle.std.specs.declared.cmp.Ordering.TheVariants.{Less, Greater}
-use Rattle.serde_json.specs.Data.{Data, number, unsigned, Members, no_members, member, put}
+use Rattle.serde_json.specs.Data.{Data, number, unsigned, no_members}
 use Rattle.serde_json.specs.Find.{as_bool}
 use Rattle.serde_json.specs.View.{items_of}
 use Rattle.deno_graph_text.specs.TextMap.{IsAscending}
@@ -48,8 +14,10 @@ use Rattle.deno_graph_text.specs.declared.values.resolution_mode.TypeScriptTypes
 }
 use Rattle.deno_graph_text.specs.declared.text.position.Position.{Position}
 use Rattle.deno_graph_text.specs.declared.text.position.PositionRange.{PositionRange}
+use Rattle.deno_graph_dependency.proofs.Ascending.{ascending, present, put_entries-present}
 use Rattle.deno_graph_dependency.proofs.Objects.{get_member-put_entries, has_distinct_keys, entry_at}
 use Rattle.deno_graph_dependency.proofs.Reading.{goes_on}
+use Rattle.deno_graph_dependency.specs.Ascending.{ascending-map}
 use Rattle.deno_graph_dependency.specs.Json.Position.{
   IsHeldPosition,
   IsHeldRange,
@@ -123,55 +91,23 @@ module _ {A : Type 0} (reads : Data → Option A) where
 
 -- ---- maps
 
--- the members that these entries are
-as_members : {A : Type 0} → (A → Data) → List (List ℕ × A) → Members
-as_members f [] = no_members
-as_members f (e ∷ es) = member e.0 (f e.1) (as_members f es)
-
-below_later : {A : Type 0} (P : List ℕ → Type 0) (front : List (List ℕ × A)) (e : List ℕ × A)
-    (rest : List (List ℕ × A)) → AllByRecursion P (keys_of (front ++ e ∷ rest)) → P e.0
-below_later P [] e rest h = h.0
-below_later P (first ∷ front) e rest h = below_later P front e rest h.1
-
--- a key above all others goes to the end
-put-above : {A : Type 0} (f : A → Data) (front : List (List ℕ × A)) (e : List ℕ × A)
-    (rest : List (List ℕ × A)) → IsAscending (front ++ e ∷ rest)
-    → put e.0 (f e.1) (as_members f front) ≡ as_members f (front ++ e ∷ [])
-unfolding as_members IsStrictlySortedBy
-put-above f [] e rest h = refl
-put-above f (first ∷ front) e rest h =
-    let below = below_later (λ k. slice_cmp nat_cmp first.0 k ≡ Less) front e rest h.0 in
-    let above : slice_cmp nat_cmp e.0 first.0 ≡ Greater =
-    nat_list_cmp_total.antisymm e.0 first.0 ∙ ap ordering_reverse below in
-    rw above (ap (member first.0 (f first.1)) (put-above f front e rest h.1))
-
--- the entries of a map are its members, in their order
-put_entries-map : {A : Type 0} (f : A → Data) (front rest : List (List ℕ × A)) → IsAscending (front ++ rest)
-    → put_entries (map_entries f rest) (as_members f front) ≡ as_members f (front ++ rest)
-unfolding as_members
-put_entries-map f front [] h = ap (as_members f) (sym (append-nil front))
-put_entries-map f front (e ∷ rest) h =
-    let whole = append_assoc front (e ∷ []) rest in
-    ap (put_entries (map_entries f rest)) (put-above f front e rest h)
-    ∙ put_entries-map f (front ++ e ∷ []) rest (subst IsAscending (sym whole) h)
-    ∙ ap (as_members f) whole
-
 module _ {A : Type 0} (reads : Data → Option A) (f : A → Data) (P : A → Type 0)
     (back : (x : A) → P x → reads (f x) ≡ Some x) where
-  reads_members-as_members : (es : List (List ℕ × A)) → All (λ e. P e.1) es
-      → reads_members reads (as_members f es) ≡ Some es
-  unfolding as_members reads_members
-  reads_members-as_members [] all = refl
-  reads_members-as_members (e ∷ es) all =
+  reads_members-map : (es : List (List ℕ × A)) → All (λ e. P e.1) es
+      → reads_members reads (present (map_entries f es)) ≡ Some es
+  unfolding reads_members
+  reads_members-map [] all = refl
+  reads_members-map (e ∷ es) all =
       goes_on _ _ e.1 _ (back e.1 (All-head (λ e. P e.1) e es all))
-      (goes_on _ _ es _ (reads_members-as_members es (All-tail (λ e. P e.1) e es all)) refl)
+      (goes_on _ _ es _ (reads_members-map es (All-tail (λ e. P e.1) e es all)) refl)
 
   -- a map is read back
   pub reads_map-map_object_of : (es : List (List ℕ × A)) → IsAscending es → All (λ e. P e.1) es
       → reads_map reads (map_object_of f es) ≡ Some es
-  unfolding reads_map as_members
+  unfolding reads_map
   reads_map-map_object_of es h all =
-      ap (reads_members reads) (put_entries-map f [] es h) ∙ reads_members-as_members es all
+      ap (reads_members reads) (put_entries-present (map_entries f es) (ascending (map_entries f es) (ascending-map f es h)))
+      ∙ reads_members-map es all
 
   -- a list that is left out where it is empty
   pub list_back : (xs : List A) → All P xs

@@ -35,7 +35,7 @@ use Rattle.deno_graph_text.specs.TextMap.{entry_of, insert_entry}
 use Rattle.deno_graph_dependency.proofs.Reading.{refused, before, before_more, before_nil}
 use Rattle.deno_graph_dependency.specs.Read.Answer.{IsRefusal}
 use Rattle.deno_graph_dependency.specs.Read.Partial.{reads_members}
-use Rattle.deno_graph_dependency.specs.declared.json.fault.ReadFault.{ReadFault}
+use Rattle.deno_graph_dependency.specs.declared.json_form.fault.ReadFault.{ReadFault}
 
 -- keys in ascending order
 abbrev pub AreAscending : List (List ℕ) → Type 0

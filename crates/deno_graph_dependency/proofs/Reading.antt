@@ -35,8 +35,8 @@ use Rattle.serde_json.specs.View.{view, items_of, items_view}
 use Rattle.serde_json.specs.declared.value.Value.{Value}
 use Rattle.deno_graph_dependency.specs.Read.Answer.{IsRefusal, Answers, AnswersSeen}
 use Rattle.deno_graph_dependency.specs.Read.Partial.{◌>>=◌, reads_items, reads_two}
-use Rattle.deno_graph_dependency.specs.declared.json.fault.ReadFault.{ReadFault}
-use Rattle.deno_graph_dependency.specs.declared.json.fault.ReadFault.TheVariants.{Shape, OutOfMemory}
+use Rattle.deno_graph_dependency.specs.declared.json_form.fault.ReadFault.{ReadFault}
+use Rattle.deno_graph_dependency.specs.declared.json_form.fault.ReadFault.TheVariants.{Shape, OutOfMemory}
 
 -- a step that has a value goes on with it
 pub goes_on : {A B : Type 0} (o : Option A) (f : A → Option B) (x : A) (r : Option B) → o ≡ Some x → f x ≡ r

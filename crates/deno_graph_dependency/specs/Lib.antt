@@ -1,3 +1,4 @@
+pub mod Ascending
 pub mod Dependency
 pub mod DynamicDependency
 pub mod ImportAttributes
@@ -6,3 +7,4 @@ pub mod Object
 pub mod ObjectReader
 pub mod ObjectWriter
 pub mod Read
+pub mod Text

@@ -7,15 +7,25 @@ use Rattle.serde_json.specs.View.{items_of}
 abbrev pub Entry : Type 0
 Entry = List ℕ × Option Data
 
+-- what is made of a state S, as `with_member` adds a member to it
+module _ {S : Type 0} (with_member : List ℕ → Data → S → S) where
+  -- with the value at the key, if there is one
+  abbrev pub with_present : List ℕ → Option Data → S → S
+  with_present k None s = s
+  with_present k (Some d) s = with_member k d s
+
+  -- with those entries that have a value, one after another
+  abbrev pub with_entries : List Entry → S → S
+  with_entries [] s = s
+  with_entries (e ∷ es) s = with_entries es (with_present e.0 e.1 s)
+
 -- the members, with the value at the key if there is one
 abbrev pub put_present : List ℕ → Option Data → Members → Members
-put_present k None ms = ms
-put_present k (Some d) ms = put k d ms
+put_present = with_present put
 
 -- the members, with those entries that have a value
 abbrev pub put_entries : List Entry → Members → Members
-put_entries [] ms = ms
-put_entries (e ∷ es) ms = put_entries es (put_present e.0 e.1 ms)
+put_entries = with_entries put
 
 -- the object of those entries that have a value
 abbrev pub object_of : List Entry → Data

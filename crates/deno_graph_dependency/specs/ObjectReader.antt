@@ -1,7 +1,7 @@
 -- What a reader of an object reads.
 use Rattle.serde_json.specs.Data.{Members}
 use Rattle.serde_json.specs.View.{members_view}
-use Rattle.deno_graph_dependency.specs.declared.json.object_reader.ObjectReader.{ObjectReader}
+use Rattle.deno_graph_dependency.specs.declared.json_form.object_reader.ObjectReader.{ObjectReader}
 
 -- the members
 abbrev pub readable : ObjectReader → Members

@@ -6,7 +6,7 @@ ghost use Rattle.deno_graph_dependency.specs.Read.Answer.{Answers};
 
 use crate::dynamic_dependency::{DynamicDependencyDescriptor, read_dynamic};
 use crate::import_attributes::ImportAttributes;
-use crate::json::{FromJson, ObjectReader, ReadFault, ToJson};
+use crate::json_form::{FromJson, ObjectReader, ReadFault, TextWriter, ToJson};
 use crate::static_dependency::{StaticDependencyDescriptor, read_static};
 use deno_graph_text::values::TryClone;
 use serde_json::Value;
@@ -93,10 +93,17 @@ impl ToJson for DependencyDescriptor {
 
     ghost is_held = { IsHeldDependency };
 
-    fn to_json(&self, alloc: Global) -> Result<Value, AllocError> {
+    fn to_value(&self, alloc: Global) -> Result<Value, AllocError> {
         match self {
-            DependencyDescriptor::Static(descriptor) => descriptor.to_json(alloc),
-            DependencyDescriptor::Dynamic(descriptor) => descriptor.to_json(alloc),
+            DependencyDescriptor::Static(descriptor) => descriptor.to_value(alloc),
+            DependencyDescriptor::Dynamic(descriptor) => descriptor.to_value(alloc),
+        }
+    }
+
+    fn write_text(&self, out: &mut TextWriter) -> Result<(), AllocError> {
+        match self {
+            DependencyDescriptor::Static(descriptor) => descriptor.write_text(out),
+            DependencyDescriptor::Dynamic(descriptor) => descriptor.write_text(out),
         }
     }
 }

@@ -1,11 +1,15 @@
-ghost use Rattle.std.specs.Prelude.{◌≡◌};
+ghost use Rattle.std.specs.Prelude.{◌≡◌, refl, true};
+ghost use Rattle.deno_graph_dependency.specs.Ascending.{has_ascending_keys};
 ghost use Rattle.deno_graph_dependency.specs.DynamicDependency.{is_expr};
-ghost use Rattle.deno_graph_dependency.specs.Json.DynamicArgument.{json_of_argument, json_of_part, reads_argument, reads_part, part_of_type};
+ghost use Rattle.deno_graph_dependency.specs.Json.DynamicArgument.{json_of_argument, json_of_part, reads_argument, reads_part, part_entries, part_of_type};
 ghost use Rattle.deno_graph_dependency.specs.ObjectReader.{readable};
 ghost use Rattle.deno_graph_dependency.specs.Read.Answer.{Answers};
 
-use crate::json::read::read_items;
-use crate::json::{FromJson, ObjectReader, ObjectWriter, ReadFault, ToJson};
+use crate::json_form::read::read_items;
+use crate::json_form::{
+    FromJson, MemberWriter, ObjectReader, ReadFault, TextWriter, ToJson, ToObject, object_value,
+    write_object,
+};
 use deno_graph_text::values::{Items, Text, TryClone};
 use serde_json::Value;
 use std::alloc::{AllocError, Global};
@@ -56,11 +60,19 @@ impl TryClone for DynamicArgument {
 impl ToJson for DynamicArgument {
     ghost json = { json_of_argument };
 
-    fn to_json(&self, alloc: Global) -> Result<Value, AllocError> {
+    fn to_value(&self, alloc: Global) -> Result<Value, AllocError> {
         match self {
-            DynamicArgument::String(text) => text.to_json(alloc),
-            DynamicArgument::Template(parts) => parts.to_json(alloc),
+            DynamicArgument::String(text) => text.to_value(alloc),
+            DynamicArgument::Template(parts) => parts.to_value(alloc),
             DynamicArgument::Expr => Ok(Value::Null),
+        }
+    }
+
+    fn write_text(&self, out: &mut TextWriter) -> Result<(), AllocError> {
+        match self {
+            DynamicArgument::String(text) => text.write_text(out),
+            DynamicArgument::Template(parts) => parts.write_text(out),
+            DynamicArgument::Expr => out.null(),
         }
     }
 }
@@ -105,14 +117,30 @@ impl TryClone for DynamicTemplatePart {
 impl ToJson for DynamicTemplatePart {
     ghost json = { json_of_part };
 
-    fn to_json(&self, alloc: Global) -> Result<Value, AllocError> {
+    fn to_value(&self, alloc: Global) -> Result<Value, AllocError> {
+        object_value(alloc, self)
+    }
+
+    fn write_text(&self, out: &mut TextWriter) -> Result<(), AllocError> {
+        write_object(self, out)
+    }
+}
+
+impl ToObject for DynamicTemplatePart {
+    ghost entries = { part_entries };
+
+    ghost use Rattle.deno_graph_dependency.specs.declared.dynamic_argument.DynamicTemplatePart.TheVariants.{String, Expr};
+
+    ghost ascends = { λ part _. elim part as (λ p. has_ascending_keys (part_entries p) ≡ true)
+        [ String v ↦ refl | Expr ↦ refl ] };
+
+    fn put_members<W: MemberWriter>(&self, out: &mut W) -> Result<(), AllocError> {
         match self {
             DynamicTemplatePart::String { value } => {
-                let mut object = ObjectWriter::tagged(alloc, "string")?;
-                object.put("value", value)?;
-                Ok(object.into_value())
+                out.put_str("type", "string")?;
+                out.put("value", value)
             }
-            DynamicTemplatePart::Expr => Ok(ObjectWriter::tagged(alloc, "expr")?.into_value()),
+            DynamicTemplatePart::Expr => out.put_str("type", "expr"),
         }
     }
 }

@@ -1,14 +1,17 @@
-ghost use Rattle.std.specs.Prelude.{◌≡◌};
+ghost use Rattle.std.specs.Prelude.{◌≡◌, refl};
 ghost use Rattle.serde_json.specs.Data.{string};
 ghost use Rattle.deno_graph_dependency.specs.DynamicDependency.{is_plain_import};
-ghost use Rattle.deno_graph_dependency.specs.Json.DynamicDependency.{dynamic_kind_name, dynamic_kind_named, json_of_dynamic, reads_dynamic, reads_dynamic_kind, IsHeldDynamic};
+ghost use Rattle.deno_graph_dependency.specs.Json.DynamicDependency.{dynamic_entries, dynamic_kind_name, dynamic_kind_named, json_of_dynamic, reads_dynamic, reads_dynamic_kind, IsHeldDynamic};
 ghost use Rattle.deno_graph_dependency.specs.ObjectReader.{readable};
 ghost use Rattle.deno_graph_dependency.specs.Read.Answer.{Answers};
 
 use crate::dynamic_argument::DynamicArgument;
 use crate::import_attributes::ImportAttributes;
-use crate::json::read::read_str;
-use crate::json::{FromJson, ObjectReader, ObjectWriter, ReadFault, ToJson};
+use crate::json_form::read::read_str;
+use crate::json_form::{
+    FromJson, MemberWriter, ObjectReader, ReadFault, TextWriter, ToJson, ToObject, object_value,
+    write_object,
+};
 use crate::specifier_with_range::SpecifierWithRange;
 use deno_graph_text::text::PositionRange;
 use deno_graph_text::values::TryClone;
@@ -62,8 +65,12 @@ impl Default for DynamicDependencyKind {
 impl ToJson for DynamicDependencyKind {
     ghost json = { λ kind. string (dynamic_kind_name kind) };
 
-    fn to_json(&self, alloc: Global) -> Result<Value, AllocError> {
+    fn to_value(&self, alloc: Global) -> Result<Value, AllocError> {
         Value::try_from_str(alloc, self.name())
+    }
+
+    fn write_text(&self, out: &mut TextWriter) -> Result<(), AllocError> {
+        out.string(self.name())
     }
 }
 
@@ -122,18 +129,33 @@ impl ToJson for DynamicDependencyDescriptor {
 
     ghost is_held = { IsHeldDynamic };
 
-    fn to_json(&self, alloc: Global) -> Result<Value, AllocError> {
-        let mut object = ObjectWriter::tagged(alloc, "dynamic")?;
-        object.put_unless(self.kind.is_plain_import(), "kind", &self.kind)?;
-        object.put_some("typesSpecifier", &self.types_specifier)?;
-        object.put_unless(self.argument.is_expr(), "argument", &self.argument)?;
-        object.put("argumentRange", &self.argument_range)?;
-        object.put_unless(
+    fn to_value(&self, alloc: Global) -> Result<Value, AllocError> {
+        object_value(alloc, self)
+    }
+
+    fn write_text(&self, out: &mut TextWriter) -> Result<(), AllocError> {
+        write_object(self, out)
+    }
+}
+
+impl ToObject for DynamicDependencyDescriptor {
+    ghost entries = { dynamic_entries };
+
+    ghost is_held = { IsHeldDynamic };
+
+    ghost ascends = { λ _ _. refl };
+
+    fn put_members<W: MemberWriter>(&self, out: &mut W) -> Result<(), AllocError> {
+        out.put_unless(self.argument.is_expr(), "argument", &self.argument)?;
+        out.put("argumentRange", &self.argument_range)?;
+        out.put_unless(
             self.import_attributes.is_none(),
             "importAttributes",
             &self.import_attributes,
         )?;
-        Ok(object.into_value())
+        out.put_unless(self.kind.is_plain_import(), "kind", &self.kind)?;
+        out.put_str("type", "dynamic")?;
+        out.put_some("typesSpecifier", &self.types_specifier)
     }
 }
 

@@ -4,7 +4,9 @@ ghost use Rattle.deno_graph_dependency.specs.Json.ImportAttributes.{json_of_attr
 ghost use Rattle.deno_graph_dependency.specs.ObjectReader.{readable};
 ghost use Rattle.deno_graph_dependency.specs.Read.Answer.{Answers};
 
-use crate::json::{FromJson, ObjectReader, ObjectWriter, ReadFault, ToJson};
+use crate::json_form::{
+    FromJson, MemberWriter, ObjectReader, ObjectWriter, ReadFault, TextWriter, ToJson,
+};
 use deno_graph_text::values::{Text, TextMap, TryClone};
 use serde_json::{Map, Value};
 use std::alloc::{AllocError, Global};
@@ -30,10 +32,17 @@ impl TryClone for ImportAttribute {
 impl ToJson for ImportAttribute {
     ghost json = { json_of_attribute };
 
-    fn to_json(&self, alloc: Global) -> Result<Value, AllocError> {
+    fn to_value(&self, alloc: Global) -> Result<Value, AllocError> {
         match self {
             ImportAttribute::Unknown => Ok(Value::Null),
-            ImportAttribute::Known(value) => value.to_json(alloc),
+            ImportAttribute::Known(value) => value.to_value(alloc),
+        }
+    }
+
+    fn write_text(&self, out: &mut TextWriter) -> Result<(), AllocError> {
+        match self {
+            ImportAttribute::Unknown => out.null(),
+            ImportAttribute::Known(value) => out.string(value.as_str()),
         }
     }
 }
@@ -121,7 +130,7 @@ impl ToJson for ImportAttributes {
 
     ghost is_held = { AreHeldAttributes };
 
-    fn to_json(&self, alloc: Global) -> Result<Value, AllocError> {
+    fn to_value(&self, alloc: Global) -> Result<Value, AllocError> {
         match self {
             ImportAttributes::None => Value::try_from_str(alloc, "none"),
             ImportAttributes::Unknown => Value::try_from_str(alloc, "unknown"),
@@ -129,6 +138,18 @@ impl ToJson for ImportAttributes {
                 let mut object = ObjectWriter::new(alloc);
                 object.put("known", map)?;
                 Ok(object.into_value())
+            }
+        }
+    }
+
+    fn write_text(&self, out: &mut TextWriter) -> Result<(), AllocError> {
+        match self {
+            ImportAttributes::None => out.string("none"),
+            ImportAttributes::Unknown => out.string("unknown"),
+            ImportAttributes::Known(map) => {
+                out.begin_object()?;
+                out.put("known", map)?;
+                out.end_object()
             }
         }
     }

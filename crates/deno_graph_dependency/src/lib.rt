@@ -5,7 +5,7 @@ pub mod dependency;
 pub mod dynamic_argument;
 pub mod dynamic_dependency;
 pub mod import_attributes;
-pub mod json;
+pub mod json_form;
 pub mod specifier_with_range;
 pub mod static_dependency;
 

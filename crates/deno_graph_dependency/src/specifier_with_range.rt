@@ -1,8 +1,12 @@
-ghost use Rattle.deno_graph_dependency.specs.Json.SpecifierWithRange.{json_of_specifier, reads_specifier, specifier_of, IsHeldSpecifier};
+ghost use Rattle.std.specs.Prelude.{refl};
+ghost use Rattle.deno_graph_dependency.specs.Json.SpecifierWithRange.{json_of_specifier, reads_specifier, specifier_entries, specifier_of, IsHeldSpecifier};
 ghost use Rattle.deno_graph_dependency.specs.ObjectReader.{readable};
 ghost use Rattle.deno_graph_dependency.specs.Read.Answer.{Answers};
 
-use crate::json::{FromJson, ObjectReader, ObjectWriter, ReadFault, ToJson};
+use crate::json_form::{
+    FromJson, MemberWriter, ObjectReader, ReadFault, TextWriter, ToJson, ToObject, object_value,
+    write_object,
+};
 use deno_graph_text::text::PositionRange;
 use deno_graph_text::values::{Text, TryClone};
 use serde_json::Value;
@@ -30,11 +34,25 @@ impl ToJson for SpecifierWithRange {
 
     ghost is_held = { IsHeldSpecifier };
 
-    fn to_json(&self, alloc: Global) -> Result<Value, AllocError> {
-        let mut object = ObjectWriter::new(alloc);
-        object.put("text", &self.text)?;
-        object.put("range", &self.range)?;
-        Ok(object.into_value())
+    fn to_value(&self, alloc: Global) -> Result<Value, AllocError> {
+        object_value(alloc, self)
+    }
+
+    fn write_text(&self, out: &mut TextWriter) -> Result<(), AllocError> {
+        write_object(self, out)
+    }
+}
+
+impl ToObject for SpecifierWithRange {
+    ghost entries = { specifier_entries };
+
+    ghost is_held = { IsHeldSpecifier };
+
+    ghost ascends = { λ _ _. refl };
+
+    fn put_members<W: MemberWriter>(&self, out: &mut W) -> Result<(), AllocError> {
+        out.put("range", &self.range)?;
+        out.put("text", &self.text)
     }
 }
 

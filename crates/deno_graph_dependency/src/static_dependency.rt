@@ -1,12 +1,15 @@
-ghost use Rattle.std.specs.Prelude.{◌≡◌};
+ghost use Rattle.std.specs.Prelude.{◌≡◌, refl};
 ghost use Rattle.serde_json.specs.Data.{string};
-ghost use Rattle.deno_graph_dependency.specs.Json.StaticDependency.{static_kind_name, static_kind_named, json_of_static, reads_static, reads_static_kind, IsHeldStatic};
+ghost use Rattle.deno_graph_dependency.specs.Json.StaticDependency.{static_entries, static_kind_name, static_kind_named, json_of_static, reads_static, reads_static_kind, IsHeldStatic};
 ghost use Rattle.deno_graph_dependency.specs.ObjectReader.{readable};
 ghost use Rattle.deno_graph_dependency.specs.Read.Answer.{Answers};
 
 use crate::import_attributes::ImportAttributes;
-use crate::json::read::read_str;
-use crate::json::{FromJson, ObjectReader, ObjectWriter, ReadFault, ToJson};
+use crate::json_form::read::read_str;
+use crate::json_form::{
+    FromJson, MemberWriter, ObjectReader, ReadFault, TextWriter, ToJson, ToObject, object_value,
+    write_object,
+};
 use crate::specifier_with_range::SpecifierWithRange;
 use deno_graph_text::text::PositionRange;
 use deno_graph_text::values::{Text, TryClone};
@@ -58,8 +61,12 @@ impl StaticDependencyKind {
 impl ToJson for StaticDependencyKind {
     ghost json = { λ kind. string (static_kind_name kind) };
 
-    fn to_json(&self, alloc: Global) -> Result<Value, AllocError> {
+    fn to_value(&self, alloc: Global) -> Result<Value, AllocError> {
         Value::try_from_str(alloc, self.name())
+    }
+
+    fn write_text(&self, out: &mut TextWriter) -> Result<(), AllocError> {
+        out.string(self.name())
     }
 }
 
@@ -126,19 +133,34 @@ impl ToJson for StaticDependencyDescriptor {
 
     ghost is_held = { IsHeldStatic };
 
-    fn to_json(&self, alloc: Global) -> Result<Value, AllocError> {
-        let mut object = ObjectWriter::tagged(alloc, "static")?;
-        object.put("kind", &self.kind)?;
-        object.put_some("typesSpecifier", &self.types_specifier)?;
-        object.put("specifier", &self.specifier)?;
-        object.put("specifierRange", &self.specifier_range)?;
-        object.put_flag("sideEffect", self.is_side_effect)?;
-        object.put_unless(
+    fn to_value(&self, alloc: Global) -> Result<Value, AllocError> {
+        object_value(alloc, self)
+    }
+
+    fn write_text(&self, out: &mut TextWriter) -> Result<(), AllocError> {
+        write_object(self, out)
+    }
+}
+
+impl ToObject for StaticDependencyDescriptor {
+    ghost entries = { static_entries };
+
+    ghost is_held = { IsHeldStatic };
+
+    ghost ascends = { λ _ _. refl };
+
+    fn put_members<W: MemberWriter>(&self, out: &mut W) -> Result<(), AllocError> {
+        out.put_unless(
             self.import_attributes.is_none(),
             "importAttributes",
             &self.import_attributes,
         )?;
-        Ok(object.into_value())
+        out.put("kind", &self.kind)?;
+        out.put_flag("sideEffect", self.is_side_effect)?;
+        out.put("specifier", &self.specifier)?;
+        out.put("specifierRange", &self.specifier_range)?;
+        out.put_str("type", "static")?;
+        out.put_some("typesSpecifier", &self.types_specifier)
     }
 }
 

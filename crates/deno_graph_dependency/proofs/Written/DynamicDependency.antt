@@ -63,7 +63,7 @@ dynamic_kind_no_float Require = refl
 pub dynamic_no_float : (d : DynamicDependencyDescriptor) → has_float (json_of_dynamic d) ≡ false
 dynamic_no_float d =
     no_float-object_of (dynamic_entries d)
-    (neither _ _ (dynamic_kind_no_float d.kind)
-    (neither _ _ (types_no_float d.types_specifier)
     (neither _ _ (argument_no_float d.argument)
-    (neither _ _ (attributes_no_float d.import_attributes) refl))))
+    (neither _ _ (attributes_no_float d.import_attributes)
+    (neither _ _ (dynamic_kind_no_float d.kind)
+    (neither _ _ (types_no_float d.types_specifier) refl))))

@@ -60,6 +60,6 @@ static_back d h =
 pub static_no_float : (d : StaticDependencyDescriptor) → has_float (json_of_static d) ≡ false
 static_no_float d =
     no_float-object_of (static_entries d)
-    (neither _ _ (types_no_float d.types_specifier)
+    (neither _ _ (attributes_no_float d.import_attributes)
     (neither _ _ (no_float-if_true d.is_side_effect)
-    (neither _ _ (attributes_no_float d.import_attributes) refl)))
+    (neither _ _ (types_no_float d.types_specifier) refl)))

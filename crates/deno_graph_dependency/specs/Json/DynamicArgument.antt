@@ -13,15 +13,18 @@ use Rattle.deno_graph_dependency.specs.declared.dynamic_argument.DynamicTemplate
   String as StringPart,
   Expr as ExprPart,
 }
-use Rattle.deno_graph_dependency.specs.Object.{object_of, array_of}
+use Rattle.deno_graph_dependency.specs.Object.{Entry, object_of, array_of}
 use Rattle.deno_graph_dependency.specs.Read.Partial.{◌>>=◌, member_at, reads_items}
+
+-- its table: of an expression there is the `type` alone
+abbrev pub part_entries : DynamicTemplatePart → List Entry
+part_entries (StringPart value) =
+    (codes "type", Some (string (codes "string"))) ∷ (codes "value", Some (string value)) ∷ []
+part_entries ExprPart = (codes "type", Some (string (codes "expr"))) ∷ []
 
 -- `{"type":"string","value":..}`, or `{"type":"expr"}`
 abbrev pub json_of_part : DynamicTemplatePart → Data
-json_of_part (StringPart value) =
-    object_of (
-    (codes "type", Some (string (codes "string"))) ∷ (codes "value", Some (string value)) ∷ [])
-json_of_part ExprPart = object_of ((codes "type", Some (string (codes "expr"))) ∷ [])
+json_of_part part = object_of (part_entries part)
 
 -- a string as itself, a template as the array of its parts, and null where nothing is known
 abbrev pub json_of_argument : DynamicArgument → Data

@@ -58,15 +58,15 @@ dynamic_kind_name Require = codes "require"
 -- `argument` where nothing is known of it, and `importAttributes` where there are none
 abbrev pub dynamic_entries : DynamicDependencyDescriptor → List Entry
 dynamic_entries d =
-    (codes "type", Some (string (codes "dynamic")))
-    ∷ (codes "kind", unless (is_plain_import d.kind) (string (dynamic_kind_name d.kind)))
-    ∷ (codes "typesSpecifier", option_map json_of_specifier d.types_specifier)
-    ∷ (codes "argument", unless (is_expr d.argument) (json_of_argument d.argument))
+    (codes "argument", unless (is_expr d.argument) (json_of_argument d.argument))
     ∷ (codes "argumentRange", Some (json_of_range d.argument_range))
     ∷ (
       codes "importAttributes",
       unless (is_none d.import_attributes) (json_of_attributes d.import_attributes),
     )
+    ∷ (codes "kind", unless (is_plain_import d.kind) (string (dynamic_kind_name d.kind)))
+    ∷ (codes "type", Some (string (codes "dynamic")))
+    ∷ (codes "typesSpecifier", option_map json_of_specifier d.types_specifier)
     ∷ []
 
 abbrev pub json_of_dynamic : DynamicDependencyDescriptor → Data

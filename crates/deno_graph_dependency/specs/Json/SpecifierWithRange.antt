@@ -9,8 +9,8 @@ use Rattle.deno_graph_dependency.specs.Read.Partial.{◌>>=◌, member_at}
 
 abbrev pub specifier_entries : SpecifierWithRange → List Entry
 specifier_entries s =
-    (codes "text", Some (string s.text))
-    ∷ (codes "range", Some (json_of_range s.range))
+    (codes "range", Some (json_of_range s.range))
+    ∷ (codes "text", Some (string s.text))
     ∷ []
 
 abbrev pub json_of_specifier : SpecifierWithRange → Data

@@ -63,17 +63,16 @@ static_kind_name MaybeTsModuleAugmentation = codes "maybeTsModuleAugmentation"
 -- its table: `typesSpecifier` is left out where there is none, `sideEffect` where it is false, and
 -- `importAttributes` where there are none
 abbrev pub static_entries : StaticDependencyDescriptor → List Entry
-static_entries d =
-    (codes "type", Some (string (codes "static")))
+static_entries d = (
+  codes "importAttributes",
+  unless (is_none d.import_attributes) (json_of_attributes d.import_attributes),
+)
     ∷ (codes "kind", Some (string (static_kind_name d.kind)))
-    ∷ (codes "typesSpecifier", option_map json_of_specifier d.types_specifier)
+    ∷ (codes "sideEffect", if_true d.is_side_effect)
     ∷ (codes "specifier", Some (string d.specifier))
     ∷ (codes "specifierRange", Some (json_of_range d.specifier_range))
-    ∷ (codes "sideEffect", if_true d.is_side_effect)
-    ∷ (
-      codes "importAttributes",
-      unless (is_none d.import_attributes) (json_of_attributes d.import_attributes),
-    )
+    ∷ (codes "type", Some (string (codes "static")))
+    ∷ (codes "typesSpecifier", option_map json_of_specifier d.types_specifier)
     ∷ []
 
 abbrev pub json_of_static : StaticDependencyDescriptor → Data

@@ -1,7 +1,7 @@
 -- What a reader answers.
 use Rattle.std.specs.Prelude.{◌≡◌, Option, Some, None, Result, MatchResult}
-use Rattle.deno_graph_dependency.specs.declared.json.fault.ReadFault.{ReadFault}
-use Rattle.deno_graph_dependency.specs.declared.json.fault.ReadFault.TheVariants.{Shape, OutOfMemory}
+use Rattle.deno_graph_dependency.specs.declared.json_form.fault.ReadFault.{ReadFault}
+use Rattle.deno_graph_dependency.specs.declared.json_form.fault.ReadFault.TheVariants.{Shape, OutOfMemory}
 
 -- the fault is Shape, and there is nothing to be read; or memory was refused
 abbrev pub IsRefusal : {A : Type 0} → Option A → ReadFault → Type 0

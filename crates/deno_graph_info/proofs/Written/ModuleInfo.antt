@@ -88,14 +88,14 @@ info_back m h =
 pub info_no_float : (m : ModuleInfo) → has_float (json_of_info m) ≡ false
 info_no_float m =
     no_float-object_of (info_entries m)
-    (neither _ _ (no_float-if_true m.is_script)
     (neither _ _ (no_float-if_any json_of_dependency dependency_no_float m.dependencies)
-    (neither _ _ (no_float-if_any json_of_reference reference_no_float m.ts_references)
-    (neither _ _ (types_no_float m.self_types_specifier)
+    (neither _ _ (no_float-if_any json_of_js_doc_import js_doc_import_no_float m.jsdoc_imports)
     (neither _ _ (types_no_float m.jsx_import_source)
     (neither _ _ (types_no_float m.jsx_import_source_types)
-    (neither _ _ (no_float-if_any json_of_js_doc_import js_doc_import_no_float m.jsdoc_imports)
+    (neither _ _ (no_float-if_true m.is_script)
+    (neither _ _ (types_no_float m.self_types_specifier)
     (neither _ _ (types_no_float m.source_map_url)
+    (neither _ _ (no_float-if_any json_of_reference reference_no_float m.ts_references)
     refl))))))))
 
 pub written_is_read : {E : Type 0} (answer : Result Value E) (m : ModuleInfo)

@@ -12,9 +12,9 @@ use Rattle.deno_graph_info.specs.declared.analysis.js_doc_import_info.JsDocImpor
 -- its table: `resolutionMode` is left out where there is none
 abbrev pub js_doc_import_entries : JsDocImportInfo → List Entry
 js_doc_import_entries i =
-    (codes "text", Some (string i.specifier.text))
-    ∷ (codes "range", Some (json_of_range i.specifier.range))
+    (codes "range", Some (json_of_range i.specifier.range))
     ∷ (codes "resolutionMode", option_map json_of_mode i.resolution_mode)
+    ∷ (codes "text", Some (string i.specifier.text))
     ∷ []
 
 abbrev pub json_of_js_doc_import : JsDocImportInfo → Data

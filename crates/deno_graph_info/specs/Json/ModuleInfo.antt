@@ -30,14 +30,14 @@ use Rattle.deno_graph_info.specs.Json.TypeScriptReference.{
 -- there is none
 abbrev pub info_entries : ModuleInfo → List Entry
 info_entries m =
-    (codes "script", if_true m.is_script)
-    ∷ (codes "dependencies", option_map (array_of json_of_dependency) (if_any m.dependencies))
-    ∷ (codes "tsReferences", option_map (array_of json_of_reference) (if_any m.ts_references))
-    ∷ (codes "selfTypesSpecifier", option_map json_of_specifier m.self_types_specifier)
+    (codes "dependencies", option_map (array_of json_of_dependency) (if_any m.dependencies))
+    ∷ (codes "jsdocImports", option_map (array_of json_of_js_doc_import) (if_any m.jsdoc_imports))
     ∷ (codes "jsxImportSource", option_map json_of_specifier m.jsx_import_source)
     ∷ (codes "jsxImportSourceTypes", option_map json_of_specifier m.jsx_import_source_types)
-    ∷ (codes "jsdocImports", option_map (array_of json_of_js_doc_import) (if_any m.jsdoc_imports))
+    ∷ (codes "script", if_true m.is_script)
+    ∷ (codes "selfTypesSpecifier", option_map json_of_specifier m.self_types_specifier)
     ∷ (codes "sourceMapUrl", option_map json_of_specifier m.source_map_url)
+    ∷ (codes "tsReferences", option_map (array_of json_of_reference) (if_any m.ts_references))
     ∷ []
 
 abbrev pub json_of_info : ModuleInfo → Data

@@ -33,23 +33,26 @@ use Rattle.deno_graph_info.specs.declared.analysis.type_script_reference.TypeScr
 
 abbrev pub path_entries : SpecifierWithRange → List Entry
 path_entries s =
-    (codes "type", Some (string (codes "path")))
+    (codes "range", Some (json_of_range s.range))
     ∷ (codes "text", Some (string s.text))
-    ∷ (codes "range", Some (json_of_range s.range))
+    ∷ (codes "type", Some (string (codes "path")))
     ∷ []
 
 -- its table: `resolutionMode` is left out where there is none
 abbrev pub types_entries : SpecifierWithRange → Option TypeScriptTypesResolutionMode → List Entry
 types_entries s mode =
-    (codes "type", Some (string (codes "types")))
-    ∷ (codes "text", Some (string s.text))
-    ∷ (codes "range", Some (json_of_range s.range))
+    (codes "range", Some (json_of_range s.range))
     ∷ (codes "resolutionMode", option_map json_of_mode mode)
+    ∷ (codes "text", Some (string s.text))
+    ∷ (codes "type", Some (string (codes "types")))
     ∷ []
 
+abbrev pub reference_entries : TypeScriptReference → List Entry
+reference_entries (Path s) = path_entries s
+reference_entries (Types s mode) = types_entries s mode
+
 abbrev pub json_of_reference : TypeScriptReference → Data
-json_of_reference (Path s) = object_of (path_entries s)
-json_of_reference (Types s mode) = object_of (types_entries s mode)
+json_of_reference r = object_of (reference_entries r)
 
 -- what holds of each that a program has: its positions fit
 abbrev pub IsHeldReference : TypeScriptReference → Type 0

@@ -1,4 +1,4 @@
-use deno_graph_dependency::json::ReadFault;
+use deno_graph_dependency::json_form::ReadFault;
 use thiserror::Error;
 
 /// Why no `ModuleInfo` was read.

@@ -1,6 +1,10 @@
-ghost use Rattle.deno_graph_info.specs.Json.JsDocImportInfo.{json_of_js_doc_import, reads_js_doc_import, IsHeldJsDocImport};
+ghost use Rattle.std.specs.Prelude.{refl};
+ghost use Rattle.deno_graph_info.specs.Json.JsDocImportInfo.{js_doc_import_entries, json_of_js_doc_import, reads_js_doc_import, IsHeldJsDocImport};
 
-use deno_graph_dependency::json::{FromJson, ObjectReader, ObjectWriter, ReadFault, ToJson};
+use deno_graph_dependency::json_form::{
+    FromJson, MemberWriter, ObjectReader, ReadFault, TextWriter, ToJson, ToObject, object_value,
+    write_object,
+};
 use deno_graph_dependency::{SpecifierWithRange, read_specifier};
 use deno_graph_text::values::{TryClone, TypeScriptTypesResolutionMode};
 use serde_json::Value;
@@ -28,12 +32,26 @@ impl ToJson for JsDocImportInfo {
 
     ghost is_held = { IsHeldJsDocImport };
 
-    fn to_json(&self, alloc: Global) -> Result<Value, AllocError> {
-        let mut object = ObjectWriter::new(alloc);
-        object.put("text", &self.specifier.text)?;
-        object.put("range", &self.specifier.range)?;
-        object.put_some("resolutionMode", &self.resolution_mode)?;
-        Ok(object.into_value())
+    fn to_value(&self, alloc: Global) -> Result<Value, AllocError> {
+        object_value(alloc, self)
+    }
+
+    fn write_text(&self, out: &mut TextWriter) -> Result<(), AllocError> {
+        write_object(self, out)
+    }
+}
+
+impl ToObject for JsDocImportInfo {
+    ghost entries = { js_doc_import_entries };
+
+    ghost is_held = { IsHeldJsDocImport };
+
+    ghost ascends = { λ _ _. refl };
+
+    fn put_members<W: MemberWriter>(&self, out: &mut W) -> Result<(), AllocError> {
+        out.put("range", &self.specifier.range)?;
+        out.put_some("resolutionMode", &self.resolution_mode)?;
+        out.put("text", &self.specifier.text)
     }
 }
 

@@ -1,14 +1,15 @@
-ghost use Rattle.std.specs.Prelude.{◌≡◌, [], false, Some, None, IfOk, IfErr};
+ghost use Rattle.std.specs.Prelude.{◌≡◌, [], false, Some, None, IfOk, IfErr, refl, string_bytes};
 ghost use Rattle.serde_json.specs.View.{view};
-ghost use Rattle.serde_json.specs.Written.{has_float as float_stands};
+ghost use Rattle.serde_json.specs.Written.{compact_text, has_float as float_stands};
 ghost use Rattle.deno_graph_info.specs.InfoFault.{IsInfoFault};
-ghost use Rattle.deno_graph_info.specs.Json.ModuleInfo.{json_of_info, reads_info, IsHeldInfo};
+ghost use Rattle.deno_graph_info.specs.Json.ModuleInfo.{info_entries, json_of_info, reads_info, IsHeldInfo};
 
 use crate::analysis::fault::InfoFault;
 use crate::analysis::js_doc_import_info::JsDocImportInfo;
 use crate::analysis::type_script_reference::TypeScriptReference;
-use deno_graph_dependency::json::{
-    FromJson, ObjectReader, ObjectWriter, ReadFault, ToJson, has_float,
+use deno_graph_dependency::json_form::{
+    FromJson, MemberWriter, ObjectReader, ReadFault, TextWriter, ToJson, ToObject, has_float,
+    object_value, text_of, write_object,
 };
 use deno_graph_dependency::{DependencyDescriptor, SpecifierWithRange};
 use deno_graph_text::values::{Items, TryClone};
@@ -84,7 +85,15 @@ impl ModuleInfo {
         ensures read_back { IfOk result (λ value. reads_info (view value) ≡ Some self.now) }
         ensures no_float { IfOk result (λ value. float_stands (view value) ≡ false) }
     {
-        self.to_json(alloc)
+        object_value(alloc, self)
+    }
+
+    /// The JSON form as text: compact, with the keys of each object ascending, as `to_value` and
+    /// `Value::to_string` give it. The only error is that memory was refused.
+    pub fn to_json(&self, alloc: Global) -> Result<String, AllocError>
+        ensures text { IfOk result (λ text. string_bytes text ≡ compact_text (json_of_info self.now)) }
+    {
+        text_of(alloc, self)
     }
 }
 
@@ -108,17 +117,31 @@ impl ToJson for ModuleInfo {
 
     ghost is_held = { IsHeldInfo };
 
-    fn to_json(&self, alloc: Global) -> Result<Value, AllocError> {
-        let mut object = ObjectWriter::new(alloc);
-        object.put_flag("script", self.is_script)?;
-        object.put_list("dependencies", &self.dependencies)?;
-        object.put_list("tsReferences", &self.ts_references)?;
-        object.put_some("selfTypesSpecifier", &self.self_types_specifier)?;
-        object.put_some("jsxImportSource", &self.jsx_import_source)?;
-        object.put_some("jsxImportSourceTypes", &self.jsx_import_source_types)?;
-        object.put_list("jsdocImports", &self.jsdoc_imports)?;
-        object.put_some("sourceMapUrl", &self.source_map_url)?;
-        Ok(object.into_value())
+    fn to_value(&self, alloc: Global) -> Result<Value, AllocError> {
+        object_value(alloc, self)
+    }
+
+    fn write_text(&self, out: &mut TextWriter) -> Result<(), AllocError> {
+        write_object(self, out)
+    }
+}
+
+impl ToObject for ModuleInfo {
+    ghost entries = { info_entries };
+
+    ghost is_held = { IsHeldInfo };
+
+    ghost ascends = { λ _ _. refl };
+
+    fn put_members<W: MemberWriter>(&self, out: &mut W) -> Result<(), AllocError> {
+        out.put_list("dependencies", &self.dependencies)?;
+        out.put_list("jsdocImports", &self.jsdoc_imports)?;
+        out.put_some("jsxImportSource", &self.jsx_import_source)?;
+        out.put_some("jsxImportSourceTypes", &self.jsx_import_source_types)?;
+        out.put_flag("script", self.is_script)?;
+        out.put_some("selfTypesSpecifier", &self.self_types_specifier)?;
+        out.put_some("sourceMapUrl", &self.source_map_url)?;
+        out.put_list("tsReferences", &self.ts_references)
     }
 }
 

@@ -1,8 +1,13 @@
+ghost use Rattle.std.specs.Prelude.{◌≡◌, refl, true};
+ghost use Rattle.deno_graph_dependency.specs.Ascending.{has_ascending_keys};
 ghost use Rattle.deno_graph_dependency.specs.ObjectReader.{readable};
 ghost use Rattle.deno_graph_dependency.specs.Read.Answer.{Answers};
-ghost use Rattle.deno_graph_info.specs.Json.TypeScriptReference.{json_of_reference, reads_reference, reference_of_type, reference_to_types, IsHeldReference};
+ghost use Rattle.deno_graph_info.specs.Json.TypeScriptReference.{json_of_reference, reads_reference, reference_entries, reference_of_type, reference_to_types, IsHeldReference};
 
-use deno_graph_dependency::json::{FromJson, ObjectReader, ObjectWriter, ReadFault, ToJson};
+use deno_graph_dependency::json_form::{
+    FromJson, MemberWriter, ObjectReader, ReadFault, TextWriter, ToJson, ToObject, object_value,
+    write_object,
+};
 use deno_graph_dependency::{SpecifierWithRange, read_specifier};
 use deno_graph_text::values::{TryClone, TypeScriptTypesResolutionMode};
 use serde_json::Value;
@@ -43,23 +48,40 @@ impl ToJson for TypeScriptReference {
 
     ghost is_held = { IsHeldReference };
 
-    fn to_json(&self, alloc: Global) -> Result<Value, AllocError> {
+    fn to_value(&self, alloc: Global) -> Result<Value, AllocError> {
+        object_value(alloc, self)
+    }
+
+    fn write_text(&self, out: &mut TextWriter) -> Result<(), AllocError> {
+        write_object(self, out)
+    }
+}
+
+impl ToObject for TypeScriptReference {
+    ghost use Rattle.deno_graph_info.specs.declared.analysis.type_script_reference.TypeScriptReference.TheVariants.{Path, Types};
+
+    ghost entries = { reference_entries };
+
+    ghost is_held = { IsHeldReference };
+
+    ghost ascends = { λ r _. elim r as (λ r. has_ascending_keys (reference_entries r) ≡ true)
+        [ Path s ↦ refl | Types s m ↦ refl ] };
+
+    fn put_members<W: MemberWriter>(&self, out: &mut W) -> Result<(), AllocError> {
         match self {
             TypeScriptReference::Path(specifier) => {
-                let mut object = ObjectWriter::tagged(alloc, "path")?;
-                object.put("text", &specifier.text)?;
-                object.put("range", &specifier.range)?;
-                Ok(object.into_value())
+                out.put("range", &specifier.range)?;
+                out.put("text", &specifier.text)?;
+                out.put_str("type", "path")
             }
             TypeScriptReference::Types {
                 specifier,
                 resolution_mode,
             } => {
-                let mut object = ObjectWriter::tagged(alloc, "types")?;
-                object.put("text", &specifier.text)?;
-                object.put("range", &specifier.range)?;
-                object.put_some("resolutionMode", resolution_mode)?;
-                Ok(object.into_value())
+                out.put("range", &specifier.range)?;
+                out.put_some("resolutionMode", resolution_mode)?;
+                out.put("text", &specifier.text)?;
+                out.put_str("type", "types")
             }
         }
     }

@@ -2,7 +2,7 @@
 
 ghost use Rattle.deno_graph_info.specs.Comment.{reads_comment};
 
-use deno_graph_dependency::json::{FromJson, ObjectReader, ReadFault};
+use deno_graph_dependency::json_form::{FromJson, ObjectReader, ReadFault};
 use deno_graph_text::text::PositionRange;
 use deno_graph_text::values::Text;
 use serde_json::Value;

@@ -11,8 +11,8 @@ use crate::conversion::comment::Comment;
 use crate::conversion::fault::ConvertFault;
 use crate::conversion::types::types_named;
 use deno_graph_dependency::SpecifierWithRange;
-use deno_graph_dependency::json::object_reader::find_member;
-use deno_graph_dependency::json::{ObjectReader, ReadFault, ToJson, has_float};
+use deno_graph_dependency::json_form::object_reader::find_member;
+use deno_graph_dependency::json_form::{ObjectReader, ReadFault, ToJson, has_float};
 use deno_graph_text::values::Items;
 use serde_json::{Map, Value, put};
 use std::alloc::{AllocError, Global};
@@ -227,7 +227,7 @@ fn put_types(
 {
     let mut typed = members;
     if let Some(types) = types {
-        let form = types.to_json(alloc)?;
+        let form = types.to_value(alloc)?;
         put(&mut typed, alloc, "typesSpecifier", form)?;
     }
     Ok(typed)

@@ -1,6 +1,6 @@
 use crate::form::fault::FormFault;
 use crate::pointer::Step;
-use deno_graph_dependency::json::{FromJson, ReadFault};
+use deno_graph_dependency::json_form::{FromJson, ReadFault};
 use deno_graph_source::values::{Items, Text, TextMap};
 use serde_json::{Map, Value};
 use std::alloc::Global;

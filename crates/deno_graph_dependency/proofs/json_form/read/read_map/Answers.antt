@@ -1,0 +1,31 @@
+use Rattle.std.proofs.Common.{String, Global, ◌∙◌}
+use Rattle.serde_json.specs.declared.value.Value.{Value}
+use Rattle.deno_graph_dependency.proofs.ReadMaps.{member_more, members_begin, members_refused, members_done}
+use Rattle.deno_graph_dependency.proofs.Reading.{refuses}
+use Rattle.deno_graph_dependency.proofs.json_form.read.read_map.Goals as goal
+
+pub loop-key-init : goal.loop-key-init
+loop-key-init g c =
+    members_begin g.T.FromJson.reads c.args.members.now.entries c.into_iter-key-iterator.result
+    c.new-map.result
+    c.iter-key-items.ensures.ordered (c.into_iter-key-iterator.ensures.into_iter_gives
+    ∙ c.iter-key-items.ensures.rest) c.new-map.ensures
+
+pub loop-key-preserved : goal.loop-key-preserved
+loop-key-preserved g c =
+    let e : String Global × Value = (c.in-Some.key.now, c.in-Some.value.now) in
+    member_more g.T.FromJson.reads c.args.members.now.entries c.loop-key.map c.insert.new.self
+    c.loop-key.key-iterator c.next.new.self e c.in_ok-name.name c.in_ok-item.item
+    c.loop-key.invariant c.in-Some.ensures.steps c.in_ok-item.ensures
+    (c.in_ok-name.ensures ∙ c.as_str.ensures.value) c.in_ok-insert.ensures.ok
+
+pub returns-in_err-item : goal.returns-in_err-item
+returns-in_err-item g c =
+    let e : String Global × Value = (c.in-Some.key.now, c.in-Some.value.now) in
+    refuses _ _ _ c.from_residual.ensures.1
+    (members_refused g.T.FromJson.reads c.args.members.now.entries c.loop-key.key-iterator c.next.new.self
+    c.loop-key.map e _ c.loop-key.invariant c.in-Some.ensures.steps c.in_err-item.ensures)
+
+pub returns : goal.returns
+returns g c = members_done g.T.FromJson.reads c.args.members.now.entries c.loop-key.key-iterator
+    c.loop-key.map c.loop-key.invariant c.in-None.ensures.steps.0

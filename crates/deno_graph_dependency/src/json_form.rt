@@ -1,0 +1,21 @@
+//! Writing values to JSON and reading them from it, and floats in JSON.
+
+pub mod fault;
+pub mod float;
+pub mod object;
+pub mod object_reader;
+pub mod object_writer;
+mod position;
+pub mod read;
+mod resolution_mode;
+pub mod text_writer;
+pub mod write;
+
+pub use fault::ReadFault;
+pub use float::has_float;
+pub use object::{MemberWriter, ToObject, object_value, write_object};
+pub use object_reader::ObjectReader;
+pub use object_writer::ObjectWriter;
+pub use read::FromJson;
+pub use text_writer::TextWriter;
+pub use write::{ToJson, text_of};
