@@ -1,11 +1,8 @@
-//! What the program can be asked for, each from a text to the JSON value that is printed.
+//! What the program can be asked for, each from a text to the JSON that is printed.
 
-ghost use Rattle.std.specs.Prelude.{◌≡◌, ◌↔◌, ◌++◌, ℕ, false, IfOk, List, Some, codes};
+ghost use Rattle.std.specs.Prelude.{◌≡◌, ◌↔◌, ◌++◌, ℕ, IfOk, List, Some, codes};
 ghost use Rattle.std.specs.String.{string_bytes};
 ghost use Rattle.serde_json.specs.View.{view};
-ghost use Rattle.serde_json.specs.Written.{has_float as float_stands};
-ghost use Rattle.deno_graph_info.specs.Json.ModuleInfo.{json_of_info};
-ghost use Rattle.deno_graph_info.specs.declared.analysis.module_info.ModuleInfo.{ModuleInfo};
 ghost use Rattle.modinfo.specs.Answer.{IsConversionOf, IsConvertedText, IsInfoText};
 
 use crate::fault::Fault;
@@ -65,12 +62,11 @@ impl Subcommand {
         ensures convert { self ≡ Subcommand.Convert
             → IfOk result (λ text. IsConvertedText input.items (string_bytes text)) }
     {
-        let value = match self {
-            Subcommand::Analyze => analyze(alloc, input)?,
-            Subcommand::Convert => convert(alloc, input)?,
-            Subcommand::Reach => reach_of(alloc, input)?,
-        };
-        Ok(value.to_string(alloc)?)
+        match self {
+            Subcommand::Analyze => analyze(alloc, input),
+            Subcommand::Convert => Ok(convert(alloc, input)?.to_string(alloc)?),
+            Subcommand::Reach => Ok(reach_of(alloc, input)?.to_string(alloc)?),
+        }
     }
 }
 
@@ -89,11 +85,10 @@ impl Subcommand {
     }
 }
 
-fn analyze(alloc: Global, input: Vec<u8>) -> Result<Value, Fault>
-    ensures form { IfOk result (λ value. (info : ModuleInfo) × (view value ≡ json_of_info info)) }
-    ensures no_float { IfOk result (λ value. float_stands (view value) ≡ false) }
+fn analyze(alloc: Global, input: Vec<u8>) -> Result<String, Fault>
+    ensures { IfOk result (λ text. IsInfoText (string_bytes text)) }
 {
-    Ok(info_of(alloc, input)?.to_value(alloc)?)
+    Ok(info_of(alloc, input)?.to_json(alloc)?)
 }
 
 // The tree is gone before what was found is written.
