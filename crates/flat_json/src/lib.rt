@@ -81,7 +81,7 @@ pub struct Element<'a> {
 impl<'a> Element<'a> {
     ghost use Rattle.std.specs.Prelude.{ℕ, Bool, Some, IsSome};
     ghost use Rattle.flat_json.specs.Tape.{nodes_of, number_of, node_of, count_of, HasNode, TakesSame};
-    ghost use Rattle.flat_json.specs.Tape.{IsArray, IsObject, IsString, HasCount, HasValueAt, HoldsPair};
+    ghost use Rattle.flat_json.specs.Tape.{IsArray, IsObject, IsString, HasCount, HasValueAt, HoldsPair, IsValueAt};
     ghost use Rattle.flat_json.specs.Tape.{array_of, left_of, object_of};
 
     /// The number of its node in the tape: 0 for the value of the whole text.
@@ -188,6 +188,7 @@ impl<'a> Element<'a> {
         ensures end { IfSome result (λ found. (at < found.1) × (found.1 ≤ nodes_of self.entry)) }
         ensures number { IfSome result (λ found. number_of found.0 ≡ number_of self.entry + at) }
         ensures nodes { IfSome result (λ found. nodes_of found.0 ≡ found.1 - at) }
+        ensures value { IfSome result (λ found. IsValueAt self.entry at found.0) }
     {
         let inside = match self.nodes.get(at)? {
             Node::Array { nodes, .. } | Node::Object { nodes } => *nodes,
@@ -242,8 +243,8 @@ impl<'a> Elements<'a> {
 impl<'a> Iterator for Elements<'a> {
     ghost use Rattle.std.specs.Iterator.{at_most};
     ghost use Rattle.std.specs.Prelude.{IsSome};
-    ghost use Rattle.flat_json.specs.Tape.{TakesSame, StandsIn, HasValueAt, number_of, array_of};
-    ghost use Rattle.flat_json.specs.Tape.{left_of, place_of};
+    ghost use Rattle.flat_json.specs.Tape.{TakesSame, StandsIn, HasValueAt, IsValueAt, number_of};
+    ghost use Rattle.flat_json.specs.Tape.{nodes_of, array_of, left_of, place_of};
 
     type Item = Element<'a>;
 
@@ -251,6 +252,8 @@ impl<'a> Iterator for Elements<'a> {
         (IsSome found ↔ HasValueAt (array_of old) (place_of old))
         × IfSome found (λ element. StandsIn element (array_of old)
         × (number_of element ≡ number_of (array_of old) + place_of old)
+        × IsValueAt (array_of old) (place_of old) element
+        × (place_of new ≡ place_of old + nodes_of element) × (array_of new ≡ array_of old)
         × TakesSame (array_of new) (array_of old) × (left_of new < left_of old)) };
 
     ghost remaining = { λ elements. at_most (left_of elements) };
