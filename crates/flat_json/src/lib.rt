@@ -215,7 +215,8 @@ pub struct Elements<'a> {
 }
 
 impl<'a> Elements<'a> {
-    ghost use Rattle.flat_json.specs.Tape.{StandsIn, array_of, count_of};
+    ghost use Rattle.std.specs.Prelude.{IfNone};
+    ghost use Rattle.flat_json.specs.Tape.{StandsIn, IsElement, HasElement, array_of, count_of};
 
     /// How many elements the array has.
     pub fn array_len(&self) -> usize
@@ -227,7 +228,9 @@ impl<'a> Elements<'a> {
     /// The element of this number, from 0 on, of those that are still to come. It passes those
     /// before it.
     pub fn get(self, number: usize) -> Option<Element<'a>>
-        ensures { IfSome result (λ element. StandsIn element (array_of self.entry)) }
+        ensures inside { IfSome result (λ element. StandsIn element (array_of self.entry)) }
+        ensures element { IfSome result (λ element. IsElement self.entry number element) }
+        ensures none { IfNone result (¬ HasElement self.entry number) }
     {
         let mut left = number;
         for element in self {
@@ -272,8 +275,9 @@ pub struct Members<'a> {
 }
 
 impl<'a> Members<'a> {
-    ghost use Rattle.flat_json.specs.Tape.{number_of, StandsIn, IsNamed};
-    ghost use Rattle.flat_json.specs.Tape.{object_of, object_of_entries};
+    ghost use Rattle.std.specs.Prelude.{IfNone};
+    ghost use Rattle.flat_json.specs.Tape.{number_of, StandsIn, IsNamed, IsLastNamed, IsNameless};
+    ghost use Rattle.flat_json.specs.Tape.{object_of, object_of_entries, place_of_entries};
 
     /// The number of the object's node in the tape.
     pub fn number(self) -> usize
@@ -286,6 +290,8 @@ impl<'a> Members<'a> {
     pub fn get(self, name: &str) -> Option<Element<'a>>
         ensures inside { IfSome result (λ value. StandsIn value (object_of self.entry)) }
         ensures named { IfSome result (IsNamed (object_of self.entry) name.now) }
+        ensures last { IfSome result (IsLastNamed (object_of self.entry) name.now) }
+        ensures none { IfNone result (IsNameless (object_of self.entry) name.now) }
     {
         let mut found = None;
         for (key, value) in self.entries() {
@@ -298,7 +304,8 @@ impl<'a> Members<'a> {
 
     /// Each member's name and value, in the order of the text.
     pub fn entries(self) -> Entries<'a>
-        ensures { object_of_entries result ≡ object_of self.entry }
+        ensures object { object_of_entries result ≡ object_of self.entry }
+        ensures first { place_of_entries result ≡ 1 }
     {
         Entries {
             object: self.object,
@@ -317,14 +324,20 @@ pub struct Entries<'a> {
 
 impl<'a> Iterator for Entries<'a> {
     ghost use Rattle.std.specs.Iterator.{at_most};
-    ghost use Rattle.flat_json.specs.Tape.{TakesSame, StandsIn, IsNamed};
-    ghost use Rattle.flat_json.specs.Tape.{object_of_entries, left_of_entries};
+    ghost use Rattle.std.specs.Prelude.{IsSome};
+    ghost use Rattle.flat_json.specs.Tape.{TakesSame, StandsIn, IsNamed, IsValueAt, HasNameAt};
+    ghost use Rattle.flat_json.specs.Tape.{HasMemberAt, nodes_of, object_of_entries};
+    ghost use Rattle.flat_json.specs.Tape.{left_of_entries, place_of_entries};
 
     type Item = (&'a str, Element<'a>);
 
     ghost next_gives = { λ old found new.
-        IfSome found (λ member. StandsIn member.1 (object_of_entries old)
+        (IsSome found ↔ HasMemberAt (object_of_entries old) (place_of_entries old))
+        × IfSome found (λ member. StandsIn member.1 (object_of_entries old)
         × IsNamed (object_of_entries old) member.0.now member.1
+        × HasNameAt (object_of_entries old) member.0.now (place_of_entries old)
+        × IsValueAt (object_of_entries old) (place_of_entries old + 1) member.1
+        × (place_of_entries new ≡ place_of_entries old + 1 + nodes_of member.1)
         × (object_of_entries new ≡ object_of_entries old)
         × TakesSame (object_of_entries new) (object_of_entries old)
         × (left_of_entries new < left_of_entries old)) };
