@@ -12,12 +12,19 @@ use Rattle.flat_json.specs.declared.Tape.{Tape}
 abbrev pub node_count : Tape → ℕ
 node_count tape = vec_len tape.nodes
 
+abbrev pub tape_nodes : Tape → List Node
+tape_nodes tape = tape.nodes.items
+
 -- the number of a value's first node
 abbrev pub number_of : Element → ℕ
 number_of element = element.number
 
 abbrev pub nodes_of : Element → ℕ
 nodes_of element = length element.nodes.now
+
+-- the value's node, and those of what stands in it
+abbrev pub own_nodes : Element → List Node
+own_nodes element = element.nodes.now
 
 -- the value's own node
 abbrev pub node_of : Element → Option Node

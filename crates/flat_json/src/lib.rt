@@ -42,7 +42,10 @@ pub struct Tape<'a> {
 }
 
 impl<'a> Tape<'a> {
-    ghost use Rattle.flat_json.specs.Tape.{node_count, nodes_of, number_of};
+    ghost use Rattle.std.specs.Prelude.{ℕ, IfOk, Err};
+    ghost use Rattle.flat_json.specs.Flat.{IsFlatText, IsRefused};
+    ghost use Rattle.flat_json.specs.Tape.{node_count, nodes_of, number_of, tape_nodes, own_nodes};
+    ghost use Rattle.flat_json.specs.declared.fault.TapeFault.TheVariants.{Json};
 
     /// Reads a text to its end. `Json` where it isn't one JSON value, nests deeper than 127 or has
     /// a number too large for a float, with the offset in bytes at which that shows, and
@@ -51,7 +54,10 @@ impl<'a> Tape<'a> {
         alloc: Global,
         text: &'a str,
         scratch: &'a mut Scratch,
-    ) -> Result<Tape<'a>, TapeFault> {
+    ) -> Result<Tape<'a>, TapeFault>
+        ensures flat { IfOk result (λ tape. IsFlatText text.now (tape_nodes tape)) }
+        ensures refused { (offset : ℕ) → result ≡ Err (Json offset) → IsRefused text.now }
+    {
         let nodes = parse::read(alloc, text, scratch)?;
         Ok(Tape { nodes })
     }
@@ -60,6 +66,7 @@ impl<'a> Tape<'a> {
     pub fn root(&self) -> Element<'_>
         ensures number { number_of result ≡ 0 }
         ensures nodes { nodes_of result ≡ node_count self.now }
+        ensures own { own_nodes result ≡ tape_nodes self.now }
     {
         Element {
             nodes: self.nodes.as_slice(),
