@@ -7,6 +7,13 @@ module _ (holder value : Element) (from next : ℕ) (is : IsValueAt holder from 
   begins : (first : HasValueAt holder from) → next ≡ from + (inside_of first.0 + 1)
   begins first = behind ∙ ap (λ n. from + n) (is.2 first.0 first.1)
 
+  pub before_all : (count place : ℕ) → HasValueAt holder from → ArePassed holder next count place → ArePassed holder from (suc count) place
+  before_all count place first rest = (first, subst (λ n. ArePassed holder n count place) (begins first) rest)
+
+  pub here_or_passed : (count place : ℕ) → ArePassed holder from count place → (place ≡ from) ⊎ ((fewer : ℕ) × ArePassed holder next fewer place)
+  here_or_passed zero place all = inl all
+  here_or_passed (suc count) place all = inr (count, subst (λ n. ArePassed holder n count place) (sym (begins all.0)) all.1)
+
   pub one_before : (count place : ℕ) → count ≢ 0 → HasValueAt holder from → ArePassed holder next (count - 1) place → ArePassed holder from count place
   one_before zero place some first rest = absurd (some refl)
   one_before (suc count) place some first rest =

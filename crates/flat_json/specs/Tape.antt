@@ -1,5 +1,6 @@
 -- Which nodes of a tape something takes.
-use Rattle.std.specs.Prelude.{◌≡◌, ℕ, ◌+◌, ◌-◌, ◌<◌, ◌≤◌, [], ◌∷◌, Option, Some, None, length, take, drop, slice_get, vec_len, zero, suc, ⊤, List}
+use Rattle.std.specs.Prelude.{◌≡◌, ℕ, ◌+◌, ◌-◌, ◌<◌, ◌≤◌, [], ◌∷◌, Option, Some}
+use Rattle.std.specs.Prelude.{None, length, take, drop, slice_get, vec_len, zero, suc, ⊤, List}
 use Rattle.std.specs.Borrow.{Bor}
 use Rattle.flat_json.specs.declared.Element.{Element}
 use Rattle.flat_json.specs.declared.Elements.{Elements}
@@ -158,7 +159,8 @@ HasMemberAt object at = ((name : Bor (List ℕ)) × (slice_get object.nodes.now 
 
 -- the name at this place is this text
 abbrev pub HasNameAt : Element → List ℕ → ℕ → Type 0
-HasNameAt object text at = (name : Bor (List ℕ)) × (slice_get object.nodes.now at ≡ Some (Key name)) × (name.now ≡ text)
+HasNameAt object text at =
+    (name : Bor (List ℕ)) × (slice_get object.nodes.now at ≡ Some (Key name)) × (name.now ≡ text)
 
 -- So many members stand one behind another from a place on, and the other place is that of one more.
 abbrev pub HasMember : Element → ℕ → ℕ → ℕ → Type 0

@@ -88,8 +88,8 @@ pub struct Element<'a> {
 impl<'a> Element<'a> {
     ghost use Rattle.std.specs.Prelude.{ℕ, Bool, Some, IsSome};
     ghost use Rattle.flat_json.specs.Tape.{nodes_of, number_of, node_of, count_of, HasNode, TakesSame};
-    ghost use Rattle.flat_json.specs.Tape.{IsArray, IsObject, IsString, HasCount, HasValueAt, HoldsPair, IsValueAt};
-    ghost use Rattle.flat_json.specs.Tape.{array_of, left_of, object_of};
+    ghost use Rattle.flat_json.specs.Tape.{IsArray, IsObject, IsString, HasCount, HasValueAt, HoldsPair};
+    ghost use Rattle.flat_json.specs.Tape.{IsValueAt, array_of, left_of, object_of, place_of};
 
     /// The number of its node in the tape: 0 for the value of the whole text.
     pub fn number(self) -> usize
@@ -164,6 +164,8 @@ impl<'a> Element<'a> {
     pub fn elements(self) -> Option<Elements<'a>>
         ensures some { IsSome result ↔ IsArray self.entry }
         ensures array { IfSome result (λ found. TakesSame (array_of found) self.entry) }
+        ensures own { IfSome result (λ found. array_of found ≡ self.entry) }
+        ensures first { IfSome result (λ found. place_of found ≡ 1) }
         ensures count { IfSome result (λ found. HasCount self.entry (count_of found)) }
         ensures left { IfSome result (λ found. left_of found < nodes_of self.entry) }
     {
@@ -181,6 +183,7 @@ impl<'a> Element<'a> {
     pub fn members(self) -> Option<Members<'a>>
         ensures some { IsSome result ↔ IsObject self.entry }
         ensures object { IfSome result (λ found. TakesSame (object_of found) self.entry) }
+        ensures own { IfSome result (λ found. object_of found ≡ self.entry) }
     {
         match self.nodes.first() {
             Some(Node::Object { .. }) => Some(Members { object: self }),
