@@ -1,1 +1,3 @@
 pub mod Tape
+pub mod Flat
+pub mod Pointer

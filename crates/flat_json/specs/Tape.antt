@@ -1,5 +1,6 @@
 -- Which nodes of a tape something takes.
-use Rattle.std.specs.Prelude.{◌≡◌, ℕ, ◌+◌, ◌-◌, ◌<◌, ◌≤◌, [], ◌∷◌, Option, Some, None, length, drop, slice_get, vec_len, ⊤, List}
+use Rattle.std.specs.Prelude.{◌≡◌, ℕ, ◌+◌, ◌-◌, ◌<◌, ◌≤◌, [], ◌∷◌, Option, Some}
+use Rattle.std.specs.Prelude.{None, length, take, drop, slice_get, vec_len, zero, suc, ⊤, List}
 use Rattle.std.specs.Borrow.{Bor}
 use Rattle.flat_json.specs.declared.Element.{Element}
 use Rattle.flat_json.specs.declared.Elements.{Elements}
@@ -12,12 +13,19 @@ use Rattle.flat_json.specs.declared.Tape.{Tape}
 abbrev pub node_count : Tape → ℕ
 node_count tape = vec_len tape.nodes
 
+abbrev pub tape_nodes : Tape → List Node
+tape_nodes tape = tape.nodes.items
+
 -- the number of a value's first node
 abbrev pub number_of : Element → ℕ
 number_of element = element.number
 
 abbrev pub nodes_of : Element → ℕ
 nodes_of element = length element.nodes.now
+
+-- the value's node, and those of what stands in it
+abbrev pub own_nodes : Element → List Node
+own_nodes element = element.nodes.now
 
 -- the value's own node
 abbrev pub node_of : Element → Option Node
@@ -77,6 +85,18 @@ abbrev pub HasValueAt : Element → ℕ → Type 0
 HasValueAt element at = (node : Node) × (slice_get element.nodes.now at ≡ Some node)
     × (at + inside_of node < nodes_of element)
 
+-- the nodes of the value are those of the holder from this place on, as many as the first one says
+abbrev pub IsValueAt : Element → ℕ → Element → Type 0
+IsValueAt holder at value = (number_of value ≡ number_of holder + at)
+    × (value.nodes.now ≡ take (nodes_of value) (drop at holder.nodes.now))
+    × ((node : Node) → slice_get holder.nodes.now at ≡ Some node → nodes_of value ≡ inside_of node + 1)
+
+-- So many values stand one behind another from a place on, and behind them is the other place.
+abbrev pub ArePassed : Element → ℕ → ℕ → ℕ → Type 0
+ArePassed holder from zero place = place ≡ from
+ArePassed holder from (suc count) place =
+    (first : HasValueAt holder from) × ArePassed holder (from + (inside_of first.0 + 1)) count place
+
 -- the nodes of the one value are some of those behind the other's first one
 abbrev pub StandsIn : Element → Element → Type 0
 StandsIn inner outer = (number_of outer < number_of inner)
@@ -97,6 +117,18 @@ place_of elements = elements.at
 -- how many nodes the elements take at most that are still to come
 abbrev pub left_of : Elements → ℕ
 left_of elements = nodes_of (array_of elements) - elements.at
+
+-- the value is the one of this number, from 0 on, of the elements that are still to come
+abbrev pub IsElement : Elements → ℕ → Element → Type 0
+IsElement elements number value = (place : ℕ)
+    × ArePassed (array_of elements) (place_of elements) number place
+    × IsValueAt (array_of elements) place value
+
+-- so many are still to come, and one more
+abbrev pub HasElement : Elements → ℕ → Type 0
+HasElement elements number = (place : ℕ)
+    × ArePassed (array_of elements) (place_of elements) number place
+    × HasValueAt (array_of elements) place
 
 -- the object whose members they are
 abbrev pub object_of : Members → Element
@@ -119,3 +151,33 @@ abbrev pub IsNamed : Element → List ℕ → Element → Type 0
 IsNamed object text value = (name : Bor (List ℕ))
     × (slice_get object.nodes.now (number_of value - number_of object - 1) ≡ Some (Key name))
     × (name.now ≡ text)
+
+-- at this place among the object's nodes there is a name, and right behind it a value
+abbrev pub HasMemberAt : Element → ℕ → Type 0
+HasMemberAt object at = ((name : Bor (List ℕ)) × (slice_get object.nodes.now at ≡ Some (Key name)))
+    × HasValueAt object (at + 1)
+
+-- the name at this place is this text
+abbrev pub HasNameAt : Element → List ℕ → ℕ → Type 0
+HasNameAt object text at =
+    (name : Bor (List ℕ)) × (slice_get object.nodes.now at ≡ Some (Key name)) × (name.now ≡ text)
+
+-- So many members stand one behind another from a place on, and the other place is that of one more.
+abbrev pub HasMember : Element → ℕ → ℕ → ℕ → Type 0
+HasMember object from zero place = HasMemberAt object place × (place ≡ from)
+HasMember object from (suc count) place =
+    (first : HasMemberAt object from) × HasMember object (from + 1 + (inside_of first.1.0 + 1)) count place
+
+-- one of the object's members from this place on begins at the other place
+abbrev pub IsMember : Element → ℕ → ℕ → Type 0
+IsMember object from place = (count : ℕ) × HasMember object from count place
+
+-- the value is that of the last of the object's members of this name
+abbrev pub IsLastNamed : Element → List ℕ → Element → Type 0
+IsLastNamed object name value = (place : ℕ) × IsMember object 1 place × HasNameAt object name place
+    × IsValueAt object (place + 1) value
+    × ((later : ℕ) → place < later → IsMember object 1 later → HasNameAt object name later → ⊥)
+
+-- no member of the object has this name
+abbrev pub IsNameless : Element → List ℕ → Type 0
+IsNameless object name = (place : ℕ) → IsMember object 1 place → HasNameAt object name place → ⊥

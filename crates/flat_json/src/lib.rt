@@ -42,7 +42,10 @@ pub struct Tape<'a> {
 }
 
 impl<'a> Tape<'a> {
-    ghost use Rattle.flat_json.specs.Tape.{node_count, nodes_of, number_of};
+    ghost use Rattle.std.specs.Prelude.{ℕ, IfOk, Err};
+    ghost use Rattle.flat_json.specs.Flat.{IsFlatText, IsRefused};
+    ghost use Rattle.flat_json.specs.Tape.{node_count, nodes_of, number_of, tape_nodes, own_nodes};
+    ghost use Rattle.flat_json.specs.declared.fault.TapeFault.TheVariants.{Json};
 
     /// Reads a text to its end. `Json` where it isn't one JSON value, nests deeper than 127 or has
     /// a number too large for a float, with the offset in bytes at which that shows, and
@@ -51,7 +54,10 @@ impl<'a> Tape<'a> {
         alloc: Global,
         text: &'a str,
         scratch: &'a mut Scratch,
-    ) -> Result<Tape<'a>, TapeFault> {
+    ) -> Result<Tape<'a>, TapeFault>
+        ensures flat { IfOk result (λ tape. IsFlatText text.now (tape_nodes tape)) }
+        ensures refused { (offset : ℕ) → result ≡ Err (Json offset) → IsRefused text.now }
+    {
         let nodes = parse::read(alloc, text, scratch)?;
         Ok(Tape { nodes })
     }
@@ -60,6 +66,7 @@ impl<'a> Tape<'a> {
     pub fn root(&self) -> Element<'_>
         ensures number { number_of result ≡ 0 }
         ensures nodes { nodes_of result ≡ node_count self.now }
+        ensures own { own_nodes result ≡ tape_nodes self.now }
     {
         Element {
             nodes: self.nodes.as_slice(),
@@ -82,7 +89,7 @@ impl<'a> Element<'a> {
     ghost use Rattle.std.specs.Prelude.{ℕ, Bool, Some, IsSome};
     ghost use Rattle.flat_json.specs.Tape.{nodes_of, number_of, node_of, count_of, HasNode, TakesSame};
     ghost use Rattle.flat_json.specs.Tape.{IsArray, IsObject, IsString, HasCount, HasValueAt, HoldsPair};
-    ghost use Rattle.flat_json.specs.Tape.{array_of, left_of, object_of};
+    ghost use Rattle.flat_json.specs.Tape.{IsValueAt, array_of, left_of, object_of, place_of};
 
     /// The number of its node in the tape: 0 for the value of the whole text.
     pub fn number(self) -> usize
@@ -157,6 +164,8 @@ impl<'a> Element<'a> {
     pub fn elements(self) -> Option<Elements<'a>>
         ensures some { IsSome result ↔ IsArray self.entry }
         ensures array { IfSome result (λ found. TakesSame (array_of found) self.entry) }
+        ensures own { IfSome result (λ found. array_of found ≡ self.entry) }
+        ensures first { IfSome result (λ found. place_of found ≡ 1) }
         ensures count { IfSome result (λ found. HasCount self.entry (count_of found)) }
         ensures left { IfSome result (λ found. left_of found < nodes_of self.entry) }
     {
@@ -174,6 +183,7 @@ impl<'a> Element<'a> {
     pub fn members(self) -> Option<Members<'a>>
         ensures some { IsSome result ↔ IsObject self.entry }
         ensures object { IfSome result (λ found. TakesSame (object_of found) self.entry) }
+        ensures own { IfSome result (λ found. object_of found ≡ self.entry) }
     {
         match self.nodes.first() {
             Some(Node::Object { .. }) => Some(Members { object: self }),
@@ -188,6 +198,7 @@ impl<'a> Element<'a> {
         ensures end { IfSome result (λ found. (at < found.1) × (found.1 ≤ nodes_of self.entry)) }
         ensures number { IfSome result (λ found. number_of found.0 ≡ number_of self.entry + at) }
         ensures nodes { IfSome result (λ found. nodes_of found.0 ≡ found.1 - at) }
+        ensures value { IfSome result (λ found. IsValueAt self.entry at found.0) }
     {
         let inside = match self.nodes.get(at)? {
             Node::Array { nodes, .. } | Node::Object { nodes } => *nodes,
@@ -214,7 +225,8 @@ pub struct Elements<'a> {
 }
 
 impl<'a> Elements<'a> {
-    ghost use Rattle.flat_json.specs.Tape.{StandsIn, array_of, count_of};
+    ghost use Rattle.std.specs.Prelude.{IfNone};
+    ghost use Rattle.flat_json.specs.Tape.{StandsIn, IsElement, HasElement, array_of, count_of};
 
     /// How many elements the array has.
     pub fn array_len(&self) -> usize
@@ -226,7 +238,9 @@ impl<'a> Elements<'a> {
     /// The element of this number, from 0 on, of those that are still to come. It passes those
     /// before it.
     pub fn get(self, number: usize) -> Option<Element<'a>>
-        ensures { IfSome result (λ element. StandsIn element (array_of self.entry)) }
+        ensures inside { IfSome result (λ element. StandsIn element (array_of self.entry)) }
+        ensures element { IfSome result (λ element. IsElement self.entry number element) }
+        ensures none { IfNone result (¬ HasElement self.entry number) }
     {
         let mut left = number;
         for element in self {
@@ -242,8 +256,8 @@ impl<'a> Elements<'a> {
 impl<'a> Iterator for Elements<'a> {
     ghost use Rattle.std.specs.Iterator.{at_most};
     ghost use Rattle.std.specs.Prelude.{IsSome};
-    ghost use Rattle.flat_json.specs.Tape.{TakesSame, StandsIn, HasValueAt, number_of, array_of};
-    ghost use Rattle.flat_json.specs.Tape.{left_of, place_of};
+    ghost use Rattle.flat_json.specs.Tape.{TakesSame, StandsIn, HasValueAt, IsValueAt, number_of};
+    ghost use Rattle.flat_json.specs.Tape.{nodes_of, array_of, left_of, place_of};
 
     type Item = Element<'a>;
 
@@ -251,6 +265,8 @@ impl<'a> Iterator for Elements<'a> {
         (IsSome found ↔ HasValueAt (array_of old) (place_of old))
         × IfSome found (λ element. StandsIn element (array_of old)
         × (number_of element ≡ number_of (array_of old) + place_of old)
+        × IsValueAt (array_of old) (place_of old) element
+        × (place_of new ≡ place_of old + nodes_of element) × (array_of new ≡ array_of old)
         × TakesSame (array_of new) (array_of old) × (left_of new < left_of old)) };
 
     ghost remaining = { λ elements. at_most (left_of elements) };
@@ -269,8 +285,9 @@ pub struct Members<'a> {
 }
 
 impl<'a> Members<'a> {
-    ghost use Rattle.flat_json.specs.Tape.{number_of, StandsIn, IsNamed};
-    ghost use Rattle.flat_json.specs.Tape.{object_of, object_of_entries};
+    ghost use Rattle.std.specs.Prelude.{IfNone};
+    ghost use Rattle.flat_json.specs.Tape.{number_of, StandsIn, IsNamed, IsLastNamed, IsNameless};
+    ghost use Rattle.flat_json.specs.Tape.{object_of, object_of_entries, place_of_entries};
 
     /// The number of the object's node in the tape.
     pub fn number(self) -> usize
@@ -283,6 +300,8 @@ impl<'a> Members<'a> {
     pub fn get(self, name: &str) -> Option<Element<'a>>
         ensures inside { IfSome result (λ value. StandsIn value (object_of self.entry)) }
         ensures named { IfSome result (IsNamed (object_of self.entry) name.now) }
+        ensures last { IfSome result (IsLastNamed (object_of self.entry) name.now) }
+        ensures none { IfNone result (IsNameless (object_of self.entry) name.now) }
     {
         let mut found = None;
         for (key, value) in self.entries() {
@@ -295,7 +314,8 @@ impl<'a> Members<'a> {
 
     /// Each member's name and value, in the order of the text.
     pub fn entries(self) -> Entries<'a>
-        ensures { object_of_entries result ≡ object_of self.entry }
+        ensures object { object_of_entries result ≡ object_of self.entry }
+        ensures first { place_of_entries result ≡ 1 }
     {
         Entries {
             object: self.object,
@@ -314,14 +334,20 @@ pub struct Entries<'a> {
 
 impl<'a> Iterator for Entries<'a> {
     ghost use Rattle.std.specs.Iterator.{at_most};
-    ghost use Rattle.flat_json.specs.Tape.{TakesSame, StandsIn, IsNamed};
-    ghost use Rattle.flat_json.specs.Tape.{object_of_entries, left_of_entries};
+    ghost use Rattle.std.specs.Prelude.{IsSome};
+    ghost use Rattle.flat_json.specs.Tape.{TakesSame, StandsIn, IsNamed, IsValueAt, HasNameAt};
+    ghost use Rattle.flat_json.specs.Tape.{HasMemberAt, nodes_of, object_of_entries};
+    ghost use Rattle.flat_json.specs.Tape.{left_of_entries, place_of_entries};
 
     type Item = (&'a str, Element<'a>);
 
     ghost next_gives = { λ old found new.
-        IfSome found (λ member. StandsIn member.1 (object_of_entries old)
+        (IsSome found ↔ HasMemberAt (object_of_entries old) (place_of_entries old))
+        × IfSome found (λ member. StandsIn member.1 (object_of_entries old)
         × IsNamed (object_of_entries old) member.0.now member.1
+        × HasNameAt (object_of_entries old) member.0.now (place_of_entries old)
+        × IsValueAt (object_of_entries old) (place_of_entries old + 1) member.1
+        × (place_of_entries new ≡ place_of_entries old + 1 + nodes_of member.1)
         × (object_of_entries new ≡ object_of_entries old)
         × TakesSame (object_of_entries new) (object_of_entries old)
         × (left_of_entries new < left_of_entries old)) };

@@ -1,4 +1,11 @@
-ghost use Rattle.std.specs.Prelude.{◌≡◌, ◌<◌, ◌≤◌, length, vec_len, IfOk, OnOk};
+ghost use Rattle.std.specs.Prelude.{◌≡◌, ◌≢◌, ◌<◌, ◌≤◌, ◌+◌, ◌++◌, ◌∷◌, [], false, ℕ};
+ghost use Rattle.std.specs.Prelude.{length, map, vec_len, IfOk, OnOk, OnErr, IsTrue, Err};
+ghost use Rattle.json.specs.Print.{IsNumber, IsPrintableOrBad};
+ghost use Rattle.json.specs.Reads.{token_of};
+ghost use Rattle.json.specs.Token.{begin_array, begin_object};
+ghost use Rattle.flat_json.specs.Flat.{plain, number_node, number_fits, IsPut, NoneAhead};
+ghost use Rattle.flat_json.specs.Flat.{IsFlatText, IsRefused};
+ghost use Rattle.flat_json.specs.declared.fault.TapeFault.TheVariants.{Json};
 
 use crate::Node;
 use crate::digits::short_whole;
@@ -15,7 +22,9 @@ pub fn read<'a>(
     text: &'a str,
     scratch: &'a mut Scratch,
 ) -> Result<Vec<Node<'a>>, TapeFault>
-    ensures { IfOk result (λ nodes. 0 < vec_len nodes) }
+    ensures some { IfOk result (λ nodes. 0 < vec_len nodes) }
+    ensures flat { IfOk result (λ nodes. IsFlatText text.now nodes.items) }
+    ensures refused { (offset : ℕ) → result ≡ Err (Json offset) → IsRefused text.now }
 {
     let mut parser = Parser {
         reader: Reader::new(text, scratch)?,
@@ -72,7 +81,10 @@ struct Parser<'a> {
 impl<'a> Parser<'a> {
     /// Reads the value of the text.
     fn root(&mut self) -> Result<(), Stop>
-        ensures { OnOk result (length self.old.nodes.items < length self.new.nodes.items) }
+        ensures put { OnOk result (IsPut 127 self.old.reader self.new.reader
+            self.old.nodes.items self.new.nodes.items) }
+        ensures none { result ≡ Err Stop.Json → NoneAhead 127 self.old.reader }
+        ensures longer { OnOk result (length self.old.nodes.items < length self.new.nodes.items) }
     {
         let first = self.token()?;
         self.value(first, MAX_DEPTH)
@@ -83,6 +95,9 @@ impl<'a> Parser<'a> {
     fn token(&mut self) -> Result<Token<'a>, Stop>
         ensures shorter { OnOk result (length self.new.reader < length self.old.reader) }
         ensures same { self.new.nodes ≡ self.old.nodes }
+        ensures token { IfOk result (λ token. self.old.reader ≡ token_of token ∷ self.new.reader) }
+        ensures good { IfOk result (λ token. IsPrintableOrBad (token_of token)) }
+        ensures end { OnErr result (self.old.reader ≡ []) }
     {
         self.offset = self.reader.offset();
         self.reader.next().ok_or(Stop::Json)
@@ -93,6 +108,11 @@ impl<'a> Parser<'a> {
     #[cycle(read)]
     #[inline(always)]
     fn value(&mut self, first: Token<'a>, depth: usize) -> Result<(), Stop>
+        requires { IsPrintableOrBad (token_of first) }
+        ensures put { OnOk result (IsPut depth (token_of first.entry ∷ self.old.reader) self.new.reader
+            self.old.nodes.items self.new.nodes.items) }
+        ensures none { result ≡ Err Stop.Json
+            → NoneAhead depth (token_of first.entry ∷ self.old.reader) }
         ensures shorter { OnOk result (length self.new.reader ≤ length self.old.reader) }
         ensures longer { OnOk result (length self.old.nodes.items < length self.new.nodes.items) }
     {
@@ -103,12 +123,18 @@ impl<'a> Parser<'a> {
             Token::Null => Ok(self.nodes.push(Node::Null)?),
             Token::BeginArray if depth > 0 => self.array(depth - 1),
             Token::BeginObject if depth > 0 => self.object(depth - 1),
-            _ => Err(Stop::Json),
+            Token::BeginArray | Token::BeginObject => Err(Stop::Json),
+            Token::EndArray | Token::EndObject | Token::Key(_) | Token::Bad => Err(Stop::Json),
         }
     }
 
     #[inline(always)]
     fn number(&mut self, digits: &str) -> Result<(), Stop>
+        requires { IsNumber digits.now }
+        ensures nodes { OnOk result (map plain self.new.nodes.items
+            ≡ map plain self.old.nodes.items ++ number_node digits.now ∷ []) }
+        ensures fits { OnOk result (IsTrue (number_fits digits.now)) }
+        ensures large { result ≡ Err Stop.Json → number_fits digits.now ≡ false }
         ensures reader { self.new.reader ≡ self.old.reader }
         ensures longer { OnOk result (length self.old.nodes.items < length self.new.nodes.items) }
     {
@@ -122,6 +148,10 @@ impl<'a> Parser<'a> {
     #[cycle(read)]
     #[inline(never)]
     fn array(&mut self, depth: usize) -> Result<(), Stop>
+        ensures put { OnOk result (IsPut (depth + 1) (begin_array ∷ self.old.reader)
+            self.new.reader self.old.nodes.items self.new.nodes.items) }
+        ensures none { result ≡ Err Stop.Json
+            → NoneAhead (depth + 1) (begin_array ∷ self.old.reader) }
         ensures shorter { OnOk result (length self.new.reader ≤ length self.old.reader) }
         ensures longer { OnOk result (length self.old.nodes.items < length self.new.nodes.items) }
     {
@@ -147,6 +177,10 @@ impl<'a> Parser<'a> {
     #[cycle(read)]
     #[inline(never)]
     fn object(&mut self, depth: usize) -> Result<(), Stop>
+        ensures put { OnOk result (IsPut (depth + 1) (begin_object ∷ self.old.reader)
+            self.new.reader self.old.nodes.items self.new.nodes.items) }
+        ensures none { result ≡ Err Stop.Json
+            → NoneAhead (depth + 1) (begin_object ∷ self.old.reader) }
         ensures shorter { OnOk result (length self.new.reader ≤ length self.old.reader) }
         ensures longer { OnOk result (length self.old.nodes.items < length self.new.nodes.items) }
     {
@@ -168,7 +202,9 @@ impl<'a> Parser<'a> {
 
     /// The nodes, where nothing stands behind the value of the text.
     fn finish(self, text: &str) -> Result<Vec<Node<'a>>, TapeFault>
-        ensures { IfOk result (λ nodes. vec_len nodes ≡ vec_len self.entry.nodes) }
+        ensures nodes { IfOk result (λ nodes. nodes ≡ self.entry.nodes) }
+        ensures end { OnOk result (self.entry.reader ≡ []) }
+        ensures more { OnErr result (self.entry.reader ≢ []) }
     {
         let Parser {
             mut reader,
@@ -187,7 +223,12 @@ impl<'a> Parser<'a> {
 
 /// The node of any number.
 #[inline(never)]
-fn any_number<'a>(digits: &str) -> Result<Node<'a>, Stop> {
+fn any_number<'a>(digits: &str) -> Result<Node<'a>, Stop>
+    requires { IsNumber digits.now }
+    ensures node { IfOk result (λ node. plain node ≡ number_node digits.now) }
+    ensures fits { OnOk result (IsTrue (number_fits digits.now)) }
+    ensures large { result ≡ Err Stop.Json → number_fits digits.now ≡ false }
+{
     if let Ok(whole) = fast_float::parse_u64(digits.as_bytes()) {
         return Ok(Node::Whole(whole));
     }

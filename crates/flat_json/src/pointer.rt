@@ -1,7 +1,8 @@
 //! Where a value stands, as a JSON Pointer (RFC 6901).
 
-ghost use Rattle.std.specs.Prelude.{◌≡◌, [], IfOk, IfSome};
+ghost use Rattle.std.specs.Prelude.{◌≡◌, ◌++◌, ◌∷◌, [], IfOk, OnOk, IfSome, IfNone};
 ghost use Rattle.std.specs.String.{string_bytes};
+ghost use Rattle.flat_json.specs.Pointer.{HasInner, IsPointer, LeadsTo, escaped, part_of, part_text};
 ghost use Rattle.flat_json.specs.Tape.{HasNode, StandsIn};
 
 use crate::{Element, Tape};
@@ -14,6 +15,7 @@ impl<'a> Tape<'a> {
     /// node. It takes time for each value on the way, and for those that stand before one of them
     /// in the same array or object.
     pub fn pointer(&self, alloc: Global, number: usize) -> Result<String, AllocError>
+        ensures spelled { IfOk result (λ pointer. IsPointer self.now number (string_bytes pointer)) }
         ensures root { number ≡ 0 → IfOk result (λ pointer. string_bytes pointer ≡ []) }
     {
         let mut pointer = String::new(alloc);
@@ -37,6 +39,8 @@ enum Step<'a> {
 fn step_to<'a>(value: Element<'a>, number: usize) -> Option<(Step<'a>, Element<'a>)>
     ensures inside { IfSome result (λ found. StandsIn found.1 value.entry) }
     ensures node { IfSome result (λ found. HasNode found.1 number) }
+    ensures step { IfSome result (λ found. LeadsTo value.entry (part_of found.0) found.1) }
+    ensures none { IfNone result (¬ HasInner value.entry number) }
 {
     if let Some(members) = value.members() {
         for (name, inner) in members.entries() {
@@ -56,7 +60,10 @@ fn step_to<'a>(value: Element<'a>, number: usize) -> Option<(Step<'a>, Element<'
     None
 }
 
-fn push_step(pointer: &mut String, step: Step<'_>) -> Result<(), AllocError> {
+fn push_step(pointer: &mut String, step: Step<'_>) -> Result<(), AllocError>
+    ensures { OnOk result (string_bytes pointer.new
+        ≡ string_bytes pointer.old ++ part_text (part_of step.entry)) }
+{
     match step {
         Step::Index(index) => write!(pointer, "/{index}"),
         Step::Name(name) => push_name(pointer, name),
@@ -64,7 +71,10 @@ fn push_step(pointer: &mut String, step: Step<'_>) -> Result<(), AllocError> {
 }
 
 /// Pushes a name with `~` as `~0` and `/` as `~1`.
-fn push_name(pointer: &mut String, name: &str) -> Result<(), AllocError> {
+fn push_name(pointer: &mut String, name: &str) -> Result<(), AllocError>
+    ensures { OnOk result (string_bytes pointer.new ≡ string_bytes pointer.old
+        ++ 47 ∷ escaped name.now) }
+{
     pointer.push('/')?;
     for letter in name.chars() {
         match letter {

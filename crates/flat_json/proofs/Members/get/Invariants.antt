@@ -1,5 +1,6 @@
-use Rattle.std.specs.Prelude.{◌≡◌, IfSome}
-use Rattle.flat_json.specs.Tape.{StandsIn, IsNamed, object_of, object_of_entries}
+use Rattle.std.specs.Prelude.{◌≡◌, IfSome, ℕ}
+use Rattle.flat_json.specs.Tape.{StandsIn, IsNamed, IsMember, object_of, object_of_entries, place_of_entries}
+use Rattle.flat_json.proofs.Places.{LastPassed}
 use Rattle.flat_json.proofs.Members.get.Given as goal
 
 abbrev pub invariant-loop-key : goal.invariant-loop-key
@@ -8,3 +9,5 @@ invariant-loop-key l = (goal.iterator-loop-key).can_next l.key-iterator
     × (object_of_entries l.key-iterator ≡ object_of l.self)
     × IfSome l.found (λ value. StandsIn value (object_of l.self))
     × IfSome l.found (IsNamed (object_of l.self) l.fn.name)
+    × ((later : ℕ) → IsMember (object_of l.self) (place_of_entries l.key-iterator) later → IsMember (object_of l.self) 1 later)
+    × LastPassed (object_of l.self) l.fn.name (place_of_entries l.key-iterator) l.found

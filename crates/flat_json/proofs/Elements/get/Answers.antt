@@ -1,0 +1,33 @@
+use Rattle.std.proofs.Common.{◌≡◌, ◌≢◌, ◌+◌, rules, refl, sym, subst}
+use Rattle.flat_json.specs.Tape.{HasValueAt, IsValueAt, array_of, place_of, nodes_of}
+use Rattle.flat_json.proofs.Places.{one_before, one_behind, none_here}
+use Rattle.flat_json.proofs.Elements.get.Goals as goal
+
+pub loop-element-preserved : goal.loop-element-preserved
+loop-element-preserved c =
+    let kept = c.loop-element.invariant in
+    let holder = array_of c.args.self in
+    let from = place_of c.loop-element.element-iterator in
+    let next = place_of c.next.new.self in
+    let left = c.loop-element.left in
+    let element = c.in-Some.element in
+    let some : left ≢ 0 = c.if-left-eq0.false in
+    let steps = c.in-Some.ensures.steps in
+    let there : HasValueAt holder from = subst (λ array. HasValueAt array from) kept.2 (steps.0.0 refl) in
+    let is : IsValueAt holder from element = subst (λ array. IsValueAt array from element) kept.2 steps.1.2 in
+    let behind : next ≡ from + nodes_of element = steps.1.3 in (
+      tt,
+      tt,
+      search rules,
+      λ place rest. kept.3 place (one_before holder element from next is behind left place some there rest),
+      λ place all. one_behind holder element from next is behind left place some (kept.4 place all),
+    )
+
+pub returns-clause-none : goal.returns-clause-none
+returns-clause-none c has =
+    let kept = c.loop-element.invariant in
+    let holder = array_of c.args.self in
+    let from = place_of c.loop-element.element-iterator in
+    let none : HasValueAt holder from → ⊥ =
+    λ there. absurd (cc (c.in-None.ensures.steps.0.1 (subst (λ array. HasValueAt array from) (sym kept.2) there))) in
+    none_here holder from none c.loop-element.left has.0 (kept.4 has.0 has.1) has.2

@@ -1,0 +1,69 @@
+use Rattle.std.proofs.Common.{◌≡◌, ◌+◌, ℕ, rules, refl, sym, ap, subst, Bor, List, ◌∙◌}
+use Rattle.flat_json.specs.Tape.{HasMemberAt, HasNameAt, IsValueAt, object_of, place_of_entries, nodes_of}
+use Rattle.flat_json.specs.declared.Node.TheVariants.{Key}
+use Rattle.flat_json.proofs.Places.{named_here, other_here, member_before, is_last, is_nameless}
+use Rattle.flat_json.proofs.Members.get.Goals as goal
+
+pub loop-key-preserved-then-eq : goal.loop-key-preserved-then-eq
+loop-key-preserved-then-eq c =
+    let kept = c.loop-key.invariant in
+    let object = object_of c.args.self in
+    let from = place_of_entries c.loop-key.key-iterator in
+    let next = place_of_entries c.next.new.self in
+    let value = c.in-Some.value in
+    let steps = c.in-Some.ensures.steps in
+    let same : c.in-Some.key.now ≡ c.args.name.now = search rules in
+    let there : HasMemberAt object from = subst (λ held. HasMemberAt held from) kept.2 (steps.0.0 refl) in
+    let is : IsValueAt object (from + 1) value = subst (λ held. IsValueAt held (from + 1) value) kept.2 steps.1.3 in
+    let named : HasNameAt object c.args.name.now from =
+    subst (λ text. HasNameAt object text from) same (subst (λ held. HasNameAt held c.in-Some.key.now from) kept.2 steps.1.2) in
+    let behind : next ≡ from + 1 + nodes_of value = steps.1.4 in (
+      tt,
+      tt,
+      search rules,
+      search rules,
+      search rules,
+      λ later rest. kept.5 later (member_before object value from next is behind later there rest),
+      named_here object value from next is behind c.args.name.now c.loop-key.found kept.6 (kept.5 from (0, (there, refl))) named,
+    )
+
+pub loop-key-preserved : goal.loop-key-preserved
+loop-key-preserved c =
+    let kept = c.loop-key.invariant in
+    let object = object_of c.args.self in
+    let from = place_of_entries c.loop-key.key-iterator in
+    let next = place_of_entries c.next.new.self in
+    let value = c.in-Some.value in
+    let steps = c.in-Some.ensures.steps in
+    let differ : c.in-Some.key.now ≡ c.args.name.now → ⊥ = search rules in
+    let there : HasMemberAt object from = subst (λ held. HasMemberAt held from) kept.2 (steps.0.0 refl) in
+    let is : IsValueAt object (from + 1) value = subst (λ held. IsValueAt held (from + 1) value) kept.2 steps.1.3 in
+    let named : HasNameAt object c.in-Some.key.now from = subst (λ held. HasNameAt held c.in-Some.key.now from) kept.2 steps.1.2 in
+    let other : HasNameAt object c.args.name.now from → ⊥ =
+    λ found. let one : Key named.0 ≡ Key found.0 = cc (named.1, found.1) in let same : named.0 ≡ found.0 = cc in
+    differ (sym named.2 ∙ ap (λ (b : Bor (List ℕ)). b.now) same ∙ found.2) in
+    let behind : next ≡ from + 1 + nodes_of value = steps.1.4 in (
+      tt,
+      tt,
+      search rules,
+      kept.3,
+      kept.4,
+      λ later rest. kept.5 later (member_before object value from next is behind later there rest),
+      other_here object value from next is behind c.args.name.now c.loop-key.found kept.6 other,
+    )
+
+pub returns-clause-last : goal.returns-clause-last
+returns-clause-last c =
+    let kept = c.loop-key.invariant in
+    let from = place_of_entries c.loop-key.key-iterator in
+    let none : HasMemberAt (object_of c.args.self) from → ⊥ =
+    λ there. absurd (cc (c.in-None.ensures.steps.0.1 (subst (λ held. HasMemberAt held from) (sym kept.2) there))) in
+    is_last (object_of c.args.self) c.args.name.now from none c.loop-key.found kept.6
+
+pub returns-clause-none : goal.returns-clause-none
+returns-clause-none c =
+    let kept = c.loop-key.invariant in
+    let from = place_of_entries c.loop-key.key-iterator in
+    let none : HasMemberAt (object_of c.args.self) from → ⊥ =
+    λ there. absurd (cc (c.in-None.ensures.steps.0.1 (subst (λ held. HasMemberAt held from) (sym kept.2) there))) in
+    is_nameless (object_of c.args.self) c.args.name.now from none c.loop-key.found kept.6
