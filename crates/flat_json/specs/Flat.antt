@@ -36,7 +36,7 @@ plain (node.Key s) = key s.now
 plain (node.Array elements nodes) = array elements nodes
 plain (node.Object nodes) = object nodes
 
--- digits alone, of a number below 2^64
+-- the text is digits alone, and writes a number below 2^64
 abbrev pub is_whole : List ℕ → Bool
 is_whole text = nat_lt 0 (length text) && all_ascii_digits text && nat_lt (digits_value 10 text) (2 ^ 64)
 
@@ -65,7 +65,7 @@ abbrev mutual
   members_list no_members = []
   members_list (member k j ms) = key k ∷ (flat_list j ++ members_list ms)
 
--- a number is no float that is infinite
+-- The number is a plain whole one below 2^64, or the float nearest to it is finite.
 abbrev pub number_fits : List ℕ → Bool
 number_fits text = is_whole text || option_map_or float_is_finite (parse_float binary64 text) false
 
