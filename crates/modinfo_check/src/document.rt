@@ -2,7 +2,7 @@ use crate::report::{Report, Wrong};
 use crate::source::wrong_source;
 use crate::syntax::wrong_text;
 use crate::warnings::find_warnings;
-use deno_graph_source::tree::source_fault_place;
+use deno_graph_source::tree::{SourceFaultPlace, source_fault_place};
 use flat_json::{Tape, TapeFault};
 use json::Scratch;
 use modinfo_notation::{Document, NotationFault, read_document};
@@ -51,11 +51,18 @@ fn check_parts(alloc: Global, tape: &Tape<'_>, document: &Document) -> Result<Re
         Err(ParseError::OutOfMemory) => return Err(AllocError),
         Err(_) => return Ok(Report::Wrong(wrong_specifier(alloc)?)),
     }
-    let text = document.source.as_str();
-    match source_fault_place(alloc, text, &document.program, &document.comments)? {
-        Some(found) => Ok(Report::Wrong(wrong_source(alloc, tape, text.len(), &found)?)),
+    match fault_place(alloc, document)? {
+        Some(found) => {
+            let length = document.source.len();
+            Ok(Report::Wrong(wrong_source(alloc, tape, length, &found)?))
+        }
         None => Ok(Report::Valid(find_warnings(alloc, tape, document)?)),
     }
+}
+
+fn fault_place(alloc: Global, document: &Document) -> Result<Option<SourceFaultPlace>, AllocError> {
+    let text = document.source.as_str();
+    source_fault_place(alloc, text, &document.program, &document.comments)
 }
 
 fn wrong_specifier(alloc: Global) -> Result<Wrong, AllocError> {

@@ -79,10 +79,10 @@ fn object_at<'a>(
 }
 
 fn find_in_module<'a>(search: &mut Search<'a>, module: &'a Value) -> Result<(), Misread> {
-    let fault = match ModuleInfo::from_value(search.alloc, module) {
-        Ok(_) => return Ok(()),
-        Err(InfoFault::OutOfMemory) => return Err(Misread::from(FormFault::OutOfMemory)),
-        Err(fault) => fault,
+    let fault = match info_fault(search.alloc, module) {
+        None => return Ok(()),
+        Some(InfoFault::OutOfMemory) => return Err(Misread::from(FormFault::OutOfMemory)),
+        Some(fault) => fault,
     };
     let found = match fault {
         InfoFault::Float => find_float(search, module),
@@ -94,27 +94,41 @@ fn find_in_module<'a>(search: &mut Search<'a>, module: &'a Value) -> Result<(), 
     }
 }
 
+/// Why the information of a module can't be read, if it can't.
+fn info_fault(alloc: Global, module: &Value) -> Option<InfoFault> {
+    ModuleInfo::from_value(alloc, module).err()
+}
+
+/// Why stored information can't be converted, if it can't.
+fn convert_fault(alloc: Global, value: &mut Value) -> Option<ConvertFault> {
+    module_graph_1_to_2(alloc, value).err()
+}
+
 /// Checks a document of `convert`, the stored information of one module: `Wrong` exactly where
 /// `convert` has a fault, and of the same name. The only error is that memory was refused.
 pub fn check_stored(alloc: Global, text: &str) -> Result<Report, AllocError> {
     let Some(mut value) = read_json(alloc, text)? else {
         return Ok(Report::Wrong(wrong_json(alloc, text)?));
     };
-    let fault = match module_graph_1_to_2(alloc, &mut value) {
-        Ok(()) => return Ok(Report::Valid(Warnings::new(alloc))),
-        Err(ConvertFault::OutOfMemory) => return Err(AllocError),
-        Err(fault) => fault,
-    };
+    match convert_fault(alloc, &mut value) {
+        None => Ok(Report::Valid(Warnings::new(alloc))),
+        Some(ConvertFault::OutOfMemory) => Err(AllocError),
+        Some(fault) => Ok(Report::Wrong(wrong_stored(alloc, &value, fault)?)),
+    }
+}
+
+/// The fault of stored information that isn't converted.
+fn wrong_stored(alloc: Global, value: &Value, fault: ConvertFault) -> Result<Wrong, AllocError> {
     let mut search = Search::new(alloc);
     let found = match fault {
-        ConvertFault::Float => find_float(&mut search, &value),
-        _ => find_overflow(&mut search, &value),
+        ConvertFault::Float => find_float(&mut search, value),
+        _ => find_overflow(&mut search, value),
     };
     match found {
         Ok(()) => Err(AllocError),
         Err(why) => {
             let name = format!(in alloc; "{fault}")?;
-            Ok(Report::Wrong(wrong_form(alloc, name, &search, why)?))
+            wrong_form(alloc, name, &search, why)
         }
     }
 }
@@ -161,10 +175,10 @@ fn overflows(search: &Search<'_>, dependency: &Value) -> Result<bool, FormFault>
     let mut module = Map::new(alloc);
     let name = String::from_str(alloc, "dependencies")?;
     drop(module.insert(name, Value::Array(dependencies))?);
-    match module_graph_1_to_2(alloc, &mut Value::Object(module)) {
-        Ok(()) => Ok(false),
-        Err(ConvertFault::OutOfMemory) => Err(FormFault::OutOfMemory),
-        Err(_) => Ok(true),
+    match convert_fault(alloc, &mut Value::Object(module)) {
+        None => Ok(false),
+        Some(ConvertFault::OutOfMemory) => Err(FormFault::OutOfMemory),
+        Some(_) => Ok(true),
     }
 }
 

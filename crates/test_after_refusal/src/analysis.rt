@@ -2,10 +2,10 @@
 
 use crate::fault::Fault;
 use crate::outcome::{Outcome, check};
-use crate::sources::{U, braces, source};
+use crate::sources::{U, braces, info_of, source};
 use deno_graph_analysis::ast::{
     AnalyzeError, CapturingModuleAnalyzer, DefaultParsedSourceStore, ModuleAnalyzer,
-    ParsedSourceStore, module_info,
+    ParsedSourceStore,
 };
 use deno_graph_info::analysis::ModuleInfo;
 use deno_graph_source::tree::{MediaType, ParsedSource};
@@ -65,56 +65,87 @@ impl ParsedSourceStore for CountingStore {
 
 type Analyzer = CapturingModuleAnalyzer<TableParser, CountingStore>;
 
-/// Where the information is refused, the source that was parsed for it stays. A refused parse, of
-/// which `stores::parse` is, has no outcome.
-pub fn analyze(alloc: Global) -> Result<Outcome, Fault> {
-    let (first, second) = (source(alloc, U, "a")?, braces(alloc)?);
-    let expected = module_info(alloc, &second)?;
-    let kept = Rc::new(alloc, Cell::new(0))?;
-    let mut analyzer = analyzer(alloc, &first, &second, &kept)?;
-    let specifier = Url::parse(alloc, U)?;
-    let text = second.text().clone()?;
-    let found = analyzer.analyze_sync(alloc, &specifier, text, MediaType::JavaScript);
-    let is_parsed = kept.get() == 2;
-    let there = analyzer.get_parsed_source(alloc, &specifier)?;
-    check(
-        is_last(there, &first, &second, is_parsed),
-        "the source isn't the one that was kept last",
-    )?;
-    outcome(found, &expected, is_parsed)
+/// An analyzer that knows the second source and has the first in its store, and what it answers.
+#[derive(Drop)]
+struct Tested {
+    analyzer: Analyzer,
+    specifier: Url,
+    kept: Rc<Cell<u64>>,
+    first: ParsedSource,
+    second: ParsedSource,
 }
 
-/// An analyzer that knows the second source, and has the first in its store.
-fn analyzer(
-    alloc: Global,
-    first: &ParsedSource,
-    second: &ParsedSource,
-    kept: &Rc<Cell<u64>>,
-) -> Result<Analyzer, Fault> {
+impl Tested {
+    fn new(alloc: Global) -> Result<Tested, Fault> {
+        let kept = Rc::new(alloc, Cell::new(0))?;
+        let second = braces(alloc)?;
+        let mut tested = Tested {
+            analyzer: analyzer(alloc, &second, &kept)?,
+            specifier: Url::parse(alloc, U)?,
+            kept,
+            first: source(alloc, U, "a")?,
+            second,
+        };
+        tested.keep_first(alloc)?;
+        Ok(tested)
+    }
+
+    fn keep_first(&mut self, alloc: Global) -> Result<(), Fault> {
+        let (specifier, first) = (self.specifier.clone()?, self.first.try_clone(alloc)?);
+        drop(self.analyzer.set_parsed_source(alloc, specifier, first)?);
+        Ok(())
+    }
+
+    /// Asks for the information on the second source's text.
+    fn ask(&mut self, alloc: Global) -> Result<Result<ModuleInfo, AnalyzeError>, Fault> {
+        let text = self.second.text().clone()?;
+        let specifier = &self.specifier;
+        Ok(
+            self.analyzer
+                .analyze_sync(alloc, specifier, text, MediaType::JavaScript),
+        )
+    }
+
+    /// Whether the second source was parsed, and kept behind the first.
+    fn is_parsed(&self) -> bool {
+        self.kept.get() == 2
+    }
+
+    /// Whether the source is there that was kept last. Takes no memory.
+    fn has_last(&self, alloc: Global) -> Result<bool, Fault> {
+        let there = self.analyzer.get_parsed_source(alloc, &self.specifier)?;
+        let last = if self.is_parsed() {
+            &self.second
+        } else {
+            &self.first
+        };
+        Ok(there.as_ref() == Some(last))
+    }
+}
+
+/// An analyzer that knows one source.
+fn analyzer(alloc: Global, source: &ParsedSource, kept: &Rc<Cell<u64>>) -> Result<Analyzer, Fault> {
     let mut sources = Vec::new(alloc);
-    sources.push(second.try_clone(alloc)?)?;
+    sources.push(source.try_clone(alloc)?)?;
     let parser = TableParser::new(sources, Rc::new(alloc, Cell::new(0))?);
     let store = CountingStore {
         store: DefaultParsedSourceStore::new(alloc),
         kept: kept.clone()?,
     };
-    let mut analyzer = CapturingModuleAnalyzer::new(parser, store);
-    drop(analyzer.set_parsed_source(alloc, Url::parse(alloc, U)?, first.try_clone(alloc)?)?);
-    Ok(analyzer)
+    Ok(CapturingModuleAnalyzer::new(parser, store))
 }
 
-/// Whether it is the second source that is there, once that was parsed, or else the first.
-fn is_last(
-    there: Option<ParsedSource>,
-    first: &ParsedSource,
-    second: &ParsedSource,
-    is_parsed: bool,
-) -> bool {
-    match there {
-        Some(there) if is_parsed => there == *second,
-        Some(there) => there == *first,
-        None => false,
-    }
+/// Where the information is refused, the source that was parsed for it stays. A refused parse, of
+/// which `stores::parse` is, has no outcome.
+pub fn analyze(alloc: Global) -> Result<Outcome, Fault> {
+    let mut tested = Tested::new(alloc)?;
+    let expected = info_of(alloc, &tested.second)?;
+    let found = tested.ask(alloc)?;
+    check(
+        tested.has_last(alloc)?,
+        "the source isn't the one that was kept last",
+    )?;
+    outcome(found, &expected, tested.is_parsed())
 }
 
 fn outcome(

@@ -103,18 +103,24 @@ impl Tested {
     }
 }
 
-/// The commands before the refused one have run in full, that one as far as it came and none after
-/// it, and a second run answers as if there had been none before it.
-pub fn run_all(alloc: Global) -> Result<Outcome, Fault> {
-    let commands = commands(alloc)?;
+/// What the commands answer an analyzer whose memory isn't refused.
+fn expected_answers(alloc: Global, commands: &[Command]) -> Result<Vec<Answer>, Fault> {
     let mut fresh = Tested::new(alloc)?;
-    let answers = fresh.carry_out(alloc, &commands)?;
+    let answers = fresh.carry_out(alloc, commands)?;
     check(fresh.is_in(alloc, &[END])?, "a command didn't run")?;
+    Ok(answers)
+}
 
-    let mut tested = Tested::new(alloc)?;
-    let outcome = match tested.carry_out(alloc, &commands) {
-        Ok(again) => {
-            check(again == answers, "the answers are others")?;
+/// How a run of commands ended, which has these answers. It left a state that a command leaves.
+fn run_once(
+    alloc: Global,
+    tested: &mut Tested,
+    commands: &[Command],
+    expected: &[Answer],
+) -> Result<Outcome, Fault> {
+    let outcome = match tested.carry_out(alloc, commands) {
+        Ok(answers) => {
+            check(answers.as_slice() == expected, "the answers are others")?;
             Outcome::Answered
         }
         Err(Fault::OutOfMemory) => Outcome::Refused,
@@ -124,9 +130,19 @@ pub fn run_all(alloc: Global) -> Result<Outcome, Fault> {
         tested.is_in(alloc, &STATES)?,
         "a state is left that none leaves",
     )?;
+    Ok(outcome)
+}
+
+/// The commands before the refused one have run in full, that one as far as it came and none after
+/// it, and a second run answers as if there had been none before it.
+pub fn run_all(alloc: Global) -> Result<Outcome, Fault> {
+    let commands = commands(alloc)?;
+    let expected = expected_answers(alloc, &commands)?;
+    let mut tested = Tested::new(alloc)?;
+    let outcome = run_once(alloc, &mut tested, &commands, &expected)?;
     tested.keep_another(alloc)?;
     let again = tested.carry_out(alloc, &commands)?;
-    check(again == answers, "the answers after it are others")?;
+    check(again == expected, "the answers after it are others")?;
     Ok(outcome)
 }
 

@@ -42,31 +42,49 @@ pub fn file_all(alloc: Global) -> Result<Outcome, Fault> {
     let mut comments = Comments::new(alloc);
     let mut outcome = Outcome::Answered;
     for (side, pos) in FILINGS {
-        let before = comments.try_clone(alloc)?;
-        let comment = comment(alloc, pos)?;
-        if file(&mut comments, side, pos, comment).is_err() {
+        if file_one(alloc, &mut comments, side, pos)? == Outcome::Refused {
             outcome = Outcome::Refused;
-            check(comments == before, "a refused filing changed the comments")?;
-            check(
-                look_ups_agree(&comments, &before),
-                "a refused filing changed a look-up",
-            )?;
-            check(
-                count(alloc, &comments)? == count(alloc, &before)?,
-                "a comment more or less",
-            )?;
-            file(&mut comments, side, pos, self::comment(alloc, pos)?)?;
         }
-        check(
-            is_filed(&comments, &before, side, pos),
-            "a comment isn't where it was filed",
-        )?;
     }
     check(
         count(alloc, &comments)? == FILINGS.len(),
         "a comment is missing",
     )?;
     Ok(outcome)
+}
+
+/// Files a comment, again where that was refused.
+fn file_one(
+    alloc: Global,
+    comments: &mut Comments,
+    side: Side,
+    pos: usize,
+) -> Result<Outcome, Fault> {
+    let before = comments.try_clone(alloc)?;
+    let comment = comment(alloc, pos)?;
+    let mut outcome = Outcome::Answered;
+    if file(comments, side, pos, comment).is_err() {
+        outcome = Outcome::Refused;
+        check_unchanged(alloc, comments, &before)?;
+        file(comments, side, pos, self::comment(alloc, pos)?)?;
+    }
+    check(
+        is_filed(comments, &before, side, pos),
+        "a comment isn't where it was filed",
+    )?;
+    Ok(outcome)
+}
+
+fn check_unchanged(alloc: Global, comments: &Comments, before: &Comments) -> Result<(), Fault> {
+    check(comments == before, "a refused filing changed the comments")?;
+    check(
+        look_ups_agree(comments, before),
+        "a refused filing changed a look-up",
+    )?;
+    check(
+        count(alloc, comments)? == count(alloc, before)?,
+        "a comment more or less",
+    )
 }
 
 fn comment(alloc: Global, start: usize) -> Result<DependencyComment, AllocError> {

@@ -1,14 +1,15 @@
 //! Small sources, and a parser that knows two of them under each specifier.
 
 use crate::fault::Fault;
-use deno_graph_analysis::ast::ParseOptions;
+use deno_graph_analysis::ast::{ParseOptions, module_info};
+use deno_graph_info::analysis::ModuleInfo;
 use deno_graph_source::text::SourceRange;
 use deno_graph_source::tree::{
     CommentKind, Comments, DependencyComment, Kind, MediaType, Node, ParsedSource, Program,
 };
 use deno_graph_source::values::{Items, Text};
 use example_table_parser::TableParser;
-use std::alloc::Global;
+use std::alloc::{AllocError, Global};
 use std::cell::Cell;
 use std::rc::{Rc, RcStr};
 use url::Url;
@@ -40,6 +41,11 @@ pub fn braces(alloc: Global) -> Result<ParsedSource, Fault> {
     let mut comments = Comments::new(alloc);
     comments.add_leading(0, comment)?;
     source_of(alloc, U, source.as_str(), Items::new(alloc), comments)
+}
+
+/// The information on a source. Its contract is left behind here, since a caller's proof needs none.
+pub fn info_of(alloc: Global, source: &ParsedSource) -> Result<ModuleInfo, AllocError> {
+    module_info(alloc, source)
 }
 
 fn source_of(

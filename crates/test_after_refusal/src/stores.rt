@@ -7,140 +7,159 @@ use deno_graph_analysis::ast::{
     CapturingEsParser, DefaultParsedSourceStore, EsParser, ParseError, ParsedSourceStore,
 };
 use deno_graph_source::tree::ParsedSource;
-use std::alloc::Global;
+use example_table_parser::TableParser;
+use std::alloc::{AllocError, Global};
 use std::cell::Cell;
 use std::rc::Rc;
 use url::Url;
 
-/// A store with the source of `a` under `U`, and nothing under `V`.
-fn store_of_one(alloc: Global) -> Result<DefaultParsedSourceStore, Fault> {
-    let mut store = DefaultParsedSourceStore::new(alloc);
-    let specifier = Url::parse(alloc, U)?;
-    drop(store.set_parsed_source(alloc, specifier, source(alloc, U, "a")?)?);
-    Ok(store)
+/// A store with the source of `a` under `U` and nothing under `V`, and that source.
+#[derive(Drop)]
+struct Tested {
+    store: DefaultParsedSourceStore,
+    u: Url,
+    v: Url,
+    first: ParsedSource,
 }
 
-/// Whether a store has this source under a specifier, or nothing. Takes no memory.
-fn holds<S: ParsedSourceStore>(
-    alloc: Global,
-    store: &S,
-    specifier: &Url,
-    expected: Option<&ParsedSource>,
-) -> Result<bool, Fault> {
-    let found = store.get_parsed_source(alloc, specifier)?;
-    Ok(found.as_ref() == expected)
+impl Tested {
+    fn new(alloc: Global) -> Result<Tested, Fault> {
+        let mut tested = Tested {
+            store: DefaultParsedSourceStore::new(alloc),
+            u: Url::parse(alloc, U)?,
+            v: Url::parse(alloc, V)?,
+            first: source(alloc, U, "a")?,
+        };
+        let specifier = tested.u.clone()?;
+        drop(tested.set(alloc, specifier, source(alloc, U, "a")?)?);
+        Ok(tested)
+    }
+
+    fn set(
+        &mut self,
+        alloc: Global,
+        specifier: Url,
+        source: ParsedSource,
+    ) -> Result<Option<ParsedSource>, AllocError> {
+        self.store.set_parsed_source(alloc, specifier, source)
+    }
+
+    /// Parses `b` under `U` by a parser that keeps its answer in the store.
+    fn parse(
+        &mut self,
+        alloc: Global,
+        table: &mut TableParser,
+        scope_analysis: bool,
+    ) -> Result<Result<ParsedSource, ParseError>, Fault> {
+        let asked = options(alloc, &self.u, "b", scope_analysis)?;
+        Ok(CapturingEsParser::new(table, &mut self.store).parse_program(alloc, asked))
+    }
+
+    /// Whether the store has these sources under `U` and `V`. Takes no memory.
+    fn holds(
+        &self,
+        alloc: Global,
+        under_u: &ParsedSource,
+        under_v: Option<&ParsedSource>,
+    ) -> Result<bool, Fault> {
+        let first = self.store.get_parsed_source(alloc, &self.u)?;
+        let second = self.store.get_parsed_source(alloc, &self.v)?;
+        Ok(first.as_ref() == Some(under_u) && second.as_ref() == under_v)
+    }
+}
+
+/// How `set_parsed_source` ended, which answers the source from before.
+fn outcome_of_set(
+    set: Result<Option<ParsedSource>, AllocError>,
+    before: Option<&ParsedSource>,
+) -> Result<Outcome, Fault> {
+    match set {
+        Ok(former) => {
+            check(former.as_ref() == before, "another source was there")?;
+            Ok(Outcome::Answered)
+        }
+        Err(_) => Ok(Outcome::Refused),
+    }
 }
 
 /// A second source is there beside the first, or the first alone.
 pub fn set_another(alloc: Global) -> Result<Outcome, Fault> {
-    let (u, v) = (Url::parse(alloc, U)?, Url::parse(alloc, V)?);
-    let mut store = store_of_one(alloc)?;
-    let first = source(alloc, U, "a")?;
+    let mut tested = Tested::new(alloc)?;
     let second = source(alloc, V, "b")?;
-    let (specifier, handed_in) = (v.clone()?, source(alloc, V, "b")?);
-    let set = store.set_parsed_source(alloc, specifier, handed_in);
+    let (specifier, handed_in) = (tested.v.clone()?, source(alloc, V, "b")?);
+    let set = tested.set(alloc, specifier, handed_in);
+    let outcome = outcome_of_set(set, None)?;
+    let kept = (outcome == Outcome::Answered).then_some(&second);
     check(
-        holds(alloc, &store, &u, Some(&first))?,
-        "the first source is another",
+        tested.holds(alloc, &tested.first, kept)?,
+        "the first source is another, or the second",
     )?;
-    match set {
-        Ok(former) => {
-            check(former.is_none(), "there was no source")?;
-            check(
-                holds(alloc, &store, &v, Some(&second))?,
-                "the second isn't there",
-            )?;
-            Ok(Outcome::Answered)
-        }
-        Err(_) => {
-            check(holds(alloc, &store, &v, None)?, "a refused source is there")?;
-            Ok(Outcome::Refused)
-        }
-    }
+    Ok(outcome)
 }
 
 /// A source is replaced by another, or still there.
 pub fn set_again(alloc: Global) -> Result<Outcome, Fault> {
-    let (u, v) = (Url::parse(alloc, U)?, Url::parse(alloc, V)?);
-    let mut store = store_of_one(alloc)?;
-    let first = source(alloc, U, "a")?;
+    let mut tested = Tested::new(alloc)?;
     let second = source(alloc, U, "b")?;
-    let (specifier, handed_in) = (u.clone()?, source(alloc, U, "b")?);
-    let set = store.set_parsed_source(alloc, specifier, handed_in);
-    check(holds(alloc, &store, &v, None)?, "another source is there")?;
-    match set {
-        Ok(former) => {
-            check(former.as_ref() == Some(&first), "another source was there")?;
-            check(
-                holds(alloc, &store, &u, Some(&second))?,
-                "the source isn't there",
-            )?;
+    let (specifier, handed_in) = (tested.u.clone()?, source(alloc, U, "b")?);
+    let set = tested.set(alloc, specifier, handed_in);
+    let outcome = outcome_of_set(set, Some(&tested.first))?;
+    let kept = if outcome == Outcome::Answered {
+        &second
+    } else {
+        &tested.first
+    };
+    check(
+        tested.holds(alloc, kept, None)?,
+        "the source was lost, or another is there",
+    )?;
+    Ok(outcome)
+}
+
+/// How a parse of `b` ended, which answers this source.
+fn outcome_of_parse(
+    answer: Result<ParsedSource, ParseError>,
+    expected: &ParsedSource,
+) -> Result<Outcome, Fault> {
+    match answer {
+        Ok(answer) => {
+            check(answer == *expected, "the parser's answer is another")?;
             Ok(Outcome::Answered)
         }
-        Err(_) => {
-            check(
-                holds(alloc, &store, &u, Some(&first))?,
-                "the source was lost",
-            )?;
-            Ok(Outcome::Refused)
-        }
+        Err(ParseError::OutOfMemory) => Ok(Outcome::Refused),
+        Err(ParseError::Diagnostic(_)) => Err(Fault::State("a text is not parsed")),
     }
 }
 
 /// The parser's answer is there, or the source from before.
 pub fn parse(alloc: Global) -> Result<Outcome, Fault> {
-    let mut store = store_of_one(alloc)?;
-    let calls = Rc::new(alloc, Cell::new(0))?;
-    let mut table = parser(alloc, &calls)?;
-    let u = Url::parse(alloc, U)?;
-    let first = source(alloc, U, "a")?;
+    let mut tested = Tested::new(alloc)?;
+    let mut table = parser(alloc, &Rc::new(alloc, Cell::new(0))?)?;
     let second = source(alloc, U, "b")?;
-    let asked = options(alloc, &u, "b", false)?;
-    match CapturingEsParser::new(&mut table, &mut store).parse_program(alloc, asked) {
-        Ok(answer) => {
-            check(answer == second, "the parser's answer is another")?;
-            check(
-                holds(alloc, &store, &u, Some(&second))?,
-                "the answer isn't there",
-            )?;
-            Ok(Outcome::Answered)
-        }
-        Err(ParseError::OutOfMemory) => {
-            check(
-                holds(alloc, &store, &u, Some(&first))?,
-                "the source was lost",
-            )?;
-            Ok(Outcome::Refused)
-        }
-        Err(ParseError::Diagnostic(_)) => Err(Fault::State("a text is not parsed")),
-    }
+    let answer = tested.parse(alloc, &mut table, false)?;
+    let outcome = outcome_of_parse(answer, &second)?;
+    let kept = if outcome == Outcome::Answered {
+        &second
+    } else {
+        &tested.first
+    };
+    check(tested.holds(alloc, kept, None)?, "the source was lost")?;
+    Ok(outcome)
 }
 
 /// The same with the option of scopes: the source from before may have its mark set then.
 pub fn parse_with_scopes(alloc: Global) -> Result<Outcome, Fault> {
-    let mut store = store_of_one(alloc)?;
-    let calls = Rc::new(alloc, Cell::new(0))?;
-    let mut table = parser(alloc, &calls)?;
-    let u = Url::parse(alloc, U)?;
-    let first = source(alloc, U, "a")?;
+    let mut tested = Tested::new(alloc)?;
+    let mut table = parser(alloc, &Rc::new(alloc, Cell::new(0))?)?;
     let marked_first = source(alloc, U, "a")?.into_with_scope_analysis();
     let second = source(alloc, U, "b")?.into_with_scope_analysis();
-    let asked = options(alloc, &u, "b", true)?;
-    match CapturingEsParser::new(&mut table, &mut store).parse_program(alloc, asked) {
-        Ok(answer) => {
-            check(answer == second, "the parser's answer is another")?;
-            check(
-                holds(alloc, &store, &u, Some(&second))?,
-                "the answer isn't there",
-            )?;
-            Ok(Outcome::Answered)
-        }
-        Err(ParseError::OutOfMemory) => {
-            let is_unmarked = holds(alloc, &store, &u, Some(&first))?;
-            let is_marked = holds(alloc, &store, &u, Some(&marked_first))?;
-            check(is_unmarked || is_marked, "the source was lost")?;
-            Ok(Outcome::Refused)
-        }
-        Err(ParseError::Diagnostic(_)) => Err(Fault::State("a text is not parsed")),
-    }
+    let answer = tested.parse(alloc, &mut table, true)?;
+    let outcome = outcome_of_parse(answer, &second)?;
+    let is_kept = if outcome == Outcome::Answered {
+        tested.holds(alloc, &second, None)?
+    } else {
+        tested.holds(alloc, &tested.first, None)? || tested.holds(alloc, &marked_first, None)?
+    };
+    check(is_kept, "the source was lost")?;
+    Ok(outcome)
 }

@@ -2,6 +2,7 @@ use crate::sources::{U, options, parsed, parser};
 use deno_graph_parser::{
     CapturingModuleAnalyzer, DefaultParsedSourceStore, EsParser, ParsedSourceStore,
 };
+use deno_graph_source::tree::ParsedSource;
 use std::alloc::Global;
 use std::cell::Cell;
 use std::process::Abort;
@@ -9,41 +10,79 @@ use std::rc::Rc;
 use std::test::Fail;
 use url::Url;
 
-/// Each call of a store once, the answers compared.
+/// The text of a source, and whether it has the mark of scopes.
+type Expected = Option<(&'static str, bool)>;
+
+fn assert_source(
+    rt: &impl Abort,
+    alloc: Global,
+    found: Option<ParsedSource>,
+    expected: Expected,
+) -> Result<(), Fail> {
+    let Some((text, is_marked)) = expected else {
+        assert!(rt; found.is_none());
+        return Ok(());
+    };
+    let source = parsed(alloc, text)?;
+    let source = if is_marked {
+        source.into_with_scope_analysis()
+    } else {
+        source
+    };
+    assert!(rt; found.is_some_and(|found| found == source));
+    Ok(())
+}
+
+/// Each call of a store once, which is empty before and after, the answers compared.
 fn assert_store<S: ParsedSourceStore>(
     rt: &impl Abort,
     alloc: Global,
     store: &mut S,
 ) -> Result<(), Fail> {
     let u = Url::parse(alloc, U)?;
-    let a = parsed(alloc, "a")?;
-    let b = parsed(alloc, "b")?;
-    let marked = parsed(alloc, "b")?.into_with_scope_analysis();
-    assert!(rt; store.get_parsed_source(alloc, &u)?.is_none());
-    assert!(rt; store.get_scope_analysis_parsed_source(alloc, &u)?.is_none());
-    let former = store.set_parsed_source(alloc, u.clone()?, parsed(alloc, "a")?)?;
-    assert!(rt; former.is_none());
-    let former = store.set_parsed_source(alloc, u.clone()?, parsed(alloc, "b")?)?;
-    assert!(rt; former.is_some_and(|source| source == a));
-    assert!(rt;
-        store
-            .get_parsed_source(alloc, &u)?
-            .is_some_and(|source| source == b)
-    );
-    let found = store.get_scope_analysis_parsed_source(alloc, &u)?;
-    assert!(rt; found.is_some_and(|source| source == marked));
-    assert!(rt;
-        store
-            .get_parsed_source(alloc, &u)?
-            .is_some_and(|source| source == marked)
-    );
-    assert!(rt;
-        store
-            .remove_parsed_source(alloc, &u)?
-            .is_some_and(|source| source == marked)
-    );
-    assert!(rt; store.remove_parsed_source(alloc, &u)?.is_none());
-    Ok(())
+    assert_source(rt, alloc, store.get_parsed_source(alloc, &u)?, None)?;
+    assert_source(
+        rt,
+        alloc,
+        store.get_scope_analysis_parsed_source(alloc, &u)?,
+        None,
+    )?;
+    assert_set(rt, alloc, store, "a", None)?;
+    assert_set(rt, alloc, store, "b", Some(("a", false)))?;
+    assert_source(
+        rt,
+        alloc,
+        store.get_parsed_source(alloc, &u)?,
+        Some(("b", false)),
+    )?;
+    let marked = store.get_scope_analysis_parsed_source(alloc, &u)?;
+    assert_source(rt, alloc, marked, Some(("b", true)))?;
+    assert_source(
+        rt,
+        alloc,
+        store.get_parsed_source(alloc, &u)?,
+        Some(("b", true)),
+    )?;
+    assert_source(
+        rt,
+        alloc,
+        store.remove_parsed_source(alloc, &u)?,
+        Some(("b", true)),
+    )?;
+    assert_source(rt, alloc, store.remove_parsed_source(alloc, &u)?, None)
+}
+
+/// Keeps the source of a text under `U`.
+fn assert_set<S: ParsedSourceStore>(
+    rt: &impl Abort,
+    alloc: Global,
+    store: &mut S,
+    text: &str,
+    former: Expected,
+) -> Result<(), Fail> {
+    let (specifier, source) = (Url::parse(alloc, U)?, parsed(alloc, text)?);
+    let found = store.set_parsed_source(alloc, specifier, source)?;
+    assert_source(rt, alloc, found, former)
 }
 
 #[test]

@@ -3,41 +3,63 @@ use deno_graph_parser::{
     CapturingEsParser, CapturingModuleAnalyzer, DefaultParsedSourceStore, EsParser, ModuleAnalyzer,
     ParseError, ParsedSourceStore, ParserModuleAnalyzer,
 };
-use deno_graph_source::tree::MediaType;
+use deno_graph_source::tree::{MediaType, ParsedSource};
+use std::alloc::Global;
 use std::cell::Cell;
+use std::process::Abort;
 use std::rc::{Rc, RcStr};
 use std::test::Fail;
 use url::Url;
 
-#[test]
-fn the_mark_is_set_even_where_the_text_is_another(rt: HostRuntime) -> Result<(), Fail> {
-    let alloc = rt.alloc();
+/// A store with the source of `a` under `U`.
+fn store_of_a(alloc: Global) -> Result<DefaultParsedSourceStore, Fail> {
+    let mut store = DefaultParsedSourceStore::new(alloc);
+    drop(store.set_parsed_source(alloc, Url::parse(alloc, U)?, parsed(alloc, "a")?)?);
+    Ok(store)
+}
+
+/// Parses a text with its scopes, over a store with the source of `a`, which is marked then.
+fn parse_with_scopes(
+    rt: &impl Abort,
+    alloc: Global,
+    text: &str,
+) -> Result<Result<ParsedSource, ParseError>, Fail> {
     let calls = Rc::new(alloc, Cell::new(0))?;
-    let u = Url::parse(alloc, U)?;
-    let a = parsed(alloc, "a")?;
-    let marked = parsed(alloc, "a")?.into_with_scope_analysis();
     let mut table = parser(alloc, &calls)?;
+    let mut store = store_of_a(alloc)?;
+    let specifier = Url::parse(alloc, U)?;
+    let asked = options(alloc, &specifier, text, true)?;
+    let answer = CapturingEsParser::new(&mut table, &mut store).parse_program(alloc, asked);
+    let marked = parsed(alloc, "a")?.into_with_scope_analysis();
+    assert!(rt; store.get_parsed_source(alloc, &specifier)?.as_ref() == Some(&marked));
+    assert_eq!(rt; calls.get(), u64::from(text != "a"));
+    Ok(answer)
+}
 
-    // The source in the store has the text.
-    let mut store = DefaultParsedSourceStore::new(alloc);
-    drop(store.set_parsed_source(alloc, u.clone()?, a)?);
-    let mut capturing = CapturingEsParser::new(&mut table, &mut store);
-    let answer = capturing.parse_program(alloc, options(alloc, &u, "a", true)?);
+#[test]
+fn the_mark_is_set_where_the_text_is_the_same(rt: HostRuntime) -> Result<(), Fail> {
+    let answer = parse_with_scopes(&rt, rt.alloc(), "a")?;
+    let marked = parsed(rt.alloc(), "a")?.into_with_scope_analysis();
     assert!(rt; answer.is_ok_and(|source| source == marked));
-    assert_eq!(rt; calls.get(), 0);
+    Ok(())
+}
 
-    // It has another text, which is no module.
-    let mut store = DefaultParsedSourceStore::new(alloc);
-    drop(store.set_parsed_source(alloc, u.clone()?, parsed(alloc, "a")?)?);
-    let mut capturing = CapturingEsParser::new(&mut table, &mut store);
-    let answer = capturing.parse_program(alloc, options(alloc, &u, "x", true)?);
+#[test]
+fn the_mark_is_set_even_where_the_text_is_no_module(rt: HostRuntime) -> Result<(), Fail> {
+    let answer = parse_with_scopes(&rt, rt.alloc(), "x")?;
     assert!(rt; matches!(answer, Err(ParseError::Diagnostic(_))));
-    assert_eq!(rt; calls.get(), 1);
-    assert!(rt;
-        store
-            .get_parsed_source(alloc, &u)?
-            .is_some_and(|source| source == marked)
-    );
+    Ok(())
+}
+
+/// The information on `a` is that of a module.
+fn assert_module<A: ModuleAnalyzer>(
+    rt: &impl Abort,
+    alloc: Global,
+    analyzer: &mut A,
+) -> Result<(), Fail> {
+    let (specifier, source) = (Url::parse(alloc, U)?, RcStr::from_str(alloc, "a")?);
+    let info = analyzer.analyze_sync(alloc, &specifier, source, MediaType::JavaScript);
+    assert!(rt; info.is_ok_and(|info| !info.is_script));
     Ok(())
 }
 
@@ -46,24 +68,24 @@ fn an_analyzer_keeps_what_its_capturing_parser_did(rt: HostRuntime) -> Result<()
     let alloc = rt.alloc();
     let calls = Rc::new(alloc, Cell::new(0))?;
     let u = Url::parse(alloc, U)?;
-    let mut analyzer = CapturingModuleAnalyzer::new(
-        parser(alloc, &calls)?,
-        DefaultParsedSourceStore::new(alloc),
-    );
-    {
-        let mut capturing = analyzer.as_capturing_parser();
-        let answer = capturing.parse_program(alloc, options(alloc, &u, "a", false)?);
-        assert!(rt; answer.is_ok());
-    }
-    let a = RcStr::from_str(alloc, "a")?;
-    let info = analyzer.analyze_sync(alloc, &u, a.clone()?, MediaType::JavaScript);
-    assert!(rt; info.is_ok_and(|info| !info.is_script));
+    let store = DefaultParsedSourceStore::new(alloc);
+    let mut analyzer = CapturingModuleAnalyzer::new(parser(alloc, &calls)?, store);
+    let asked = options(alloc, &u, "a", false)?;
+    drop(analyzer.as_capturing_parser().parse_program(alloc, asked)?);
+    assert_module(&rt, alloc, &mut analyzer)?;
     assert_eq!(rt; calls.get(), 1);
+    Ok(())
+}
 
+#[test]
+fn an_analyzer_without_a_store_parses_anew(rt: HostRuntime) -> Result<(), Fail> {
+    let alloc = rt.alloc();
+    let calls = Rc::new(alloc, Cell::new(0))?;
     let mut table = parser(alloc, &calls)?;
     let mut plain = ParserModuleAnalyzer::new(&mut table);
-    let info = plain.analyze_sync(alloc, &u, a, MediaType::JavaScript);
-    assert!(rt; info.is_ok_and(|info| !info.is_script));
-    assert_eq!(rt; calls.get(), 2);
+    for count in 1..3 {
+        assert_module(&rt, alloc, &mut plain)?;
+        assert_eq!(rt; calls.get(), count);
+    }
     Ok(())
 }

@@ -1,4 +1,4 @@
-use crate::sources::{U, V, analyze, analyze_as, parse, parsed, parser, remove, source_with};
+use crate::sources::{Row, U, V, analyze, commands, parsed, parser, source_with};
 use deno_graph_info::analysis::{DependencyDescriptor, ModuleInfo};
 use deno_graph_parser::{
     Answer, CapturingModuleAnalyzer, DefaultParsedSourceStore, ParsedSourceStore, run,
@@ -35,24 +35,36 @@ fn letters(alloc: Global, answers: &[Answer]) -> Result<String, AllocError> {
     Ok(letters)
 }
 
+/// The answers to commands, given these sources, and how often the parser was called.
+fn answers(
+    alloc: Global,
+    store: DefaultParsedSourceStore,
+    rows: &[Row],
+) -> Result<(Vec<Answer>, u64), Fail> {
+    let calls = Rc::new(alloc, Cell::new(0))?;
+    let mut analyzer = CapturingModuleAnalyzer::new(parser(alloc, &calls)?, store);
+    let commands = commands(alloc, rows)?;
+    let answers = run(alloc, &mut analyzer, &commands)?;
+    Ok((answers, calls.get()))
+}
+
+fn empty(alloc: Global) -> DefaultParsedSourceStore {
+    DefaultParsedSourceStore::new(alloc)
+}
+
 #[test]
 fn runs_from_an_empty_store(rt: HostRuntime) -> Result<(), Fail> {
     let alloc = rt.alloc();
-    let calls = Rc::new(alloc, Cell::new(0))?;
-    let mut analyzer = CapturingModuleAnalyzer::new(
-        parser(alloc, &calls)?,
-        DefaultParsedSourceStore::new(alloc),
-    );
-    let commands = [
-        analyze(alloc, U, "a")?,
-        analyze(alloc, U, "a")?,
-        analyze(alloc, U, "b")?,
-        remove(alloc, U)?,
-        analyze(alloc, U, "b")?,
+    let rows = [
+        analyze(U, "a"),
+        analyze(U, "a"),
+        analyze(U, "b"),
+        Row::Remove(U),
+        analyze(U, "b"),
     ];
-    let answers = run(alloc, &mut analyzer, &commands)?;
+    let (answers, calls) = answers(alloc, empty(alloc), &rows)?;
     assert_eq!(rt; letters(alloc, &answers)?.as_str(), "aabrb");
-    assert_eq!(rt; calls.get(), 3);
+    assert_eq!(rt; calls, 3);
     if let [_, _, _, Answer::Removed(Some(source)), _] = answers.as_slice() {
         assert!(rt; *source == parsed(alloc, "b")?);
     } else {
@@ -65,43 +77,34 @@ fn runs_from_an_empty_store(rt: HostRuntime) -> Result<(), Fail> {
 /// where it isn't known. A diagnostic stops nothing and is not kept.
 #[test]
 fn one_text_has_several_sources(rt: HostRuntime) -> Result<(), Fail> {
+    const W: &str = "file:///w.js";
     let alloc = rt.alloc();
-    let calls = Rc::new(alloc, Cell::new(0))?;
-    let mut analyzer = CapturingModuleAnalyzer::new(
-        parser(alloc, &calls)?,
-        DefaultParsedSourceStore::new(alloc),
-    );
-    let commands = [
-        analyze(alloc, U, "a")?,
-        analyze(alloc, V, "a")?,
-        analyze_as(alloc, V, "a", MediaType::TypeScript)?,
-        analyze(alloc, V, "x")?,
-        analyze_as(alloc, V, "a", MediaType::TypeScript)?,
-        analyze(alloc, "file:///w.js", "a")?,
-        analyze_as(alloc, U, "a", MediaType::TypeScript)?,
-        remove(alloc, "file:///w.js")?,
+    let rows = [
+        analyze(U, "a"),
+        analyze(V, "a"),
+        Row::Analyze(V, "a", MediaType::TypeScript),
+        analyze(V, "x"),
+        Row::Analyze(V, "a", MediaType::TypeScript),
+        analyze(W, "a"),
+        Row::Analyze(U, "a", MediaType::TypeScript),
+        Row::Remove(W),
     ];
-    let answers = run(alloc, &mut analyzer, &commands)?;
+    let (answers, calls) = answers(alloc, empty(alloc), &rows)?;
     assert_eq!(rt; letters(alloc, &answers)?.as_str(), "avtdtddn");
-    assert_eq!(rt; calls.get(), 6);
+    assert_eq!(rt; calls, 6);
     Ok(())
 }
 
 #[test]
 fn a_run_parses_with_scopes_or_without(rt: HostRuntime) -> Result<(), Fail> {
     let alloc = rt.alloc();
-    let calls = Rc::new(alloc, Cell::new(0))?;
-    let mut analyzer = CapturingModuleAnalyzer::new(
-        parser(alloc, &calls)?,
-        DefaultParsedSourceStore::new(alloc),
-    );
-    let commands = [
-        parse(alloc, U, "a", false)?,
-        parse(alloc, U, "x", true)?,
-        parse(alloc, U, "a", false)?,
+    let rows = [
+        Row::Parse(U, "a", false),
+        Row::Parse(U, "x", true),
+        Row::Parse(U, "a", false),
     ];
-    let answers = run(alloc, &mut analyzer, &commands)?;
-    assert_eq!(rt; calls.get(), 2);
+    let (answers, calls) = answers(alloc, empty(alloc), &rows)?;
+    assert_eq!(rt; calls, 2);
     let a = parsed(alloc, "a")?;
     let marked = parsed(alloc, "a")?.into_with_scope_analysis();
     if let [
@@ -117,23 +120,22 @@ fn a_run_parses_with_scopes_or_without(rt: HostRuntime) -> Result<(), Fail> {
     Ok(())
 }
 
+/// A store with a source of `a` that imports nothing.
+fn store_of_the_callers_own(alloc: Global) -> Result<DefaultParsedSourceStore, Fail> {
+    let mut store = empty(alloc);
+    let source = source_with(alloc, U, "a", MediaType::JavaScript, Items::new(alloc))?;
+    drop(store.set_parsed_source(alloc, Url::parse(alloc, U)?, source)?);
+    Ok(store)
+}
+
 #[test]
 fn a_source_of_the_callers_own_is_answered_until_the_text_changes(
     rt: HostRuntime,
 ) -> Result<(), Fail> {
     let alloc = rt.alloc();
-    let calls = Rc::new(alloc, Cell::new(0))?;
-    let mut store = DefaultParsedSourceStore::new(alloc);
-    let empty = source_with(alloc, U, "a", MediaType::JavaScript, Items::new(alloc))?;
-    drop(store.set_parsed_source(alloc, Url::parse(alloc, U)?, empty)?);
-    let mut analyzer = CapturingModuleAnalyzer::new(parser(alloc, &calls)?, store);
-    let commands = [
-        analyze(alloc, U, "a")?,
-        analyze(alloc, U, "b")?,
-        analyze(alloc, U, "a")?,
-    ];
-    let answers = run(alloc, &mut analyzer, &commands)?;
+    let rows = [analyze(U, "a"), analyze(U, "b"), analyze(U, "a")];
+    let (answers, calls) = answers(alloc, store_of_the_callers_own(alloc)?, &rows)?;
     assert_eq!(rt; letters(alloc, &answers)?.as_str(), "sba");
-    assert_eq!(rt; calls.get(), 2);
+    assert_eq!(rt; calls, 2);
     Ok(())
 }

@@ -1,6 +1,6 @@
 //! Copies of commands, answers and errors.
 
-use crate::sources::{U, analyze, parse, parsed, remove};
+use crate::sources::{Row, U, analyze, commands, parsed};
 use deno_graph_parser::{AnalyzeError, Answer, ParseDiagnostic, ParseError};
 use deno_graph_source::text::Position;
 use deno_graph_source::values::{Text, TryClone};
@@ -9,13 +9,13 @@ use std::test::Fail;
 
 #[test]
 fn commands_are_copied(rt: HostRuntime) -> Result<(), Fail> {
-    let alloc = rt.alloc();
-    let commands = [
-        analyze(alloc, U, "a")?,
-        parse(alloc, U, "a", true)?,
-        parse(alloc, U, "a", false)?,
-        remove(alloc, U)?,
+    let rows = [
+        analyze(U, "a"),
+        Row::Parse(U, "a", true),
+        Row::Parse(U, "a", false),
+        Row::Remove(U),
     ];
+    let commands = commands(rt.alloc(), &rows)?;
     for (i, command) in commands.iter().enumerate() {
         let copy = command.clone()?;
         for (j, other) in commands.iter().enumerate() {
@@ -30,24 +30,33 @@ fn is_copied<T: TryClone + PartialEq + Drop>(alloc: Global, value: &T) -> Result
     Ok(value.try_clone(alloc)? == *value)
 }
 
-#[test]
-fn answers_and_errors_are_copied(rt: HostRuntime) -> Result<(), Fail> {
-    let alloc = rt.alloc();
-    let diagnostic = ParseDiagnostic {
+fn diagnostic(alloc: Global) -> Result<ParseDiagnostic, AllocError> {
+    Ok(ParseDiagnostic {
         message: Text::from_str(alloc, "unknown text")?,
         position: Position::new(1, 2),
-    };
-    assert!(rt; is_copied(alloc, &diagnostic)?);
-    let answers = [
-        Answer::Parsed(Err(diagnostic.try_clone(alloc)?)),
-        Answer::Parsed(Ok(parsed(alloc, "a")?)),
-        Answer::Analyzed(Err(diagnostic.try_clone(alloc)?)),
-        Answer::Removed(Some(parsed(alloc, "a")?)),
-        Answer::Removed(None),
-    ];
+    })
+}
+
+#[test]
+fn answers_are_copied(rt: HostRuntime) -> Result<(), Fail> {
+    let alloc = rt.alloc();
+    let mut answers = Vec::new(alloc);
+    answers.push(Answer::Parsed(Err(diagnostic(alloc)?)))?;
+    answers.push(Answer::Parsed(Ok(parsed(alloc, "a")?)))?;
+    answers.push(Answer::Analyzed(Err(diagnostic(alloc)?)))?;
+    answers.push(Answer::Removed(Some(parsed(alloc, "a")?)))?;
+    answers.push(Answer::Removed(None))?;
     for answer in &answers {
         assert!(rt; is_copied(alloc, answer)?);
     }
+    Ok(())
+}
+
+#[test]
+fn errors_are_copied(rt: HostRuntime) -> Result<(), Fail> {
+    let alloc = rt.alloc();
+    let diagnostic = diagnostic(alloc)?;
+    assert!(rt; is_copied(alloc, &diagnostic)?);
     let error = ParseError::Diagnostic(diagnostic);
     assert!(rt; is_copied(alloc, &error)?);
     assert!(rt; is_copied(alloc, &AnalyzeError::from(error))?);

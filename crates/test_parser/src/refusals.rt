@@ -1,7 +1,7 @@
 //! Calls in which the parser or the store is refused memory once.
 
 use crate::failing::{RefusedParser, RefusedStore};
-use crate::sources::{U, analyze, options, parsed, parser};
+use crate::sources::{U, analyze, commands, options, parsed, parser};
 use deno_graph_parser::{
     AnalyzeError, CapturingModuleAnalyzer, DefaultParsedSourceStore, EsParser, ModuleAnalyzer,
     ParseError, ParsedSourceStore, run,
@@ -35,29 +35,40 @@ fn is_refused<P: EsParser, S: ParsedSourceStore>(
     alloc: Global,
     analyzer: &mut CapturingModuleAnalyzer<P, S>,
     call: Call,
+    text: &'static str,
+) -> Result<bool, Fail> {
+    match call {
+        Call::CapturingParser => parse(alloc, &mut analyzer.as_capturing_parser(), text),
+        Call::ParseProgram => parse(alloc, analyzer, text),
+        Call::AnalyzeSync => analyze_sync(alloc, analyzer, text),
+        Call::Run => run_two(alloc, analyzer, text),
+    }
+}
+
+fn parse<P: EsParser>(alloc: Global, parser: &mut P, text: &str) -> Result<bool, Fail> {
+    let specifier = Url::parse(alloc, U)?;
+    let answer = parser.parse_program(alloc, options(alloc, &specifier, text, false)?);
+    Ok(matches!(answer, Err(ParseError::OutOfMemory)))
+}
+
+fn analyze_sync<A: ModuleAnalyzer>(
+    alloc: Global,
+    analyzer: &mut A,
     text: &str,
 ) -> Result<bool, Fail> {
-    let specifier = Url::parse(alloc, U)?;
-    let options = options(alloc, &specifier, text, false)?;
-    match call {
-        Call::CapturingParser => {
-            let answer = analyzer.as_capturing_parser().parse_program(alloc, options);
-            Ok(matches!(answer, Err(ParseError::OutOfMemory)))
-        }
-        Call::ParseProgram => {
-            let answer = analyzer.parse_program(alloc, options);
-            Ok(matches!(answer, Err(ParseError::OutOfMemory)))
-        }
-        Call::AnalyzeSync => {
-            let source = RcStr::from_str(alloc, text)?;
-            let answer = analyzer.analyze_sync(alloc, &specifier, source, MediaType::JavaScript);
-            Ok(matches!(answer, Err(AnalyzeError::OutOfMemory)))
-        }
-        Call::Run => {
-            let commands = [analyze(alloc, U, "a")?, analyze(alloc, U, text)?];
-            Ok(run(alloc, analyzer, &commands).is_err())
-        }
-    }
+    let (specifier, source) = (Url::parse(alloc, U)?, RcStr::from_str(alloc, text)?);
+    let answer = analyzer.analyze_sync(alloc, &specifier, source, MediaType::JavaScript);
+    Ok(matches!(answer, Err(AnalyzeError::OutOfMemory)))
+}
+
+/// Runs an analysis of `a` and one of the text.
+fn run_two<P: EsParser, S: ParsedSourceStore>(
+    alloc: Global,
+    analyzer: &mut CapturingModuleAnalyzer<P, S>,
+    text: &'static str,
+) -> Result<bool, Fail> {
+    let commands = commands(alloc, &[analyze(U, "a"), analyze(U, text)])?;
+    Ok(run(alloc, analyzer, &commands).is_err())
 }
 
 /// `a` is kept, `b` is refused at first and leaves `a`, and is kept when it is tried again.

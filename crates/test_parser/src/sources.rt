@@ -87,41 +87,45 @@ pub fn options<'a>(
     })
 }
 
-/// The command to analyze a text of a type.
-pub fn analyze_as(
-    alloc: Global,
-    specifier: &str,
-    text: &str,
-    media_type: MediaType,
-) -> Result<Command, Fail> {
-    Ok(Command::Analyze {
-        specifier: Url::parse(alloc, specifier)?,
-        source: RcStr::from_str(alloc, text)?,
-        media_type,
-    })
+/// A command as data: on a specifier, and on a text where it has one.
+#[derive(Clone, Copy)]
+pub enum Row {
+    Analyze(&'static str, &'static str, MediaType),
+    /// The text of a script, and whether its scopes are asked for.
+    Parse(&'static str, &'static str, bool),
+    Remove(&'static str),
 }
 
-pub fn analyze(alloc: Global, specifier: &str, text: &str) -> Result<Command, Fail> {
-    analyze_as(alloc, specifier, text, MediaType::JavaScript)
+/// The row of the analysis of JavaScript.
+pub fn analyze(specifier: &'static str, text: &'static str) -> Row {
+    Row::Analyze(specifier, text, MediaType::JavaScript)
 }
 
-/// The command to parse a text, and its scopes too where `scope_analysis` says so.
-pub fn parse(
-    alloc: Global,
-    specifier: &str,
-    text: &str,
-    scope_analysis: bool,
-) -> Result<Command, Fail> {
-    Ok(Command::Parse {
-        specifier: Url::parse(alloc, specifier)?,
-        source: RcStr::from_str(alloc, text)?,
-        media_type: MediaType::JavaScript,
-        scope_analysis,
-    })
+impl Row {
+    pub fn command(self, alloc: Global) -> Result<Command, Fail> {
+        Ok(match self {
+            Row::Analyze(specifier, text, media_type) => Command::Analyze {
+                specifier: Url::parse(alloc, specifier)?,
+                source: RcStr::from_str(alloc, text)?,
+                media_type,
+            },
+            Row::Parse(specifier, text, scope_analysis) => Command::Parse {
+                specifier: Url::parse(alloc, specifier)?,
+                source: RcStr::from_str(alloc, text)?,
+                media_type: MediaType::JavaScript,
+                scope_analysis,
+            },
+            Row::Remove(specifier) => Command::Remove {
+                specifier: Url::parse(alloc, specifier)?,
+            },
+        })
+    }
 }
 
-pub fn remove(alloc: Global, specifier: &str) -> Result<Command, Fail> {
-    Ok(Command::Remove {
-        specifier: Url::parse(alloc, specifier)?,
-    })
+pub fn commands(alloc: Global, rows: &[Row]) -> Result<Vec<Command>, Fail> {
+    let mut commands = Vec::with_capacity(alloc, rows.len())?;
+    for row in rows {
+        commands.push(row.command(alloc)?)?;
+    }
+    Ok(commands)
 }

@@ -36,24 +36,61 @@ fn all_of(alloc: Global, comments: &Comments) -> Result<Vec<(usize, &str)>, Allo
     Ok(all)
 }
 
-#[test]
-fn comments_are_filed_in_turn(rt: HostRuntime) -> Result<(), Fail> {
-    let alloc = rt.alloc();
+/// Four comments at two positions, of which two are equal.
+fn filed(alloc: Global) -> Result<Comments, AllocError> {
     let mut comments = Comments::new(alloc);
-    assert!(rt; comments.get_leading(0).is_none());
-    assert!(rt; comments.get_trailing(0).is_none());
-    assert!(rt; comments.iter_unstable(alloc)?.is_empty());
     comments.add_leading(8, line(alloc, 0, "a")?)?;
     comments.add_leading(8, line(alloc, 4, "b")?)?;
     comments.add_leading(0, line(alloc, 0, "a")?)?;
     comments.add_trailing(8, line(alloc, 9, "c")?)?;
-    assert_eq!(rt; texts(alloc, comments.get_leading(8))?.as_str(), "ab");
-    assert_eq!(rt; texts(alloc, comments.get_leading(0))?.as_str(), "a");
-    assert_eq!(rt; texts(alloc, comments.get_trailing(8))?.as_str(), "c");
-    assert!(rt; comments.get_leading(4).is_none());
+    Ok(comments)
+}
+
+#[test]
+fn nothing_is_filed(rt: HostRuntime) -> Result<(), Fail> {
+    let comments = Comments::new(rt.alloc());
+    assert!(rt; comments.get_leading(0).is_none());
     assert!(rt; comments.get_trailing(0).is_none());
+    assert!(rt; comments.iter_unstable(rt.alloc())?.is_empty());
+    Ok(())
+}
+
+/// Whether the comments of a list have these texts in turn, or there is no list for none.
+fn is_filed(
+    alloc: Global,
+    found: Option<&[DependencyComment]>,
+    expected: &str,
+) -> Result<bool, AllocError> {
+    Ok(found.is_none() == expected.is_empty() && texts(alloc, found)?.as_str() == expected)
+}
+
+#[test]
+fn comments_are_filed_in_turn(rt: HostRuntime) -> Result<(), Fail> {
+    let alloc = rt.alloc();
+    let comments = filed(alloc)?;
+    assert!(rt; is_filed(alloc, comments.get_leading(8), "ab")?);
+    assert!(rt; is_filed(alloc, comments.get_leading(0), "a")?);
+    assert!(rt; is_filed(alloc, comments.get_trailing(8), "c")?);
+    assert!(rt; is_filed(alloc, comments.get_leading(4), "")?);
+    assert!(rt; is_filed(alloc, comments.get_trailing(0), "")?);
+    Ok(())
+}
+
+#[test]
+fn all_comments_are_listed(rt: HostRuntime) -> Result<(), Fail> {
+    let comments = filed(rt.alloc())?;
     let expected = [(0, "a"), (0, "a"), (4, "b"), (9, "c")];
-    assert_eq!(rt; all_of(alloc, &comments)?.as_slice(), expected.as_slice());
+    assert_eq!(rt;
+        all_of(rt.alloc(), &comments)?.as_slice(),
+        expected.as_slice()
+    );
+    Ok(())
+}
+
+#[test]
+fn comments_are_copied(rt: HostRuntime) -> Result<(), Fail> {
+    let alloc = rt.alloc();
+    let mut comments = filed(alloc)?;
     let copy = comments.try_clone(alloc)?;
     assert!(rt; copy == comments);
     comments.add_trailing(0, line(alloc, 9, "c")?)?;

@@ -101,13 +101,18 @@ fn a_fault_of_the_program_and_none(rt: HostRuntime) -> Result<(), Fail> {
     Ok(())
 }
 
-/// A node that is no range of the text, as the last child of the child of the second item.
-fn far_below(alloc: Global) -> Result<Program, AllocError> {
+/// A node that is no range of the text, as the last child of a child.
+fn bad_grandchild(alloc: Global) -> Result<Node, AllocError> {
     let bad = Node::new(alloc, range(0, 11), Kind::Other);
     let inner = Node::with_children(range(0, 10), Kind::Other, after_two(alloc, bad)?);
-    let outer = Node::with_children(range(0, 10), Kind::Other, Items::from_item(alloc, inner)?);
+    let children = Items::from_item(alloc, inner)?;
+    Ok(Node::with_children(range(0, 10), Kind::Other, children))
+}
+
+/// A program with such a node as its second item.
+fn far_below(alloc: Global) -> Result<Program, AllocError> {
     let mut whole = program(alloc, leaf(alloc, Kind::Other))?;
-    whole.body.push(outer)?;
+    whole.body.push(bad_grandchild(alloc)?)?;
     Ok(whole)
 }
 

@@ -61,6 +61,12 @@ fn a_parsed_source_keeps_what_it_got(rt: HostRuntime) -> Result<(), Fail> {
     assert_eq!(rt; source.program().body.len(), 1);
     assert!(rt; source.comments().get_leading(0).is_none());
     assert!(rt; source.has_scope_analysis());
+    Ok(())
+}
+
+#[test]
+fn a_parsed_source_is_copied(rt: HostRuntime) -> Result<(), Fail> {
+    let source = parsed(rt.alloc())?;
     assert!(rt; is_copied(rt.alloc(), source.program())?);
     assert!(rt; is_copied(rt.alloc(), &source)?);
     Ok(())
@@ -72,16 +78,22 @@ fn is_copied<T: TryClone + PartialEq + Drop>(alloc: Global, value: &T) -> Result
 }
 
 #[test]
-fn faults_past_what_a_document_can_say(rt: HostRuntime) -> Result<(), Fail> {
+fn a_range_past_what_a_document_can_say(rt: HostRuntime) -> Result<(), Fail> {
     let alloc = rt.alloc();
     let program = side_effect_import(alloc, range(7, usize::MAX))?;
     let found = source_fault(alloc, SOURCE, &program, &Comments::new(alloc))?;
     assert_eq!(rt; found, Some(SourceFault::RangeOutside));
+    Ok(())
+}
+
+#[test]
+fn comments_past_the_end_of_the_source(rt: HostRuntime) -> Result<(), Fail> {
+    let alloc = rt.alloc();
     let comments = many_filings(alloc)?;
-    assert_eq!(rt; comments.iter_unstable(alloc)?.len(), 2000);
     let program = side_effect_import(alloc, range(7, 15))?;
     let found = source_fault(alloc, "/*a*/ /*      */", &program, &comments)?;
     assert_eq!(rt; found, None);
+    assert_eq!(rt; comments.iter_unstable(alloc)?.len(), 2000);
     Ok(())
 }
 

@@ -1,6 +1,5 @@
 use crate::fault::Fault;
-use crate::sources::{U, parser};
-use deno_graph_analysis::ast::module_info;
+use crate::sources::{U, info_of, parser};
 use deno_graph_info::analysis::ModuleInfo;
 use deno_graph_source::text::{JsString, SourceRange};
 use deno_graph_source::tree::{
@@ -29,24 +28,27 @@ pub struct Made {
 
 impl Made {
     pub fn new(alloc: Global) -> Result<Made, Fault> {
-        let source = ParsedSource::new(
-            alloc,
-            Url::parse(alloc, U)?,
-            RcStr::from_str(alloc, TEXT)?,
-            MediaType::TypeScript,
-            program(alloc)?,
-            comments(alloc)?,
-            false,
-        )?;
-        let info = module_info(alloc, &source)?;
-        let calls = Rc::new(alloc, Cell::new(0))?;
+        let source = source(alloc)?;
+        let info = info_of(alloc, &source)?;
         Ok(Made {
             source,
             info,
             surrogate: JsString::from_units(alloc, &[0xd800])?,
-            parser: parser(alloc, &calls)?,
+            parser: parser(alloc, &Rc::new(alloc, Cell::new(0))?)?,
         })
     }
+}
+
+fn source(alloc: Global) -> Result<ParsedSource, Fault> {
+    Ok(ParsedSource::new(
+        alloc,
+        Url::parse(alloc, U)?,
+        RcStr::from_str(alloc, TEXT)?,
+        MediaType::TypeScript,
+        program(alloc)?,
+        comments(alloc)?,
+        false,
+    )?)
 }
 
 fn program(alloc: Global) -> Result<Program, AllocError> {

@@ -14,6 +14,7 @@ use deno_graph_info::analysis::{
 use deno_graph_source::text::{JsString, Position, PositionRange, SourceRange, SourceTextInfo};
 use deno_graph_source::tree::{Comments, MediaType, ParsedSource};
 use deno_graph_source::values::TryClone;
+use example_table_parser::TableParser;
 use std::alloc::Global;
 
 pub fn look_up(alloc: Global, made: &Made) -> Result<(), Fault> {
@@ -91,7 +92,7 @@ pub fn take_apart(alloc: Global, made: Made) -> Result<(), Fault> {
     let Made {
         source,
         info,
-        mut parser,
+        parser,
         ..
     } = made;
     check(
@@ -99,6 +100,12 @@ pub fn take_apart(alloc: Global, made: Made) -> Result<(), Fault> {
         "into_with_scope_analysis",
     )?;
     check(ModuleInfo::new(alloc) != info, "ModuleInfo::new")?;
+    check(is_static_none(), "From of a dynamic dependency")?;
+    make_of_parser(alloc, parser);
+    Ok(())
+}
+
+fn is_static_none() -> bool {
     let dependency = DependencyDescriptor::from(DynamicDependencyDescriptor {
         kind: DynamicDependencyKind::default(),
         types_specifier: None,
@@ -106,14 +113,13 @@ pub fn take_apart(alloc: Global, made: Made) -> Result<(), Fault> {
         argument_range: PositionRange::zeroed(),
         import_attributes: ImportAttributes::default(),
     });
-    check(
-        dependency.as_static().is_none(),
-        "From of a dynamic dependency",
-    )?;
+    dependency.as_static().is_none()
+}
+
+fn make_of_parser(alloc: Global, mut parser: TableParser) {
     let mut store = DefaultParsedSourceStore::new(alloc);
     drop(CapturingEsParser::new(&mut parser, &mut store));
     drop(ParserModuleAnalyzer::new(&mut parser));
     let mut analyzer = CapturingModuleAnalyzer::new(parser, store);
     drop(analyzer.as_capturing_parser());
-    Ok(())
 }

@@ -7,13 +7,31 @@ use deno_graph_info::analysis::{
 };
 use deno_graph_info::reach::reach;
 use serde_json::Value;
-use std::alloc::Global;
+use std::alloc::{AllocError, Global};
 use std::collections::BTreeMap;
+
+// What is called in a function of its own leaves its contract there: no caller's proof needs it.
+
+pub fn from_value(alloc: Global, value: &Value) -> Result<ModuleInfo, InfoFault> {
+    ModuleInfo::from_value(alloc, value)
+}
+
+pub fn to_value(alloc: Global, info: &ModuleInfo) -> Result<Value, AllocError> {
+    info.to_value(alloc)
+}
+
+fn convert(alloc: Global, value: &mut Value) -> Result<(), ConvertFault> {
+    module_graph_1_to_2(alloc, value)
+}
+
+fn convert_by_value(alloc: Global, value: Value) -> Result<Value, ConvertFault> {
+    module_graph_1_into_2(alloc, value)
+}
 
 /// What `from_value` reads, written again.
 pub fn read(alloc: Global, value: &Value) -> Result<String, RowFault> {
-    match ModuleInfo::from_value(alloc, value) {
-        Ok(info) => valued(alloc, &info.to_value(alloc)?),
+    match from_value(alloc, value) {
+        Ok(info) => valued(alloc, &to_value(alloc, &info)?),
         Err(InfoFault::OutOfMemory) => Err(RowFault::OutOfMemory),
         Err(fault) => named(alloc, format!(in alloc; "{fault}")?.as_str()),
     }
@@ -22,13 +40,13 @@ pub fn read(alloc: Global, value: &Value) -> Result<String, RowFault> {
 /// What `module_graph_1_to_2` makes of a value. Where it refuses, the value has to be unchanged, and
 /// `module_graph_1_into_2` has to make the same of it.
 pub fn converted(alloc: Global, value: &Value) -> Result<String, RowFault> {
-    let by_value = match module_graph_1_into_2(alloc, value.clone()?) {
+    let by_value = match convert_by_value(alloc, value.clone()?) {
         Ok(after) => Some(after),
         Err(ConvertFault::OutOfMemory) => return Err(RowFault::OutOfMemory),
         Err(_) => None,
     };
     let mut again = value.clone()?;
-    match module_graph_1_to_2(alloc, &mut again) {
+    match convert(alloc, &mut again) {
         Ok(()) => match by_value {
             Some(after) if after == again => valued(alloc, &after),
             _ => named(alloc, "another by value"),
@@ -46,7 +64,7 @@ pub fn reached(alloc: Global, words: &[&str], value: &Value) -> Result<String, R
     };
     let mut modules = BTreeMap::new(alloc);
     for (key, info) in members.iter() {
-        let info = ModuleInfo::from_value(alloc, info)?;
+        let info = from_value(alloc, info)?;
         drop(modules.insert(key.clone()?, info)?);
     }
     let mut keys = Vec::new(alloc);

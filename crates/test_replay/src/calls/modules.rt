@@ -1,6 +1,7 @@
 //! Modules as a whole.
 
 use crate::answer::{named, valued};
+use crate::calls::infos::to_value;
 use crate::row_fault::RowFault;
 use deno_graph_analysis::ast::{module_info, module_info_from_program};
 use deno_graph_analysis::dep::{DependencyDescriptor, analyze_program_dependencies};
@@ -9,7 +10,7 @@ use deno_graph_source::text::{PositionRange, SourceRange, SourceTextInfo};
 use deno_graph_source::tree::{ParsedSource, source_fault};
 use deno_graph_source::values::TryClone;
 use modinfo::parse_document;
-use std::alloc::Global;
+use std::alloc::{AllocError, Global};
 
 /// What `source_fault` finds in a document.
 pub fn fault(alloc: Global, text: &str) -> Result<String, RowFault> {
@@ -36,31 +37,43 @@ pub fn media_type(alloc: Global, source: &ParsedSource) -> Result<String, RowFau
     named(alloc, format!(in alloc; "{media_type:?} {kind}")?.as_str())
 }
 
+fn info_of(alloc: Global, source: &ParsedSource) -> Result<ModuleInfo, AllocError> {
+    module_info(alloc, source)
+}
+
+fn info_of_parts(alloc: Global, source: &ParsedSource) -> Result<ModuleInfo, AllocError> {
+    module_info_from_program(
+        alloc,
+        source.media_type(),
+        source.program(),
+        source.text_info_lazy(),
+        source.comments(),
+    )
+}
+
 /// What `module_info` finds, if every other way to it leads there too.
 pub fn every_way(alloc: Global, source: &ParsedSource) -> Result<String, RowFault> {
-    let info = module_info(alloc, source)?;
+    let info = info_of(alloc, source)?;
     if by_copies(alloc, source, &info)? && by_dependencies(alloc, source, &info)? {
-        valued(alloc, &info.to_value(alloc)?)
+        valued(alloc, &to_value(alloc, &info)?)
     } else {
         named(alloc, "other ways lead elsewhere")
     }
 }
 
 /// Whether copies are equal, and the parts of the source give the same as the whole.
-fn by_copies(alloc: Global, source: &ParsedSource, info: &ModuleInfo) -> Result<bool, RowFault> {
-    let by_parts = module_info_from_program(
-        alloc,
-        source.media_type(),
-        source.program(),
-        source.text_info_lazy(),
-        source.comments(),
-    )?;
+fn by_copies(alloc: Global, source: &ParsedSource, info: &ModuleInfo) -> Result<bool, AllocError> {
     Ok(
-        by_parts == *info
-            && info.try_clone(alloc)? == *info
-            && source.program().try_clone(alloc)? == *source.program()
-            && source.comments().try_clone(alloc)? == *source.comments(),
+        info_of_parts(alloc, source)? == *info
+            && is_copied(alloc, info)?
+            && is_copied(alloc, source.program())?
+            && is_copied(alloc, source.comments())?,
     )
+}
+
+/// Whether a copy is equal.
+fn is_copied<T: TryClone + PartialEq + Drop>(alloc: Global, value: &T) -> Result<bool, AllocError> {
+    Ok(value.try_clone(alloc)? == *value)
 }
 
 /// Whether the descriptors that borrow from the tree say the same as those of the information.
@@ -68,16 +81,21 @@ fn by_dependencies(
     alloc: Global,
     source: &ParsedSource,
     info: &ModuleInfo,
-) -> Result<bool, RowFault> {
+) -> Result<bool, AllocError> {
     let found = analyze_program_dependencies(alloc, source.program(), source.comments())?;
-    let text_info = source.text_info_lazy();
-    Ok(
-        found.len() == info.dependencies.len()
-            && found
-                .iter()
-                .zip(info.dependencies.iter())
-                .all(|(borrowed, owned)| is_same(text_info, borrowed, owned)),
-    )
+    Ok(are_same(source.text_info_lazy(), found.as_slice(), info))
+}
+
+fn are_same(
+    text_info: &SourceTextInfo,
+    found: &[DependencyDescriptor<'_>],
+    info: &ModuleInfo,
+) -> bool {
+    found.len() == info.dependencies.len()
+        && found
+            .iter()
+            .zip(info.dependencies.iter())
+            .all(|(borrowed, owned)| is_same(text_info, borrowed, owned))
 }
 
 /// Whether both have the same kind, specifier, range and attributes.
