@@ -91,7 +91,7 @@ pub fn options<'a>(
 #[derive(Clone, Copy)]
 pub enum Row {
     Analyze(&'static str, &'static str, MediaType),
-    /// The text of a script, and whether its scopes are asked for.
+    /// With a text, and whether its scopes are asked for.
     Parse(&'static str, &'static str, bool),
     Remove(&'static str),
 }
