@@ -78,12 +78,12 @@ struct Tested {
 impl Tested {
     fn new(alloc: Global) -> Result<Tested, Fault> {
         let kept = Rc::new(alloc, Cell::new(0))?;
-        let second = braces(alloc)?;
+        let (first, second) = (source(alloc, U, "a")?, braces(alloc)?);
         let mut tested = Tested {
-            analyzer: analyzer(alloc, &second, &kept)?,
             specifier: Url::parse(alloc, U)?,
+            analyzer: analyzer(alloc, &second, &kept)?,
             kept,
-            first: source(alloc, U, "a")?,
+            first,
             second,
         };
         tested.keep_first(alloc)?;
@@ -140,12 +140,20 @@ fn analyzer(alloc: Global, source: &ParsedSource, kept: &Rc<Cell<u64>>) -> Resul
 pub fn analyze(alloc: Global) -> Result<Outcome, Fault> {
     let mut tested = Tested::new(alloc)?;
     let expected = info_of(alloc, &tested.second)?;
+    analyze_second(alloc, &mut tested, &expected)
+}
+
+fn analyze_second(
+    alloc: Global,
+    tested: &mut Tested,
+    expected: &ModuleInfo,
+) -> Result<Outcome, Fault> {
     let found = tested.ask(alloc)?;
     check(
         tested.has_last(alloc)?,
         "the source isn't the one that was kept last",
     )?;
-    outcome(found, &expected, tested.is_parsed())
+    outcome(found, expected, tested.is_parsed())
 }
 
 fn outcome(

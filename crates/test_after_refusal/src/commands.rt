@@ -47,12 +47,14 @@ struct Tested {
 impl Tested {
     fn new(alloc: Global) -> Result<Tested, Fault> {
         let calls = Rc::new(alloc, Cell::new(0))?;
+        let (u, v) = (Url::parse(alloc, U)?, Url::parse(alloc, V)?);
+        let parser = parser(alloc, &calls)?;
         let store = DefaultParsedSourceStore::new(alloc);
         let mut tested = Tested {
-            analyzer: CapturingModuleAnalyzer::new(parser(alloc, &calls)?, store),
+            analyzer: CapturingModuleAnalyzer::new(parser, store),
             calls,
-            u: Url::parse(alloc, U)?,
-            v: Url::parse(alloc, V)?,
+            u,
+            v,
         };
         tested.keep_another(alloc)?;
         Ok(tested)
@@ -139,10 +141,22 @@ pub fn run_all(alloc: Global) -> Result<Outcome, Fault> {
     let commands = commands(alloc)?;
     let expected = expected_answers(alloc, &commands)?;
     let mut tested = Tested::new(alloc)?;
-    let outcome = run_once(alloc, &mut tested, &commands, &expected)?;
+    run_twice(alloc, &mut tested, &commands, &expected)
+}
+
+fn run_twice(
+    alloc: Global,
+    tested: &mut Tested,
+    commands: &[Command],
+    expected: &[Answer],
+) -> Result<Outcome, Fault> {
+    let outcome = run_once(alloc, tested, commands, expected)?;
     tested.keep_another(alloc)?;
-    let again = tested.carry_out(alloc, &commands)?;
-    check(again == expected, "the answers after it are others")?;
+    let again = tested.carry_out(alloc, commands)?;
+    check(
+        again.as_slice() == expected,
+        "the answers after it are others",
+    )?;
     Ok(outcome)
 }
 

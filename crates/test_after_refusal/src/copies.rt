@@ -8,7 +8,13 @@ use std::alloc::Global;
 
 /// Each value is as it was, and each copy that there is equals it.
 pub fn copy_all(alloc: Global) -> Result<Outcome, Fault> {
-    let (made, twin) = (Made::new(alloc)?, Made::new(alloc)?);
+    let made = Made::new(alloc)?;
+    let twin = Made::new(alloc)?;
+    copy_parts(alloc, &made, &twin)
+}
+
+/// Apart from `copy_all`, which owns both, so that no `?` here drops them.
+fn copy_parts(alloc: Global, made: &Made, twin: &Made) -> Result<Outcome, Fault> {
     let outcomes = [
         copy(alloc, made.source.program(), twin.source.program())?,
         copy(alloc, made.source.comments(), twin.source.comments())?,

@@ -26,14 +26,17 @@ type Given<'a> = (Option<&'a Node>, u64);
 pub fn through_a_deep_tree(alloc: Global) -> Result<Outcome, Fault> {
     let program = program(deep(alloc)?);
     let expected = all_given(alloc, &program)?;
-    let mut walk = Walk::new(alloc, &program);
-    let mut outcome = Outcome::Answered;
-    let mut entered_before = 0;
     check(
         expected.iter().filter(|(node, _)| node.is_some()).count() == 3,
         "a dependency is missing",
     )?;
-    for (node, entered) in expected.iter() {
+    take_steps(&mut Walk::new(alloc, &program), &expected)
+}
+
+fn take_steps<'a>(walk: &mut Walk<'a>, expected: &[Given<'a>]) -> Result<Outcome, Fault> {
+    let mut outcome = Outcome::Answered;
+    let mut entered_before = 0;
+    for (node, entered) in expected {
         let given = match walk.step() {
             Ok(given) => given,
             Err(_) => {
@@ -93,18 +96,24 @@ fn program(body: Items<Node>) -> Program {
 
 /// An import type inside another, under many nodes that are no dependencies; and a third beside these.
 fn deep(alloc: Global) -> Result<Items<Node>, AllocError> {
-    let inner = import_type(alloc, "b", Items::new(alloc))?;
-    let mut node = import_type(alloc, "a", Items::from_item(alloc, inner)?)?;
-    for _ in 0..DEPTH {
-        node = Node {
-            range: NOWHERE,
-            kind: Kind::Other,
-            children: Items::from_item(alloc, node)?,
-        };
-    }
+    let node = under_many(alloc, import_types(alloc)?)?;
     let mut body = Items::from_item(alloc, node)?;
     body.push(import_type(alloc, "c", Items::new(alloc))?)?;
     Ok(body)
+}
+
+/// An import type inside another.
+fn import_types(alloc: Global) -> Result<Node, AllocError> {
+    let inner = import_type(alloc, "b", Items::new(alloc))?;
+    import_type(alloc, "a", Items::from_item(alloc, inner)?)
+}
+
+/// The node under many that are no dependencies.
+fn under_many(alloc: Global, mut node: Node) -> Result<Node, AllocError> {
+    for _ in 0..DEPTH {
+        node = Node::with_children(NOWHERE, Kind::Other, Items::from_item(alloc, node)?);
+    }
+    Ok(node)
 }
 
 /// Import types of an empty text.

@@ -30,9 +30,14 @@ impl Tested {
             v: Url::parse(alloc, V)?,
             first: source(alloc, U, "a")?,
         };
-        let specifier = tested.u.clone()?;
-        drop(tested.set(alloc, specifier, source(alloc, U, "a")?)?);
+        tested.keep_first(alloc)?;
         Ok(tested)
+    }
+
+    fn keep_first(&mut self, alloc: Global) -> Result<(), Fault> {
+        let specifier = self.u.clone()?;
+        drop(self.set(alloc, specifier, source(alloc, U, "a")?)?);
+        Ok(())
     }
 
     fn set(
@@ -86,10 +91,13 @@ fn outcome_of_set(
 pub fn set_another(alloc: Global) -> Result<Outcome, Fault> {
     let mut tested = Tested::new(alloc)?;
     let second = source(alloc, V, "b")?;
+    set_beside(alloc, &mut tested, &second)
+}
+
+fn set_beside(alloc: Global, tested: &mut Tested, second: &ParsedSource) -> Result<Outcome, Fault> {
     let (specifier, handed_in) = (tested.v.clone()?, source(alloc, V, "b")?);
-    let set = tested.set(alloc, specifier, handed_in);
-    let outcome = outcome_of_set(set, None)?;
-    let kept = (outcome == Outcome::Answered).then_some(&second);
+    let outcome = outcome_of_set(tested.set(alloc, specifier, handed_in), None)?;
+    let kept = (outcome == Outcome::Answered).then_some(second);
     check(
         tested.holds(alloc, &tested.first, kept)?,
         "the first source is another, or the second",
@@ -101,11 +109,19 @@ pub fn set_another(alloc: Global) -> Result<Outcome, Fault> {
 pub fn set_again(alloc: Global) -> Result<Outcome, Fault> {
     let mut tested = Tested::new(alloc)?;
     let second = source(alloc, U, "b")?;
+    set_in_place(alloc, &mut tested, &second)
+}
+
+fn set_in_place(
+    alloc: Global,
+    tested: &mut Tested,
+    second: &ParsedSource,
+) -> Result<Outcome, Fault> {
     let (specifier, handed_in) = (tested.u.clone()?, source(alloc, U, "b")?);
     let set = tested.set(alloc, specifier, handed_in);
     let outcome = outcome_of_set(set, Some(&tested.first))?;
     let kept = if outcome == Outcome::Answered {
-        &second
+        second
     } else {
         &tested.first
     };
@@ -114,6 +130,10 @@ pub fn set_again(alloc: Global) -> Result<Outcome, Fault> {
         "the source was lost, or another is there",
     )?;
     Ok(outcome)
+}
+
+fn table(alloc: Global) -> Result<TableParser, Fault> {
+    parser(alloc, &Rc::new(alloc, Cell::new(0))?)
 }
 
 /// How a parse of `b` ended, which answers this source.
@@ -134,12 +154,20 @@ fn outcome_of_parse(
 /// The parser's answer is there, or the source from before.
 pub fn parse(alloc: Global) -> Result<Outcome, Fault> {
     let mut tested = Tested::new(alloc)?;
-    let mut table = parser(alloc, &Rc::new(alloc, Cell::new(0))?)?;
+    let mut table = table(alloc)?;
     let second = source(alloc, U, "b")?;
-    let answer = tested.parse(alloc, &mut table, false)?;
-    let outcome = outcome_of_parse(answer, &second)?;
+    parse_second(alloc, &mut tested, &mut table, &second)
+}
+
+fn parse_second(
+    alloc: Global,
+    tested: &mut Tested,
+    table: &mut TableParser,
+    second: &ParsedSource,
+) -> Result<Outcome, Fault> {
+    let outcome = outcome_of_parse(tested.parse(alloc, table, false)?, second)?;
     let kept = if outcome == Outcome::Answered {
-        &second
+        second
     } else {
         &tested.first
     };
@@ -150,15 +178,24 @@ pub fn parse(alloc: Global) -> Result<Outcome, Fault> {
 /// The same with the option of scopes: the source from before may have its mark set then.
 pub fn parse_with_scopes(alloc: Global) -> Result<Outcome, Fault> {
     let mut tested = Tested::new(alloc)?;
-    let mut table = parser(alloc, &Rc::new(alloc, Cell::new(0))?)?;
+    let mut table = table(alloc)?;
     let marked_first = source(alloc, U, "a")?.into_with_scope_analysis();
     let second = source(alloc, U, "b")?.into_with_scope_analysis();
-    let answer = tested.parse(alloc, &mut table, true)?;
-    let outcome = outcome_of_parse(answer, &second)?;
+    parse_marked(alloc, &mut tested, &mut table, &marked_first, &second)
+}
+
+fn parse_marked(
+    alloc: Global,
+    tested: &mut Tested,
+    table: &mut TableParser,
+    marked_first: &ParsedSource,
+    second: &ParsedSource,
+) -> Result<Outcome, Fault> {
+    let outcome = outcome_of_parse(tested.parse(alloc, table, true)?, second)?;
     let is_kept = if outcome == Outcome::Answered {
-        tested.holds(alloc, &second, None)?
+        tested.holds(alloc, second, None)?
     } else {
-        tested.holds(alloc, &tested.first, None)? || tested.holds(alloc, &marked_first, None)?
+        tested.holds(alloc, &tested.first, None)? || tested.holds(alloc, marked_first, None)?
     };
     check(is_kept, "the source was lost")?;
     Ok(outcome)

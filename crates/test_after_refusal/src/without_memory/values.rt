@@ -95,14 +95,16 @@ pub fn take_apart(alloc: Global, made: Made) -> Result<(), Fault> {
         parser,
         ..
     } = made;
-    check(
-        source.into_with_scope_analysis().has_scope_analysis(),
-        "into_with_scope_analysis",
-    )?;
-    check(ModuleInfo::new(alloc) != info, "ModuleInfo::new")?;
-    check(is_static_none(), "From of a dynamic dependency")?;
+    let is_marked = source.into_with_scope_analysis().has_scope_analysis();
+    let is_new_another = is_another(ModuleInfo::new(alloc), info);
     make_of_parser(alloc, parser);
-    Ok(())
+    check(is_marked, "into_with_scope_analysis")?;
+    check(is_new_another, "ModuleInfo::new")?;
+    check(is_static_none(), "From of a dynamic dependency")
+}
+
+fn is_another(new: ModuleInfo, info: ModuleInfo) -> bool {
+    new != info
 }
 
 fn is_static_none() -> bool {
