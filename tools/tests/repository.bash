@@ -10,7 +10,7 @@ export ROOM
 trap 'rm -rf "$ROOM"' EXIT
 repository=$ROOM/repository
 notice="modinfo: this answer comes from a trial without proofs, which takes about a minute; \
-./modinfo --prove makes the proved program, in about N minutes on four processors"
+./modinfo --prove makes the proved program, in about N minutes on two processors"
 passed=0
 
 make_tools() {
