@@ -8,8 +8,9 @@ declare -A lines=()
 # The crates to build, and those below each.
 crates=()
 declare -A below=()
-# What loading the libraries below costs a crate, in bytes of its own.
-loading=100000
+# A crate takes time for its code and for loading the crates below: for a byte of code about as much as for so
+# many bytes below.
+weight_of_code=30
 # The state and the jobs of each crate that was started, and by its process each crate that is being built.
 declare -A state=() jobs_of=() running=()
 # The folders that crates are built in.
@@ -50,11 +51,17 @@ add_crate() {
 
 # Puts first the crate that the most is left to build with, up to the last one.
 sort_crates() {
-    local -A left=()
+    local -A left=() size=()
     local crate lower i
+    for crate in "${crates[@]}"; do
+        size[$crate]=$(bytes_of "$root/crates/$crate"/{src,specs,proofs})
+    done
     for ((i = ${#crates[@]} - 1; i >= 0; i--)); do
         crate=${crates[i]}
-        left[$crate]=$((${left[$crate]:-0} + $(bytes_of "$crate") + loading))
+        left[$crate]=$((${left[$crate]:-0} + weight_of_code * $(bytes_of "$root/crates/$crate/src")))
+        for lower in ${below[$crate]}; do
+            left[$crate]=$((left[$crate] + size[$lower]))
+        done
         for lower in ${below[$crate]}; do
             ((${left[$lower]:-0} >= left[$crate])) || left[$lower]=${left[$crate]}
         done
@@ -64,8 +71,7 @@ sort_crates() {
 }
 
 bytes_of() {
-    find "$root/crates/$1"/{src,specs,proofs} -type f -printf '%s\n' 2> /dev/null |
-        awk '{ sum += $1 } END { print sum + 0 }' || true
+    find "$@" -type f -printf '%s\n' 2> /dev/null | awk '{ sum += $1 } END { print sum + 0 }' || true
 }
 
 # The folders and files that something is built from, relative to `root`.

@@ -52,8 +52,10 @@ LINES
     mv crates/modinfo_cli/src/{lib,main}.rt
     echo "an input" > crates/modinfo_cli/stdin
     echo "// and more" >> crates/short/src/lib.rt
-    mkdir -p crates/long/specs/inner
-    head -c 300000 /dev/zero | tr '\0' '-' > crates/long/specs/inner/Long.antt
+    mkdir -p crates/long/{src,specs}/inner crates/apart/specs
+    head -c 10000 /dev/zero | tr '\0' '/' > crates/long/src/inner/long.rt
+    echo "-- long" > crates/long/specs/inner/Long.antt
+    head -c 100000 /dev/zero | tr '\0' '-' > crates/apart/specs/Apart.antt
 }
 
 # Runs a command, and compares its status, its output and its error lines with what has to come.
