@@ -4,3 +4,6 @@ pub mod Ahead
 pub mod Nested
 pub mod Steps
 pub mod Letters
+pub mod Values
+pub mod Kept
+pub mod Looking

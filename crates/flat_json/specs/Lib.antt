@@ -1,3 +1,5 @@
 pub mod Tape
 pub mod Flat
 pub mod Pointer
+pub mod Value
+pub mod View

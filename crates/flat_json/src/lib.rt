@@ -5,6 +5,9 @@
 #![tactic(auto)]
 
 ghost use Rattle.std.specs.Prelude.{◌≡◌, ◌<◌, ◌≤◌, ◌+◌, ◌-◌, ◌^◌, ◌↔◌, length, vec_len, IfSome, IsTrue};
+ghost use Rattle.std.specs.Prelude.{map, drop};
+ghost use Rattle.flat_json.specs.Flat.{plain};
+ghost use Rattle.flat_json.specs.Value.{AreOfValue, AreOfItems, AreOfMembers};
 
 mod digits;
 mod fault;
@@ -39,12 +42,14 @@ pub enum Node<'a> {
 pub struct Tape<'a> {
     nodes: Vec<Node<'a>>,
     ghost has_node: { 0 < vec_len nodes },
+    ghost of_value: { AreOfValue (map plain nodes.items) },
 }
 
 impl<'a> Tape<'a> {
     ghost use Rattle.std.specs.Prelude.{ℕ, IfOk, Err};
     ghost use Rattle.flat_json.specs.Flat.{IsFlatText, IsRefused};
     ghost use Rattle.flat_json.specs.Tape.{node_count, nodes_of, number_of, tape_nodes, own_nodes};
+    ghost use Rattle.flat_json.specs.View.{tape_value, value_of, IsValueOf};
     ghost use Rattle.flat_json.specs.declared.fault.TapeFault.TheVariants.{Json};
 
     /// Reads a text to its end. `Json` where it isn't one JSON value, nests deeper than 127 or has
@@ -56,6 +61,7 @@ impl<'a> Tape<'a> {
         scratch: &'a mut Scratch,
     ) -> Result<Tape<'a>, TapeFault>
         ensures flat { IfOk result (λ tape. IsFlatText text.now (tape_nodes tape)) }
+        ensures value { IfOk result (λ tape. IsValueOf text.now (tape_value tape)) }
         ensures refused { (offset : ℕ) → result ≡ Err (Json offset) → IsRefused text.now }
     {
         let nodes = parse::read(alloc, text, scratch)?;
@@ -67,6 +73,7 @@ impl<'a> Tape<'a> {
         ensures number { number_of result ≡ 0 }
         ensures nodes { nodes_of result ≡ node_count self.now }
         ensures own { own_nodes result ≡ tape_nodes self.now }
+        ensures value { value_of result ≡ tape_value self.now }
     {
         Element {
             nodes: self.nodes.as_slice(),
@@ -83,13 +90,17 @@ pub struct Element<'a> {
     number: usize,
     ghost has_node: { 0 < length nodes.now },
     ghost number_fits: { number + length nodes.now < 2 ^ 64 },
+    ghost of_value: { AreOfValue (map plain nodes.now) },
 }
 
 impl<'a> Element<'a> {
-    ghost use Rattle.std.specs.Prelude.{ℕ, Bool, Some, IsSome};
+    ghost use Rattle.std.specs.Prelude.{ℕ, Bool, Some, IsSome, option_map};
     ghost use Rattle.flat_json.specs.Tape.{nodes_of, number_of, node_of, count_of, HasNode, TakesSame};
     ghost use Rattle.flat_json.specs.Tape.{IsArray, IsObject, IsString, HasCount, HasValueAt, HoldsPair};
     ghost use Rattle.flat_json.specs.Tape.{IsValueAt, array_of, left_of, object_of, place_of};
+    ghost use Rattle.flat_json.specs.Value.{is_null, as_bool, as_whole, as_pair, as_str, as_array};
+    ghost use Rattle.flat_json.specs.Value.{as_object, item_count, BeginsValue};
+    ghost use Rattle.flat_json.specs.View.{value_of, items_left, members_of};
 
     /// The number of its node in the tape: 0 for the value of the whole text.
     pub fn number(self) -> usize
@@ -107,15 +118,17 @@ impl<'a> Element<'a> {
 
     /// Whether it is null.
     pub fn is_null(self) -> bool
-        ensures { IsTrue result ↔ (node_of self.entry ≡ Some Node.Null) }
+        ensures node { IsTrue result ↔ (node_of self.entry ≡ Some Node.Null) }
+        ensures value { result ≡ is_null (value_of self.entry) }
     {
         matches!(self.nodes.first(), Some(Node::Null))
     }
 
     /// The truth value, where it is one.
     pub fn as_bool(self) -> Option<bool>
-        ensures { (value : Bool) → (result ≡ Some value)
+        ensures node { (value : Bool) → (result ≡ Some value)
             ↔ (node_of self.entry ≡ Some (Node.Bool value)) }
+        ensures value { result ≡ as_bool (value_of self.entry) }
     {
         match self.nodes.first() {
             Some(Node::Bool(value)) => Some(*value),
@@ -125,8 +138,9 @@ impl<'a> Element<'a> {
 
     /// The whole number, where it is one from 0 to 2^64 - 1.
     pub fn as_u64(self) -> Option<u64>
-        ensures { (number : ℕ) → (result ≡ Some number)
+        ensures node { (number : ℕ) → (result ≡ Some number)
             ↔ (node_of self.entry ≡ Some (Node.Whole number)) }
+        ensures value { result ≡ as_whole (value_of self.entry) }
     {
         match self.nodes.first() {
             Some(Node::Whole(number)) => Some(*number),
@@ -140,6 +154,7 @@ impl<'a> Element<'a> {
         ensures pair { IfSome result (λ pair. HoldsPair self.entry pair.0 pair.1) }
         ensures some { (first : ℕ) → (second : ℕ) → IsArray self.entry
             → HoldsPair self.entry first second → result ≡ Some (first, second) }
+        ensures value { result ≡ as_pair (value_of self.entry) }
     {
         match self.nodes {
             [Node::Array { .. }, Node::Whole(first), Node::Whole(second)] => Some((
@@ -153,6 +168,7 @@ impl<'a> Element<'a> {
     pub fn as_str(self) -> Option<&'a str>
         ensures text { IfSome result (λ text. node_of self.entry ≡ Some (Node.String text)) }
         ensures some { IsString self.entry → IsSome result }
+        ensures value { option_map (λ text. text.now) result ≡ as_str (value_of self.entry) }
     {
         match self.nodes.first() {
             Some(Node::String(text)) => Some(*text),
@@ -168,6 +184,8 @@ impl<'a> Element<'a> {
         ensures first { IfSome result (λ found. place_of found ≡ 1) }
         ensures count { IfSome result (λ found. HasCount self.entry (count_of found)) }
         ensures left { IfSome result (λ found. left_of found < nodes_of self.entry) }
+        ensures items { option_map items_left result ≡ as_array (value_of self.entry) }
+        ensures counted { IfSome result (λ found. count_of found ≡ item_count (items_left found)) }
     {
         match self.nodes.first() {
             Some(Node::Array { elements, .. }) => Some(Elements {
@@ -184,6 +202,7 @@ impl<'a> Element<'a> {
         ensures some { IsSome result ↔ IsObject self.entry }
         ensures object { IfSome result (λ found. TakesSame (object_of found) self.entry) }
         ensures own { IfSome result (λ found. object_of found ≡ self.entry) }
+        ensures members { option_map members_of result ≡ as_object (value_of self.entry) }
     {
         match self.nodes.first() {
             Some(Node::Object { .. }) => Some(Members { object: self }),
@@ -194,6 +213,7 @@ impl<'a> Element<'a> {
     /// The value that begins at a place of its nodes, and the place behind it.
     #[inline(always)]
     fn value_at(self, at: usize) -> Option<(Element<'a>, usize)>
+        requires { BeginsValue (map plain (drop at self.nodes.now)) }
         ensures some { IsSome result ↔ HasValueAt self.entry at }
         ensures end { IfSome result (λ found. (at < found.1) × (found.1 ≤ nodes_of self.entry)) }
         ensures number { IfSome result (λ found. number_of found.0 ≡ number_of self.entry + at) }
@@ -222,11 +242,14 @@ pub struct Elements<'a> {
     /// The place of the next element among the array's nodes.
     at: usize,
     ghost behind_bracket: { 0 < at },
+    ghost of_items: { AreOfItems (map plain (drop at array.nodes.now)) },
 }
 
 impl<'a> Elements<'a> {
-    ghost use Rattle.std.specs.Prelude.{IfNone};
+    ghost use Rattle.std.specs.Prelude.{IfNone, option_map};
     ghost use Rattle.flat_json.specs.Tape.{StandsIn, IsElement, HasElement, array_of, count_of};
+    ghost use Rattle.flat_json.specs.Value.{item_at};
+    ghost use Rattle.flat_json.specs.View.{value_of, items_left};
 
     /// How many elements the array has.
     pub fn array_len(&self) -> usize
@@ -241,6 +264,7 @@ impl<'a> Elements<'a> {
         ensures inside { IfSome result (λ element. StandsIn element (array_of self.entry)) }
         ensures element { IfSome result (λ element. IsElement self.entry number element) }
         ensures none { IfNone result (¬ HasElement self.entry number) }
+        ensures value { option_map value_of result ≡ item_at number (items_left self.entry) }
     {
         let mut left = number;
         for element in self {
@@ -258,6 +282,7 @@ impl<'a> Iterator for Elements<'a> {
     ghost use Rattle.std.specs.Prelude.{IsSome};
     ghost use Rattle.flat_json.specs.Tape.{TakesSame, StandsIn, HasValueAt, IsValueAt, number_of};
     ghost use Rattle.flat_json.specs.Tape.{nodes_of, array_of, left_of, place_of};
+    ghost use Rattle.flat_json.specs.View.{items_left, items_with};
 
     type Item = Element<'a>;
 
@@ -267,7 +292,8 @@ impl<'a> Iterator for Elements<'a> {
         × (number_of element ≡ number_of (array_of old) + place_of old)
         × IsValueAt (array_of old) (place_of old) element
         × (place_of new ≡ place_of old + nodes_of element) × (array_of new ≡ array_of old)
-        × TakesSame (array_of new) (array_of old) × (left_of new < left_of old)) };
+        × TakesSame (array_of new) (array_of old) × (left_of new < left_of old))
+        × (items_left old ≡ items_with found (items_left new)) };
 
     ghost remaining = { λ elements. at_most (left_of elements) };
 
@@ -282,12 +308,15 @@ impl<'a> Iterator for Elements<'a> {
 #[derive(Clone, Copy)]
 pub struct Members<'a> {
     object: Element<'a>,
+    ghost of_members: { AreOfMembers (map plain (drop 1 object.nodes.now)) },
 }
 
 impl<'a> Members<'a> {
-    ghost use Rattle.std.specs.Prelude.{IfNone};
+    ghost use Rattle.std.specs.Prelude.{IfNone, option_map};
     ghost use Rattle.flat_json.specs.Tape.{number_of, StandsIn, IsNamed, IsLastNamed, IsNameless};
     ghost use Rattle.flat_json.specs.Tape.{object_of, object_of_entries, place_of_entries};
+    ghost use Rattle.flat_json.specs.Value.{last_named};
+    ghost use Rattle.flat_json.specs.View.{value_of, members_of, members_left};
 
     /// The number of the object's node in the tape.
     pub fn number(self) -> usize
@@ -302,6 +331,7 @@ impl<'a> Members<'a> {
         ensures named { IfSome result (IsNamed (object_of self.entry) name.now) }
         ensures last { IfSome result (IsLastNamed (object_of self.entry) name.now) }
         ensures none { IfNone result (IsNameless (object_of self.entry) name.now) }
+        ensures value { option_map value_of result ≡ last_named name.now (members_of self.entry) }
     {
         let mut found = None;
         for (key, value) in self.entries() {
@@ -316,6 +346,7 @@ impl<'a> Members<'a> {
     pub fn entries(self) -> Entries<'a>
         ensures object { object_of_entries result ≡ object_of self.entry }
         ensures first { place_of_entries result ≡ 1 }
+        ensures members { members_left result ≡ members_of self.entry }
     {
         Entries {
             object: self.object,
@@ -330,6 +361,7 @@ pub struct Entries<'a> {
     object: Element<'a>,
     /// The place of the next member among the object's nodes.
     at: usize,
+    ghost of_members: { AreOfMembers (map plain (drop at object.nodes.now)) },
 }
 
 impl<'a> Iterator for Entries<'a> {
@@ -338,6 +370,7 @@ impl<'a> Iterator for Entries<'a> {
     ghost use Rattle.flat_json.specs.Tape.{TakesSame, StandsIn, IsNamed, IsValueAt, HasNameAt};
     ghost use Rattle.flat_json.specs.Tape.{HasMemberAt, nodes_of, object_of_entries};
     ghost use Rattle.flat_json.specs.Tape.{left_of_entries, place_of_entries};
+    ghost use Rattle.flat_json.specs.View.{members_left, members_with};
 
     type Item = (&'a str, Element<'a>);
 
@@ -350,7 +383,8 @@ impl<'a> Iterator for Entries<'a> {
         × (place_of_entries new ≡ place_of_entries old + 1 + nodes_of member.1)
         × (object_of_entries new ≡ object_of_entries old)
         × TakesSame (object_of_entries new) (object_of_entries old)
-        × (left_of_entries new < left_of_entries old)) };
+        × (left_of_entries new < left_of_entries old))
+        × (members_left old ≡ members_with found (members_left new)) };
 
     ghost remaining = { λ entries. at_most (left_of_entries entries) };
 

@@ -1,5 +1,8 @@
-use Rattle.std.proofs.Common.{◌≡◌, ◌≢◌, ◌+◌, rules, refl, sym, subst}
+use Rattle.std.proofs.Common.{◌≡◌, ◌≢◌, ◌+◌, rules, refl, sym, ap, subst, ◌∙◌}
 use Rattle.flat_json.specs.Tape.{HasValueAt, IsValueAt, array_of, place_of, nodes_of}
+use Rattle.flat_json.specs.Value.{item_at}
+use Rattle.flat_json.specs.View.{value_of, items_left}
+use Rattle.flat_json.proofs.Looking.{item_next}
 use Rattle.flat_json.proofs.Places.{one_before, one_behind, none_here}
 use Rattle.flat_json.proofs.Elements.get.Goals as goal
 
@@ -21,6 +24,8 @@ loop-element-preserved c =
       search rules,
       λ place rest. kept.3 place (one_before holder element from next is behind left place some there rest),
       λ place all. one_behind holder element from next is behind left place some (kept.4 place all),
+      sym (item_next left (value_of element) (items_left c.next.new.self) some)
+          ∙ ap (item_at left) (sym steps.2) ∙ kept.5,
     )
 
 pub returns-clause-none : goal.returns-clause-none
@@ -29,5 +34,11 @@ returns-clause-none c has =
     let holder = array_of c.args.self in
     let from = place_of c.loop-element.element-iterator in
     let none : HasValueAt holder from → ⊥ =
-    λ there. absurd (cc (c.in-None.ensures.steps.0.1 (subst (λ array. HasValueAt array from) (sym kept.2) there))) in
+    λ there. absurd (cc (c.in-None.ensures.steps.0.1
+    (subst (λ array. HasValueAt array from) (sym kept.2) there))) in
     none_here holder from none c.loop-element.left has.0 (kept.4 has.0 has.1) has.2
+
+pub returns-clause-value : goal.returns-clause-value
+returns-clause-value c =
+    let kept = c.loop-element.invariant in
+    ap (item_at c.loop-element.left) (sym c.in-None.ensures.steps.2) ∙ kept.5

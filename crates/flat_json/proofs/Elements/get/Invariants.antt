@@ -1,5 +1,7 @@
 use Rattle.std.proofs.Common.{◌≡◌, ℕ}
 use Rattle.flat_json.specs.Tape.{ArePassed, array_of, place_of}
+use Rattle.flat_json.specs.Value.{item_at}
+use Rattle.flat_json.specs.View.{items_left}
 use Rattle.flat_json.proofs.Elements.get.Given as goal
 
 abbrev pub invariant-loop-element : goal.invariant-loop-element
@@ -10,3 +12,4 @@ invariant-loop-element l = (goal.iterator-loop-element).can_next l.element-itera
     → ArePassed (array_of l.fn.self) (place_of l.fn.self) l.fn.number place)
     × ((place : ℕ) → ArePassed (array_of l.fn.self) (place_of l.fn.self) l.fn.number place
     → ArePassed (array_of l.fn.self) (place_of l.element-iterator) l.left place)
+    × (item_at l.left (items_left l.element-iterator) ≡ item_at l.fn.number (items_left l.fn.self))

@@ -1,6 +1,9 @@
-use Rattle.std.proofs.Common.{◌≡◌, ◌+◌, ℕ, rules, refl, sym, ap, subst, Bor, List, ◌∙◌}
+use Rattle.std.proofs.Common.{◌≡◌, ◌+◌, ℕ, rules, refl, sym, ap, subst, Bor, List, option_map, ◌∙◌}
 use Rattle.flat_json.specs.Tape.{HasMemberAt, HasNameAt, IsValueAt, object_of, place_of_entries, nodes_of}
 use Rattle.flat_json.specs.declared.Node.TheVariants.{Key}
+use Rattle.flat_json.specs.Value.{last_named, later_or}
+use Rattle.flat_json.specs.View.{value_of, members_left}
+use Rattle.flat_json.proofs.Looking.{named_next, other_next}
 use Rattle.flat_json.proofs.Places.{named_here, other_here, member_before, is_last, is_nameless}
 use Rattle.flat_json.proofs.Members.get.Goals as goal
 
@@ -14,9 +17,11 @@ loop-key-preserved-then-eq c =
     let steps = c.in-Some.ensures.steps in
     let same : c.in-Some.key.now ≡ c.args.name.now = search rules in
     let there : HasMemberAt object from = subst (λ held. HasMemberAt held from) kept.2 (steps.0.0 refl) in
-    let is : IsValueAt object (from + 1) value = subst (λ held. IsValueAt held (from + 1) value) kept.2 steps.1.3 in
+    let is : IsValueAt object (from + 1) value = subst
+    (λ held. IsValueAt held (from + 1) value) kept.2 steps.1.3 in
     let named : HasNameAt object c.args.name.now from =
-    subst (λ text. HasNameAt object text from) same (subst (λ held. HasNameAt held c.in-Some.key.now from) kept.2 steps.1.2) in
+    subst (λ text. HasNameAt object text from) same
+    (subst (λ held. HasNameAt held c.in-Some.key.now from) kept.2 steps.1.2) in
     let behind : next ≡ from + 1 + nodes_of value = steps.1.4 in (
       tt,
       tt,
@@ -24,7 +29,12 @@ loop-key-preserved-then-eq c =
       search rules,
       search rules,
       λ later rest. kept.5 later (member_before object value from next is behind later there rest),
-      named_here object value from next is behind c.args.name.now c.loop-key.found kept.6 (kept.5 from (0, (there, refl))) named,
+      named_here object value from next is behind c.args.name.now c.loop-key.found kept.6
+          (kept.5 from (0, (there, refl))) named,
+      sym (named_next c.args.name.now c.in-Some.key.now (value_of value) (members_left c.next.new.self)
+          (option_map value_of c.loop-key.found) same)
+          ∙ ap (λ ms. later_or (last_named c.args.name.now ms) (option_map value_of c.loop-key.found))
+          (sym steps.2) ∙ kept.7,
     )
 
 pub loop-key-preserved : goal.loop-key-preserved
@@ -37,10 +47,13 @@ loop-key-preserved c =
     let steps = c.in-Some.ensures.steps in
     let differ : c.in-Some.key.now ≡ c.args.name.now → ⊥ = search rules in
     let there : HasMemberAt object from = subst (λ held. HasMemberAt held from) kept.2 (steps.0.0 refl) in
-    let is : IsValueAt object (from + 1) value = subst (λ held. IsValueAt held (from + 1) value) kept.2 steps.1.3 in
-    let named : HasNameAt object c.in-Some.key.now from = subst (λ held. HasNameAt held c.in-Some.key.now from) kept.2 steps.1.2 in
+    let is : IsValueAt object (from + 1) value = subst
+    (λ held. IsValueAt held (from + 1) value) kept.2 steps.1.3 in
+    let named : HasNameAt object c.in-Some.key.now from = subst
+    (λ held. HasNameAt held c.in-Some.key.now from) kept.2 steps.1.2 in
     let other : HasNameAt object c.args.name.now from → ⊥ =
-    λ found. let one : Key named.0 ≡ Key found.0 = cc (named.1, found.1) in let same : named.0 ≡ found.0 = cc in
+    λ found. let one : Key named.0 ≡ Key found.0 = cc (named.1, found.1) in let same : named.0
+    ≡ found.0 = cc in
     differ (sym named.2 ∙ ap (λ (b : Bor (List ℕ)). b.now) same ∙ found.2) in
     let behind : next ≡ from + 1 + nodes_of value = steps.1.4 in (
       tt,
@@ -50,6 +63,10 @@ loop-key-preserved c =
       kept.4,
       λ later rest. kept.5 later (member_before object value from next is behind later there rest),
       other_here object value from next is behind c.args.name.now c.loop-key.found kept.6 other,
+      sym (other_next c.args.name.now c.in-Some.key.now (value_of value) (members_left c.next.new.self)
+          (option_map value_of c.loop-key.found) differ)
+          ∙ ap (λ ms. later_or (last_named c.args.name.now ms) (option_map value_of c.loop-key.found))
+          (sym steps.2) ∙ kept.7,
     )
 
 pub returns-clause-last : goal.returns-clause-last
@@ -57,7 +74,8 @@ returns-clause-last c =
     let kept = c.loop-key.invariant in
     let from = place_of_entries c.loop-key.key-iterator in
     let none : HasMemberAt (object_of c.args.self) from → ⊥ =
-    λ there. absurd (cc (c.in-None.ensures.steps.0.1 (subst (λ held. HasMemberAt held from) (sym kept.2) there))) in
+    λ there. absurd (cc (c.in-None.ensures.steps.0.1
+    (subst (λ held. HasMemberAt held from) (sym kept.2) there))) in
     is_last (object_of c.args.self) c.args.name.now from none c.loop-key.found kept.6
 
 pub returns-clause-none : goal.returns-clause-none
@@ -65,5 +83,12 @@ returns-clause-none c =
     let kept = c.loop-key.invariant in
     let from = place_of_entries c.loop-key.key-iterator in
     let none : HasMemberAt (object_of c.args.self) from → ⊥ =
-    λ there. absurd (cc (c.in-None.ensures.steps.0.1 (subst (λ held. HasMemberAt held from) (sym kept.2) there))) in
+    λ there. absurd (cc (c.in-None.ensures.steps.0.1
+    (subst (λ held. HasMemberAt held from) (sym kept.2) there))) in
     is_nameless (object_of c.args.self) c.args.name.now from none c.loop-key.found kept.6
+
+pub returns-clause-value : goal.returns-clause-value
+returns-clause-value c =
+    let kept = c.loop-key.invariant in
+    ap (λ ms. later_or (last_named c.args.name.now ms) (option_map value_of c.loop-key.found))
+    (sym c.in-None.ensures.steps.2) ∙ kept.7

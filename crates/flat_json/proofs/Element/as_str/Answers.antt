@@ -1,0 +1,17 @@
+use Rattle.std.proofs.Common.{rules, sym, subst}
+use Rattle.flat_json.specs.Tape.{IsString, IsStringNode}
+use Rattle.flat_json.specs.declared.Node.TheVariants.{String}
+use Rattle.flat_json.proofs.Kept.{node_found, string_said, no_string}
+use Rattle.flat_json.proofs.Element.as_str.Goals as goal
+
+pub returns-in-Some-String-clause-value : goal.returns-in-Some-String-clause-value
+returns-in-Some-String-clause-value c =
+    let found = c.in-Some-String in
+    let own = String found.text in
+    sym (string_said c.args.self own
+    (node_found c.args.self c.first.result found.field-0 own c.first.ensures.value found.is found.field-0-is))
+
+pub returns-in_default-clause-value : goal.returns-in_default-clause-value
+returns-in_default-clause-value c =
+    let none : IsString c.args.self → ⊥ = search rules in
+    sym (no_string c.args.self (λ s is. none (subst IsStringNode (sym is) tt)))
