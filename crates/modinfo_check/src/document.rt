@@ -48,7 +48,7 @@ fn wrong_notation(
 fn check_parts(alloc: Global, tape: &Tape<'_>, document: &Document) -> Result<Report, AllocError> {
     match Url::parse(alloc, document.specifier.as_str()) {
         Ok(_) => {}
-        Err(ParseError::OutOfMemory) => return Err(AllocError),
+        Err(ParseError::OutOfMemory | ParseError::Overflow) => return Err(AllocError),
         Err(_) => return Ok(Report::Wrong(wrong_specifier(alloc)?)),
     }
     match fault_place(alloc, document)? {

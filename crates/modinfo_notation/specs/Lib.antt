@@ -1,1 +1,10 @@
+pub mod Answer
+pub mod Comments
+pub mod Kind
+pub mod Literal
 pub mod Misfit
+pub mod Node
+pub mod Partial
+pub mod Document
+pub mod Fault
+pub mod Place

@@ -3,6 +3,10 @@
 ghost use Rattle.std.specs.Prelude.{IfErr};
 ghost use Rattle.flat_json.specs.Tape.{object_of};
 ghost use Rattle.modinfo_notation.specs.Misfit.{IsIn};
+ghost use Rattle.flat_json.specs.View.{members_of, value_of};
+ghost use Rattle.modinfo_notation.specs.Answer.{Answers};
+ghost use Rattle.modinfo_notation.specs.Kind.{callees, reads_arg, reads_call, reads_named};
+ghost use Rattle.modinfo_notation.specs.Partial.{reads_array};
 
 use crate::fault::{Expected, NotationFault};
 use crate::member::{elements_of, flag, members_of, misfit, range, required, text_of};
@@ -12,8 +16,10 @@ use flat_json::{Element, Members};
 use std::alloc::Global;
 
 /// A call.
+#[tactic(auto, using(crate::proofs::Reading::reading), unfolding(crate::specs::Kind::reads_call, crate::specs::Partial::required))]
 pub fn read_call(alloc: Global, members: Members<'_>) -> Result<Kind, NotationFault>
-    ensures { IfErr result (IsIn (object_of members.entry)) }
+    ensures misfit { IfErr result (IsIn (object_of members.entry)) }
+    ensures read { Answers (reads_call (members_of members.entry)) result }
 {
     let callee = read_callee(required(members, "callee")?)?;
     let args = read_args(alloc, required(members, "args")?)?;
@@ -22,8 +28,10 @@ pub fn read_call(alloc: Global, members: Members<'_>) -> Result<Kind, NotationFa
 
 const CALLEES: &str = "import, importSource, importDefer, expr, super";
 
+#[tactic(auto, using(crate::proofs::Reading::reading), unfolding(crate::specs::Kind::reads_named, crate::specs::Kind::named))]
 fn read_callee(value: Element<'_>) -> Result<Callee, NotationFault>
-    ensures { IfErr result (IsIn value.entry) }
+    ensures misfit { IfErr result (IsIn value.entry) }
+    ensures read { Answers (reads_named callees (value_of value.entry)) result }
 {
     match text_of(value)? {
         "import" => Ok(Callee::Import(ImportPhase::Evaluation)),
@@ -36,8 +44,10 @@ fn read_callee(value: Element<'_>) -> Result<Callee, NotationFault>
 }
 
 /// Arguments, `[{"range":[START,END],"spread":BOOL} ..]`.
+#[tactic(auto, using(crate::proofs::Reading::reading), unfolding(crate::specs::Partial::reads_array))]
 fn read_args(alloc: Global, value: Element<'_>) -> Result<Items<Arg>, NotationFault>
-    ensures { IfErr result (IsIn value.entry) }
+    ensures misfit { IfErr result (IsIn value.entry) }
+    ensures read { Answers (reads_array reads_arg (value_of value.entry)) result }
 {
     let values = elements_of(value)?;
     let mut args = Items::with_capacity(alloc, values.array_len())?;
@@ -47,8 +57,10 @@ fn read_args(alloc: Global, value: Element<'_>) -> Result<Items<Arg>, NotationFa
     Ok(args)
 }
 
+#[tactic(auto, using(crate::proofs::Reading::reading), unfolding(crate::specs::Kind::reads_arg))]
 fn read_arg(value: Element<'_>) -> Result<Arg, NotationFault>
-    ensures { IfErr result (IsIn value.entry) }
+    ensures misfit { IfErr result (IsIn value.entry) }
+    ensures read { Answers (reads_arg (value_of value.entry)) result }
 {
     let members = members_of(value)?;
     let range = range(members)?;

@@ -1,16 +1,27 @@
-ghost use Rattle.std.specs.Prelude.{IfErr};
+//! Comments, each filed at its position.
+
+ghost use Rattle.std.specs.Prelude.{◌≡◌, [], ◌∷◌, IfErr, OnOk};
 ghost use Rattle.flat_json.specs.Tape.{object_of};
+ghost use Rattle.flat_json.specs.View.{members_of, value_of};
 ghost use Rattle.modinfo_notation.specs.Misfit.{IsIn};
+ghost use Rattle.modinfo_notation.specs.Answer.{Answers, AnswersBy};
+ghost use Rattle.modinfo_notation.specs.Comments.{AddsOn, AreFiledOn, AreThoseOf, comment_kinds};
+ghost use Rattle.modinfo_notation.specs.Comments.{reads_comment, reads_entry, reads_side, reads_sides};
+ghost use Rattle.modinfo_notation.specs.Comments.{side_name};
+ghost use Rattle.modinfo_notation.specs.Kind.{reads_named};
+ghost use Rattle.modinfo_notation.specs.Partial.{reads_array};
 
 use crate::fault::{Expected, NotationFault};
 use crate::member::{elements_of, members_of, misfit, offset, range, required, text, text_of};
 use deno_graph_source::tree::{CommentKind, CommentSide, Comments, DependencyComment};
 use deno_graph_source::values::Text;
 use flat_json::{Element, Members};
-use std::alloc::Global;
+use std::alloc::{AllocError, Global};
 
 /// The name of the document's member that has the comments of this side.
-pub fn member_of(side: CommentSide) -> &'static str {
+pub fn member_of(side: CommentSide) -> &'static str
+    ensures { result.now ≡ side_name side }
+{
     match side {
         CommentSide::Leading => "leading",
         CommentSide::Trailing => "trailing",
@@ -20,15 +31,30 @@ pub fn member_of(side: CommentSide) -> &'static str {
 /// The comments of a document: its members `leading` and `trailing`, which are arrays of
 /// `{"pos":POSITION,"comments":[COMMENT ..]}`. They are filed in the order in which they stand.
 pub fn read_comments(alloc: Global, members: Members<'_>) -> Result<Comments, NotationFault>
-    ensures { IfErr result (IsIn (object_of members.entry)) }
+    ensures misfit { IfErr result (IsIn (object_of members.entry)) }
+    ensures read { AnswersBy AreThoseOf (reads_sides (members_of members.entry)) result }
 {
     let mut comments = Comments::new(alloc);
-    for side in [CommentSide::Leading, CommentSide::Trailing] {
-        if let Some(entries) = members.get(member_of(side)) {
-            read_entries(alloc, entries, side, &mut comments)?;
-        }
-    }
+    read_side(alloc, members, CommentSide::Leading, &mut comments)?;
+    read_side(alloc, members, CommentSide::Trailing, &mut comments)?;
     Ok(comments)
+}
+
+/// Files the comments of one side, none where the member is missing.
+fn read_side(
+    alloc: Global,
+    members: Members<'_>,
+    side: CommentSide,
+    comments: &mut Comments,
+) -> Result<(), NotationFault>
+    ensures misfit { IfErr result (IsIn (object_of members.entry)) }
+    ensures read { AnswersBy (λ entries _. AreFiledOn side comments.old comments.new entries)
+        (reads_side side (members_of members.entry)) result }
+{
+    match members.get(member_of(side)) {
+        Some(entries) => read_entries(alloc, entries, side, comments),
+        None => Ok(()),
+    }
 }
 
 fn read_entries(
@@ -37,7 +63,9 @@ fn read_entries(
     side: CommentSide,
     comments: &mut Comments,
 ) -> Result<(), NotationFault>
-    ensures { IfErr result (IsIn entries.entry) }
+    ensures misfit { IfErr result (IsIn entries.entry) }
+    ensures read { AnswersBy (λ read _. AreFiledOn side comments.old comments.new read)
+        (reads_array reads_entry (value_of entries.entry)) result }
 {
     for entry in elements_of(entries)? {
         read_entry(alloc, entry, side, comments)?;
@@ -52,23 +80,38 @@ fn read_entry(
     side: CommentSide,
     comments: &mut Comments,
 ) -> Result<(), NotationFault>
-    ensures { IfErr result (IsIn entry.entry) }
+    ensures misfit { IfErr result (IsIn entry.entry) }
+    ensures read { AnswersBy (λ read _. AreFiledOn side comments.old comments.new (read ∷ []))
+        (reads_entry (value_of entry.entry)) result }
 {
     let members = members_of(entry)?;
     let pos = offset(required(members, "pos")?)?;
     for value in elements_of(required(members, "comments")?)? {
         let comment = read_comment(alloc, value)?;
-        match side {
-            CommentSide::Leading => comments.add_leading(pos, comment)?,
-            CommentSide::Trailing => comments.add_trailing(pos, comment)?,
-        }
+        add(comments, side, pos, comment)?;
     }
     Ok(())
 }
 
+fn add(
+    comments: &mut Comments,
+    side: CommentSide,
+    pos: usize,
+    comment: DependencyComment,
+) -> Result<(), AllocError>
+    ensures { OnOk result (AddsOn side comments.old comments.new pos comment) }
+{
+    match side {
+        CommentSide::Leading => comments.add_leading(pos, comment),
+        CommentSide::Trailing => comments.add_trailing(pos, comment),
+    }
+}
+
 /// A comment, `{"kind":"line","range":[START,END],"text":TEXT}` or one of the kind `block`.
+#[tactic(auto, using(crate::proofs::Reading::reading), unfolding(crate::specs::Comments::reads_comment, crate::specs::Partial::required))]
 fn read_comment(alloc: Global, value: Element<'_>) -> Result<DependencyComment, NotationFault>
-    ensures { IfErr result (IsIn value.entry) }
+    ensures misfit { IfErr result (IsIn value.entry) }
+    ensures read { Answers (reads_comment (value_of value.entry)) result }
 {
     let members = members_of(value)?;
     let kind = read_comment_kind(required(members, "kind")?)?;
@@ -79,8 +122,10 @@ fn read_comment(alloc: Global, value: Element<'_>) -> Result<DependencyComment, 
 
 const COMMENT_KINDS: &str = "line, block";
 
+#[tactic(auto, using(crate::proofs::Reading::reading), unfolding(crate::specs::Kind::reads_named, crate::specs::Kind::named))]
 fn read_comment_kind(value: Element<'_>) -> Result<CommentKind, NotationFault>
-    ensures { IfErr result (IsIn value.entry) }
+    ensures misfit { IfErr result (IsIn value.entry) }
+    ensures read { Answers (reads_named comment_kinds (value_of value.entry)) result }
 {
     match text_of(value)? {
         "line" => Ok(CommentKind::Line),

@@ -3,6 +3,13 @@
 ghost use Rattle.std.specs.Prelude.{IfErr, IfSome};
 ghost use Rattle.flat_json.specs.Tape.{object_of};
 ghost use Rattle.modinfo_notation.specs.Misfit.{IsIn, IsInFound, IsMemberOf};
+ghost use Rattle.std.specs.Prelude.{◌≡◌, option_map, codes};
+ghost use Rattle.flat_json.specs.Value.{last_named};
+ghost use Rattle.flat_json.specs.View.{value_of, members_of};
+ghost use Rattle.modinfo_notation.specs.Answer.{Answers};
+ghost use Rattle.modinfo_notation.specs.Kind.{phases, reads_named, reads_import_decl, reads_named_export, reads_export_all, reads_import_equals, reads_import_type, reads_module_decl};
+ghost use Rattle.modinfo_notation.specs.Partial.{found_or};
+ghost use Rattle.deno_graph_source.specs.declared.tree.node.ImportPhase.TheVariants.{Evaluation};
 
 use crate::fault::{Expected, NotationFault};
 use crate::literal::{optional_literal, read_literal};
@@ -12,8 +19,10 @@ use flat_json::{Element, Members};
 use std::alloc::Global;
 
 /// An import declaration.
+#[tactic(auto, using(crate::proofs::Reading::reading), unfolding(crate::specs::Kind::reads_import_decl, crate::specs::Partial::required, crate::specs::Partial::flag))]
 pub fn read_import_decl(alloc: Global, members: Members<'_>) -> Result<Kind, NotationFault>
-    ensures { IfErr result (IsIn (object_of members.entry)) }
+    ensures misfit { IfErr result (IsIn (object_of members.entry)) }
+    ensures read { Answers (reads_import_decl (members_of members.entry)) result }
 {
     let found = SourceMembers::find(members);
     let type_only = truth_or_false(found.type_only)?;
@@ -48,6 +57,11 @@ impl<'a> SourceMembers<'a> {
         ensures has_specifiers { IfSome result.has_specifiers (IsMemberOf members.entry) }
         ensures has_with { IfSome result.has_with (IsMemberOf members.entry) }
         ensures src { IfSome result.src (IsMemberOf members.entry) }
+        ensures last_type_only { option_map value_of result.type_only ≡ last_named (codes "typeOnly") (members_of members.entry) }
+        ensures last_phase { option_map value_of result.phase ≡ last_named (codes "phase") (members_of members.entry) }
+        ensures last_has_specifiers { option_map value_of result.has_specifiers ≡ last_named (codes "hasSpecifiers") (members_of members.entry) }
+        ensures last_has_with { option_map value_of result.has_with ≡ last_named (codes "hasWith") (members_of members.entry) }
+        ensures last_src { option_map value_of result.src ≡ last_named (codes "src") (members_of members.entry) }
     {
         let mut type_only = None;
         let mut phase = None;
@@ -76,8 +90,10 @@ impl<'a> SourceMembers<'a> {
 
 const PHASES: &str = "evaluation, source, defer";
 
+#[tactic(auto, using(crate::proofs::Reading::reading), unfolding(crate::specs::Kind::reads_named, crate::specs::Kind::named))]
 fn import_phase(found: Option<Element<'_>>) -> Result<ImportPhase, NotationFault>
-    ensures { IfErr result (IsInFound found.entry) }
+    ensures misfit { IfErr result (IsInFound found.entry) }
+    ensures read { Answers (found_or (reads_named phases) Evaluation (option_map value_of found.entry)) result }
 {
     let Some(value) = found else {
         return Ok(ImportPhase::Evaluation);
@@ -91,8 +107,10 @@ fn import_phase(found: Option<Element<'_>>) -> Result<ImportPhase, NotationFault
 }
 
 /// An export of names, with or without a source.
+#[tactic(auto, using(crate::proofs::Reading::reading), unfolding(crate::specs::Kind::reads_named_export))]
 pub fn read_named_export(alloc: Global, members: Members<'_>) -> Result<Kind, NotationFault>
-    ensures { IfErr result (IsIn (object_of members.entry)) }
+    ensures misfit { IfErr result (IsIn (object_of members.entry)) }
+    ensures read { Answers (reads_named_export (members_of members.entry)) result }
 {
     let type_only = flag(members, "typeOnly")?;
     let has_with = flag(members, "hasWith")?;
@@ -105,8 +123,10 @@ pub fn read_named_export(alloc: Global, members: Members<'_>) -> Result<Kind, No
 }
 
 /// An export of all names of another module.
+#[tactic(auto, using(crate::proofs::Reading::reading), unfolding(crate::specs::Kind::reads_export_all, crate::specs::Partial::required, crate::specs::Partial::flag))]
 pub fn read_export_all(alloc: Global, members: Members<'_>) -> Result<Kind, NotationFault>
-    ensures { IfErr result (IsIn (object_of members.entry)) }
+    ensures misfit { IfErr result (IsIn (object_of members.entry)) }
+    ensures read { Answers (reads_export_all (members_of members.entry)) result }
 {
     let found = SourceMembers::find(members);
     let type_only = truth_or_false(found.type_only)?;
@@ -120,8 +140,10 @@ pub fn read_export_all(alloc: Global, members: Members<'_>) -> Result<Kind, Nota
 }
 
 /// An import-equals declaration.
+#[tactic(auto, using(crate::proofs::Reading::reading), unfolding(crate::specs::Kind::reads_import_equals))]
 pub fn read_import_equals(alloc: Global, members: Members<'_>) -> Result<Kind, NotationFault>
-    ensures { IfErr result (IsIn (object_of members.entry)) }
+    ensures misfit { IfErr result (IsIn (object_of members.entry)) }
+    ensures read { Answers (reads_import_equals (members_of members.entry)) result }
 {
     let type_only = flag(members, "typeOnly")?;
     let is_export = flag(members, "isExport")?;
@@ -134,8 +156,10 @@ pub fn read_import_equals(alloc: Global, members: Members<'_>) -> Result<Kind, N
 }
 
 /// An import type.
+#[tactic(auto, using(crate::proofs::Reading::reading), unfolding(crate::specs::Kind::reads_import_type, crate::specs::Partial::required))]
 pub fn read_import_type(alloc: Global, members: Members<'_>) -> Result<Kind, NotationFault>
-    ensures { IfErr result (IsIn (object_of members.entry)) }
+    ensures misfit { IfErr result (IsIn (object_of members.entry)) }
+    ensures read { Answers (reads_import_type (members_of members.entry)) result }
 {
     let has_with = flag(members, "hasWith")?;
     let arg = read_literal(alloc, required(members, "arg")?)?;
@@ -143,8 +167,10 @@ pub fn read_import_type(alloc: Global, members: Members<'_>) -> Result<Kind, Not
 }
 
 /// A module or namespace, with or without a name that is a string.
+#[tactic(auto, using(crate::proofs::Reading::reading), unfolding(crate::specs::Kind::reads_module_decl))]
 pub fn read_module_decl(alloc: Global, members: Members<'_>) -> Result<Kind, NotationFault>
-    ensures { IfErr result (IsIn (object_of members.entry)) }
+    ensures misfit { IfErr result (IsIn (object_of members.entry)) }
+    ensures read { Answers (reads_module_decl (members_of members.entry)) result }
 {
     let name = optional_literal(alloc, members, "name")?;
     Ok(Kind::ModuleDecl { name })

@@ -1,4 +1,10 @@
-ghost use Rattle.std.specs.Prelude.{IfErr};
+//! Documents: modules as a parser hands them over.
+
+ghost use Rattle.std.specs.Prelude.{IfErr, MatchResult};
+ghost use Rattle.flat_json.specs.View.{value_of};
+ghost use Rattle.modinfo_notation.specs.Answer.{AnswersBy};
+ghost use Rattle.modinfo_notation.specs.Document.{Has, IsDocumentOf, IsNoDocument, IsNoSource};
+ghost use Rattle.modinfo_notation.specs.Document.{IsSourceOf, reads_document};
 ghost use Rattle.modinfo_notation.specs.Misfit.{IsIn};
 
 use crate::comments::read_comments;
@@ -28,7 +34,8 @@ pub struct Document {
 /// Reads a document. `NotInNotation` where the value isn't in the notation, with the first place
 /// that was found where it isn't.
 pub fn read_document(alloc: Global, value: Element<'_>) -> Result<Document, NotationFault>
-    ensures { IfErr result (IsIn value.entry) }
+    ensures misfit { IfErr result (IsIn value.entry) }
+    ensures read { AnswersBy Has (reads_document (value_of value.entry)) result }
 {
     let members = members_of(value)?;
     let specifier = Text::from_str(alloc, text(members, "specifier")?)?;
@@ -47,7 +54,9 @@ pub fn read_document(alloc: Global, value: Element<'_>) -> Result<Document, Nota
 
 /// Reads a document. `Json` where the text is no JSON, nests deeper than 127 or has a number too
 /// large for a float, and `NotInNotation` where it isn't in the notation: each with its place.
-pub fn parse_document(alloc: Global, text: &str) -> Result<Document, NotationFault> {
+pub fn parse_document(alloc: Global, text: &str) -> Result<Document, NotationFault>
+    ensures { MatchResult result (IsDocumentOf text.now) (IsNoDocument text.now) }
+{
     let mut scratch = Scratch::new(alloc);
     let tape = Tape::read(alloc, text, &mut scratch)?;
     read_document(alloc, tape.root())
@@ -56,7 +65,9 @@ pub fn parse_document(alloc: Global, text: &str) -> Result<Document, NotationFau
 impl Document {
     /// The source, without scope analysis. `Specifier` where the specifier is no URL, and else a
     /// fault of the source where the tree or the comments don't fit it.
-    pub fn into_source(self, alloc: Global) -> Result<ParsedSource, NotationFault> {
+    pub fn into_source(self, alloc: Global) -> Result<ParsedSource, NotationFault>
+        ensures { MatchResult result (IsSourceOf self) (IsNoSource self) }
+    {
         let Document {
             specifier,
             media_type,

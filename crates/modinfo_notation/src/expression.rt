@@ -3,6 +3,9 @@
 ghost use Rattle.std.specs.Prelude.{IfErr};
 ghost use Rattle.flat_json.specs.Tape.{object_of};
 ghost use Rattle.modinfo_notation.specs.Misfit.{IsIn};
+ghost use Rattle.flat_json.specs.View.{members_of};
+ghost use Rattle.modinfo_notation.specs.Answer.{Answers};
+ghost use Rattle.modinfo_notation.specs.Kind.{reads_str, reads_template, reads_binary, reads_ident};
 
 use crate::fault::{Expected, NotationFault};
 use crate::literal::{read_string, read_strings};
@@ -13,15 +16,19 @@ use flat_json::Members;
 use std::alloc::Global;
 
 /// A string literal.
+#[tactic(auto, using(crate::proofs::Reading::reading), unfolding(crate::specs::Kind::reads_str, crate::specs::Partial::required))]
 pub fn read_str(alloc: Global, members: Members<'_>) -> Result<Kind, NotationFault>
-    ensures { IfErr result (IsIn (object_of members.entry)) }
+    ensures misfit { IfErr result (IsIn (object_of members.entry)) }
+    ensures read { Answers (reads_str (members_of members.entry)) result }
 {
     Ok(Kind::Str(read_string(alloc, required(members, "value")?)?))
 }
 
 /// A template without a tag, by its quasis.
+#[tactic(auto, using(crate::proofs::Reading::reading), unfolding(crate::specs::Kind::reads_template, crate::specs::Partial::required))]
 pub fn read_template(alloc: Global, members: Members<'_>) -> Result<Kind, NotationFault>
-    ensures { IfErr result (IsIn (object_of members.entry)) }
+    ensures misfit { IfErr result (IsIn (object_of members.entry)) }
+    ensures read { Answers (reads_template (members_of members.entry)) result }
 {
     let quasis = read_strings(alloc, required(members, "quasis")?)?;
     Ok(Kind::Template(quasis))
@@ -30,8 +37,10 @@ pub fn read_template(alloc: Global, members: Members<'_>) -> Result<Kind, Notati
 const OPERATORS: &str = "add, other";
 
 /// A binary expression.
+#[tactic(auto, using(crate::proofs::Reading::reading), unfolding(crate::specs::Kind::reads_binary, crate::specs::Kind::reads_named, crate::specs::Kind::named, crate::specs::Partial::required))]
 pub fn read_binary(members: Members<'_>) -> Result<Kind, NotationFault>
-    ensures { IfErr result (IsIn (object_of members.entry)) }
+    ensures misfit { IfErr result (IsIn (object_of members.entry)) }
+    ensures read { Answers (reads_binary (members_of members.entry)) result }
 {
     let value = required(members, "op")?;
     match text_of(value)? {
@@ -42,8 +51,10 @@ pub fn read_binary(members: Members<'_>) -> Result<Kind, NotationFault>
 }
 
 /// An identifier.
+#[tactic(auto, using(crate::proofs::Reading::reading), unfolding(crate::specs::Kind::reads_ident))]
 pub fn read_ident(alloc: Global, members: Members<'_>) -> Result<Kind, NotationFault>
-    ensures { IfErr result (IsIn (object_of members.entry)) }
+    ensures misfit { IfErr result (IsIn (object_of members.entry)) }
+    ensures read { Answers (reads_ident (members_of members.entry)) result }
 {
     let name = Text::from_str(alloc, text(members, "value")?)?;
     Ok(Kind::Ident(name))

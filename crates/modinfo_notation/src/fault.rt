@@ -21,7 +21,7 @@ pub enum NotationFault {
     /// The tree or the comments don't fit the source.
     #[error("{0}")]
     Source(SourceFault),
-    /// Memory was refused.
+    /// Memory was refused, or the specifier is a URL of 4 GB.
     #[error("OutOfMemory")]
     OutOfMemory,
 }
@@ -98,6 +98,11 @@ impl<T: Drop> From<AllocFailed<T>> for NotationFault {
 }
 
 impl From<TapeFault> for NotationFault {
+    ghost use Rattle.std.specs.Prelude.{◌≡◌};
+    ghost use Rattle.modinfo_notation.specs.Fault.{of_tape};
+
+    ghost from_gives = { λ fault e. e ≡ of_tape fault };
+
     fn from(fault: TapeFault) -> NotationFault {
         match fault {
             TapeFault::Json { offset } => NotationFault::Json { offset },
@@ -107,15 +112,25 @@ impl From<TapeFault> for NotationFault {
 }
 
 impl From<ParseError> for NotationFault {
+    ghost use Rattle.std.specs.Prelude.{◌≡◌};
+    ghost use Rattle.modinfo_notation.specs.Fault.{of_url};
+
+    ghost from_gives = { λ error e. e ≡ of_url error };
+
     fn from(error: ParseError) -> NotationFault {
         match error {
-            ParseError::OutOfMemory => NotationFault::OutOfMemory,
+            ParseError::OutOfMemory | ParseError::Overflow => NotationFault::OutOfMemory,
             _ => NotationFault::Specifier,
         }
     }
 }
 
 impl From<SourceFault> for NotationFault {
+    ghost use Rattle.std.specs.Prelude.{◌≡◌};
+    ghost use Rattle.modinfo_notation.specs.Fault.{of_source};
+
+    ghost from_gives = { λ fault e. e ≡ of_source fault };
+
     fn from(fault: SourceFault) -> NotationFault {
         match fault {
             SourceFault::OutOfMemory => NotationFault::OutOfMemory,

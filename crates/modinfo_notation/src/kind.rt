@@ -5,6 +5,9 @@
 ghost use Rattle.std.specs.Prelude.{IfErr};
 ghost use Rattle.flat_json.specs.Tape.{StandsIn, object_of};
 ghost use Rattle.modinfo_notation.specs.Misfit.{IsIn};
+ghost use Rattle.flat_json.specs.View.{members_of, value_of};
+ghost use Rattle.modinfo_notation.specs.Answer.{Answers};
+ghost use Rattle.modinfo_notation.specs.Kind.{reads_kind};
 
 use crate::call::read_call;
 use crate::declaration::{
@@ -26,13 +29,15 @@ pub const KINDS: &str =
     Other";
 
 /// The kind that `value` names, with what stands among the members beside it.
+#[tactic(auto, using(crate::proofs::Reading::reading), unfolding(crate::specs::Kind::reads_kind, crate::specs::Kind::named))]
 pub fn read_kind(
     alloc: Global,
     members: Members<'_>,
     value: Element<'_>,
 ) -> Result<Kind, NotationFault>
-    ensures { StandsIn value.entry (object_of members.entry)
+    ensures misfit { StandsIn value.entry (object_of members.entry)
         → IfErr result (IsIn (object_of members.entry)) }
+    ensures read { Answers (reads_kind (members_of members.entry) (value_of value.entry)) result }
 {
     match text_of(value)? {
         "Other" => Ok(Kind::Other),

@@ -1,6 +1,12 @@
 ghost use Rattle.std.specs.Prelude.{IfErr, IfSome};
 ghost use Rattle.flat_json.specs.Tape.{object_of};
 ghost use Rattle.modinfo_notation.specs.Misfit.{IsIn, IsMemberOf};
+ghost use Rattle.std.specs.Prelude.{option_map, codes, ◌≡◌};
+ghost use Rattle.flat_json.specs.Value.{last_named};
+ghost use Rattle.flat_json.specs.View.{members_of, value_of};
+ghost use Rattle.modinfo_notation.specs.Answer.{Answers};
+ghost use Rattle.modinfo_notation.specs.Literal.{reads_literal, reads_string, reads_unit, reads_units};
+ghost use Rattle.modinfo_notation.specs.Partial.{optional, reads_array};
 
 use crate::fault::{Expected, NotationFault};
 use crate::member::{elements_of, members_of, misfit, optional, present, range_of};
@@ -11,12 +17,14 @@ use flat_json::{Element, Members};
 use std::alloc::Global;
 
 /// The string literal at the member `name`, or none where that is missing or null.
+#[tactic(auto, using(crate::proofs::Reading::reading), unfolding(crate::specs::Partial::optional))]
 pub fn optional_literal(
     alloc: Global,
     members: Members<'_>,
     name: &str,
 ) -> Result<Option<StrLit>, NotationFault>
-    ensures { IfErr result (IsIn (object_of members.entry)) }
+    ensures misfit { IfErr result (IsIn (object_of members.entry)) }
+    ensures read { Answers (optional reads_literal name.now (members_of members.entry)) result }
 {
     match optional(members, name) {
         None => Ok(None),
@@ -25,8 +33,10 @@ pub fn optional_literal(
 }
 
 /// A string literal, `{"value":STRING,"range":[START,END]}`.
+#[tactic(auto, using(crate::proofs::Reading::reading), unfolding(crate::specs::Literal::reads_literal, crate::specs::Partial::required))]
 pub fn read_literal(alloc: Global, value: Element<'_>) -> Result<StrLit, NotationFault>
-    ensures { IfErr result (IsIn value.entry) }
+    ensures misfit { IfErr result (IsIn value.entry) }
+    ensures read { Answers (reads_literal (value_of value.entry)) result }
 {
     let members = members_of(value)?;
     let (range, value) = literal_members(members);
@@ -39,6 +49,8 @@ pub fn read_literal(alloc: Global, value: Element<'_>) -> Result<StrLit, Notatio
 fn literal_members<'a>(members: Members<'a>) -> (Option<Element<'a>>, Option<Element<'a>>)
     ensures range { IfSome result.0 (IsMemberOf members.entry) }
     ensures value { IfSome result.1 (IsMemberOf members.entry) }
+    ensures last_range { option_map value_of result.0 ≡ last_named (codes "range") (members_of members.entry) }
+    ensures last_value { option_map value_of result.1 ≡ last_named (codes "value") (members_of members.entry) }
 {
     let mut range = None;
     let mut value = None;
@@ -53,8 +65,10 @@ fn literal_members<'a>(members: Members<'a>) -> (Option<Element<'a>>, Option<Ele
 }
 
 /// An array of strings.
+#[tactic(auto, using(crate::proofs::Reading::reading), unfolding(crate::specs::Partial::reads_array))]
 pub fn read_strings(alloc: Global, value: Element<'_>) -> Result<Items<JsString>, NotationFault>
-    ensures { IfErr result (IsIn value.entry) }
+    ensures misfit { IfErr result (IsIn value.entry) }
+    ensures read { Answers (reads_array reads_string (value_of value.entry)) result }
 {
     let values = elements_of(value)?;
     let mut strings = Items::with_capacity(alloc, values.array_len())?;
@@ -65,8 +79,10 @@ pub fn read_strings(alloc: Global, value: Element<'_>) -> Result<Items<JsString>
 }
 
 /// A string of the source: a text, or an array of units of UTF-16.
+#[tactic(auto, using(crate::proofs::Reading::reading), unfolding(crate::specs::Literal::reads_string))]
 pub fn read_string(alloc: Global, value: Element<'_>) -> Result<JsString, NotationFault>
-    ensures { IfErr result (IsIn value.entry) }
+    ensures misfit { IfErr result (IsIn value.entry) }
+    ensures read { Answers (reads_string (value_of value.entry)) result }
 {
     match value.as_str() {
         Some(text) => Ok(JsString::from_str(alloc, text)?),
@@ -74,8 +90,10 @@ pub fn read_string(alloc: Global, value: Element<'_>) -> Result<JsString, Notati
     }
 }
 
+#[tactic(auto, using(crate::proofs::Reading::reading), unfolding(crate::specs::Literal::reads_units, crate::specs::Partial::reads_array))]
 fn read_units(alloc: Global, value: Element<'_>) -> Result<JsString, NotationFault>
-    ensures { IfErr result (IsIn value.entry) }
+    ensures misfit { IfErr result (IsIn value.entry) }
+    ensures read { Answers (reads_units (value_of value.entry)) result }
 {
     let values = value
         .elements()
@@ -87,8 +105,10 @@ fn read_units(alloc: Global, value: Element<'_>) -> Result<JsString, NotationFau
     Ok(JsString::from_units(alloc, units.as_slice())?)
 }
 
+#[tactic(auto, using(crate::proofs::Reading::reading), unfolding(crate::specs::Literal::reads_unit))]
 fn read_unit(value: Element<'_>) -> Result<u16, NotationFault>
-    ensures { IfErr result (IsIn value.entry) }
+    ensures misfit { IfErr result (IsIn value.entry) }
+    ensures read { Answers (reads_unit (value_of value.entry)) result }
 {
     match value.as_u64() {
         Some(unit) if unit < 65536 => Ok(unit as u16),

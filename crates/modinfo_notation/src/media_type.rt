@@ -1,5 +1,8 @@
 ghost use Rattle.std.specs.Prelude.{IfErr};
 ghost use Rattle.modinfo_notation.specs.Misfit.{IsIn};
+ghost use Rattle.flat_json.specs.View.{value_of};
+ghost use Rattle.modinfo_notation.specs.Answer.{Answers};
+ghost use Rattle.modinfo_notation.specs.Kind.{media_types, reads_named};
 
 use crate::fault::{Expected, NotationFault};
 use crate::member::{misfit, text_of};
@@ -10,8 +13,10 @@ const MEDIA_TYPES: &str = "JavaScript, Jsx, Mjs, Cjs, TypeScript, Mts, Cts, Dts,
     Json, Other";
 
 /// A media type, by its name.
+#[tactic(auto, using(crate::proofs::Reading::reading), unfolding(crate::specs::Kind::reads_named, crate::specs::Kind::named))]
 pub fn read_media_type(value: Element<'_>) -> Result<MediaType, NotationFault>
-    ensures { IfErr result (IsIn value.entry) }
+    ensures misfit { IfErr result (IsIn value.entry) }
+    ensures read { Answers (reads_named media_types (value_of value.entry)) result }
 {
     match text_of(value)? {
         "JavaScript" => Ok(MediaType::JavaScript),

@@ -1,8 +1,13 @@
 //! The members of a JSON object, each read as what the notation asks for.
 
-ghost use Rattle.std.specs.Prelude.{◌≡◌, Some, IfErr, IfOk, IfSome};
+ghost use Rattle.std.specs.Prelude.{◌≡◌, Some, IfErr, IfOk, IfSome, option_map, codes, false};
 ghost use Rattle.flat_json.specs.Tape.{TakesSame, StandsIn, array_of, object_of};
+ghost use Rattle.flat_json.specs.Value.{as_bool, as_str, as_object, as_array, as_whole, last_named};
+ghost use Rattle.flat_json.specs.View.{value_of, members_of, items_left};
+ghost use Rattle.modinfo_notation.specs.Answer.{Answers, AnswersSeen, IsMisfit};
+ghost use Rattle.modinfo_notation.specs.Literal.{reads_range};
 ghost use Rattle.modinfo_notation.specs.Misfit.{IsIn, IsInFound};
+ghost use Rattle.modinfo_notation.specs.Partial.{required, found_or, flag, unless_null};
 
 use crate::fault::{Expected, Misfit, NotationFault};
 use deno_graph_source::text::SourceRange;
@@ -10,7 +15,8 @@ use flat_json::{Element, Elements, Members};
 
 /// The fault of a value in whose place something else was expected.
 pub fn misfit(value: Element<'_>, expected: Expected) -> NotationFault
-    ensures { IsIn value.entry result }
+    ensures place { IsIn value.entry result }
+    ensures misfit { IsMisfit result }
 {
     let element = value.number();
     NotationFault::NotInNotation(Misfit { element, expected })
@@ -20,6 +26,7 @@ pub fn misfit(value: Element<'_>, expected: Expected) -> NotationFault
 pub fn members_of<'a>(value: Element<'a>) -> Result<Members<'a>, NotationFault>
     ensures object { IfOk result (λ members. TakesSame (object_of members) value.entry) }
     ensures misfit { IfErr result (IsIn value.entry) }
+    ensures read { AnswersSeen members_of (as_object (value_of value.entry)) result }
 {
     value.members().ok_or(misfit(value, Expected::Object))
 }
@@ -28,13 +35,15 @@ pub fn members_of<'a>(value: Element<'a>) -> Result<Members<'a>, NotationFault>
 pub fn elements_of<'a>(value: Element<'a>) -> Result<Elements<'a>, NotationFault>
     ensures array { IfOk result (λ elements. TakesSame (array_of elements) value.entry) }
     ensures misfit { IfErr result (IsIn value.entry) }
+    ensures read { AnswersSeen items_left (as_array (value_of value.entry)) result }
 {
     value.elements().ok_or(misfit(value, Expected::Array))
 }
 
 /// The text of `value`, which has to be a string.
 pub fn text_of<'a>(value: Element<'a>) -> Result<&'a str, NotationFault>
-    ensures { IfErr result (IsIn value.entry) }
+    ensures misfit { IfErr result (IsIn value.entry) }
+    ensures read { AnswersSeen (λ text. text.now) (as_str (value_of value.entry)) result }
 {
     value.as_str().ok_or(misfit(value, Expected::String))
 }
@@ -43,6 +52,7 @@ pub fn text_of<'a>(value: Element<'a>) -> Result<&'a str, NotationFault>
 pub fn required<'a>(members: Members<'a>, name: &'static str) -> Result<Element<'a>, NotationFault>
     ensures member { IfOk result (λ value. StandsIn value (object_of members.entry)) }
     ensures misfit { IfErr result (IsIn (object_of members.entry)) }
+    ensures read { AnswersSeen value_of (last_named name.now (members_of members.entry)) result }
 {
     present(members, name, members.get(name))
 }
@@ -55,6 +65,7 @@ pub fn present<'a>(
 ) -> Result<Element<'a>, NotationFault>
     ensures member { IfOk result (λ value. found.entry ≡ Some value) }
     ensures misfit { IfErr result (IsIn (object_of members.entry)) }
+    ensures read { AnswersSeen value_of (option_map value_of found.entry) result }
 {
     let element = members.number();
     let expected = Expected::Member(name);
@@ -63,28 +74,36 @@ pub fn present<'a>(
 
 /// The member `name`, where it is there and isn't null.
 pub fn optional<'a>(members: Members<'a>, name: &str) -> Option<Element<'a>>
-    ensures { IfSome result (λ value. StandsIn value (object_of members.entry)) }
+    ensures member { IfSome result (λ value. StandsIn value (object_of members.entry)) }
+    ensures value { option_map value_of result
+        ≡ unless_null (last_named name.now (members_of members.entry)) }
 {
     members.get(name).filter(|value| !value.is_null())
 }
 
 /// The text of the member `name`.
+#[tactic(auto, using(crate::proofs::Reading::reading), unfolding(crate::specs::Partial::required))]
 pub fn text<'a>(members: Members<'a>, name: &'static str) -> Result<&'a str, NotationFault>
-    ensures { IfErr result (IsIn (object_of members.entry)) }
+    ensures misfit { IfErr result (IsIn (object_of members.entry)) }
+    ensures read { AnswersSeen (λ text. text.now)
+        (required as_str name.now (members_of members.entry)) result }
 {
     text_of(required(members, name)?)
 }
 
 /// The member `name` as a truth value: false where it is missing.
+#[tactic(auto, unfolding(crate::specs::Partial::flag))]
 pub fn flag(members: Members<'_>, name: &str) -> Result<bool, NotationFault>
-    ensures { IfErr result (IsIn (object_of members.entry)) }
+    ensures misfit { IfErr result (IsIn (object_of members.entry)) }
+    ensures read { Answers (flag name.now (members_of members.entry)) result }
 {
     truth_or_false(members.get(name))
 }
 
 /// What was found as a truth value: false where it is missing.
 pub fn truth_or_false(found: Option<Element<'_>>) -> Result<bool, NotationFault>
-    ensures { IfErr result (IsInFound found.entry) }
+    ensures misfit { IfErr result (IsInFound found.entry) }
+    ensures read { Answers (found_or as_bool false (option_map value_of found.entry)) result }
 {
     match found {
         None => Ok(false),
@@ -93,15 +112,19 @@ pub fn truth_or_false(found: Option<Element<'_>>) -> Result<bool, NotationFault>
 }
 
 /// The member `range`: two offsets in bytes.
+#[tactic(auto, using(crate::proofs::Reading::reading), unfolding(crate::specs::Partial::required))]
 pub fn range(members: Members<'_>) -> Result<SourceRange, NotationFault>
-    ensures { IfErr result (IsIn (object_of members.entry)) }
+    ensures misfit { IfErr result (IsIn (object_of members.entry)) }
+    ensures read { Answers (required reads_range (codes "range") (members_of members.entry)) result }
 {
     range_of(required(members, "range")?)
 }
 
 /// Two offsets in bytes.
+#[tactic(auto, unfolding(crate::specs::Literal::reads_range))]
 pub fn range_of(value: Element<'_>) -> Result<SourceRange, NotationFault>
-    ensures { IfErr result (IsIn value.entry) }
+    ensures misfit { IfErr result (IsIn value.entry) }
+    ensures read { Answers (reads_range (value_of value.entry)) result }
 {
     match value.as_pair() {
         Some((start, end)) => Ok(SourceRange {
@@ -114,7 +137,8 @@ pub fn range_of(value: Element<'_>) -> Result<SourceRange, NotationFault>
 
 /// An offset in bytes.
 pub fn offset(value: Element<'_>) -> Result<usize, NotationFault>
-    ensures { IfErr result (IsIn value.entry) }
+    ensures misfit { IfErr result (IsIn value.entry) }
+    ensures read { Answers (as_whole (value_of value.entry)) result }
 {
     match value.as_u64() {
         Some(offset) => Ok(offset as usize),

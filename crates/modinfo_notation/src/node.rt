@@ -2,6 +2,11 @@
 
 ghost use Rattle.std.specs.Prelude.{IfErr, IfSome};
 ghost use Rattle.modinfo_notation.specs.Misfit.{IsIn, IsMemberOf};
+ghost use Rattle.std.specs.Prelude.{◌≡◌, option_map, codes};
+ghost use Rattle.flat_json.specs.Value.{last_named};
+ghost use Rattle.flat_json.specs.View.{value_of, members_of};
+ghost use Rattle.modinfo_notation.specs.Answer.{Answers};
+ghost use Rattle.modinfo_notation.specs.Node.{reads_node, reads_nodes, reads_program};
 
 use crate::fault::NotationFault;
 use crate::kind::read_kind;
@@ -12,8 +17,10 @@ use flat_json::{Element, Members};
 use std::alloc::Global;
 
 /// A program, `{"range":[START,END],"body":[NODE ..],"shebang":BOOL}`.
+#[tactic(auto, using(crate::proofs::Reading::reading), unfolding(crate::specs::Node::reads_program, crate::specs::Partial::required))]
 pub fn read_program(alloc: Global, value: Element<'_>) -> Result<Program, NotationFault>
-    ensures { IfErr result (IsIn value.entry) }
+    ensures misfit { IfErr result (IsIn value.entry) }
+    ensures read { Answers (reads_program (value_of value.entry)) result }
 {
     let members = members_of(value)?;
     let range = range(members)?;
@@ -28,7 +35,8 @@ pub fn read_program(alloc: Global, value: Element<'_>) -> Result<Program, Notati
 
 #[cycle(read)]
 fn read_nodes(alloc: Global, value: Element<'_>) -> Result<Items<Node>, NotationFault>
-    ensures { IfErr result (IsIn value.entry) }
+    ensures misfit { IfErr result (IsIn value.entry) }
+    ensures read { Answers (reads_nodes (value_of value.entry)) result }
 {
     let values = elements_of(value)?;
     let mut nodes = Vec::with_capacity(alloc, values.array_len())?;
@@ -41,7 +49,8 @@ fn read_nodes(alloc: Global, value: Element<'_>) -> Result<Items<Node>, Notation
 /// A node, with all nodes below it.
 #[cycle(read)]
 pub fn read_node(alloc: Global, value: Element<'_>) -> Result<Node, NotationFault>
-    ensures { IfErr result (IsIn value.entry) }
+    ensures misfit { IfErr result (IsIn value.entry) }
+    ensures read { Answers (reads_node (value_of value.entry)) result }
 {
     let members = members_of(value)?;
     let found = NodeMembers::find(members);
@@ -72,6 +81,9 @@ impl<'a> NodeMembers<'a> {
         ensures range { IfSome result.range (IsMemberOf members.entry) }
         ensures kind { IfSome result.kind (IsMemberOf members.entry) }
         ensures children { IfSome result.children (IsMemberOf members.entry) }
+        ensures last_range { option_map value_of result.range ≡ last_named (codes "range") (members_of members.entry) }
+        ensures last_kind { option_map value_of result.kind ≡ last_named (codes "kind") (members_of members.entry) }
+        ensures last_children { option_map value_of result.children ≡ last_named (codes "children") (members_of members.entry) }
     {
         let mut range = None;
         let mut kind = None;

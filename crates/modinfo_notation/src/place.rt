@@ -1,33 +1,54 @@
 //! From the places of a tree and of its comments to the elements of the document that it was read
 //! from.
 
-ghost use Rattle.std.specs.Prelude.{IfSome};
-ghost use Rattle.flat_json.specs.Tape.{StandsIn};
+ghost use Rattle.std.specs.Prelude.{◌≡◌, List, Some, IfSome, option_map};
+ghost use Rattle.flat_json.specs.Tape.{StandsIn, array_of, count_of};
+ghost use Rattle.flat_json.specs.Value.{item_count};
+ghost use Rattle.flat_json.specs.View.{items_left, value_of};
+ghost use Rattle.flat_json.specs.declared.Element.{Element};
+ghost use Rattle.modinfo_notation.specs.Comments.{Entry, reads_entry};
+ghost use Rattle.modinfo_notation.specs.Document.{Stated, reads_document};
+ghost use Rattle.modinfo_notation.specs.Partial.{reads_items};
+ghost use Rattle.modinfo_notation.specs.Place.{IsCommentAt, IsReadAt, below, entries_of};
+ghost use Rattle.modinfo_notation.specs.Place.{entry_items, item_of};
 
 use crate::comments::member_of;
 use deno_graph_source::tree::CommentSide;
-use flat_json::Element;
+use flat_json::{Element, Elements};
 
 /// The node that the child numbers of `path` lead to, from the program's body on, in the document
 /// whose value is `root`. The empty path leads to the program. `None` where the document has none
 /// there.
 pub fn node_at<'a>(root: Element<'a>, path: &[usize]) -> Option<Element<'a>>
-    ensures { IfSome result (λ found. StandsIn found root.entry) }
+    ensures inside { IfSome result (λ found. StandsIn found root.entry) }
+    ensures read { (stated : Stated) → reads_document (value_of root.entry) ≡ Some stated
+        → IsReadAt stated.program path.now (option_map value_of result) }
 {
     let program = root.members()?.get("program")?;
-    let Some((first, rest)) = path.split_first() else {
-        return Some(program);
-    };
-    let mut found = child(program, "body", *first)?;
-    for number in rest {
+    match path.split_first() {
+        None => Some(program),
+        Some((first, rest)) => below(child(program, "body", *first)?, rest),
+    }
+}
+
+/// The node that the child numbers of `path` lead to from a node.
+fn below<'a>(node: Element<'a>, path: &[usize]) -> Option<Element<'a>>
+    ensures inside { (root : Element) → StandsIn node.entry root
+        → IfSome result (λ found. StandsIn found root) }
+    ensures item { option_map value_of result ≡ below path.now (value_of node.entry) }
+{
+    let mut found = node;
+    for number in path {
         found = child(found, "children", *number)?;
     }
     Some(found)
 }
 
 /// The element of this number in the array that is the member `name`.
+#[tactic(auto, unfolding(crate::specs::Place::item_of))]
 fn child<'a>(value: Element<'a>, name: &str, number: usize) -> Option<Element<'a>>
-    ensures { IfSome result (λ found. StandsIn found value.entry) }
+    ensures inside { IfSome result (λ found. StandsIn found value.entry) }
+    ensures item { option_map value_of result ≡ item_of name.now number (value_of value.entry) }
 {
     value.members()?.get(name)?.elements()?.get(number)
 }
@@ -40,13 +61,23 @@ pub fn comment_at<'a>(
     position: usize,
     number: usize,
 ) -> Option<Element<'a>>
-    ensures { IfSome result (λ found. StandsIn found root.entry) }
+    ensures inside { IfSome result (λ found. StandsIn found root.entry) }
+    ensures read { (stated : Stated) → reads_document (value_of root.entry) ≡ Some stated
+        → IsCommentAt (entries_of stated.comments side) position number (option_map value_of result) }
+{
+    let entries = root.members()?.get(member_of(side))?.elements()?;
+    comment_in(entries, position, number)
+}
+
+/// The same among these entries.
+fn comment_in<'a>(entries: Elements<'a>, position: usize, number: usize) -> Option<Element<'a>>
+    ensures inside { IfSome result (λ found. StandsIn found (array_of entries.entry)) }
+    ensures read { (read : List Entry) → reads_items reads_entry (items_left entries.entry) ≡ Some read
+        → IsCommentAt read position number (option_map value_of result) }
 {
     let mut left = number;
-    for entry in root.members()?.get(member_of(side))?.elements()? {
-        let members = entry.members()?;
-        if members.get("pos")?.as_u64()? as usize == position {
-            let comments = members.get("comments")?.elements()?;
+    for entry in entries {
+        if let Some(comments) = comments_at(entry, position) {
             let count = comments.array_len();
             if left < count {
                 return comments.get(left);
@@ -55,4 +86,18 @@ pub fn comment_at<'a>(
         }
     }
     None
+}
+
+/// The comments of an entry, where it is filed at this position.
+#[tactic(auto, unfolding(crate::specs::Place::entry_items, crate::specs::Partial::required))]
+fn comments_at<'a>(entry: Element<'a>, position: usize) -> Option<Elements<'a>>
+    ensures inside { IfSome result (λ found. StandsIn (array_of found) entry.entry) }
+    ensures items { option_map items_left result ≡ entry_items position (value_of entry.entry) }
+    ensures counted { IfSome result (λ found. count_of found ≡ item_count (items_left found)) }
+{
+    let members = entry.members()?;
+    if members.get("pos")?.as_u64()? as usize != position {
+        return None;
+    }
+    members.get("comments")?.elements()
 }

@@ -1,6 +1,10 @@
 ghost use Rattle.std.specs.Prelude.{IfErr};
 ghost use Rattle.flat_json.specs.Tape.{object_of};
 ghost use Rattle.modinfo_notation.specs.Misfit.{IsIn};
+ghost use Rattle.flat_json.specs.View.{members_of, value_of};
+ghost use Rattle.modinfo_notation.specs.Answer.{Answers};
+ghost use Rattle.modinfo_notation.specs.Kind.{reads_key, reads_key_value};
+ghost use Rattle.modinfo_notation.specs.Kind.{reads_static_key};
 
 use crate::fault::{Expected, NotationFault};
 use crate::literal::read_string;
@@ -11,15 +15,19 @@ use flat_json::{Element, Members};
 use std::alloc::Global;
 
 /// A property of an object literal.
+#[tactic(auto, using(crate::proofs::Reading::reading), unfolding(crate::specs::Kind::reads_key_value, crate::specs::Partial::required))]
 pub fn read_key_value(alloc: Global, members: Members<'_>) -> Result<Kind, NotationFault>
-    ensures { IfErr result (IsIn (object_of members.entry)) }
+    ensures misfit { IfErr result (IsIn (object_of members.entry)) }
+    ensures read { Answers (reads_key_value (members_of members.entry)) result }
 {
     Ok(Kind::KeyValue(read_key(alloc, required(members, "key")?)?))
 }
 
 /// The key of a property: `{"str":STRING}`, `{"ident":TEXT}` or `"other"`.
+#[tactic(auto, using(crate::proofs::Reading::reading), unfolding(crate::specs::Kind::reads_key))]
 fn read_key(alloc: Global, value: Element<'_>) -> Result<PropKey, NotationFault>
-    ensures { IfErr result (IsIn value.entry) }
+    ensures misfit { IfErr result (IsIn value.entry) }
+    ensures read { Answers (reads_key (value_of value.entry)) result }
 {
     match value.as_str() {
         Some("other") => Ok(PropKey::Other),
@@ -27,8 +35,10 @@ fn read_key(alloc: Global, value: Element<'_>) -> Result<PropKey, NotationFault>
     }
 }
 
+#[tactic(auto, using(crate::proofs::Reading::reading), unfolding(crate::specs::Kind::reads_static_key))]
 fn read_static_key(alloc: Global, value: Element<'_>) -> Result<PropKey, NotationFault>
-    ensures { IfErr result (IsIn value.entry) }
+    ensures misfit { IfErr result (IsIn value.entry) }
+    ensures read { Answers (reads_static_key (value_of value.entry)) result }
 {
     let members = value.members().ok_or(misfit(value, Expected::Key))?;
     match (members.get("str"), members.get("ident")) {

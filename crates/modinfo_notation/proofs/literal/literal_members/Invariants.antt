@@ -1,4 +1,6 @@
-use Rattle.std.specs.Prelude.{IfSome}
+use Rattle.std.specs.Prelude.{◌≡◌, IfSome, option_map, codes}
+use Rattle.flat_json.specs.Value.{last_named, later_or}
+use Rattle.flat_json.specs.View.{value_of, members_of, members_left}
 use Rattle.flat_json.specs.Tape.{TakesSame, object_of, object_of_entries}
 use Rattle.modinfo_notation.specs.Misfit.{IsMemberOf}
 use Rattle.modinfo_notation.proofs.literal.literal_members.Given as goal
@@ -9,3 +11,7 @@ invariant-loop-name l = (goal.iterator-loop-name).can_next l.name-iterator
     × TakesSame (object_of_entries l.name-iterator) (object_of l.fn.members)
     × IfSome l.range (IsMemberOf l.fn.members)
     × IfSome l.value (IsMemberOf l.fn.members)
+    × (later_or (last_named (codes "range") (members_left l.name-iterator)) (option_map value_of l.range)
+    ≡ last_named (codes "range") (members_of l.fn.members))
+    × (later_or (last_named (codes "value") (members_left l.name-iterator)) (option_map value_of l.value)
+    ≡ last_named (codes "value") (members_of l.fn.members))

@@ -1,4 +1,6 @@
-use Rattle.std.specs.Prelude.{IfSome}
+use Rattle.std.specs.Prelude.{◌≡◌, IfSome, option_map, codes}
+use Rattle.flat_json.specs.Value.{last_named, later_or}
+use Rattle.flat_json.specs.View.{value_of, members_of, members_left}
 use Rattle.flat_json.specs.Tape.{TakesSame, object_of, object_of_entries}
 use Rattle.modinfo_notation.specs.Misfit.{IsMemberOf}
 use Rattle.modinfo_notation.proofs.declaration.SourceMembers.find.Given as goal
@@ -12,3 +14,13 @@ invariant-loop-name l = (goal.iterator-loop-name).can_next l.name-iterator
     × IfSome l.has_specifiers (IsMemberOf l.fn.members)
     × IfSome l.has_with (IsMemberOf l.fn.members)
     × IfSome l.src (IsMemberOf l.fn.members)
+    × (later_or (last_named (codes "typeOnly") (members_left l.name-iterator))
+    (option_map value_of l.type_only) ≡ last_named (codes "typeOnly") (members_of l.fn.members))
+    × (later_or (last_named (codes "phase") (members_left l.name-iterator)) (option_map value_of l.phase)
+    ≡ last_named (codes "phase") (members_of l.fn.members))
+    × (later_or (last_named (codes "hasSpecifiers") (members_left l.name-iterator))
+    (option_map value_of l.has_specifiers) ≡ last_named (codes "hasSpecifiers") (members_of l.fn.members))
+    × (later_or (last_named (codes "hasWith") (members_left l.name-iterator))
+    (option_map value_of l.has_with) ≡ last_named (codes "hasWith") (members_of l.fn.members))
+    × (later_or (last_named (codes "src") (members_left l.name-iterator)) (option_map value_of l.src)
+    ≡ last_named (codes "src") (members_of l.fn.members))

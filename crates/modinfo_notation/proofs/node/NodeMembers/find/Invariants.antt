@@ -1,4 +1,6 @@
-use Rattle.std.specs.Prelude.{IfSome}
+use Rattle.std.specs.Prelude.{◌≡◌, IfSome, option_map, codes}
+use Rattle.flat_json.specs.Value.{last_named, later_or}
+use Rattle.flat_json.specs.View.{value_of, members_of, members_left}
 use Rattle.flat_json.specs.Tape.{TakesSame, object_of, object_of_entries}
 use Rattle.modinfo_notation.specs.Misfit.{IsMemberOf}
 use Rattle.modinfo_notation.proofs.node.NodeMembers.find.Given as goal
@@ -10,3 +12,9 @@ invariant-loop-name l = (goal.iterator-loop-name).can_next l.name-iterator
     × IfSome l.range (IsMemberOf l.fn.members)
     × IfSome l.kind (IsMemberOf l.fn.members)
     × IfSome l.children (IsMemberOf l.fn.members)
+    × (later_or (last_named (codes "range") (members_left l.name-iterator)) (option_map value_of l.range)
+    ≡ last_named (codes "range") (members_of l.fn.members))
+    × (later_or (last_named (codes "kind") (members_left l.name-iterator)) (option_map value_of l.kind)
+    ≡ last_named (codes "kind") (members_of l.fn.members))
+    × (later_or (last_named (codes "children") (members_left l.name-iterator))
+    (option_map value_of l.children) ≡ last_named (codes "children") (members_of l.fn.members))

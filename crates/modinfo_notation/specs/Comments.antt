@@ -1,0 +1,96 @@
+-- The comments of a document, each with the position that it is filed at.
+use Rattle.std.specs.Prelude.{
+  ◌≡◌,
+  ℕ,
+  ◌==◌,
+  List,
+  [],
+  ◌∷◌,
+  ◌++◌,
+  codes,
+  Option,
+  Some,
+  unwrap_or,
+  if◌then◌else◌,
+}
+use Rattle.std.specs.List.{flat_map}
+use Rattle.flat_json.specs.Value.{Value, Members, as_object, as_str, as_whole, last_named}
+use Rattle.deno_graph_source.specs.ByPosition.{AddsItem, value_at}
+use Rattle.deno_graph_source.specs.Comments.{Filing, FiledComments}
+use Rattle.deno_graph_source.specs.declared.tree.fault_place.CommentSide.{CommentSide}
+use Rattle.deno_graph_source.specs.declared.tree.fault_place.CommentSide.TheVariants.{Leading, Trailing}
+use Rattle.deno_graph_source.specs.declared.tree.comments.CommentKind.{CommentKind}
+use Rattle.deno_graph_source.specs.declared.tree.comments.CommentKind.TheVariants.{Line, Block}
+use Rattle.deno_graph_source.specs.declared.tree.comments.DependencyComment.{DependencyComment}
+use Rattle.modinfo_notation.specs.Partial.{◌>>=◌, reads_array, required, found_or}
+use Rattle.modinfo_notation.specs.Literal.{reads_range}
+use Rattle.modinfo_notation.specs.Kind.{reads_named}
+
+abbrev pub comment_kinds : List (List ℕ × CommentKind)
+comment_kinds = (codes "line", Line) ∷ (codes "block", Block) ∷ []
+
+-- `{"kind":"line","range":[START,END],"text":TEXT}`, or one of the kind `block`
+unfoldable pub reads_comment : Value → Option DependencyComment
+reads_comment value = do
+  members ← as_object value
+  kind ← required (reads_named comment_kinds) (codes "kind") members
+  range ← required reads_range (codes "range") members
+  text ← required as_str (codes "text") members
+  Some (record { kind = kind; range = range; text = text })
+
+-- a position, and the comments at it
+abbrev pub Entry : Type 0
+Entry = ℕ × List DependencyComment
+
+-- `{"pos":POSITION,"comments":[COMMENT ..]}`
+unfoldable pub reads_entry : Value → Option Entry
+reads_entry value = do
+  members ← as_object value
+  position ← required as_whole (codes "pos") members
+  comments ← required (reads_array reads_comment) (codes "comments") members
+  Some (position, comments)
+
+-- the name of the member with the comments of a side
+abbrev pub side_name : CommentSide → List ℕ
+side_name Leading = codes "leading"
+side_name Trailing = codes "trailing"
+
+-- the entries of a side, none where the member is missing
+unfoldable pub reads_side : CommentSide → Members → Option (List Entry)
+reads_side side members = found_or (reads_array reads_entry) [] (last_named (side_name side) members)
+
+-- a comment was filed on a side, and the other side is as it was
+abbrev pub AddsOn : CommentSide → FiledComments → FiledComments → ℕ → DependencyComment → Type 0
+AddsOn Leading old new position comment = AddsItem old.leading new.leading position comment
+    × (new.trailing ≡ old.trailing)
+AddsOn Trailing old new position comment = AddsItem old.trailing new.trailing position comment
+    × (new.leading ≡ old.leading)
+
+-- the comments of the entries with this position, one entry behind another
+abbrev pub entries_at : ℕ → List Entry → List DependencyComment
+entries_at position entries = flat_map (λ e. if e.0 == position then e.1 else []) entries
+
+-- the comments filed at a position
+abbrev pub filed_at : Filing → ℕ → List DependencyComment
+filed_at filing position = unwrap_or (value_at filing position) []
+
+-- At each position the comments of its entries were filed, in their order, behind those that were there.
+abbrev pub AreFiled : Filing → Filing → List Entry → Type 0
+AreFiled old new entries = (position : ℕ) → filed_at new position
+    ≡ filed_at old position ++ entries_at position entries
+
+-- the same on one side, and the other is as it was
+abbrev pub AreFiledOn : CommentSide → FiledComments → FiledComments → List Entry → Type 0
+AreFiledOn Leading old new entries = AreFiled old.leading new.leading entries × (new.trailing ≡ old.trailing)
+AreFiledOn Trailing old new entries = AreFiled old.trailing new.trailing entries × (new.leading ≡ old.leading)
+
+-- the entries of both sides
+unfoldable pub reads_sides : Members → Option (List Entry × List Entry)
+reads_sides members = do
+  leading ← reads_side Leading members
+  trailing ← reads_side Trailing members
+  Some (leading, trailing)
+
+-- the comments of these entries, and no others
+abbrev pub AreThoseOf : List Entry × List Entry → FiledComments → Type 0
+AreThoseOf sides comments = AreFiled [] comments.leading sides.0 × AreFiled [] comments.trailing sides.1

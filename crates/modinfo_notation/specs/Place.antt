@@ -1,0 +1,60 @@
+-- The values that a document's nodes and comments are read from.
+use Rattle.std.specs.Prelude.{
+  ◌≡◌,
+  ℕ,
+  List,
+  [],
+  ◌∷◌,
+  codes,
+  Option,
+  Some,
+  None,
+  slice_get,
+  ◌==◌,
+  if◌then◌else◌,
+}
+use Rattle.flat_json.specs.Value.{Value, Items, as_array, as_whole, as_object, last_named, item_at}
+use Rattle.deno_graph_source.specs.declared.tree.fault_place.CommentSide.{CommentSide}
+use Rattle.deno_graph_source.specs.declared.tree.fault_place.CommentSide.TheVariants.{Leading, Trailing}
+use Rattle.deno_graph_source.specs.declared.tree.node.Program.{Program}
+use Rattle.deno_graph_source.specs.NodePath.{NodePath, node_at}
+use Rattle.modinfo_notation.specs.Partial.{◌>>=◌, required}
+use Rattle.modinfo_notation.specs.Comments.{Entry, entries_at, reads_comment}
+use Rattle.modinfo_notation.specs.Node.{reads_node, reads_program}
+
+-- the item of this number of the array that is the last member of this name
+unfoldable pub item_of : List ℕ → ℕ → Value → Option Value
+item_of name number value = do
+  members ← as_object value
+  found ← last_named name members
+  values ← as_array found
+  item_at number values
+
+-- the value that child indices lead to from a node's value
+abbrev pub below : NodePath → Value → Option Value
+below [] value = Some value
+below (index ∷ path) value = do
+  child ← item_of (codes "children") index value
+  below path child
+
+-- What the path leads to in the program is read from what was found. The empty path leads to the program.
+abbrev pub IsReadAt : Program → NodePath → Option Value → Type 0
+IsReadAt program [] found = (found >>= reads_program) ≡ Some program
+IsReadAt program (index ∷ path) found = (found >>= reads_node) ≡ node_at program.body (index ∷ path)
+
+-- the comments of an entry, where it is filed at this position
+unfoldable pub entry_items : ℕ → Value → Option Items
+entry_items position value = do
+  members ← as_object value
+  found ← required as_whole (codes "pos") members
+  if found == position then required as_array (codes "comments") members else None
+
+-- the entries of a side
+abbrev pub entries_of : List Entry × List Entry → CommentSide → List Entry
+entries_of sides Leading = sides.0
+entries_of sides Trailing = sides.1
+
+-- The comment of this number among those of a side at a position is read from what was found.
+abbrev pub IsCommentAt : List Entry → ℕ → ℕ → Option Value → Type 0
+IsCommentAt entries position number found = (found >>= reads_comment) ≡ slice_get
+    (entries_at position entries) number
