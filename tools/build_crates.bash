@@ -1,6 +1,6 @@
 # shellcheck shell=bash
-# Builds crates of the repository with rt, each once those below it are built. For scripts that set
-# `root`, the repository's folder, and `script`, the name that begins each line they say.
+# Builds crates of the repository with the kit's prover, each once those below it are built. For scripts
+# that set `root`, the repository's folder, and `script`, the name that begins each line they say.
 : "${root:?}" "${script:?}"
 
 # For each crate of the repository its line of crates.txt: its name, then after a colon its libraries.
@@ -13,8 +13,12 @@ declare -A below=()
 weight_of_code=30
 # The state and the jobs of each crate that was started, and by its process each crate that is being built.
 declare -A state=() jobs_of=() running=()
-# The folders that crates are built in.
+# The checksum of each crate's sources as they were when the build began.
+declare -A sum_of=()
+# Where builds say what they have to say, and where what was built of each crate is. Of a library those are its
+# statements without their proofs, which is all that the crates above it load.
 stage=$root/build/unfinished
+built=$root/build/crates
 
 fail() {
     echo "$script: $1" >&2
@@ -82,12 +86,17 @@ list_sources() {
 }
 
 parts() {
-    local crate part
+    local crate
     echo crates.txt
     for crate in "${crates[@]}"; do
-        for part in src specs proofs; do
-            [[ ! -d $root/crates/$crate/$part ]] || echo "crates/$crate/$part"
-        done
+        parts_of "$crate"
+    done
+}
+
+parts_of() {
+    local part
+    for part in src specs proofs; do
+        [[ ! -d $root/crates/$1/$part ]] || echo "crates/$1/$part"
     done
 }
 
@@ -107,24 +116,32 @@ has_newer() {
     [[ -n $(cd "$root" && find "${parts[@]}" -newer "$1" -print -quit 2>&1) ]]
 }
 
-# Builds the crates. Ends the script with status 1 where one fails, and says what its build said.
+# Builds the crates that aren't built yet. Ends the script with status 1 where one fails, and says what its
+# build said.
 build_crates() {
     local processors limit idle
     processors=$(nproc)
     idle=$processors
     limit=$(at_once)
-    lock_crates
+    find_kit
+    find_crates
+    lock_build
     sort_crates
     trap end_builds EXIT
     trap 'exit 129' HUP
     trap 'exit 130' INT
     trap 'exit 143' TERM
-    return_made
     begin_stage
+    sum_crates
     while ((${#state[@]} < ${#crates[@]} || ${#running[@]} > 0)); do
         start_crates
-        end_crate
+        ((${#running[@]} == 0 && ${#state[@]} == ${#crates[@]})) || end_crate
     done
+}
+
+find_kit() {
+    kit=$(dirname "$(rt doc)")
+    kit_version=$(rt version)
 }
 
 begin_stage() {
@@ -140,18 +157,48 @@ at_once() {
     echo $((gigabytes < 1 ? 1 : gigabytes < processors ? gigabytes : processors))
 }
 
-# As each run of rt does, so that none works in these crates' folders at the same time.
-lock_crates() {
-    local crate lock
-    for crate in $(printf '%s\n' "${crates[@]}" | LC_ALL=C sort); do
+find_crates() {
+    local crate
+    for crate in "${crates[@]}"; do
         [[ -d $root/crates/$crate ]] || fail "crates.txt names $crate, and there is no folder crates/$crate"
-        exec {lock}< "$root/crates/$crate"
-        flock --nonblock "$lock" || {
-            echo "$script: waiting for another build in crates/$crate" >&2
-            flock "$lock"
-        }
-        [[ -d $root/crates/$crate/out ]] || mkdir "$root/crates/$crate/out"
     done
+}
+
+# One build at a time.
+lock_build() {
+    local lock
+    mkdir -p "$built"
+    exec {lock}< "$built"
+    flock --nonblock "$lock" || {
+        echo "$script: waiting for another build" >&2
+        flock "$lock"
+    }
+}
+
+sum_crates() {
+    local crate
+    for crate in "${crates[@]}"; do
+        sum_of[$crate]=$(sum_sources "$crate")
+    done
+}
+
+sum_sources() {
+    local parts
+    mapfile -t parts < <(parts_of "$1")
+    (cd "$root" && find "${parts[@]}" -type f -print0 | LC_ALL=C sort -z | xargs -0 sha256sum | sha256sum)
+}
+
+# What a library is built from: the kit, and each crate with its line of crates.txt.
+stamp() {
+    local crate
+    echo "$kit_version"
+    for crate in ${below[$1]} "$1"; do
+        echo "${lines[$crate]}" "${sum_of[$crate]}"
+    done
+}
+
+is_built() {
+    [[ -d $built/$1.rlib ]] && stamp "$1" | cmp -s - "$built/$1.stamp"
 }
 
 # The more crates with more left to build run already, the fewer processors a crate takes from them. It has
@@ -159,6 +206,7 @@ lock_crates() {
 # that is ready needs.
 start_crates() {
     local crate ahead=0 waiting jobs
+    find_built
     waiting=$(count_ready)
     for crate in "${crates[@]}"; do
         if [[ ${state[$crate]-} == running ]]; then
@@ -168,12 +216,21 @@ start_crates() {
             echo "$script: building crate ${#state[@]} of ${#crates[@]}, $crate" >&2
             waiting=$((waiting - 1))
             jobs=$((idle - waiting > 1 ? 2 : 1))
+            rm -f "$built/$crate.stamp"
             build_crate "$crate" $((5 * ahead)) "$jobs" > "$stage/$crate.log" 2>&1 &
             running[$!]=$crate
             jobs_of[$crate]=$jobs
             idle=$((idle - jobs))
             ahead=$((ahead + 1))
         fi
+    done
+}
+
+# Passes over the libraries that an earlier build has left.
+find_built() {
+    local crate
+    for crate in "${crates[@]}"; do
+        [[ -n ${state[$crate]-} ]] || ! is_ready "$crate" || ! is_built "$crate" || state[$crate]=built
     done
 }
 
@@ -192,76 +249,54 @@ is_ready() {
     done
 }
 
-# Becomes the run of rt, so that its process is the one to wait for and to end.
+# Becomes the prover, so that its process is the one to wait for and to end.
 build_crate() {
-    stage_crate "$1"
-    cd "$stage/$1/crates/$1" || exit
+    local crate=$1 library words
+    words=(--crate-name "$crate" --jobs "$3" --links "$crate=")
+    words+=(--antt-project "$kit/rattle/logic/antt-project.json" --logic-built "$kit/logic_built")
+    words+=(--extern "std=$kit/rlibs/std.rlib" -L "dependency=$kit/rlibs" -L "dependency=$built")
+    for library in ${lines[$crate]#*:}; do
+        if [[ -n ${lines[$library]+ours} ]]; then
+            words+=(--extern "$library=$built/$library.rlib")
+        else
+            words+=(--extern "$library=$kit/rlibs/$library.rlib")
+        fi
+    done
+    cd "$root/crates/$crate" || exit
     if [[ -e src/main.rt ]]; then
-        exec nice -n "$2" rt run --jobs "$3" -- analyze < "$root/crates/$1/stdin"
+        words+=(src/main.rt --toolchain "$kit/toolchain" --backend llvm -o "$built/$crate.o")
+    elif [[ ${lines[$crate]} =~ ^$crate\ +staticlib ]]; then
+        words+=(src/lib.rt --crate-type staticlib --toolchain "$kit/toolchain" --backend llvm -o "$built/lib$crate.a")
     else
-        exec nice -n "$2" rt lib --jobs "$3"
+        words+=(src/lib.rt --statements -o "$built/$crate.rlib")
     fi
+    exec nice -n "$2" "$kit/bin/rattle" build "${words[@]}"
 }
 
-# A run of rt keeps all others away from the crates below its own too. So each has a folder of its own,
-# with links to the sources and the libraries of those below, and with what earlier builds have left.
-stage_crate() {
-    local crate
-    for crate in ${below[$1]} "$1"; do
-        mkdir -p "$stage/$1/crates/$crate/out"
-        echo "${lines[$crate]}" >> "$stage/$1/crates.txt"
-        link_parts "$crate" "$stage/$1/crates/$crate" src specs proofs
-    done
-    for crate in ${below[$1]}; do
-        link_parts "$crate" "$stage/$1/crates/$crate" out/rlib
-    done
-    move_made "$root/crates/$1/out" "$stage/$1/crates/$1/out"
-}
-
-# Copies where there can be no links.
-link_parts() {
-    local from=$root/crates/$1 part
-    for part in "${@:3}"; do
-        [[ -e $from/$part ]] || continue
-        cp -alT "$from/$part" "$2/$part" 2> /dev/null || cp -aT "$from/$part" "$2/$part"
-    done
-}
-
-move_made() {
-    local made
-    for made in "$1"/*; do
-        [[ ! -e $made || -e $2/${made##*/} ]] || mv -t "$2" "$made"
-    done
-}
-
-# Moves what builds have made, or had to begin with, to its crates, also after a script was killed.
-return_made() {
-    local crate
-    for crate in "$stage"/*/; do
-        crate=$(basename "$crate")
-        [[ ! -d $root/crates/$crate ]] || move_made "$stage/$crate/crates/$crate/out" "$root/crates/$crate/out"
-    done
-}
-
+# A library counts as built from its sources only where they, and those below, are still what they were.
 end_crate() {
-    local process='' status=0 crate
+    local process='' status=0 crate lower
     ((${#running[@]} > 0)) || fail "crates.txt has crates that need one another"
     wait -n -p process "${!running[@]}" 2> /dev/null || status=$?
     crate=${running[$process]}
     unset "running[$process]"
     idle=$((idle + jobs_of[$crate]))
-    move_made "$stage/$crate/crates/$crate/out" "$root/crates/$crate/out"
     if ((status > 0)); then
         cat "$stage/$crate.log" >&2
-        fail "crate $crate isn't built: rt ended with status $status"
+        fail "crate $crate isn't built: the prover ended with status $status"
     fi
     state[$crate]=built
+    [[ $(sum_sources "$crate") == "${sum_of[$crate]}" ]] || return 0
+    for lower in ${below[$crate]}; do
+        [[ -e $built/$lower.stamp ]] || return 0
+    done
+    stamp "$crate" > "$stage/$crate.stamp"
+    mv "$stage/$crate.stamp" "$built/$crate.stamp"
 }
 
 end_builds() {
     kill "${!running[@]}" 2> /dev/null || true
     wait
-    return_made || true
     rm -rf "$stage"
 }
 

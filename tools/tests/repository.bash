@@ -1,6 +1,6 @@
 # shellcheck shell=bash
 # shellcheck disable=SC2016 # what the stand-ins are to do
-# A repository of seven small crates and a stand-in for rt, below $ROOM. For tests that set `test`, their
+# A repository of seven small crates and stand-ins for rt and the prover, below $ROOM. For tests that set `test`, their
 # name, and `tests`, the folder of this file.
 : "${test:?}" "${tests:?}"
 
@@ -16,12 +16,21 @@ passed=0
 make_tools() {
     mkdir -p "$ROOM/bin" "$ROOM/asked"
     cp "$tests/rt_stand_in" "$ROOM/bin/rt"
+    cp "$tests/rattle_stand_in" "$ROOM/bin/rattle"
+    printf '#!/bin/sh\ncp "$7" "$6"\n' > "$ROOM/bin/rattle-link"
     printf '#!/bin/sh\necho "$PROCESSORS"\n' > "$ROOM/bin/nproc"
     printf '#!/bin/sh\ntouch "$2"\n' > "$ROOM/bin/ar"
     printf '#!/bin/sh\ntouch "$3"\n' > "$ROOM/bin/cc"
     cp "$ROOM/bin/cc" "$ROOM/bin/ld"
     printf '#!/bin/sh\n' > "$ROOM/bin/objcopy"
-    printf '#!/bin/sh\necho "proved: $*"\ncat\necho "modinfo: Tree" >&2\nexit 7\n' > "$ROOM/program"
+    cat > "$ROOM/program" << 'PROGRAM'
+#!/bin/sh
+echo "proved: $*"
+tee "$ROOM/read"
+[ "$(cat "$ROOM/read")" != "an input" ] || exit 0
+echo "modinfo: Tree" >&2
+exit 7
+PROGRAM
     chmod +x "$ROOM"/bin/* "$ROOM/program"
     PATH=$ROOM/bin:$PATH
     # Of crates that run side by side none can say which was first.
@@ -51,6 +60,7 @@ LINES
     done
     mv crates/modinfo_cli/src/{lib,main}.rt
     echo "an input" > crates/modinfo_cli/stdin
+    printf 'proved: analyze\nan input\n' > crates/modinfo_cli/stdout
     echo "// and more" >> crates/short/src/lib.rt
     mkdir -p crates/long/{src,specs}/inner crates/apart/specs
     head -c 10000 /dev/zero | tr '\0' '/' > crates/long/src/inner/long.rt
