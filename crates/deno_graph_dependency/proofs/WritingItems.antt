@@ -1,4 +1,4 @@
--- Writing the items of a list, one after another.
+-- Writing the items of a list, or the entries of a map, one after another.
 use Rattle.std.proofs.Common.{
   ◌≡◌,
   ℕ,
@@ -29,6 +29,7 @@ use Rattle.serde_json.specs.Data.{Data, array}
 use Rattle.serde_json.specs.View.{view, items_of}
 use Rattle.serde_json.specs.Written.{items_outline}
 use Rattle.serde_json.specs.declared.value.Value.{Value}
+use Rattle.deno_graph_dependency.specs.Object.{with_entries, map_entries}
 use Rattle.deno_graph_dependency.specs.Text.{text_tokens}
 
 module _ {A : Type 0} (P : A → Type 0) (xs : List A) (i : ℕ) where
@@ -40,6 +41,10 @@ module _ {A : Type 0} (P : A → Type 0) (xs : List A) (i : ℕ) where
   -- and at the end of all items
   pub held_all : length xs ≤ i → All P (take i xs) → All P xs
   held_all past so_far = subst (All P) (take_all i xs past) so_far
+
+-- the tokens of items, with the bracket that closes the array
+abbrev pub items_text : {A : Type 0} → (A → Data) → List A → List Token
+items_text json xs = items_tokens (items_outline (items_of (map json xs)))
 
 module _ {A : Type 0} (json : A → Data) (xs : List A) (i : ℕ) where
   -- the values so far are the forms of the items so far, also with one item more
@@ -59,25 +64,36 @@ module _ {A : Type 0} (json : A → Data) (xs : List A) (i : ℕ) where
   forms_all ds past so_far =
       ap (λ es. array (items_of es)) (so_far ∙ ap (map json) (take_all i xs past))
 
-  -- the tokens of items, with the bracket that closes the array
-  abbrev pub items_text : List A → List Token
-  items_text ys = items_tokens (items_outline (items_of (map json ys)))
-
   -- with the tokens of the items that are left, the text stays the same as an item is written
   pub text_more : (x : A) (out new whole : List Token) → i < length xs → x ≡ get_or xs i x
-      → out ++ items_text (drop i xs) ≡ whole → new ≡ out ++ text_tokens (json x)
-      → new ++ items_text (drop (i + 1) xs) ≡ whole
+      → out ++ items_text json (drop i xs) ≡ whole → new ≡ out ++ text_tokens (json x)
+      → new ++ items_text json (drop (i + 1) xs) ≡ whole
   text_more x out new whole below is so_far written =
-      ap (λ ts. ts ++ items_text (drop (i + 1) xs)) written
-      ∙ append_assoc out (text_tokens (json x)) (items_text (drop (i + 1) xs))
-      ∙ ap (λ y. out ++ (text_tokens (json y) ++ items_text (drop (i + 1) xs))) is
-      ∙ ap (λ ts. out ++ ts) (sym (at_drop_more items_text xs i x below))
+      ap (λ ts. ts ++ items_text json (drop (i + 1) xs)) written
+      ∙ append_assoc out (text_tokens (json x)) (items_text json (drop (i + 1) xs))
+      ∙ ap (λ y. out ++ (text_tokens (json y) ++ items_text json (drop (i + 1) xs))) is
+      ∙ ap (λ ts. out ++ ts) (sym (at_drop_more (items_text json) xs i x below))
       ∙ so_far
 
   -- and no item is left at the end
   pub text_all : (before out new begun : List Token) → length xs ≤ i → begun ≡ before ++ begin_array ∷ []
-      → out ++ items_text (drop i xs) ≡ begun ++ items_text xs → new ≡ out ++ end_array ∷ []
-      → new ≡ before ++ begin_array ∷ items_text xs
+      → out ++ items_text json (drop i xs) ≡ begun ++ items_text json xs → new ≡ out ++ end_array ∷ []
+      → new ≡ before ++ begin_array ∷ items_text json xs
   text_all before out new begun past begins so_far closes =
-      closes ∙ ap (λ ts. out ++ ts) (sym (at_drop_all items_text xs i past)) ∙ so_far
-      ∙ ap (λ ts. ts ++ items_text xs) begins ∙ append_assoc before (begin_array ∷ []) (items_text xs)
+      closes ∙ ap (λ ts. out ++ ts) (sym (at_drop_all (items_text json) xs i past)) ∙ so_far
+      ∙ ap (λ ts. ts ++ items_text json xs) begins ∙ append_assoc before (begin_array ∷ []) (items_text json xs)
+
+module _ {A S : Type 0} (with_member : List ℕ → Data → S → S) (json : A → Data) where
+  -- the state with a member for each entry of a map
+  abbrev pub with_map : List (List ℕ × A) → S → S
+  with_map es s = with_entries with_member (map_entries json es) s
+
+  -- with the members of the entries that are left, the state stays the same as an entry is put
+  pub map_more : (es rest : List (List ℕ × A)) (k : List ℕ) (x : A) (old new whole : S) → es ≡ (k, x) ∷ rest
+      → with_map es old ≡ whole → new ≡ with_member k (json x) old → with_map rest new ≡ whole
+  map_more es rest k x old new whole is so_far put =
+      ap (with_map rest) put ∙ ap (λ all. with_map all old) (sym is) ∙ so_far
+
+  -- and no entry is left at the end
+  pub map_all : (es : List (List ℕ × A)) (s whole : S) → es ≡ [] → with_map es s ≡ whole → s ≡ whole
+  map_all es s whole none so_far = ap (λ all. with_map all s) (sym none) ∙ so_far

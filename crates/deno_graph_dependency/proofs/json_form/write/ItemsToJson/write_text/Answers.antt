@@ -1,6 +1,6 @@
-use Rattle.std.proofs.Common.{◌≡◌, ◌<◌, ◌≤◌, length, get_or, subst}
+use Rattle.std.proofs.Common.{◌≡◌, ◌<◌, ◌≤◌, ◌++◌, length, get_or, subst}
 use Rattle.std.proofs.lemmas.Result.{on_ok_weaker}
-use Rattle.deno_graph_dependency.proofs.WritingItems.{held_more, held_all, text_more, text_all}
+use Rattle.deno_graph_dependency.proofs.WritingItems.{held_more, held_all, items_text, text_more, text_all}
 use Rattle.deno_graph_dependency.proofs.json_form.write.ItemsToJson.write_text.Goals as goal
 
 pub loop-item-preserved : goal.loop-item-preserved
@@ -12,8 +12,8 @@ loop-item-preserved g c =
     let below : i < length xs = subst (λ ys. i < length ys) same c.loop-item-test.true in
     let here : x ≡ get_or xs i x = subst (λ ys. x ≡ get_or ys i x) same c.item-item.is in
     record {
-      text = text_more g.T.ToJson.json xs i x c.loop-item.out c.write_text.new.out _
-          below here c.loop-item.invariant.text c.in_ok-write_text.ensures.text;
+      text = text_more g.T.ToJson.json xs i x c.loop-item.out c.write_text.new.out
+          (c.begin_array.new.self ++ items_text g.T.ToJson.json xs) below here c.loop-item.invariant.text c.in_ok-write_text.ensures.text;
       held = held_more g.T.ToJson.is_held xs i x below here
           c.loop-item.invariant.held c.in_ok-write_text.ensures.held;
     }
