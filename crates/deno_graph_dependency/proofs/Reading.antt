@@ -183,7 +183,8 @@ second_refused reads (x ∷ y ∷ []) v w a fault two first second read h =
 second_refused reads (x ∷ y ∷ z ∷ vs) v w a fault two first second read h = absurd (omega arith)
 
 pub two_read : {A : Type 0} (reads : Data → Option A) (vs : List Value) (v w : Value) (a b : A)
-    → length vs ≡ 2 → v ≡ get_or vs 0 v → w ≡ get_or vs 1 w → reads (view v) ≡ Some a → reads (view w) ≡ Some b
+    → length vs ≡ 2 → v ≡ get_or vs 0 v → w ≡ get_or vs 1 w → reads (view v) ≡ Some a
+    → reads (view w) ≡ Some b
     → reads_two reads (items_view vs) ≡ Some (a, b)
 two_read reads [] v w a b two first second read_v read_w = absurd (omega arith)
 two_read reads (x ∷ []) v w a b two first second read_v read_w = absurd (omega arith)

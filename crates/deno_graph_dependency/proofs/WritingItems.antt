@@ -81,7 +81,8 @@ module _ {A : Type 0} (json : A → Data) (xs : List A) (i : ℕ) where
       → new ≡ before ++ begin_array ∷ items_text json xs
   text_all before out new begun past begins so_far closes =
       closes ∙ ap (λ ts. out ++ ts) (sym (at_drop_all (items_text json) xs i past)) ∙ so_far
-      ∙ ap (λ ts. ts ++ items_text json xs) begins ∙ append_assoc before (begin_array ∷ []) (items_text json xs)
+      ∙ ap (λ ts. ts ++ items_text json xs) begins
+      ∙ append_assoc before (begin_array ∷ []) (items_text json xs)
 
 module _ {A S : Type 0} (with_member : List ℕ → Data → S → S) (json : A → Data) where
   -- the state with a member for each entry of a map

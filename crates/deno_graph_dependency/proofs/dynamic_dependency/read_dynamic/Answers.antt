@@ -9,7 +9,9 @@ returns-in_err-kind c = exits _ _ _ _ c.from_residual.ensures.1 c.in_err-kind.en
 
 pub returns-in_err-types_specifier : goal.returns-in_err-types_specifier
 unfolding reads_dynamic
-returns-in_err-types_specifier c = rw c.in_ok-kind.ensures (exits _ _ _ _ c.from_residual-in_err-types_specifier.ensures.1 c.in_err-types_specifier.ensures)
+returns-in_err-types_specifier c =
+    rw c.in_ok-kind.ensures
+    (exits _ _ _ _ c.from_residual-in_err-types_specifier.ensures.1 c.in_err-types_specifier.ensures)
 
 pub returns-in_err-argument : goal.returns-in_err-argument
 unfolding reads_dynamic

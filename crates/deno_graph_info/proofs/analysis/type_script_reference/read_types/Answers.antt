@@ -10,7 +10,8 @@ returns-in_err-specifier c = exits _ _ _ _ c.from_residual.ensures.1 c.in_err-sp
 pub returns-in_err-resolution_mode : goal.returns-in_err-resolution_mode
 unfolding reference_to_types
 returns-in_err-resolution_mode c =
-    rw c.in_ok-specifier.ensures (exits _ _ _ _ c.from_residual-in_err-resolution_mode.ensures.1 c.in_err-resolution_mode.ensures)
+    rw c.in_ok-specifier.ensures
+    (exits _ _ _ _ c.from_residual-in_err-resolution_mode.ensures.1 c.in_err-resolution_mode.ensures)
 
 pub returns : goal.returns
 unfolding reference_to_types

@@ -3,7 +3,10 @@ use Rattle.serde_json.specs.Data.{object, put}
 use Rattle.serde_json.specs.View.{members_view}
 use Rattle.deno_graph_info.specs.Conversion.{with_types}
 use Rattle.deno_graph_info.proofs.conversion.convert.put_types.Goals as goal
-use Rattle.deno_graph_info.proofs.conversion.convert.put_types.Goals.{in-Some+in_ok-form+in_ok-put, in_default}
+use Rattle.deno_graph_info.proofs.conversion.convert.put_types.Goals.{
+  in-Some+in_ok-form+in_ok-put,
+  in_default,
+}
 
 pub returns : goal.returns
 returns c =

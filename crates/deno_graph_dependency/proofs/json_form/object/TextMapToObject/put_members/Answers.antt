@@ -26,7 +26,8 @@ loop-key-preserved g c =
     let whole = with_map m json c.args.self.now (g.W.MemberWriter.state c.args.out.now) in
     record {
       members = map_more m json c.loop-key.key-iterator rest k x (g.W.MemberWriter.state c.loop-key.out)
-          (g.W.MemberWriter.state c.put.new.self) whole here c.loop-key.invariant.members c.in_ok-put.ensures.ok;
+          (g.W.MemberWriter.state c.put.new.self) whole here c.loop-key.invariant.members
+          c.in_ok-put.ensures.ok;
       held = λ held. c.loop-key.invariant.held (All-same P c.loop-key.key-iterator ((k, x) ∷ rest) here
           (All-cons P (k, x) rest c.in_ok-put.ensures.held held));
     }

@@ -26,6 +26,7 @@ returns g c =
     let past : length xs ≤ i =
     subst (λ ys. length ys ≤ i) c.as_slice-item-items.ensures c.loop-item-test.false in
     record {
-      form = view-Array c.loop-item.values ∙ forms_all g.T.ToJson.json xs i _ past c.loop-item.invariant.forms;
+      form = view-Array c.loop-item.values
+          ∙ forms_all g.T.ToJson.json xs i _ past c.loop-item.invariant.forms;
       held = held_all g.T.ToJson.is_held xs i past c.loop-item.invariant.held;
     }

@@ -13,7 +13,8 @@ loop-item-preserved g c =
     let here : x ≡ get_or xs i x = subst (λ ys. x ≡ get_or ys i x) same c.item-item.is in
     record {
       text = text_more g.T.ToJson.json xs i x c.loop-item.out c.write_text.new.out
-          (c.begin_array.new.self ++ items_text g.T.ToJson.json xs) below here c.loop-item.invariant.text c.in_ok-write_text.ensures.text;
+          (c.begin_array.new.self ++ items_text g.T.ToJson.json xs) below here
+          c.loop-item.invariant.text c.in_ok-write_text.ensures.text;
       held = held_more g.T.ToJson.is_held xs i x below here
           c.loop-item.invariant.held c.in_ok-write_text.ensures.held;
     }

@@ -10,7 +10,8 @@ returns-in_err-object c = exits_shape _ _ _ _ c.from_residual.ensures.1 c.in_err
 pub returns-in_err-specifier : goal.returns-in_err-specifier
 unfolding reads_js_doc_import
 returns-in_err-specifier c =
-    rw c.in_ok-object.ensures (exits _ _ _ _ c.from_residual-in_err-specifier.ensures.1 c.in_err-specifier.ensures)
+    rw c.in_ok-object.ensures
+    (exits _ _ _ _ c.from_residual-in_err-specifier.ensures.1 c.in_err-specifier.ensures)
 
 pub returns-in_err-resolution_mode : goal.returns-in_err-resolution_mode
 unfolding reads_js_doc_import

@@ -10,7 +10,8 @@ returns-in_err-object c = exits_shape _ _ _ _ c.from_residual.ensures.1 c.in_err
 pub returns-in_err-is_script : goal.returns-in_err-is_script
 unfolding reads_info
 returns-in_err-is_script c =
-    rw c.in_ok-object.ensures (exits _ _ _ _ c.from_residual-in_err-is_script.ensures.1 c.in_err-is_script.ensures)
+    rw c.in_ok-object.ensures
+    (exits _ _ _ _ c.from_residual-in_err-is_script.ensures.1 c.in_err-is_script.ensures)
 
 pub returns-in_err-dependencies : goal.returns-in_err-dependencies
 unfolding reads_info
@@ -55,7 +56,10 @@ returns-in_err-jsx_import_source_types c = rw (
   c.in_ok-ts_references.ensures,
   c.in_ok-self_types_specifier.ensures,
   c.in_ok-jsx_import_source.ensures,
-) (exits _ _ _ _ c.from_residual-in_err-jsx_import_source_types.ensures.1 c.in_err-jsx_import_source_types.ensures)
+) (
+    exits _ _ _ _ c.from_residual-in_err-jsx_import_source_types.ensures.1
+    c.in_err-jsx_import_source_types.ensures
+    )
 
 pub returns-in_err-jsdoc_imports : goal.returns-in_err-jsdoc_imports
 unfolding reads_info
