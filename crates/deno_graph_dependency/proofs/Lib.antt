@@ -7,3 +7,4 @@ pub mod Objects
 pub mod ReadBack
 pub mod ReadMaps
 pub mod Reading
+pub mod WritingItems

@@ -27,6 +27,7 @@ use Rattle.std.proofs.Common.{
   ◌∙◌,
   append_assoc,
   append-nil,
+  arith,
 }
 use Rattle.std.proofs.lemmas.List.{at_drop_more, at_drop_all}
 use Rattle.std.proofs.lemmas.Result.{err_from_is_err_and}
@@ -159,3 +160,36 @@ not_two reads [] other = refl
 not_two reads (x ∷ []) other = refl
 not_two reads (x ∷ y ∷ []) other = absurd (other refl)
 not_two reads (x ∷ y ∷ z ∷ vs) other = refl
+
+-- an array of two: its first item is refused, or its second, or both are read
+pub first_refused : {A : Type 0} (reads : Data → Option A) (vs : List Value) (v : Value) (fault : ReadFault)
+    → length vs ≡ 2 → v ≡ get_or vs 0 v → IsRefusal (reads (view v)) fault
+    → IsRefusal (reads_two reads (items_view vs)) fault
+first_refused reads [] v fault two is h = absurd (omega arith)
+first_refused reads (x ∷ []) v fault two is h = absurd (omega arith)
+first_refused reads (x ∷ y ∷ []) v fault two is h =
+    refused _ _ fault (subst (λ u. IsRefusal (reads (view u)) fault) is h)
+first_refused reads (x ∷ y ∷ z ∷ vs) v fault two is h = absurd (omega arith)
+
+pub second_refused : {A : Type 0} (reads : Data → Option A) (vs : List Value) (v w : Value) (a : A)
+    (fault : ReadFault) → length vs ≡ 2 → v ≡ get_or vs 0 v → w ≡ get_or vs 1 w → reads (view v) ≡ Some a
+    → IsRefusal (reads (view w)) fault
+    → IsRefusal (reads_two reads (items_view vs)) fault
+second_refused reads [] v w a fault two first second read h = absurd (omega arith)
+second_refused reads (x ∷ []) v w a fault two first second read h = absurd (omega arith)
+second_refused reads (x ∷ y ∷ []) v w a fault two first second read h =
+    let read_x : reads (view x) ≡ Some a = subst (λ u. reads (view u) ≡ Some a) first read in
+    rw read_x (refused _ _ fault (subst (λ u. IsRefusal (reads (view u)) fault) second h))
+second_refused reads (x ∷ y ∷ z ∷ vs) v w a fault two first second read h = absurd (omega arith)
+
+pub two_read : {A : Type 0} (reads : Data → Option A) (vs : List Value) (v w : Value) (a b : A)
+    → length vs ≡ 2 → v ≡ get_or vs 0 v → w ≡ get_or vs 1 w → reads (view v) ≡ Some a
+    → reads (view w) ≡ Some b
+    → reads_two reads (items_view vs) ≡ Some (a, b)
+two_read reads [] v w a b two first second read_v read_w = absurd (omega arith)
+two_read reads (x ∷ []) v w a b two first second read_v read_w = absurd (omega arith)
+two_read reads (x ∷ y ∷ []) v w a b two first second read_v read_w =
+    let read_x : reads (view x) ≡ Some a = subst (λ u. reads (view u) ≡ Some a) first read_v in
+    let read_y : reads (view y) ≡ Some b = subst (λ u. reads (view u) ≡ Some b) second read_w in
+    rw (read_x, read_y)
+two_read reads (x ∷ y ∷ z ∷ vs) v w a b two first second read_v read_w = absurd (omega arith)
