@@ -28,9 +28,9 @@ pub fn serve<R: Read, W: Write, E: Write>(
     errors: &mut E,
 ) -> u8
     ensures { (subcommand : Subcommand) → map (λ word. word.now) words.now ≡ name_of subcommand ∷ []
-        → result ≡ 0 → IfSome (R.remaining input.old) (λ document. (line : List ℕ)
-        × IsAnswerLine subcommand document line
-        × Appends (W.contents output.old) (W.contents output.new) line) }
+        → result ≡ 0 → (document : List ℕ) × IfSome (R.remaining input.old) (λ left. document ≡ left)
+        × (line : List ℕ) × IsAnswerLine subcommand document line
+        × Appends (W.contents output.old) (W.contents output.new) line }
 {
     let Some(invocation) = Invocation::from_words(words) else {
         let _ = writeln!(errors, "{USAGE}");
@@ -53,9 +53,9 @@ fn answer<R: Read, W: Write>(
     output: &mut W,
 ) -> Result<bool, Fault>
     ensures { (subcommand : Subcommand) → invocation ≡ Invocation.Document (Task.Answer subcommand)
-        → OnOk result (IfSome (R.remaining input.old) (λ document. (line : List ℕ)
-        × IsAnswerLine subcommand document line
-        × Appends (W.contents output.old) (W.contents output.new) line)) }
+        → OnOk result ((document : List ℕ) × IfSome (R.remaining input.old) (λ left. document ≡ left)
+        × (line : List ℕ) × IsAnswerLine subcommand document line
+        × Appends (W.contents output.old) (W.contents output.new) line) }
 {
     match invocation {
         Invocation::Help => print(output, HELP)?,
@@ -73,9 +73,9 @@ fn answer_document<R: Read, W: Write>(
     output: &mut W,
 ) -> Result<bool, Fault>
     ensures { (subcommand : Subcommand) → task ≡ Task.Answer subcommand
-        → OnOk result (IfSome (R.remaining input.old) (λ document. (line : List ℕ)
-        × IsAnswerLine subcommand document line
-        × Appends (W.contents output.old) (W.contents output.new) line)) }
+        → OnOk result ((document : List ℕ) × IfSome (R.remaining input.old) (λ left. document ≡ left)
+        × (line : List ℕ) × IsAnswerLine subcommand document line
+        × Appends (W.contents output.old) (W.contents output.new) line) }
 {
     let document = read_to_end(alloc, input)?;
     let Printed {

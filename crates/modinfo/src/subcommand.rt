@@ -1,6 +1,6 @@
 //! What the program can be asked for, each from a text to the JSON that is printed.
 
-ghost use Rattle.std.specs.Prelude.{◌≡◌, ◌≢◌, IfErr, IfOk, IfSome, MatchResult, None};
+ghost use Rattle.std.specs.Prelude.{◌≡◌, ◌≢◌, ℕ, IfErr, IfOk, IfSome, List, MatchResult, None};
 ghost use Rattle.std.specs.String.{string_bytes};
 ghost use Rattle.serde_json.specs.View.{view};
 ghost use Rattle.deno_graph_source.specs.ParsedSource.{ParsedModule};
@@ -45,8 +45,9 @@ impl Subcommand {
 
     /// Reads the input to its end, and gives the line that answers it: compact JSON and a line feed.
     pub fn answer<R: Read>(self, alloc: Global, input: &mut R) -> Result<String, Fault>
-        ensures { IfOk result (λ line. IfSome (R.remaining input.old)
-            (λ document. IsAnswerLine self document (string_bytes line))) }
+        ensures { IfOk result (λ line. (document : List ℕ)
+            × IfSome (R.remaining input.old) (λ left. document ≡ left)
+            × IsAnswerLine self document (string_bytes line)) }
     {
         let bytes = read_to_end(alloc, input)?;
         let mut line = self.answer_bytes(alloc, bytes)?;
