@@ -1,8 +1,10 @@
 //! From the bytes of an input to what a subcommand reads.
 
-ghost use Rattle.std.specs.Prelude.{◌≡◌, Some, None, Err, IfOk, IsUtf8, MatchResult};
+ghost use Rattle.std.specs.Prelude.{◌≡◌, Some, None, Err, IfOk, IfSome, IsUtf8, MatchResult};
 ghost use Rattle.serde_json.specs.View.{view};
 ghost use Rattle.serde_json.specs.Read.{read as read_text};
+ghost use Rattle.modinfo_notation.specs.Document.{IsDocumentOf};
+ghost use Rattle.modinfo.specs.Answer.{IsModuleOf, IsNoModule};
 
 use crate::fault::Fault;
 use deno_graph_source::tree::ParsedSource;
@@ -15,12 +17,16 @@ use std::io::{ErrorKind, Read};
 const CHUNK: usize = 65536;
 
 /// The source of a document in the notation, whose tree has to fit it.
-pub fn parse_source(alloc: Global, input: Vec<u8>) -> Result<ParsedSource, Fault> {
+pub fn parse_source(alloc: Global, input: Vec<u8>) -> Result<ParsedSource, Fault>
+    ensures { MatchResult result (IsModuleOf input.items) (IsNoModule input.items) }
+{
     Ok(document_of(alloc, input)?.into_source(alloc)?)
 }
 
 // The bytes are gone before the tree is held against its source.
-fn document_of(alloc: Global, input: Vec<u8>) -> Result<Document, Fault> {
+fn document_of(alloc: Global, input: Vec<u8>) -> Result<Document, Fault>
+    ensures { MatchResult result (IsDocumentOf input.items) (IsNoModule input.items) }
+{
     Ok(parse_document(alloc, text_of(input.as_slice())?)?)
 }
 
@@ -43,10 +49,12 @@ fn text_of(bytes: &[u8]) -> Result<&str, Fault>
 /// Reads the input to its end. A refused growth is told from a failed read here, which an
 /// `io::Error` doesn't do. Not inlined, so that its chunk is on the stack only while it reads.
 #[inline(never)]
-pub fn read_to_end<R: Read>(alloc: Global, input: &mut R) -> Result<Vec<u8>, Fault> {
+pub fn read_to_end<R: Read>(alloc: Global, input: &mut R) -> Result<Vec<u8>, Fault>
+    ensures { IfOk result (λ bytes. IfSome (R.remaining input.old) (λ left. bytes.items ≡ left)) }
+{
     let mut bytes = Vec::new(alloc);
     let mut chunk = [0u8; CHUNK];
-    for _ in 0..u64::MAX {
+    'reads: for _ in 0..u64::MAX {
         match input.read(&mut chunk) {
             Ok(0) => return Ok(bytes),
             Ok(count) => bytes.extend_from_slice(&chunk[..count])?,

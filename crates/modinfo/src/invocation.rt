@@ -1,5 +1,8 @@
 //! The words behind the program's name, and what is printed about them.
 
+ghost use Rattle.std.specs.Prelude.{◌≡◌, [], ◌∷◌, map, Some};
+ghost use Rattle.modinfo.specs.Answer.{name_of};
+
 use crate::subcommand::Subcommand;
 use crate::task::Task;
 
@@ -70,7 +73,10 @@ pub enum Invocation {
 
 impl Invocation {
     /// What the words ask for, if they ask for anything.
-    pub fn from_words(words: &[&str]) -> Option<Invocation> {
+    pub fn from_words(words: &[&str]) -> Option<Invocation>
+        ensures { (subcommand : Subcommand) → map (λ word. word.now) words.now ≡ name_of subcommand ∷ []
+            → result ≡ Some (Invocation.Document (Task.Answer subcommand)) }
+    {
         match words {
             [word] if *word == "--help" => Some(Invocation::Help),
             [word] if *word == "--version" => Some(Invocation::Version),

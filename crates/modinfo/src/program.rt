@@ -1,7 +1,12 @@
+ghost use Rattle.std.specs.Prelude.{◌≡◌, [], ◌∷◌, ℕ, List, IfSome, OnOk, map};
+ghost use Rattle.std.specs.Io.KnownBytes.{Appends};
+ghost use Rattle.modinfo.specs.Answer.{IsAnswerLine, name_of};
+
 use crate::fault::Fault;
 use crate::input::read_to_end;
 use crate::invocation::{HELP, Invocation, USAGE, VERSION};
 use crate::lines::answer_lines;
+use crate::subcommand::Subcommand;
 use crate::task::{Printed, Task};
 use std::alloc::Global;
 use std::io::{self, Read, Write};
@@ -18,14 +23,14 @@ use std::io::{self, Read, Write};
 pub fn serve<R: Read, W: Write, E: Write>(
     alloc: Global,
     words: &[&str],
-    input: R,
-    output: W,
-    mut errors: E,
+    input: &mut R,
+    output: &mut W,
+    errors: &mut E,
 ) -> u8
-where
-    R: Drop,
-    W: Drop,
-    E: Drop,
+    ensures { (subcommand : Subcommand) → map (λ word. word.now) words.now ≡ name_of subcommand ∷ []
+        → result ≡ 0 → (document : List ℕ) × IfSome (R.remaining input.old) (λ left. document ≡ left)
+        × (line : List ℕ) × IsAnswerLine subcommand document line
+        × Appends (W.contents output.old) (W.contents output.new) line }
 {
     let Some(invocation) = Invocation::from_words(words) else {
         let _ = writeln!(errors, "{USAGE}");
@@ -44,17 +49,18 @@ where
 fn answer<R: Read, W: Write>(
     alloc: Global,
     invocation: Invocation,
-    input: R,
-    mut output: W,
+    input: &mut R,
+    output: &mut W,
 ) -> Result<bool, Fault>
-where
-    R: Drop,
-    W: Drop,
+    ensures { (subcommand : Subcommand) → invocation ≡ Invocation.Document (Task.Answer subcommand)
+        → OnOk result ((document : List ℕ) × IfSome (R.remaining input.old) (λ left. document ≡ left)
+        × (line : List ℕ) × IsAnswerLine subcommand document line
+        × Appends (W.contents output.old) (W.contents output.new) line) }
 {
     match invocation {
-        Invocation::Help => print(&mut output, HELP)?,
-        Invocation::Version => print(&mut output, VERSION)?,
-        Invocation::Document(task) => return answer_document(alloc, task, input, &mut output),
+        Invocation::Help => print(output, HELP)?,
+        Invocation::Version => print(output, VERSION)?,
+        Invocation::Document(task) => return answer_document(alloc, task, input, output),
         Invocation::Lines(task) => return answer_lines(alloc, task, input, output),
     }
     Ok(true)
@@ -63,13 +69,15 @@ where
 fn answer_document<R: Read, W: Write>(
     alloc: Global,
     task: Task,
-    mut input: R,
+    input: &mut R,
     output: &mut W,
 ) -> Result<bool, Fault>
-where
-    R: Drop,
+    ensures { (subcommand : Subcommand) → task ≡ Task.Answer subcommand
+        → OnOk result ((document : List ℕ) × IfSome (R.remaining input.old) (λ left. document ≡ left)
+        × (line : List ℕ) × IsAnswerLine subcommand document line
+        × Appends (W.contents output.old) (W.contents output.new) line) }
 {
-    let document = read_to_end(alloc, &mut input)?;
+    let document = read_to_end(alloc, input)?;
     let Printed {
         mut line,
         is_passed,
@@ -79,14 +87,18 @@ where
     Ok(is_passed)
 }
 
-fn print<W: Write>(output: &mut W, text: &str) -> Result<(), Fault> {
+fn print<W: Write>(output: &mut W, text: &str) -> Result<(), Fault>
+    ensures { OnOk result (Appends (W.contents output.old) (W.contents output.new) text.now) }
+{
     match write_text(output, text) {
         Ok(()) => Ok(()),
         Err(_) => Err(Fault::Output),
     }
 }
 
-fn write_text<W: Write>(output: &mut W, text: &str) -> io::Result<()> {
+fn write_text<W: Write>(output: &mut W, text: &str) -> io::Result<()>
+    ensures { OnOk result (Appends (W.contents output.old) (W.contents output.new) text.now) }
+{
     output.write_all(text.as_bytes())?;
     output.flush()
 }

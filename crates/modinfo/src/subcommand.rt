@@ -1,9 +1,10 @@
 //! What the program can be asked for, each from a text to the JSON that is printed.
 
-ghost use Rattle.std.specs.Prelude.{◌≡◌, ◌↔◌, ◌++◌, ℕ, IfOk, List, Some, codes};
+ghost use Rattle.std.specs.Prelude.{◌≡◌, ◌≢◌, ℕ, IfErr, IfOk, IfSome, List, MatchResult, None};
 ghost use Rattle.std.specs.String.{string_bytes};
 ghost use Rattle.serde_json.specs.View.{view};
-ghost use Rattle.modinfo.specs.Answer.{IsConversionOf, IsConvertedText, IsInfoText};
+ghost use Rattle.deno_graph_source.specs.ParsedSource.{ParsedModule};
+ghost use Rattle.modinfo.specs.Answer.{IsAnswerLine, IsAnswerText, IsConversionOf, IsInfoOf, IsInfoText, IsModuleOf, IsNoModule, name_of};
 
 use crate::fault::Fault;
 use crate::input::{parse_json, parse_source, read_to_end};
@@ -31,9 +32,8 @@ pub enum Subcommand {
 impl Subcommand {
     /// The subcommand of this name, if it is one.
     pub fn from_name(name: &str) -> Option<Subcommand>
-        ensures analyze { (result ≡ Some Subcommand.Analyze) ↔ (name.now ≡ codes "analyze") }
-        ensures convert { (result ≡ Some Subcommand.Convert) ↔ (name.now ≡ codes "convert") }
-        ensures reach { (result ≡ Some Subcommand.Reach) ↔ (name.now ≡ codes "reach") }
+        ensures some { IfSome result (λ subcommand. name.now ≡ name_of subcommand) }
+        ensures none { result ≡ None → (subcommand : Subcommand) → name.now ≢ name_of subcommand }
     {
         match name {
             "analyze" => Some(Subcommand::Analyze),
@@ -45,9 +45,9 @@ impl Subcommand {
 
     /// Reads the input to its end, and gives the line that answers it: compact JSON and a line feed.
     pub fn answer<R: Read>(self, alloc: Global, input: &mut R) -> Result<String, Fault>
-        ensures line { IfOk result (λ line. (text : List ℕ)
-            × (self ≡ Subcommand.Analyze → IsInfoText text)
-            × (string_bytes line ≡ text ++ codes "\n")) }
+        ensures { IfOk result (λ line. (document : List ℕ)
+            × IfSome (R.remaining input.old) (λ left. document ≡ left)
+            × IsAnswerLine self document (string_bytes line)) }
     {
         let bytes = read_to_end(alloc, input)?;
         let mut line = self.answer_bytes(alloc, bytes)?;
@@ -57,10 +57,8 @@ impl Subcommand {
 
     /// The answer to a whole input: compact JSON, without a line feed.
     pub fn answer_bytes(self, alloc: Global, input: Vec<u8>) -> Result<String, Fault>
-        ensures analyze { self ≡ Subcommand.Analyze
-            → IfOk result (λ text. IsInfoText (string_bytes text)) }
-        ensures convert { self ≡ Subcommand.Convert
-            → IfOk result (λ text. IsConvertedText input.items (string_bytes text)) }
+        ensures answer { IfOk result (λ text. IsAnswerText self input.items (string_bytes text)) }
+        ensures fault { self ≡ Subcommand.Analyze → IfErr result (IsNoModule input.items) }
     {
         match self {
             Subcommand::Analyze => analyze(alloc, input),
@@ -86,13 +84,18 @@ impl Subcommand {
 }
 
 fn analyze(alloc: Global, input: Vec<u8>) -> Result<String, Fault>
-    ensures { IfOk result (λ text. IsInfoText (string_bytes text)) }
+    ensures { MatchResult result (λ text. IsInfoText input.items (string_bytes text))
+        (IsNoModule input.items) }
 {
     Ok(info_of(alloc, input)?.to_json(alloc)?)
 }
 
 // The tree is gone before what was found is written.
-fn info_of(alloc: Global, input: Vec<u8>) -> Result<ModuleInfo, Fault> {
+fn info_of(alloc: Global, input: Vec<u8>) -> Result<ModuleInfo, Fault>
+    ensures { MatchResult result
+        (λ info. (module_ : ParsedModule) × IsModuleOf input.items module_ × IsInfoOf module_ info)
+        (IsNoModule input.items) }
+{
     let source = parse_source(alloc, input)?;
     Ok(module_info(alloc, &source)?)
 }

@@ -1,3 +1,7 @@
+ghost use Rattle.std.specs.Prelude.{◌≡◌, IfOk, IsTrue};
+ghost use Rattle.std.specs.String.{string_bytes};
+ghost use Rattle.modinfo.specs.Answer.{IsAnswerText};
+
 use crate::fault::Fault;
 use crate::subcommand::Subcommand;
 use std::alloc::Global;
@@ -26,7 +30,11 @@ pub struct Printed {
 
 impl Task {
     /// What is printed about a document.
-    pub fn print(self, alloc: Global, document: Vec<u8>) -> Result<Printed, Fault> {
+    pub fn print(self, alloc: Global, document: Vec<u8>) -> Result<Printed, Fault>
+        ensures { (subcommand : Subcommand) → self ≡ Task.Answer subcommand
+            → IfOk result (λ printed. IsTrue printed.is_passed
+            × IsAnswerText subcommand document.items (string_bytes printed.line)) }
+    {
         match self {
             Task::Answer(subcommand) => Ok(Printed {
                 line: subcommand.answer_bytes(alloc, document)?,

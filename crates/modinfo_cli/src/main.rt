@@ -23,8 +23,8 @@ fn run(rt: &HostRuntime) -> io::Result<u8> {
     Ok(modinfo::serve(
         rt.alloc(),
         words.as_slice(),
-        rt.stdin(),
-        rt.stdout(),
-        rt.stderr(),
+        &mut rt.stdin(),
+        &mut rt.stdout(),
+        &mut rt.stderr(),
     ))
 }

@@ -62,10 +62,10 @@ impl Read for Documents<'_> {
 }
 
 /// What one run over all of them prints, where it ends with status 0 and complains of nothing.
-pub fn printed(alloc: Global, documents: Documents<'_>) -> Option<Vec<u8>> {
+pub fn printed(alloc: Global, mut documents: Documents<'_>) -> Option<Vec<u8>> {
     let mut output = Vec::new(alloc);
     let mut errors = Vec::new(alloc);
     let words = ["analyze", "--lines"];
-    let status = modinfo::serve(alloc, &words, documents, &mut output, &mut errors);
+    let status = modinfo::serve(alloc, &words, &mut documents, &mut output, &mut errors);
     (status == 0 && errors.is_empty()).then_some(output)
 }

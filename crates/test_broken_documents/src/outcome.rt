@@ -30,7 +30,8 @@ impl Outcome {
     pub fn of(alloc: Global, document: &[u8]) -> Result<Option<Outcome>, AllocError> {
         let mut output = Vec::new(alloc);
         let mut errors = Vec::new(alloc);
-        let status = modinfo::serve(alloc, &["analyze"], document, &mut output, &mut errors);
+        let mut left = document;
+        let status = modinfo::serve(alloc, &["analyze"], &mut left, &mut output, &mut errors);
         let is_result = status == 0 && errors.is_empty() && is_line(output.as_slice());
         let is_fault = status == 1 && output.is_empty();
         for (at, name) in OUTCOMES.iter().enumerate() {
@@ -66,7 +67,8 @@ impl Outcome {
 fn reports(alloc: Global, document: &[u8], at: usize, name: &str) -> Result<bool, AllocError> {
     let mut output = Vec::new(alloc);
     let mut errors = Vec::new(alloc);
-    let status = modinfo::serve(alloc, &["check"], document, &mut output, &mut errors);
+    let mut left = document;
+    let status = modinfo::serve(alloc, &["check"], &mut left, &mut output, &mut errors);
     let expected = if at == 0 {
         String::from_str(alloc, "{\"valid\":true")?
     } else {

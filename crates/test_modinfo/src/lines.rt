@@ -75,11 +75,11 @@ impl Write for Answered {
     }
 }
 
-fn serve_lines<R: Read + Drop>(alloc: Global, input: R) -> (u8, Vec<u8>, Vec<u8>) {
+fn serve_lines<R: Read + Drop>(alloc: Global, mut input: R) -> (u8, Vec<u8>, Vec<u8>) {
     let mut output = Vec::new(alloc);
     let mut errors = Vec::new(alloc);
     let words = ["analyze", "--lines"];
-    let status = modinfo::serve(alloc, &words, input, &mut output, &mut errors);
+    let status = modinfo::serve(alloc, &words, &mut input, &mut output, &mut errors);
     (status, output, errors)
 }
 
@@ -132,18 +132,18 @@ fn a_read_that_fails_ends_behind_the_answers_before_it(
 fn a_partner_that_waits_for_each_answer_gets_it(rt: HostRuntime) -> std::result::Result<(), Fail> {
     let answered = Rc::new(rt.alloc(), Cell::new(0))?;
     let lines = ["{}\n", "[]\n", "\n"];
-    let input = Partner {
+    let mut input = Partner {
         lines: &lines,
         given: 0,
         answered: answered.clone()?,
     };
-    let output = Answered {
+    let mut output = Answered {
         written: 0,
         answered: answered.clone()?,
     };
     let mut errors = Vec::new(rt.alloc());
     let words = ["analyze", "--lines"];
-    let status = modinfo::serve(rt.alloc(), &words, input, output, &mut errors);
+    let status = modinfo::serve(rt.alloc(), &words, &mut input, &mut output, &mut errors);
     assert_eq!(rt; status, 0);
     assert_eq!(rt; answered.get(), 3);
     assert!(rt; errors.is_empty());

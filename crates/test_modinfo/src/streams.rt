@@ -68,14 +68,20 @@ fn a_failed_read_gives_nothing(rt: HostRuntime) -> std::result::Result<(), Fail>
     let bytes = DOCUMENT.as_bytes();
     for reads_before in 0..=bytes.len() {
         for kind in [ErrorKind::UnexpectedEof, ErrorKind::Interrupted] {
-            let reader = FailingReader {
+            let mut reader = FailingReader {
                 bytes,
                 reads_before,
                 kind,
             };
             let mut output = Vec::new(rt.alloc());
             let mut errors = Vec::new(rt.alloc());
-            let status = modinfo::serve(rt.alloc(), &["analyze"], reader, &mut output, &mut errors);
+            let status = modinfo::serve(
+                rt.alloc(),
+                &["analyze"],
+                &mut reader,
+                &mut output,
+                &mut errors,
+            );
             // A read that was interrupted is tried again.
             if kind == ErrorKind::Interrupted {
                 assert_eq!(rt; status, 0);
@@ -100,8 +106,14 @@ fn a_failed_write_leaves_a_beginning(rt: HostRuntime) -> std::result::Result<(),
             room,
         };
         let mut errors = Vec::new(rt.alloc());
-        let input = DOCUMENT.as_bytes();
-        let status = modinfo::serve(rt.alloc(), &["analyze"], input, &mut output, &mut errors);
+        let mut input = DOCUMENT.as_bytes();
+        let status = modinfo::serve(
+            rt.alloc(),
+            &["analyze"],
+            &mut input,
+            &mut output,
+            &mut errors,
+        );
         assert_eq!(rt; status, 1);
         assert!(rt; whole.starts_with(output.kept.as_slice()));
         assert_eq!(rt; output.kept.len(), room);
@@ -119,8 +131,8 @@ fn a_failed_write_to_errors_is_passed_over(rt: HostRuntime) -> std::result::Resu
                 room,
             };
             let mut output = Vec::new(rt.alloc());
-            let input = b"".as_slice();
-            let answered = modinfo::serve(rt.alloc(), &words, input, &mut output, &mut errors);
+            let mut input = b"".as_slice();
+            let answered = modinfo::serve(rt.alloc(), &words, &mut input, &mut output, &mut errors);
             assert_eq!(rt; answered, status);
             assert!(rt; output.is_empty());
         }

@@ -20,7 +20,8 @@ impl Run {
     fn of(alloc: Global, words: &[&str], input: &[u8]) -> Result<Run, RowFault> {
         let mut output = Vec::with_capacity(alloc, ROOM)?;
         let mut errors = Vec::with_capacity(alloc, ROOM)?;
-        let status = modinfo::serve(alloc, words, input, &mut output, &mut errors);
+        let mut left = input;
+        let status = modinfo::serve(alloc, words, &mut left, &mut output, &mut errors);
         let run = Run {
             status,
             output,

@@ -1,0 +1,8 @@
+-- What was read stands before what is left, and there is room to read more.
+use Rattle.std.proofs.Common.{◌<◌, length}
+use Rattle.std.specs.Io.KnownBytes.{Consumes}
+use Rattle.modinfo.proofs.input.read_to_end.Given as goal
+
+abbrev pub invariant-reads : goal.invariant-reads
+invariant-reads g l = Consumes (g.R.Read.remaining l.initial.input) (g.R.Read.remaining l.input) l.bytes.items
+    × (0 < length l.chunk)
