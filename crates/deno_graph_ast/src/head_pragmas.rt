@@ -83,7 +83,7 @@ enum HeadPragma {
 }
 
 impl HeadPragma {
-    /// Whether its specifier stands without quotes. Such a pragma counts in block comments alone.
+    /// Whether its specifier has no quotes. Such a pragma counts in block comments alone.
     fn is_quoteless(self) -> bool
         ensures quoteless { result ≡ (head_pragma self).is_quoteless }
         ensures blocks { result ≡ (head_pragma self).is_in_blocks_alone }

@@ -36,7 +36,7 @@ fn is_module_item(item: &Node) -> bool
 }
 
 /// Whether a node or one below it makes the source a module: an `import.meta`, or an await that
-/// stands in no function.
+/// is in no function.
 fn makes_module(node: &Node, inside_function: bool) -> bool
     ensures { IsTrue result ↔ MakesModule inside_function node.now }
 {
@@ -52,7 +52,7 @@ fn makes_module(node: &Node, inside_function: bool) -> bool
     false
 }
 
-/// Whether the node is an `import.meta`, or an await that no function stands round.
+/// Whether the node is an `import.meta`, or an await outside every function.
 fn makes_module_itself(node: &Node, inside_function: bool) -> bool
     ensures { IsTrue result ↔ MakesModuleItself inside_function node.now }
 {

@@ -16,7 +16,7 @@ use deno_graph_text::values::Text;
 use std::alloc::{AllocError, Global};
 use std::ops::Range;
 
-/// The specifier that stands in a comment's text at `range`, in bytes of that text.
+/// The specifier at `range` of a comment's text, in bytes of that text.
 pub(crate) fn specifier_with_range(
     alloc: Global,
     text_info: &SourceTextInfo,
@@ -59,7 +59,7 @@ pub(crate) fn found_specifier(
     specifier_with_range(alloc, text_info, comment, text, range, is_quoteless)
 }
 
-/// Where a part of a comment's text stands in the source: `inner_range` counts in bytes from the
+/// The place of a part of a comment's text in the source: `inner_range` counts in bytes from the
 /// start of that text, which begins two bytes behind the comment's start. The quotes of a specifier
 /// belong to the range.
 fn comment_source_to_position_range(

@@ -11,8 +11,8 @@ use deno_graph_text::text::SourceTextInfo;
 use std::alloc::{AllocError, Global};
 
 /// What the last of the comments before a dependency names as its types, by `@ts-types` or else by
-/// `@deno-types`. Each comment must stand in the text as it says. The only error is that memory was
-/// refused.
+/// `@deno-types`. Each comment must be written in the text at its range. The only error is that
+/// memory was refused.
 pub fn analyze_ts_or_deno_types(
     alloc: Global,
     text_info: &SourceTextInfo,

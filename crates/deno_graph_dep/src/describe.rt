@@ -127,7 +127,7 @@ fn export<'a>(
     }
 }
 
-/// The dependency of a node with a specifier, which stands at the node's own range.
+/// The dependency of a node with a specifier, which has the node's own range.
 fn specified<'a>(
     comments: &'a Comments,
     node: &'a Node,

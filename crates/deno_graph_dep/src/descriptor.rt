@@ -8,17 +8,17 @@ use deno_graph_text::text::SourceRange;
 use deno_graph_text::values::TryClone;
 use std::alloc::{AllocError, Global};
 
-/// A dependency of which the specifier stands in the source, with what it borrows from the tree.
+/// A dependency of which the specifier is in the source, with what it borrows from the tree.
 #[derive(Debug, PartialEq, Eq, Drop)]
 pub struct StaticDependencyDescriptor<'a> {
     pub kind: StaticDependencyKind,
     /// The comments that are filed as leading where the node starts, in the order of filing.
     pub leading_comments: &'a [DependencyComment],
-    /// Where the node stands, in bytes from zero.
+    /// Where the node is, in bytes from zero.
     pub range: SourceRange,
-    /// The specifier, with U+FFFD for each surrogate that stands alone.
+    /// The specifier, with U+FFFD for each lone surrogate.
     pub specifier: &'a str,
-    /// Where the specifier stands with its quotes, in bytes from zero.
+    /// Where the specifier is, with its quotes, in bytes from zero.
     pub specifier_range: SourceRange,
     /// Whether it is an import without specifiers, as `import "./load.js"`.
     pub is_side_effect: bool,
@@ -31,11 +31,11 @@ pub struct DynamicDependencyDescriptor<'a> {
     pub kind: DynamicDependencyKind,
     /// The comments that are filed as leading where the call starts, in the order of filing.
     pub leading_comments: &'a [DependencyComment],
-    /// Where the call stands, in bytes from zero.
+    /// Where the call is, in bytes from zero.
     pub range: SourceRange,
     /// What is known of the first argument.
     pub argument: DynamicArgument<'a>,
-    /// Where the first argument stands, in bytes from zero.
+    /// Where the first argument is, in bytes from zero.
     pub argument_range: SourceRange,
     pub import_attributes: ImportAttributes,
 }

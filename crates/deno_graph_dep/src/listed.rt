@@ -1,4 +1,4 @@
-//! Which nodes are listed, and where: by the node alone, whatever stands round it.
+//! Which nodes are listed, and where: by the node alone, whatever is round it.
 #![tactic(auto, unfolding(deno_graph_source::specs::Node::kind_of, deno_graph_source::specs::Node::children_of, crate::specs::DependencyRules::is_listed))]
 
 ghost use Rattle.std.specs.Prelude.{◌≡◌, Some};
@@ -7,7 +7,7 @@ ghost use Rattle.deno_graph_dep.specs.DependencyRules.{is_closed, is_listed, is_
 
 use deno_graph_source::tree::{Callee, Kind, Node};
 
-/// Whether a node is a dependency, whatever stands round it.
+/// Whether a node is a dependency, whatever is round it.
 pub fn is_listed(node: &Node) -> bool
     ensures { result ≡ is_listed node.now }
 {

@@ -1,4 +1,4 @@
-//! The laws of listings, and of the tree order that they stand in.
+//! The laws of listings, and of the tree order that they are in.
 
 ghost use Rattle.std.specs.Prelude.{◌≡◌, ◌≢◌, ◌⊎◌, ◌↔◌, ◌++◌, List};
 ghost use Rattle.deno_graph_source.specs.declared.tree.node.Node.{Node};
@@ -25,7 +25,7 @@ pub fn tree_order()
         → Precedes rules body p q → Precedes rules body q r → Precedes rules body p r }
 {}
 
-/// A node that is listed stands before the listed ones inside it, or after them.
+/// A node that is listed is before the listed ones inside it, or after them.
 pub fn own_nodes_and_inside()
     ensures { (node : Node)
         → listed_in node

@@ -106,7 +106,7 @@ pub struct DynamicDependencyDescriptor {
     pub types_specifier: Option<SpecifierWithRange>,
     /// What is known of the first argument.
     pub argument: DynamicArgument,
-    /// Where the first argument stands: lines and characters from zero.
+    /// Where the first argument is: lines and characters from zero.
     pub argument_range: PositionRange,
     /// The attributes that the second argument states.
     pub import_attributes: ImportAttributes,

@@ -12,7 +12,7 @@ use deno_graph_text::values::{Text, TryClone};
 use serde_json::Value;
 use std::alloc::{AllocError, Global};
 
-/// A specifier, and where it stands in the source.
+/// A specifier, and where it is in the source.
 #[derive(Debug, PartialEq, Eq, Drop)]
 pub struct SpecifierWithRange {
     pub text: Text,

@@ -107,7 +107,7 @@ pub struct StaticDependencyDescriptor {
     pub types_specifier: Option<SpecifierWithRange>,
     /// The value of the string, with U+FFFD for each lone surrogate.
     pub specifier: Text,
-    /// Where the string stands, with its quotes: lines and characters from zero.
+    /// Where the string is, with its quotes: lines and characters from zero.
     pub specifier_range: PositionRange,
     /// Whether this is an import that binds no name, as `import "..";`.
     pub is_side_effect: bool,

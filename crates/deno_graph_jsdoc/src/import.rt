@@ -8,7 +8,7 @@ use std::ops::Range;
 pub struct JsDocImport<'a> {
     /// The text between the quotes.
     pub specifier: &'a str,
-    /// Where that text stands, without its quotes, in bytes from the start of the text that was
+    /// Where that text is, without its quotes, in bytes from the start of the text that was
     /// read.
     pub specifier_range: Range<usize>,
     /// How types are resolved, where an attribute says so.

@@ -18,7 +18,7 @@ use std::alloc::{AllocError, Global};
 /// All imports that `text`, the text of a comment, states: the dynamic imports from each `{` on,
 /// and the declarations from each `@import` on.
 ///
-/// The error is want of memory.
+/// The only error is that memory was refused.
 pub fn scan<'a>(alloc: Global, text: &'a str) -> Result<Scan<'a>, AllocError>
     ensures hits { IfOk result
         (λ scan. AreHits (chars text.now) (map import_of scan.imports.items)) }

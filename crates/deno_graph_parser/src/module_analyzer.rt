@@ -5,7 +5,7 @@ use std::alloc::Global;
 use std::rc::RcStr;
 use url::Url;
 
-/// An analyzer of modules. It stands on a parse function, as a parser does.
+/// An analyzer of modules. It has a parse function, as a parser has.
 pub trait ModuleAnalyzer {
     ghost use Rattle.std.specs.Prelude.{◌≡◌};
     ghost use Rattle.std.specs.Rc.{rc_str_bytes};

@@ -5,7 +5,7 @@ use url::Url;
 /// What a parser is asked to parse.
 #[derive(Clone, Debug, PartialEq, Eq, Drop)]
 pub struct ParseOptions<'a> {
-    /// Where the module stands.
+    /// Where the module is.
     pub specifier: &'a Url,
     /// The text of the module.
     pub source: RcStr,

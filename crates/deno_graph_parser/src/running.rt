@@ -15,9 +15,10 @@ use std::alloc::{AllocError, Global};
 /// diagnostic is an answer, and doesn't stop the run.
 ///
 /// Begun with a sound parser and an empty store, each answer is that of the parser alone, aside
-/// from the mark of scope analysis, and an answer to a `Remove` is the source of the last
-/// successful `Analyze` or `Parse` of its specifier since its last `Remove`. The parser is asked no
-/// more often than a command has another text or media type than that source.
+/// from the mark of scope analysis. The answer to a `Remove` is the source of the last successful
+/// `Analyze` or `Parse` of its specifier since that specifier's last `Remove`. The parser is asked
+/// at most once for each command whose text or media type is another than that of the last
+/// successful `Analyze` or `Parse` of its specifier since that specifier's last `Remove`.
 ///
 /// The error is that memory was refused. The room for the answers is taken first: where that is
 /// refused, no command has run. Otherwise the commands before the refused one have run in full.

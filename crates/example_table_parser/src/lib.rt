@@ -73,8 +73,8 @@ fn find<'a>(sources: &'a [ParsedSource], options: &ParseOptions<'_>) -> Option<&
     })
 }
 
-/// The known tree as the answer to the options. What is wrong can only be want of memory, since
-/// the tree fits the text.
+/// The known tree as the answer to the options. It fits the text, so the only error is that memory
+/// was refused.
 fn parsed(
     alloc: Global,
     known: &ParsedSource,

@@ -1,4 +1,4 @@
-//! A JSON text as a flat list: what stands in an array or an object stands right behind it.
+//! A JSON text as a flat list: what is in an array or an object comes right behind it.
 //!
 //! It is read as `serde_json` reads it: the same texts are refused, but nothing is copied, and a
 //! value takes 24 bytes.
@@ -18,7 +18,7 @@ pub use fault::TapeFault;
 use json::Scratch;
 use std::alloc::Global;
 
-/// What stands at one place of a tape.
+/// What is at one place of a tape.
 #[derive(Clone, Copy)]
 pub enum Node<'a> {
     Null,
@@ -28,7 +28,7 @@ pub enum Node<'a> {
     /// Any other number.
     Number,
     String(&'a str),
-    /// The name of a member, whose value stands behind it.
+    /// The name of a member, whose value is behind it.
     Key(&'a str),
     /// An array of so many elements, and the number of the nodes behind it that they take.
     Array { elements: usize, nodes: usize },
@@ -85,7 +85,7 @@ impl<'a> Tape<'a> {
 /// A value of a tape.
 #[derive(Clone, Copy)]
 pub struct Element<'a> {
-    /// The value's node, and those of what stands in it.
+    /// The value's node, and the nodes of its items or members.
     nodes: &'a [Node<'a>],
     number: usize,
     ghost has_node: { 0 < length nodes.now },
@@ -109,7 +109,7 @@ impl<'a> Element<'a> {
         self.number
     }
 
-    /// Whether the node of this number is its own, or one of what stands in it.
+    /// Whether this is the number of one of its nodes.
     pub(crate) fn has_node(self, number: usize) -> bool
         ensures { IsTrue result ↔ HasNode self.entry number }
     {

@@ -40,7 +40,7 @@ pub fn read<'a>(
     }
 }
 
-/// Where more than the value of the text begins. The reader, which stands at `offset` behind the
+/// Where more than the value of the text begins. The reader, which is at `offset` behind the
 /// value, passes a comma there.
 fn behind_value(text: &str, offset: usize) -> usize {
     let passed = text.as_bytes().get(..offset).unwrap_or(&[]);
@@ -144,7 +144,7 @@ impl<'a> Parser<'a> {
         }
     }
 
-    /// What stands behind the bracket that opens an array.
+    /// What is behind the bracket that opens an array.
     #[cycle(read)]
     #[inline(never)]
     fn array(&mut self, depth: usize) -> Result<(), Stop>
@@ -173,7 +173,7 @@ impl<'a> Parser<'a> {
         Ok(())
     }
 
-    /// What stands behind the brace that opens an object.
+    /// What is behind the brace that opens an object.
     #[cycle(read)]
     #[inline(never)]
     fn object(&mut self, depth: usize) -> Result<(), Stop>
@@ -200,7 +200,7 @@ impl<'a> Parser<'a> {
         Ok(())
     }
 
-    /// The nodes, where nothing stands behind the value of the text.
+    /// The nodes, where nothing is behind the value of the text.
     fn finish(self, text: &str) -> Result<Vec<Node<'a>>, TapeFault>
         ensures nodes { IfOk result (λ nodes. nodes ≡ self.entry.nodes) }
         ensures end { OnOk result (self.entry.reader ≡ []) }

@@ -1,4 +1,4 @@
-//! Where a value stands, as a JSON Pointer (RFC 6901).
+//! Where a value is, as a JSON Pointer (RFC 6901).
 
 ghost use Rattle.std.specs.Prelude.{◌≡◌, ◌++◌, ◌∷◌, [], IfOk, OnOk, IfSome, IfNone};
 ghost use Rattle.std.specs.String.{string_bytes};
@@ -12,7 +12,7 @@ impl<'a> Tape<'a> {
     /// The JSON Pointer of the value whose node has this number, as `/program/body/0`: the empty
     /// text for the value of the whole text. Where no value begins at that node, it is that of the
     /// innermost value that the node is part of, and the empty text where the tape has no such
-    /// node. It takes time for each value on the way, and for those that stand before one of them
+    /// node. It takes time for each value on the way, and for those that are before one of them
     /// in the same array or object.
     pub fn pointer(&self, alloc: Global, number: usize) -> Result<String, AllocError>
         ensures spelled { IfOk result (λ pointer. IsPointer self.now number (string_bytes pointer)) }
@@ -28,7 +28,7 @@ impl<'a> Tape<'a> {
     }
 }
 
-/// How a value stands in an array or an object.
+/// How a value is found in an array or an object.
 #[derive(Clone, Copy)]
 enum Step<'a> {
     Index(usize),

@@ -62,7 +62,7 @@ impl Task {
         }
     }
 
-    /// What stands around the line where it is one of many.
+    /// What is around the line where it is one of many.
     pub fn frame(self) -> (&'static str, &'static str) {
         match self {
             Task::Answer(_) => ("{\"answer\":", "}\n"),

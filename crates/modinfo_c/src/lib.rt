@@ -8,10 +8,10 @@ ghost use Rattle.modinfo_c.specs.Call.{IsAnswered};
 use modinfo::{Fault, Subcommand};
 use std::alloc::{AllocError, Global};
 
-/// The answer stands in the caller's room.
+/// The answer is in the caller's room.
 const ANSWERED: u8 = 0;
 
-/// A fault's name stands in the caller's room.
+/// A fault's name is in the caller's room.
 const FAULT: u8 = 1;
 
 /// The caller's room is too small for the answer or the fault's name.

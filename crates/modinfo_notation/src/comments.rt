@@ -29,7 +29,7 @@ pub fn member_of(side: CommentSide) -> &'static str
 }
 
 /// The comments of a document: its members `leading` and `trailing`, which are arrays of
-/// `{"pos":POSITION,"comments":[COMMENT ..]}`. They are filed in the order in which they stand.
+/// `{"pos":POSITION,"comments":[COMMENT ..]}`. They are filed in the order of the document.
 pub fn read_comments(alloc: Global, members: Members<'_>) -> Result<Comments, NotationFault>
     ensures misfit { IfErr result (IsIn (object_of members.entry)) }
     ensures read { AnswersBy AreThoseOf (reads_sides (members_of members.entry)) result }

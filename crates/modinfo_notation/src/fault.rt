@@ -29,7 +29,7 @@ pub enum NotationFault {
 /// What isn't in the notation, and what would be in its place.
 #[derive(Clone, Copy, Debug, PartialEq, Eq)]
 pub struct Misfit {
-    /// The number of the value's node in the tape. `Tape::pointer` says where that stands.
+    /// The number of the value's node in the tape. `Tape::pointer` says where that is.
     pub element: usize,
     pub expected: Expected,
 }

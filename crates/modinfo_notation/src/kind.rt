@@ -28,7 +28,7 @@ pub const KINDS: &str =
     ModuleDecl, Call, Str, Template, Binary, Ident, Object, KeyValue, Await, Function, ImportMeta, \
     Other";
 
-/// The kind that `value` names, with what stands among the members beside it.
+/// The kind that `value` names, with what is among the members beside it.
 #[tactic(auto, using(crate::proofs::Reading::reading), unfolding(crate::specs::Kind::reads_kind, crate::specs::Kind::named))]
 pub fn read_kind(
     alloc: Global,

@@ -54,7 +54,7 @@ fn child<'a>(value: Element<'a>, name: &str, number: usize) -> Option<Element<'a
 }
 
 /// The comment of this number, from 0 on, among those that are filed on one side of a position:
-/// those of all entries with that position count, in the order in which they stand.
+/// those of all entries with that position count, in the order of the document.
 pub fn comment_at<'a>(
     root: Element<'a>,
     side: CommentSide,

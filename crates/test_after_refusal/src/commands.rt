@@ -17,7 +17,7 @@ use url::Url;
 /// How often the parser was called, and the texts under `U` and `V`.
 type State = (u64, Option<&'static str>, Option<&'static str>);
 
-/// The states after each command, and after the parts of one that can stand alone.
+/// The states after each command, and after the parts of one that may come alone.
 const STATES: [State; 10] = [
     START,
     (1, Some("c"), None),

@@ -4,7 +4,7 @@ use rand_core::Rng;
 use rand_pcg::Pcg32;
 use std::alloc::{AllocError, Global};
 
-/// Bytes that mean something in JSON, and some that can't stand in it.
+/// Bytes that mean something in JSON, and some that can't be in it.
 const BYTES: &[u8] = b"\"\\[]{},:-+.0123456789eEntf \n\0\x7f\x80\xc3\xe2\xf0\xff";
 
 /// Numbers at the limits of what is read, and what is no number there.

@@ -5,7 +5,7 @@ use deno_graph_source::tree::{Arg, BinaryOp, Callee, ImportPhase, Kind, Node, St
 use deno_graph_source::values::{Items, Text};
 use std::alloc::{AllocError, Global};
 
-/// Where everything stands, since the source is empty.
+/// Where everything is, since the source is empty.
 const NOWHERE: SourceRange = SourceRange { start: 0, end: 0 };
 
 /// A call of `import` with a string, under so many other nodes.

@@ -46,7 +46,7 @@ const DOCUMENT: &str = r#"{
 {"kind":"Other","range":[0,1],"children":[{"kind":"Other","range":[0,0]}]}
 ]}}"#;
 
-/// What stands behind the name of each member, and nowhere else.
+/// What is behind the name of each member, and nowhere else.
 const BEHIND_NAME: &str = "\":";
 
 #[test]
@@ -116,7 +116,7 @@ fn each_member_is_known(rt: HostRuntime) -> Result<(), Fail> {
     Ok(())
 }
 
-/// A node of the body, and what stands in it beside its children.
+/// A node of the body, and what it has beside its children.
 fn assert_node(rt: &impl Abort, node: Option<Element<'_>>) {
     let kind = member(node, "kind").and_then(|kind| kind.as_str());
     let kind = kind.unwrap_or("");

@@ -12,7 +12,7 @@ pub struct RowFile {
     text: String,
 }
 
-/// A row as it stands in its file: its name, and the lines below it, each a word and the rest.
+/// A row as it is in its file: its name, and the lines below it, each a word and the rest.
 #[derive(Debug, Drop)]
 pub struct Block<'a> {
     pub name: &'a str,

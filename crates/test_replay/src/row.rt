@@ -56,7 +56,7 @@ impl<'a> Row<'a> {
         }
     }
 
-    /// The status of a run of the program, which stands before what it writes.
+    /// The status of a run of the program, which comes before what it writes.
     fn read_status(&mut self, status: &str) -> Result<(), RowFault> {
         self.expected.clear();
         self.read_answer("status", status)

@@ -17,8 +17,8 @@ use std::alloc::{AllocError, Global};
 /// All imports of the JSDoc comments, their ranges counted from the start of the source.
 ///
 /// The comments are those of a valid source: each is written in the text at its range, and unequal
-/// ones share no byte. Their order, and how often each is there, makes no difference. The error is
-/// want of memory.
+/// ones share no byte. Their order, and how often each is there, makes no difference. The only
+/// error is that memory was refused.
 pub fn imports_of<'a>(
     alloc: Global,
     comments: &[&'a DependencyComment],

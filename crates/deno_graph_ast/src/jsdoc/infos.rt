@@ -20,8 +20,8 @@ use std::alloc::{AllocError, Global};
 /// ranges take in the two quotes. None in files of other types than JavaScript, Jsx, Mjs and Cjs.
 ///
 /// The comments are those of a valid source: each is written in the text at its range, and unequal
-/// ones share no byte. Their order, and how often each is there, makes no difference. The error is
-/// want of memory.
+/// ones share no byte. Their order, and how often each is there, makes no difference. The only
+/// error is that memory was refused.
 pub fn jsdoc_imports(
     alloc: Global,
     media_type: MediaType,

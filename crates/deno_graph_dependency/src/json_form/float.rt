@@ -6,7 +6,7 @@ ghost use Rattle.serde_json.specs.Written.{has_float as float_stands, items_have
 
 use serde_json::{Map, Value};
 
-/// Whether a number that isn't held as a whole number stands anywhere in the value.
+/// Whether a number that isn't held as a whole number is anywhere in the value.
 #[cycle(float)]
 pub fn has_float(value: &Value) -> bool
     ensures { result ≡ float_stands (view value.now) }

@@ -7,7 +7,7 @@ pub enum InfoFault {
     /// The value has no float, and not the form that is read.
     #[error("Shape")]
     Shape,
-    /// A number that isn't held as a whole number stands in the value.
+    /// A number that isn't held as a whole number is in the value.
     #[error("Float")]
     Float,
     #[error("OutOfMemory")]

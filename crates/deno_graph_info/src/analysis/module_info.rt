@@ -65,7 +65,7 @@ impl ModuleInfo {
 
     /// Reads the JSON form. A member that is missing has its default, and members that have no
     /// meaning here are passed over. `Float` where a number that isn't held as a whole number
-    /// stands anywhere in the value, and else `Shape` where it isn't of the form.
+    /// is anywhere in the value, and else `Shape` where it isn't of the form.
     pub fn from_value(alloc: Global, value: &Value) -> Result<ModuleInfo, InfoFault>
         ensures ok { IfOk result (λ info. (float_stands (view value.now) ≡ false)
             × (reads_info (view value.now) ≡ Some info)) }

@@ -8,12 +8,12 @@ use deno_graph_text::values::Text;
 use serde_json::Value;
 use std::alloc::Global;
 
-/// A comment that stands before a dependency.
+/// A comment before a dependency.
 #[derive(Debug, PartialEq, Eq, Drop)]
 pub struct Comment {
     /// What follows the two bytes that mark the comment.
     pub text: Text,
-    /// Where the comment stands: lines and characters from zero.
+    /// Where the comment is: lines and characters from zero.
     pub range: PositionRange,
 }
 

@@ -7,7 +7,7 @@ pub enum ConvertFault {
     /// A column of a types specifier is above the largest `usize`.
     #[error("ColumnOverflow")]
     ColumnOverflow,
-    /// A number that isn't held as a whole number stands in the value.
+    /// A number that isn't held as a whole number is in the value.
     #[error("Float")]
     Float,
     #[error("OutOfMemory")]

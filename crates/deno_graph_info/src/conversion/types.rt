@@ -32,7 +32,7 @@ pub(crate) fn types_named(
     Ok(Some(SpecifierWithRange { text, range }))
 }
 
-/// Where the types stand that were found at these bytes of the text of a comment that begins at
+/// Where the types are that were found at these bytes of the text of a comment that begins at
 /// `start`: as many columns on, and two for the comment's marker, with one more on each side.
 fn range_of_types(start: Position, found: Range<usize>) -> Result<PositionRange, ConvertFault>
     requires { found.start ≤ found.end }

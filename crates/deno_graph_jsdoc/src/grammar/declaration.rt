@@ -109,7 +109,7 @@ fn advance<'a>(
     }
 }
 
-/// Whether the `}` that is known stands in `input`, and not before it.
+/// Whether the `}` that is known is in `input`, and not before it.
 fn is_ahead(known: &Option<NamesEnd<'_>>, input: &str) -> bool
     ensures { IsTrue result
         ↔ IsSomeAnd known.now (λ end. length end.behind.now < length input.now) }

@@ -22,7 +22,7 @@ use deno_graph_text::values::TypeScriptTypesResolutionMode;
 /// The dynamic import in braces with which `input` begins, and what is behind it.
 ///
 /// `{`, anything up to the first `import`, an argument list of a quoted specifier and maybe
-/// attributes, and anything up to `}`. Only the first `import` is tried, and no `}` stands before
+/// attributes, and anything up to `}`. Only the first `import` is tried, and no `}` is before
 /// it.
 pub fn parse_jsdoc_dynamic_import(input: &str) -> Result<(&str, JsDocImport<'_>), NoParse>
     ensures found { IfOk result
@@ -84,7 +84,7 @@ fn up_to_import(input: &str) -> Option<&str>
         Some((unclosed, _)) => unclosed,
         None => input,
     };
-    // One that stands there is the first of the whole input too.
+    // One that is there is the first of the whole input too.
     let (_, _) = unclosed.split_once("import")?;
     let (_, rest) = input.split_once("import")?;
     Some(rest)

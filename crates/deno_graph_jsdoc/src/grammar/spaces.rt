@@ -18,7 +18,7 @@ pub(crate) struct KnownSpace<'a> {
     rest: &'a str,
 }
 
-/// The white space behind each `}` that may close attributes, or what they stand in, by ascending
+/// The white space behind each `}` that may close attributes, or what they are in, by ascending
 /// `left`; nothing where there are no lists that end there.
 pub(crate) fn known_spaces<'a>(
     alloc: Global,
@@ -68,7 +68,7 @@ pub(crate) fn skip_known<'a>(input: &'a str, known: &[KnownSpace<'a>]) -> &'a st
     skip_space(input)
 }
 
-/// Whether a `}` behind the text may close attributes, or what they stand in.
+/// Whether a `}` behind the text may close attributes, or what they are in.
 fn may_close(text: &str) -> bool {
     let text = text.trim_end();
     text.ends_with('"') || text.ends_with('\'') || text.ends_with('}')

@@ -12,7 +12,7 @@ pub struct Match<'a> {
 }
 
 impl<'a> Match<'a> {
-    /// `found`, which stands at the start of `rest`, with which `input` ends.
+    /// `found`, which is at the start of `rest`, with which `input` ends.
     pub(super) fn at_start_of(rest: &str, input: &str, found: &'a str) -> Match<'a>
         requires rest { length rest.now ≤ length input.now }
         requires found { length found.now ≤ length rest.now }
@@ -35,7 +35,7 @@ impl<'a> Match<'a> {
         self.text
     }
 
-    /// Where the part stands in the text, in bytes from zero.
+    /// Where the part is in the text, in bytes from zero.
     pub fn range(&self) -> Range<usize>
         ensures start { result.start ≡ (part_of self.now).start }
         ensures end { result.end ≡ (part_of self.now).end }
@@ -49,9 +49,9 @@ impl<'a> Match<'a> {
 pub struct DenoTypesPragmaMatch<'a> {
     /// The specifier, without quotes.
     pub text: &'a str,
-    /// Where the specifier stands, without quotes, in bytes from zero.
+    /// Where the specifier is, without quotes, in bytes from zero.
     pub range: Range<usize>,
-    /// Whether no quotes stand round it.
+    /// Whether no quotes are round it.
     pub is_quoteless: bool,
 }
 

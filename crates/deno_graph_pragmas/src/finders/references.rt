@@ -39,7 +39,7 @@ fn strip_reference(text: &str) -> Option<&str>
     strip_white_space(behind_name)
 }
 
-/// Whether `/>` stands in the first line of the text.
+/// Whether `/>` is in the first line of the text.
 fn is_closed_in_line(text: &str) -> bool
     ensures { IsTrue result ↔ IsClosedInLine (chars text.now) }
 {

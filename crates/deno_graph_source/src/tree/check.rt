@@ -21,8 +21,8 @@ use crate::tree::fault_place::SourceFaultPlace;
 use crate::tree::node::Program;
 use std::alloc::{AllocError, Global};
 
-/// What is wrong with a text and what a parser made of it: `None` where nothing is. Where several
-/// faults stand, any one of them is answered.
+/// What is wrong with a text and what a parser made of it: `None` where nothing is. Where there
+/// are several faults, any one of them is answered.
 pub fn source_fault(
     alloc: Global,
     text: &str,

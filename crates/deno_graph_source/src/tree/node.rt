@@ -14,7 +14,7 @@ pub struct StrLit {
 }
 
 impl StrLit {
-    /// The literal of this value, which stands at this range of the text, quotes and all.
+    /// The literal of this value, at this range of the text, quotes and all.
     pub fn new(value: JsString, range: SourceRange) -> StrLit
         ensures { result ≡ record { value = value; range = range } }
     {
@@ -317,7 +317,7 @@ impl Node {
     ghost use Rattle.std.specs.Prelude.{[]};
     ghost use Rattle.deno_graph_source.specs.Node.{kind_of, range_of, children_of};
 
-    /// A node of this kind with no children, which stands at this range. Takes no memory.
+    /// A node of this kind with no children, at this range. Takes no memory.
     pub fn new(alloc: Global, range: SourceRange, kind: Kind) -> Node
         ensures range { range_of result ≡ range }
         ensures kind { kind_of result ≡ kind }

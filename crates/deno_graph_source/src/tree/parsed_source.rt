@@ -99,7 +99,7 @@ impl ParsedSource {
         })
     }
 
-    /// Where the module stands.
+    /// Where the module is.
     pub fn specifier(&self) -> &Url
         ensures { result.now ≡ self.now.specifier }
     {

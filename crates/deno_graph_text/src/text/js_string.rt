@@ -14,9 +14,9 @@ use crate::values::TryClone;
 use std::alloc::{AllocError, Global};
 use std::marker::Model;
 
-/// A JavaScript string: a list of code points, of which some may be surrogates that stand alone.
+/// A JavaScript string: a list of code points, of which some may be lone surrogates.
 ///
-/// A high surrogate never stands directly before a low one: the two are one code point.
+/// A high surrogate is never directly before a low one: the two are one code point.
 #[derive(Debug, Drop)]
 pub struct JsString {
     // The code points as a text, with U+FFFD for each surrogate.
@@ -52,8 +52,8 @@ impl JsString {
     }
 
     /// The code points of `units` of UTF-16, or an error where memory was refused. A high surrogate
-    /// directly before a low one joins with it to one code point, and every other surrogate stands
-    /// alone.
+    /// directly before a low one joins with it to one code point, and every other surrogate is a
+    /// lone one.
     pub fn from_units(alloc: Global, units: &[u16]) -> Result<JsString, AllocError>
         ensures points { IfOk result (λ made. made ≡ points_of_units units.now) }
         ensures same_units { IfOk result (λ made. flat_map encode_utf16 made ≡ units.now) }
@@ -68,7 +68,7 @@ impl JsString {
         Ok(JsString { text, lone })
     }
 
-    /// The text, or `None` where a surrogate stands alone.
+    /// The text, or `None` where there is a lone surrogate.
     pub fn as_str(&self) -> Option<&str>
         ensures readable { IsSome result ↔ IsReadable self.now }
         ensures text { IfSome result (λ t. t.now ≡ encode_utf8_all self.now) }
@@ -82,7 +82,7 @@ impl JsString {
         }
     }
 
-    /// The text, with U+FFFD for each surrogate that stands alone.
+    /// The text, with U+FFFD for each lone surrogate.
     pub fn to_str_lossy(&self) -> &str
         ensures { result.now ≡ lossy_text self.now }
     {
@@ -96,7 +96,7 @@ impl JsString {
         self.text.is_empty()
     }
 
-    /// A law of all strings: no high surrogate stands directly before a low one.
+    /// A law of all strings: no high surrogate is directly before a low one.
     pub fn law_of_pairs(&self)
         ensures { IsPaired self.now }
     {

@@ -2,7 +2,7 @@ ghost use Rattle.std.specs.Prelude.{◌≡◌, IfOk};
 
 use std::alloc::{AllocError, Global};
 
-/// A copy that takes memory, and so may fail: what stands for `Clone` here.
+/// A copy that takes memory, and so may fail: what takes the place of `Clone` here.
 pub trait TryClone {
     /// An equal value, or an error where memory was refused.
     fn try_clone(&self, alloc: Global) -> Result<Self, AllocError>

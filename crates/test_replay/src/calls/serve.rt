@@ -143,7 +143,7 @@ fn push_other_report(
     Ok(())
 }
 
-/// What stands behind the word on the last line.
+/// What is behind the word on the last line.
 fn found<'a>(answer: &'a str, word: &str) -> Option<&'a str> {
     answer.lines().last()?.strip_prefix(word)
 }

@@ -46,8 +46,8 @@ fn inside(kind: CommentKind, written: &str) -> Option<&str>
     }
 }
 
-/// Looks for two comments that overlap, where they stand in ascending order of their starts: then
-/// two that overlap stand next to each other.
+/// Looks for two comments that overlap, where they are in ascending order of their starts: then two
+/// that overlap are next to each other.
 pub(crate) fn check_neighbours<'a>(
     comments: &[&'a DependencyComment],
 ) -> Option<(&'a DependencyComment, &'a DependencyComment)>
