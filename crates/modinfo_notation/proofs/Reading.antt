@@ -14,6 +14,8 @@ use Rattle.std.proofs.Common.{
   option_map,
   ok_or,
   Result,
+  Ok,
+  Err,
   IsErrAnd,
   refl,
   sym,
@@ -121,6 +123,14 @@ pub refuses_by : {B C : Type 0} (Meets : B → C → Type 0) (wanted : Option B)
     (answer : Result C NotationFault)
     → IsErrAnd answer (λ other. other ≡ fault) → IsRefusal wanted fault → AnswersBy Meets wanted answer
 refuses_by Meets wanted fault answer is h = let p = err_from_is_err_and answer is in rw (p.1, p.2) h
+
+-- what is made of what was read
+pub made_of : {A B C : Type 0} (Meets : B → C → Type 0) (make : A → B) (wanted : Option A)
+    (answer : Result C NotationFault) → AnswersBy (λ x. Meets (make x)) wanted answer
+    → AnswersBy Meets (wanted >>= (λ x. Some (make x))) answer
+made_of Meets make None (Ok c) h = h
+made_of Meets make (Some x) (Ok c) h = h
+made_of Meets make wanted (Err fault) h = refused wanted (λ x. Some (make x)) fault h
 
 -- how a reader that reads step by step ends
 pub ruleset reading = (goes_on, exits, answers_on, exits_seen, answers_seen_on)

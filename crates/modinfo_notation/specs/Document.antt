@@ -2,10 +2,11 @@
 use Rattle.std.specs.Prelude.{◌≡◌, List, codes, ℕ, Option, Some, None, Ok, Err, false, IsSomeAnd}
 use Rattle.std.specs.Rc.{rc_str_bytes}
 use Rattle.flat_json.specs.Flat.{IsRefused}
-use Rattle.flat_json.specs.Value.{Value, as_object, as_str}
+use Rattle.flat_json.specs.Value.{Value, Members, as_object, as_str}
 use Rattle.flat_json.specs.View.{IsValueOf}
 use Rattle.deno_graph_source.specs.declared.tree.media_type.MediaType.{MediaType}
 use Rattle.deno_graph_source.specs.declared.tree.node.Program.{Program}
+use Rattle.deno_graph_source.specs.Comments.{FiledComments}
 use Rattle.deno_graph_source.specs.ParsedSource.{ParsedModule}
 use Rattle.deno_graph_source.specs.Source.{HasFault}
 use Rattle.url.specs.Parser.{parse_url}
@@ -32,6 +33,13 @@ pub record Stated : Type 0 where
   pub comments : List Entry × List Entry
   pub program : Program
 
+-- the comments of both sides, and the program
+unfoldable pub reads_tree : Members → Option ((List Entry × List Entry) × Program)
+reads_tree members = do
+  comments ← reads_sides members
+  program ← required reads_program (codes "program") members
+  Some (comments, program)
+
 -- `{"specifier":TEXT,"mediaType":NAME,"source":TEXT,"leading":[ENTRY ..],"trailing":[ENTRY
 -- ..],"program":PROGRAM}`
 unfoldable pub reads_document : Value → Option Stated
@@ -49,6 +57,10 @@ reads_document value = do
     comments = comments;
     program = program;
   })
+
+-- the comments of these entries, and this program
+abbrev pub HasTree : (List Entry × List Entry) × Program → FiledComments × Program → Type 0
+HasTree stated tree = AreThoseOf stated.0 tree.0 × (tree.1 ≡ stated.1)
 
 -- the document has what is stated
 pub record Has (stated : Stated) (document : Document) : Type 0 where

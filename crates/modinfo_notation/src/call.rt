@@ -6,12 +6,11 @@ ghost use Rattle.modinfo_notation.specs.Misfit.{IsIn};
 ghost use Rattle.flat_json.specs.View.{members_of, value_of};
 ghost use Rattle.modinfo_notation.specs.Answer.{Answers};
 ghost use Rattle.modinfo_notation.specs.Kind.{callees, reads_arg, reads_call, reads_named};
-ghost use Rattle.modinfo_notation.specs.Partial.{reads_array};
 
+use crate::array::{FromElement, read_array};
 use crate::fault::{Expected, NotationFault};
-use crate::member::{elements_of, flag, members_of, misfit, range, required, text_of};
+use crate::member::{flag, members_of, misfit, range, required, text_of};
 use deno_graph_source::tree::{Arg, Callee, ImportPhase, Kind};
-use deno_graph_source::values::Items;
 use flat_json::{Element, Members};
 use std::alloc::Global;
 
@@ -22,7 +21,7 @@ pub fn read_call(alloc: Global, members: Members<'_>) -> Result<Kind, NotationFa
     ensures read { Answers (reads_call (members_of members.entry)) result }
 {
     let callee = read_callee(required(members, "callee")?)?;
-    let args = read_args(alloc, required(members, "args")?)?;
+    let args = read_array(alloc, required(members, "args")?)?;
     Ok(Kind::Call { callee, args })
 }
 
@@ -43,27 +42,15 @@ fn read_callee(value: Element<'_>) -> Result<Callee, NotationFault>
     }
 }
 
-/// Arguments, `[{"range":[START,END],"spread":BOOL} ..]`.
-#[tactic(auto, using(crate::proofs::Reading::reading), unfolding(crate::specs::Partial::reads_array))]
-fn read_args(alloc: Global, value: Element<'_>) -> Result<Items<Arg>, NotationFault>
-    ensures misfit { IfErr result (IsIn value.entry) }
-    ensures read { Answers (reads_array reads_arg (value_of value.entry)) result }
-{
-    let values = elements_of(value)?;
-    let mut args = Items::with_capacity(alloc, values.array_len())?;
-    for value in values {
-        args.push(read_arg(value)?)?;
-    }
-    Ok(args)
-}
+/// An argument, `{"range":[START,END],"spread":BOOL}`.
+impl FromElement for Arg {
+    ghost reads = { reads_arg };
 
-#[tactic(auto, using(crate::proofs::Reading::reading), unfolding(crate::specs::Kind::reads_arg))]
-fn read_arg(value: Element<'_>) -> Result<Arg, NotationFault>
-    ensures misfit { IfErr result (IsIn value.entry) }
-    ensures read { Answers (reads_arg (value_of value.entry)) result }
-{
-    let members = members_of(value)?;
-    let range = range(members)?;
-    let spread = flag(members, "spread")?;
-    Ok(Arg { spread, range })
+    #[tactic(auto, using(crate::proofs::Reading::reading), unfolding(crate::specs::Kind::reads_arg))]
+    fn from_element(_alloc: Global, value: Element<'_>) -> Result<Arg, NotationFault> {
+        let members = members_of(value)?;
+        let range = range(members)?;
+        let spread = flag(members, "spread")?;
+        Ok(Arg { spread, range })
+    }
 }

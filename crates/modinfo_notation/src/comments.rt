@@ -1,21 +1,21 @@
 //! Comments, each filed at its position.
 
 ghost use Rattle.std.specs.Prelude.{◌≡◌, [], ◌∷◌, IfErr, OnOk};
-ghost use Rattle.flat_json.specs.Tape.{object_of};
-ghost use Rattle.flat_json.specs.View.{members_of, value_of};
+ghost use Rattle.flat_json.specs.Tape.{array_of, object_of};
+ghost use Rattle.flat_json.specs.View.{items_left, members_of, value_of};
 ghost use Rattle.modinfo_notation.specs.Misfit.{IsIn};
 ghost use Rattle.modinfo_notation.specs.Answer.{Answers, AnswersBy};
 ghost use Rattle.modinfo_notation.specs.Comments.{AddsOn, AreFiledOn, AreThoseOf, comment_kinds};
 ghost use Rattle.modinfo_notation.specs.Comments.{reads_comment, reads_entry, reads_side, reads_sides};
 ghost use Rattle.modinfo_notation.specs.Comments.{side_name};
 ghost use Rattle.modinfo_notation.specs.Kind.{reads_named};
-ghost use Rattle.modinfo_notation.specs.Partial.{reads_array};
+ghost use Rattle.modinfo_notation.specs.Partial.{reads_array, reads_items};
 
 use crate::fault::{Expected, NotationFault};
 use crate::member::{elements_of, members_of, misfit, offset, range, required, text, text_of};
 use deno_graph_source::tree::{CommentKind, CommentSide, Comments, DependencyComment};
 use deno_graph_source::values::Text;
-use flat_json::{Element, Members};
+use flat_json::{Element, Elements, Members};
 use std::alloc::{AllocError, Global};
 
 /// The name of the document's member that has the comments of this side.
@@ -86,7 +86,23 @@ fn read_entry(
 {
     let members = members_of(entry)?;
     let pos = offset(required(members, "pos")?)?;
-    for value in elements_of(required(members, "comments")?)? {
+    let values = elements_of(required(members, "comments")?)?;
+    file_comments(alloc, values, side, pos, comments)
+}
+
+/// Files comments at a position of one side.
+fn file_comments(
+    alloc: Global,
+    values: Elements<'_>,
+    side: CommentSide,
+    pos: usize,
+    comments: &mut Comments,
+) -> Result<(), NotationFault>
+    ensures misfit { IfErr result (IsIn (array_of values.entry)) }
+    ensures read { AnswersBy (λ filed _. AreFiledOn side comments.old comments.new ((pos, filed) ∷ []))
+        (reads_items reads_comment (items_left values.entry)) result }
+{
+    for value in values {
         let comment = read_comment(alloc, value)?;
         add(comments, side, pos, comment)?;
     }

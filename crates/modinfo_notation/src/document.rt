@@ -1,10 +1,12 @@
 //! Documents: modules as a parser hands them over.
 
 ghost use Rattle.std.specs.Prelude.{IfErr, MatchResult};
-ghost use Rattle.flat_json.specs.View.{value_of};
+ghost use Rattle.flat_json.specs.Tape.{object_of};
+ghost use Rattle.flat_json.specs.View.{members_of, value_of};
 ghost use Rattle.modinfo_notation.specs.Answer.{AnswersBy};
-ghost use Rattle.modinfo_notation.specs.Document.{Has, IsDocumentOf, IsNoDocument, IsNoSource};
-ghost use Rattle.modinfo_notation.specs.Document.{IsSourceOf, reads_document};
+ghost use Rattle.modinfo_notation.specs.Document.{Has, HasTree, IsDocumentOf, IsNoDocument};
+ghost use Rattle.modinfo_notation.specs.Document.{IsNoSource, IsSourceOf};
+ghost use Rattle.modinfo_notation.specs.Document.{reads_document, reads_tree};
 ghost use Rattle.modinfo_notation.specs.Misfit.{IsIn};
 
 use crate::comments::read_comments;
@@ -14,7 +16,7 @@ use crate::member::{members_of, required, text};
 use crate::node::read_program;
 use deno_graph_source::tree::{Comments, MediaType, ParsedSource, Program};
 use deno_graph_source::values::Text;
-use flat_json::{Element, Tape};
+use flat_json::{Element, Members, Tape};
 use json::Scratch;
 use std::alloc::Global;
 use std::rc::RcStr;
@@ -41,8 +43,7 @@ pub fn read_document(alloc: Global, value: Element<'_>) -> Result<Document, Nota
     let specifier = Text::from_str(alloc, text(members, "specifier")?)?;
     let media_type = read_media_type(required(members, "mediaType")?)?;
     let source = RcStr::from_str(alloc, text(members, "source")?)?;
-    let comments = read_comments(alloc, members)?;
-    let program = read_program(alloc, required(members, "program")?)?;
+    let (comments, program) = read_tree(alloc, members)?;
     Ok(Document {
         specifier,
         media_type,
@@ -50,6 +51,17 @@ pub fn read_document(alloc: Global, value: Element<'_>) -> Result<Document, Nota
         program,
         comments,
     })
+}
+
+/// The comments and the program.
+#[tactic(auto, using(crate::proofs::Reading::reading_by), unfolding(crate::specs::Document::reads_tree, crate::specs::Partial::required))]
+fn read_tree(alloc: Global, members: Members<'_>) -> Result<(Comments, Program), NotationFault>
+    ensures misfit { IfErr result (IsIn (object_of members.entry)) }
+    ensures read { AnswersBy HasTree (reads_tree (members_of members.entry)) result }
+{
+    let comments = read_comments(alloc, members)?;
+    let program = read_program(alloc, required(members, "program")?)?;
+    Ok((comments, program))
 }
 
 /// Reads a document. `Json` where the text is no JSON, nests deeper than 127 or has a number too

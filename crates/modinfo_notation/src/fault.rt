@@ -59,19 +59,20 @@ pub enum Expected {
 
 impl fmt::Display for Expected {
     fn fmt<W: fmt::Write>(&self, f: &mut fmt::Formatter<W>) -> fmt::Result {
-        match self {
-            Expected::Object => write!(f, "an object"),
-            Expected::Array => write!(f, "an array"),
-            Expected::String => write!(f, "a string"),
-            Expected::Bool => write!(f, "true or false"),
-            Expected::Whole => write!(f, "a whole number from 0 to {}", u64::MAX),
-            Expected::Range => write!(f, "two whole numbers, [start,end]"),
-            Expected::SourceString => write!(f, "a string or an array of units of UTF-16"),
-            Expected::Unit => write!(f, "a whole number below 65536"),
-            Expected::Key => write!(f, "\"other\", or an object with either `str` or `ident`"),
-            Expected::Member(name) => write!(f, "a member `{name}`"),
-            Expected::OneOf(names) => write!(f, "one of {names}"),
-        }
+        let words = match self {
+            Expected::Object => "an object",
+            Expected::Array => "an array",
+            Expected::String => "a string",
+            Expected::Bool => "true or false",
+            Expected::Whole => return write!(f, "a whole number from 0 to {}", u64::MAX),
+            Expected::Range => "two whole numbers, [start,end]",
+            Expected::SourceString => "a string or an array of units of UTF-16",
+            Expected::Unit => "a whole number below 65536",
+            Expected::Key => "\"other\", or an object with either `str` or `ident`",
+            Expected::Member(name) => return write!(f, "a member `{name}`"),
+            Expected::OneOf(names) => return write!(f, "one of {names}"),
+        };
+        f.write_str(words)
     }
 }
 

@@ -2,6 +2,7 @@
 //! comments, as one JSON text. docs/FORMATS.md describes it.
 #![tactic(auto)]
 
+mod array;
 pub mod call;
 pub mod comments;
 pub mod declaration;

@@ -8,8 +8,9 @@ ghost use Rattle.modinfo_notation.specs.Answer.{Answers};
 ghost use Rattle.modinfo_notation.specs.Literal.{reads_literal, reads_string, reads_unit, reads_units};
 ghost use Rattle.modinfo_notation.specs.Partial.{optional, reads_array};
 
+use crate::array::{FromElement, read_array, read_items};
 use crate::fault::{Expected, NotationFault};
-use crate::member::{elements_of, members_of, misfit, optional, present, range_of};
+use crate::member::{members_of, misfit, optional, present, range_of};
 use deno_graph_source::text::JsString;
 use deno_graph_source::tree::StrLit;
 use deno_graph_source::values::Items;
@@ -65,17 +66,19 @@ fn literal_members<'a>(members: Members<'a>) -> (Option<Element<'a>>, Option<Ele
 }
 
 /// An array of strings.
-#[tactic(auto, using(crate::proofs::Reading::reading), unfolding(crate::specs::Partial::reads_array))]
 pub fn read_strings(alloc: Global, value: Element<'_>) -> Result<Items<JsString>, NotationFault>
     ensures misfit { IfErr result (IsIn value.entry) }
     ensures read { Answers (reads_array reads_string (value_of value.entry)) result }
 {
-    let values = elements_of(value)?;
-    let mut strings = Items::with_capacity(alloc, values.array_len())?;
-    for value in values {
-        strings.push(read_string(alloc, value)?)?;
+    read_array(alloc, value)
+}
+
+impl FromElement for JsString {
+    ghost reads = { reads_string };
+
+    fn from_element(alloc: Global, value: Element<'_>) -> Result<JsString, NotationFault> {
+        read_string(alloc, value)
     }
-    Ok(strings)
 }
 
 /// A string of the source: a text, or an array of units of UTF-16.
@@ -98,20 +101,18 @@ fn read_units(alloc: Global, value: Element<'_>) -> Result<JsString, NotationFau
     let values = value
         .elements()
         .ok_or(misfit(value, Expected::SourceString))?;
-    let mut units = Vec::with_capacity(alloc, values.array_len())?;
-    for value in values {
-        units.push(read_unit(value)?)?;
-    }
+    let units: Items<u16> = read_items(alloc, values)?;
     Ok(JsString::from_units(alloc, units.as_slice())?)
 }
 
-#[tactic(auto, using(crate::proofs::Reading::reading), unfolding(crate::specs::Literal::reads_unit))]
-fn read_unit(value: Element<'_>) -> Result<u16, NotationFault>
-    ensures misfit { IfErr result (IsIn value.entry) }
-    ensures read { Answers (reads_unit (value_of value.entry)) result }
-{
-    match value.as_u64() {
-        Some(unit) if unit < 65536 => Ok(unit as u16),
-        _ => Err(misfit(value, Expected::Unit)),
+impl FromElement for u16 {
+    ghost reads = { reads_unit };
+
+    #[tactic(auto, using(crate::proofs::Reading::reading), unfolding(crate::specs::Literal::reads_unit))]
+    fn from_element(_alloc: Global, value: Element<'_>) -> Result<u16, NotationFault> {
+        match value.as_u64() {
+            Some(unit) if unit < 65536 => Ok(unit as u16),
+            _ => Err(misfit(value, Expected::Unit)),
+        }
     }
 }

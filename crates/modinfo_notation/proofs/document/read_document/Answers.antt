@@ -1,9 +1,9 @@
-use Rattle.std.proofs.Common.{◌≡◌, arith, Some, refl}
+use Rattle.std.proofs.Common.{◌≡◌, arith, Some, refl, ap, ◌∙◌}
 use Rattle.flat_json.specs.View.{members_of, value_of}
-use Rattle.modinfo_notation.specs.Comments.{AreThoseOf, reads_sides}
-use Rattle.modinfo_notation.specs.Document.{Stated, reads_document}
-use Rattle.modinfo_notation.specs.Partial.{required}
-use Rattle.modinfo_notation.proofs.Reading.{goes_on, reading_by, some_and, some_with}
+use Rattle.modinfo_notation.specs.Document.{Has, HasTree, reads_document, reads_tree}
+use Rattle.modinfo_notation.specs.Partial.{◌>>=◌, required}
+use Rattle.modinfo_notation.proofs.Documents.{document_read, stated_with}
+use Rattle.modinfo_notation.proofs.Reading.{exits_by, goes_on, reading_by, some_and, some_with}
 use Rattle.modinfo_notation.proofs.document.read_document.Goals as goal
 
 pub returns-in_err-members-clause-read : goal.returns-in_err-members-clause-read
@@ -27,44 +27,33 @@ unfolding reads_document required
 returns-in_err-text-2-clause-read c = grind (arith, reading_by)
 
 pub returns-in_err-comments-clause-read : goal.returns-in_err-comments-clause-read
-unfolding reads_document required
-returns-in_err-comments-clause-read c = grind (arith, reading_by)
-
-pub returns-in_err-required-2-clause-read : goal.returns-in_err-required-2-clause-read
-unfolding reads_document required
-returns-in_err-required-2-clause-read c =
-    let sides = some_with (λ sides. AreThoseOf sides c.in_ok-comments.comments)
-    (reads_sides (members_of c.in_ok-members.members)) c.in_ok-comments.ensures.read in
-    let is = sides.1 in
-    grind (arith, reading_by, is)
-
-pub returns-in_err-program-clause-read : goal.returns-in_err-program-clause-read
-unfolding reads_document required
-returns-in_err-program-clause-read c =
-    let sides = some_with (λ sides. AreThoseOf sides c.in_ok-comments.comments)
-    (reads_sides (members_of c.in_ok-members.members)) c.in_ok-comments.ensures.read in
-    let is = sides.1 in
-    grind (arith, reading_by, is)
+unfolding required
+returns-in_err-comments-clause-read c =
+    let is = document_read c.in_ok-text.field-0.now c.in_ok-media_type.media_type c.in_ok-text-2.field-0.now
+    (value_of c.args.value) (members_of c.in_ok-members.members) c.in_ok-members.ensures.read
+    c.in_ok-text.ensures.read
+    (goes_on _ _ _ _ c.in_ok-required.ensures.read c.in_ok-media_type.ensures.read)
+    c.in_ok-text-2.ensures.read in
+    rw is (exits_by Has (reads_tree (members_of c.in_ok-members.members)) _ c.in_err-comments.field-0.0 _
+    c.from_residual-in_err-comments.ensures.1 c.in_err-comments.ensures.read)
 
 pub returns-clause-read : goal.returns-clause-read
-unfolding reads_document required
+unfolding required
 returns-clause-read c =
-    let sides = some_with (λ sides. AreThoseOf sides c.in_ok-comments.comments)
-    (reads_sides (members_of c.in_ok-members.members)) c.in_ok-comments.ensures.read in
-    let sides_is = sides.1 in
-    let stated : Stated = record {
-      specifier = c.in_ok-text.field-0.now;
-      media_type = c.in_ok-media_type.media_type;
-      source = c.in_ok-text-2.field-0.now;
-      comments = sides.0;
-      program = c.in_ok-program.program;
-    } in
-    let is : reads_document (value_of c.args.value) ≡ Some stated = grind (arith, goes_on, sides_is) in
-    some_and _ _ stated is
+    let is = document_read c.in_ok-text.field-0.now c.in_ok-media_type.media_type c.in_ok-text-2.field-0.now
+    (value_of c.args.value) (members_of c.in_ok-members.members) c.in_ok-members.ensures.read
+    c.in_ok-text.ensures.read
+    (goes_on _ _ _ _ c.in_ok-required.ensures.read c.in_ok-media_type.ensures.read)
+    c.in_ok-text-2.ensures.read in
+    let tree = some_with (λ tree. HasTree tree (c.in_ok-comments.comments, c.in_ok-comments.program))
+    (reads_tree (members_of c.in_ok-members.members)) c.in_ok-comments.ensures.read in
+    let stated = stated_with c.in_ok-text.field-0.now c.in_ok-media_type.media_type
+    c.in_ok-text-2.field-0.now in
+    some_and _ _ (stated tree.0) (is ∙ ap (λ o. o >>= (λ t. Some (stated t))) tree.1)
     (record {
       specifier = c.in_ok-specifier.ensures;
       media_type = refl;
       source = c.in_ok-source.ensures.ok;
-      comments = sides.2;
-      program = refl;
+      comments = tree.2.0;
+      program = tree.2.1;
     })
