@@ -12,14 +12,12 @@ use Rattle.std.proofs.Common.{
   take,
   drop,
   get_or,
-  length-append,
+  append_assoc,
   refl,
   sym,
   ap,
-  subst,
   ◌∙◌,
   All,
-  arith,
   add-one,
   drop-cons,
   IsTrue,
@@ -27,8 +25,10 @@ use Rattle.std.proofs.Common.{
   true,
   false,
   Some,
+  inl,
+  inr,
 }
-use Rattle.std.proofs.lemmas.List.{take-append-drop, get_or_append_left}
+use Rattle.std.proofs.lemmas.List.{take-append-drop}
 use Rattle.std.proofs.lemmas.List.Elements.{All-nil, All-cons}
 use Rattle.deno_graph_source.specs.declared.tree.comments.CommentKind.TheVariants.{Block}
 use Rattle.deno_graph_source.specs.declared.tree.comments.DependencyComment.{DependencyComment}
@@ -46,7 +46,8 @@ use Rattle.deno_graph_ast.specs.Pragma.{
   quoteless,
   specifier_of_part,
 }
-use Rattle.deno_graph_ast.specs.FoundPragma.{IsFound}
+use Rattle.deno_graph_ast.specs.FoundPragma.{Covers, IsFound}
+use Rattle.deno_graph_ast.specs.Spelled.{CoversAsWritten}
 
 -- a list at one of its places
 cut_at : {X : Type 0} (xs : List X) (i : ℕ) (x : X) → i < length xs → x ≡ get_or xs i x
@@ -79,7 +80,7 @@ found_names source pragma comment part specifier found is =
 
 -- ---- the types of a dependency
 
-no_blocks : (comment : DependencyComment) → IsTrue false → comment.kind ≡ Block
+pub no_blocks : (comment : DependencyComment) → IsTrue false → comment.kind ≡ Block
 no_blocks comment is = cc
 
 pub ts_types_named : (source : List ℕ) (comment : DependencyComment) (part : TextPart)
@@ -136,8 +137,31 @@ deno_types_named source comment part true specifier no_ts_types captured_quoted 
       record { part = part; is_captured = captured.1; is_specifier = is },
     )
 
+-- the range covers the specifier, with its quotes if it has some
+pub covers_as_written : (source : List ℕ) (is_quoteless : Bool) (specifier : SpecifierWithRange)
+    → Covers source is_quoteless specifier → CoversAsWritten source specifier
+covers_as_written source true specifier covers = inl covers
+covers_as_written source false specifier covers = inr covers
+
+pub no_types_named : (comment : DependencyComment)
+    → ¬ HasSplit finder.ts_types_pattern comment.text
+    → ¬ HasSplit finder.deno_types_pattern comment.text
+    × ¬ HasSplit finder.quoteless_deno_types_pattern comment.text
+    → All (λ pragma. ¬ HasPragma pragma comment) dependency_types_pragmas
+no_types_named comment no_ts_types no_deno_types =
+    let none = λ (pragma : Pragma). ¬ HasPragma pragma comment in
+    All-cons none (quoted finder.ts_types_pattern)
+    (quoted finder.deno_types_pattern ∷ quoteless finder.quoteless_deno_types_pattern ∷ [])
+    (λ has. no_ts_types has.split)
+    (All-cons none (quoted finder.deno_types_pattern) (quoteless finder.quoteless_deno_types_pattern ∷ [])
+    (λ has. no_deno_types.0 has.split)
+    (All-cons none (quoteless finder.quoteless_deno_types_pattern) [] (λ has. no_deno_types.1 has.split)
+    (All-nil none)))
+
 -- ---- lists in parts
 
-pub All-front : {X : Type 0} (P : X → Type 0) (xs ys : List X) → All P (xs ++ ys) → All P xs
-All-front P xs ys all k d below =
-    subst P (get_or_append_left xs ys d k below) (all k d (omega (arith, below, length-append xs ys)))
+-- what the rest has as its last stands between the others of the rest and what is behind the rest
+pub whole_at_last : {X : Type 0} (xs rest front after : List X) (x : X) → xs ≡ rest ++ after
+    → rest ≡ front ++ x ∷ [] → xs ≡ front ++ x ∷ after
+whole_at_last xs rest front after x whole last =
+    whole ∙ ap (λ t. t ++ after) last ∙ append_assoc front (x ∷ []) after
