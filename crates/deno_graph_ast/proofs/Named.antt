@@ -24,16 +24,26 @@ use Rattle.std.proofs.Common.{
   Bool,
   true,
   false,
+  Option,
   Some,
+  None,
+  IfSome,
+  IsNone,
+  subst,
   inl,
   inr,
 }
 use Rattle.std.proofs.lemmas.List.{take-append-drop}
 use Rattle.std.proofs.lemmas.List.Elements.{All-nil, All-cons}
-use Rattle.deno_graph_source.specs.declared.tree.comments.CommentKind.TheVariants.{Block}
+use denote.Enum.Bare.{sameb}
+use Rattle.deno_graph_source.specs.contracts.tree.comments.CommentKind.{the_type as the_kind}
+use Rattle.deno_graph_source.specs.declared.tree.comments.CommentKind.{CommentKind}
+use Rattle.deno_graph_source.specs.declared.tree.comments.CommentKind.TheVariants.{Line, Block}
 use Rattle.deno_graph_source.specs.declared.tree.comments.DependencyComment.{DependencyComment}
 use Rattle.deno_graph_dependency.specs.declared.specifier_with_range.SpecifierWithRange.{SpecifierWithRange}
 use Rattle.deno_graph_pragmas.specs.Finders as finder
+use Rattle.deno_graph_pragmas.specs.Match.{Captures, FindsFirst, IsQuotedIn, IsSliceIn, part_of}
+use Rattle.deno_graph_pragmas.specs.declared.finders.matches.Match.{Match}
 use Rattle.deno_graph_pragmas.specs.Split.{TextPart, HasSplit, IsCaptured}
 use Rattle.deno_graph_ast.specs.Pragma.{
   Pragma,
@@ -77,6 +87,32 @@ pub found_names : (source : List ℕ) (pragma : Pragma) (comment : DependencyCom
     → Names source pragma comment specifier
 found_names source pragma comment part specifier found is =
     record { part = part; is_captured = found.is_captured; is_specifier = is }
+
+-- what a finder of the pragma's pattern answers of the text of a comment that it may be read in
+pub found_in_comment : (pragma : Pragma) (comment : DependencyComment) (text : List ℕ)
+    (answer : Option Match) → text ≡ comment.text
+    → (IsTrue pragma.is_in_blocks_alone → comment.kind ≡ Block)
+    → FindsFirst pragma.pattern text answer
+    → (pragma.is_quoteless ≡ false → IfSome answer (IsQuotedIn text))
+    → IfSome answer (λ found. IsFound pragma comment (part_of found))
+found_in_comment pragma comment text None is kind finds quotes = tt
+found_in_comment pragma comment text (Some found) is kind finds quotes = record {
+  kind = kind;
+  is_captured = subst (λ t. Captures pragma.pattern t found) is finds.found;
+  is_slice = subst (λ t. IsSliceIn t found) is finds.slice;
+  quotes = λ quoted. subst (λ t. IsQuotedIn t found) is (quotes quoted);
+}
+
+pub none_in_comment : (pragma : Pragma) (comment : DependencyComment) (text : List ℕ)
+    (answer : Option Match) → text ≡ comment.text → FindsFirst pragma.pattern text answer → IsNone answer
+    → ¬ HasPragma pragma comment
+none_in_comment pragma comment text answer is finds none has =
+    subst (λ t. ¬ HasSplit pragma.pattern t) is (finds.none.0 none) has.split
+
+-- a comment that isn't of one line is a block
+pub block_from_not_line : (kind : CommentKind) → sameb the_kind kind Line ≡ false → kind ≡ Block
+block_from_not_line Block apart = refl
+block_from_not_line Line apart = cc
 
 -- ---- the types of a dependency
 
