@@ -12,28 +12,38 @@ use Rattle.std.proofs.Common.{
   take,
   drop,
   get_or,
-  length-append,
+  append_assoc,
   refl,
   sym,
   ap,
-  subst,
   ◌∙◌,
   All,
-  arith,
   add-one,
   drop-cons,
   IsTrue,
   Bool,
   true,
   false,
+  Option,
   Some,
+  None,
+  IfSome,
+  IsNone,
+  subst,
+  inl,
+  inr,
 }
-use Rattle.std.proofs.lemmas.List.{take-append-drop, get_or_append_left}
+use Rattle.std.proofs.lemmas.List.{take-append-drop}
 use Rattle.std.proofs.lemmas.List.Elements.{All-nil, All-cons}
-use Rattle.deno_graph_source.specs.declared.tree.comments.CommentKind.TheVariants.{Block}
+use denote.Enum.Bare.{sameb}
+use Rattle.deno_graph_source.specs.contracts.tree.comments.CommentKind.{the_type as the_kind}
+use Rattle.deno_graph_source.specs.declared.tree.comments.CommentKind.{CommentKind}
+use Rattle.deno_graph_source.specs.declared.tree.comments.CommentKind.TheVariants.{Line, Block}
 use Rattle.deno_graph_source.specs.declared.tree.comments.DependencyComment.{DependencyComment}
 use Rattle.deno_graph_dependency.specs.declared.specifier_with_range.SpecifierWithRange.{SpecifierWithRange}
 use Rattle.deno_graph_pragmas.specs.Finders as finder
+use Rattle.deno_graph_pragmas.specs.Match.{Captures, FindsFirst, IsQuotedIn, IsSliceIn, part_of}
+use Rattle.deno_graph_pragmas.specs.declared.finders.matches.Match.{Match}
 use Rattle.deno_graph_pragmas.specs.Split.{TextPart, HasSplit, IsCaptured}
 use Rattle.deno_graph_ast.specs.Pragma.{
   Pragma,
@@ -46,7 +56,8 @@ use Rattle.deno_graph_ast.specs.Pragma.{
   quoteless,
   specifier_of_part,
 }
-use Rattle.deno_graph_ast.specs.FoundPragma.{IsFound}
+use Rattle.deno_graph_ast.specs.FoundPragma.{Covers, IsFound}
+use Rattle.deno_graph_ast.specs.Spelled.{CoversAsWritten}
 
 -- a list at one of its places
 cut_at : {X : Type 0} (xs : List X) (i : ℕ) (x : X) → i < length xs → x ≡ get_or xs i x
@@ -77,9 +88,35 @@ pub found_names : (source : List ℕ) (pragma : Pragma) (comment : DependencyCom
 found_names source pragma comment part specifier found is =
     record { part = part; is_captured = found.is_captured; is_specifier = is }
 
+-- what a finder of the pragma's pattern answers of the text of a comment that it may be read in
+pub found_in_comment : (pragma : Pragma) (comment : DependencyComment) (text : List ℕ)
+    (answer : Option Match) → text ≡ comment.text
+    → (IsTrue pragma.is_in_blocks_alone → comment.kind ≡ Block)
+    → FindsFirst pragma.pattern text answer
+    → (pragma.is_quoteless ≡ false → IfSome answer (IsQuotedIn text))
+    → IfSome answer (λ found. IsFound pragma comment (part_of found))
+found_in_comment pragma comment text None is kind finds quotes = tt
+found_in_comment pragma comment text (Some found) is kind finds quotes = record {
+  kind = kind;
+  is_captured = subst (λ t. Captures pragma.pattern t found) is finds.found;
+  is_slice = subst (λ t. IsSliceIn t found) is finds.slice;
+  quotes = λ quoted. subst (λ t. IsQuotedIn t found) is (quotes quoted);
+}
+
+pub none_in_comment : (pragma : Pragma) (comment : DependencyComment) (text : List ℕ)
+    (answer : Option Match) → text ≡ comment.text → FindsFirst pragma.pattern text answer → IsNone answer
+    → ¬ HasPragma pragma comment
+none_in_comment pragma comment text answer is finds none has =
+    subst (λ t. ¬ HasSplit pragma.pattern t) is (finds.none.0 none) has.split
+
+-- a comment that isn't of one line is a block
+pub block_from_not_line : (kind : CommentKind) → sameb the_kind kind Line ≡ false → kind ≡ Block
+block_from_not_line Block apart = refl
+block_from_not_line Line apart = cc
+
 -- ---- the types of a dependency
 
-no_blocks : (comment : DependencyComment) → IsTrue false → comment.kind ≡ Block
+pub no_blocks : (comment : DependencyComment) → IsTrue false → comment.kind ≡ Block
 no_blocks comment is = cc
 
 pub ts_types_named : (source : List ℕ) (comment : DependencyComment) (part : TextPart)
@@ -136,8 +173,31 @@ deno_types_named source comment part true specifier no_ts_types captured_quoted 
       record { part = part; is_captured = captured.1; is_specifier = is },
     )
 
+-- the range covers the specifier, with its quotes if it has some
+pub covers_as_written : (source : List ℕ) (is_quoteless : Bool) (specifier : SpecifierWithRange)
+    → Covers source is_quoteless specifier → CoversAsWritten source specifier
+covers_as_written source true specifier covers = inl covers
+covers_as_written source false specifier covers = inr covers
+
+pub no_types_named : (comment : DependencyComment)
+    → ¬ HasSplit finder.ts_types_pattern comment.text
+    → ¬ HasSplit finder.deno_types_pattern comment.text
+    × ¬ HasSplit finder.quoteless_deno_types_pattern comment.text
+    → All (λ pragma. ¬ HasPragma pragma comment) dependency_types_pragmas
+no_types_named comment no_ts_types no_deno_types =
+    let none = λ (pragma : Pragma). ¬ HasPragma pragma comment in
+    All-cons none (quoted finder.ts_types_pattern)
+    (quoted finder.deno_types_pattern ∷ quoteless finder.quoteless_deno_types_pattern ∷ [])
+    (λ has. no_ts_types has.split)
+    (All-cons none (quoted finder.deno_types_pattern) (quoteless finder.quoteless_deno_types_pattern ∷ [])
+    (λ has. no_deno_types.0 has.split)
+    (All-cons none (quoteless finder.quoteless_deno_types_pattern) [] (λ has. no_deno_types.1 has.split)
+    (All-nil none)))
+
 -- ---- lists in parts
 
-pub All-front : {X : Type 0} (P : X → Type 0) (xs ys : List X) → All P (xs ++ ys) → All P xs
-All-front P xs ys all k d below =
-    subst P (get_or_append_left xs ys d k below) (all k d (omega (arith, below, length-append xs ys)))
+-- what the rest has as its last stands between the others of the rest and what is behind the rest
+pub whole_at_last : {X : Type 0} (xs rest front after : List X) (x : X) → xs ≡ rest ++ after
+    → rest ≡ front ++ x ∷ [] → xs ≡ front ++ x ∷ after
+whole_at_last xs rest front after x whole last =
+    whole ∙ ap (λ t. t ++ after) last ∙ append_assoc front (x ∷ []) after

@@ -1,8 +1,10 @@
 -- What is held of a comment that was read, it names; and no other comment stands at its place.
-use Rattle.std.proofs.Common.{◌≡◌, ℕ, Bool, true, false, cond, List, [], ◌∷◌, drop, get_or, Option, Some, IfSome, unwrap_or, refl, sym, ap, ◌∙◌, subst, arith}
+use Rattle.std.proofs.Common.{◌≡◌, ℕ, ◌-◌, All, length, slice_get, Bool, true, false, cond, List, [], ◌∷◌, drop, get_or, Option, Some, IfSome, unwrap_or, refl, sym, ap, ◌∙◌, subst, arith}
 use Rattle.std.proofs.lemmas.Bool.{false≢true}
 use Rattle.std.proofs.lemmas.Grind.{common_steps}
 use Rattle.std.proofs.lemmas.List.{append_cancel_right}
+use Rattle.std.proofs.lemmas.List.Elements.{All-contains}
+use Rattle.deno_graph_source.proofs.NodePaths.{Contains-from_slice_get}
 use Rattle.std.specs.BTreeMap.{BTreeMap, get, is_at}
 use Rattle.std.specs.Map.{lookup}
 use Rattle.std.specs.Option.{is_some}
@@ -78,3 +80,11 @@ read_more source old new comment types spelled names covers updates read other f
         read other found other_spelled
         (sym (subst (λ b. get place_cmp new place ≡ cond b (Some types) (get place_cmp old place)) at
         (updates place)) ∙ is)
+
+-- the last of comments that are written in the text is written there
+pub spelled_last : (source : List ℕ) (comments : List DependencyComment) (comment : DependencyComment)
+    → All (IsSpelled source) comments → Some comment ≡ slice_get comments (length comments - 1)
+    → IsSpelled source comment
+spelled_last source comments comment spelled last =
+    All-contains (IsSpelled source) comments comment spelled
+    (Contains-from_slice_get comments (length comments - 1) comment (sym last))

@@ -1,10 +1,10 @@
 //! Pragmas of which the first in the comments at the head of a module counts.
 
-ghost use Rattle.std.specs.Prelude.{◌≡◌, IfOk, IfSome, IsNone, None};
+ghost use Rattle.std.specs.Prelude.{◌≡◌, false, IfOk, IfSome, IsNone, None};
 ghost use Rattle.deno_graph_ast.specs.Pragma.{comments_for_jsx, comments_for_types, has_jsx, jsx_import_source_pragma, jsx_import_source_types_pragma, self_types_pragma, HasPragma, NamesFirst};
 ghost use Rattle.deno_graph_ast.specs.FoundPragma.{head_pragma, Covers, IsFound};
 ghost use Rattle.deno_graph_ast.specs.Spelled.{CoversBare, CoversQuoted};
-ghost use Rattle.deno_graph_pragmas.specs.Match.{part_of};
+ghost use Rattle.deno_graph_pragmas.specs.Match.{part_of, FindsFirst, IsQuotedIn};
 
 use crate::specifier::found_specifier;
 use crate::spelled::SpelledComments;
@@ -100,7 +100,15 @@ impl HeadPragma {
         if self.is_quoteless() && comment.kind == CommentKind::Line {
             return None;
         }
-        let text = comment.text.as_str();
+        self.find_in(comment.text.as_str())
+    }
+
+    /// What the text names by the pragma, whatever the kind of the comment.
+    fn find_in(self, text: &str) -> Option<Match<'_>>
+        ensures finds { FindsFirst (head_pragma self).pattern text.now result }
+        ensures quotes { (head_pragma self).is_quoteless ≡ false
+            → IfSome result (IsQuotedIn text.now) }
+    {
         match self {
             HeadPragma::TsSelfTypes => find_ts_self_types(text),
             HeadPragma::JsxImportSource => find_jsx_import_source(text),
