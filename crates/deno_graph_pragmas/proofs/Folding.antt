@@ -1,68 +1,44 @@
 -- Which characters have the simple folding of an ASCII character.
-use Rattle.std.proofs.Common.{◌≡◌, ◌↔◌, ℕ, ◌<◌, ◌≤◌, Bool, true, false, List, [], ◌∷◌, slice_index_or, refl}
-use Rattle.std.proofs.Common.{sym, ap, ◌∙◌, arith, inl, inr, nat_lt, eqb-true, eq-eqb}
-use Rattle.std.proofs.lemmas.Bool.{cases_lt, ltb-false}
+use Rattle.std.proofs.Common.{◌≡◌, ◌↔◌, ℕ, ◌<◌, ◌≤◌, Bool, true, false, ◌||◌, ◌==◌, List, [], ◌∷◌, slice_index_or}
+use Rattle.std.proofs.Common.{refl, sym, ◌∙◌, arith, inl, inr, nat_lt, nat_le, eqb-true, eq-eqb}
+use Rattle.std.proofs.lemmas.Bool.{both_ways, cases_Bool, cases_lt, le-ltb, leb-true, ne_eqb, or_from}
 use Rattle.std.proofs.lemmas.Bool.Decides.{nat_tests}
 use Rattle.std.proofs.lemmas.Str.Ascii.{lowercase_ascii}
 use Rattle.std.specs.Bool.{IsTrue}
 use Rattle.std.specs.Char.{eq_ignore_ascii_case, to_ascii_lowercase}
 use Rattle.unicode.proofs.CaseComputing.{ucd_case}
 use Rattle.unicode.proofs.CaseFoldingLemmas.{simple_fold-ascii, simple_folding_stepped}
-use Rattle.unicode.proofs.Facts.{Stepped-beyond}
-use Rattle.unicode.proofs.RunsLemmas.{one_if, set_runs}
-use Rattle.unicode.proofs.Stepped.{Stepped, map_stepped, step_value-runs_of}
-use Rattle.unicode.proofs.StepsLemmas.{same_steps-true}
-use Rattle.unicode.proofs.TableComputing.{tables}
+use Rattle.unicode.proofs.RangedFacts.{Stepped-at_points, points_ok}
 use Rattle.unicode.specs.CaseFolding.{simple_folding, simple_fold}
-use Rattle.unicode.specs.Steps.{Step, step_value}
 
--- the folding is written out, and begins with an ASCII character
-abbrev is_low : List ℕ → Bool
-is_low [] = false
-is_low (c ∷ cs) = nat_lt c 128
+-- the folding is not written out, or begins past ASCII
+abbrev is_high : List ℕ → Bool
+is_high [] = true
+is_high (c ∷ cs) = nat_le 128 c
 
+-- the characters of ASCII, U+017F and U+212A
 folds_low : ℕ → Bool
-folds_low c = is_low (simple_folding c)
+folds_low c = nat_lt c 128 || ((c == 383) || (c == 8490))
 
-folds_low_stepped : Stepped folds_low
+folds_low-true : (c : ℕ) → is_high (simple_folding c) ≡ false → folds_low c ≡ true
+unfolding ucd_case points_ok folds_low
+folds_low-true c low =
+    Stepped-at_points simple_folding simple_folding_stepped is_high (λ x _. folds_low x) refl c low
+
+folds_low-false : (c : ℕ) → 128 ≤ c → ¬ (c ≡ 383) → ¬ (c ≡ 8490) → folds_low c ≡ false
 unfolding folds_low
-folds_low_stepped = map_stepped is_low simple_folding simple_folding_stepped
+folds_low-false c far other another =
+    or_from _ _ (le-ltb c 128 far) (or_from _ _ (ne_eqb c 383 other) (ne_eqb c 8490 another))
 
--- the capital letters of ASCII, U+017F and U+212A
-low_steps : List (Step ℕ)
-low_steps = (65, 0) ∷ (91, 1) ∷ (383, 0) ∷ (384, 1) ∷ (8490, 0) ∷ (8491, 1) ∷ (0x11_0000, 0) ∷ []
-
-low_runs : set_runs folds_low folds_low_stepped ≡ low_steps
-unfolding ucd_case folds_low_stepped low_steps
-low_runs = same_steps-true _ _ refl
-
-low_value : (c : ℕ) → c < 0x11_0000 → one_if (folds_low c) ≡ step_value 0 low_steps c
-low_value c small =
-    sym (step_value-runs_of (λ x. one_if (folds_low x)) (map_stepped one_if folds_low folds_low_stepped) c
-    small) ∙ ap (λ steps. step_value 0 steps c) low_runs
-
-zero_if : (b : Bool) → one_if b ≡ 0 → b ≡ false
-zero_if true e = absurd (omega (arith, e))
-zero_if false e = refl
-
-far_steps : (c : ℕ) → 128 ≤ c → ¬ (c ≡ 383) → ¬ (c ≡ 8490) → step_value 0 low_steps c ≡ 0
-unfolding tables low_steps
-far_steps c far other another = grind (arith, nat_tests)
-
-folds_low-far : (c : ℕ) → 128 ≤ c → ¬ (c ≡ 383) → ¬ (c ≡ 8490) → folds_low c ≡ false
-unfolding ucd_case folds_low_stepped
-folds_low-far c far other another = elim (cases_lt c 0x11_0000) [
-  | inl small ↦ zero_if _ (low_value c small ∙ far_steps c far other another)
-  | inr beyond ↦ Stepped-beyond folds_low folds_low_stepped refl c (omega arith)
-]
-
-from_low : (c : ℕ) (folding : List ℕ) → 128 ≤ c → is_low folding ≡ false → 128 ≤ slice_index_or folding 0 c
-from_low c [] far high = far
-from_low c (d ∷ ds) far high = ltb-false d 128 high
+from_high : (c : ℕ) (folding : List ℕ) → 128 ≤ c → is_high folding ≡ true → 128 ≤ slice_index_or folding 0 c
+from_high c [] far high = far
+from_high c (d ∷ ds) far high = leb-true 128 d high
 
 simple_fold-far : (c : ℕ) → 128 ≤ c → ¬ (c ≡ 383) → ¬ (c ≡ 8490) → 128 ≤ simple_fold c
-unfolding folds_low
-simple_fold-far c far other another = from_low c (simple_folding c) far (folds_low-far c far other another)
+simple_fold-far c far other another = elim (cases_Bool (is_high (simple_folding c))) [
+  | inl high ↦ from_high c (simple_folding c) far high
+  | inr low ↦ absurd (both_ways _ (folds_low-false c far other another) (folds_low-true c low))
+]
 
 simple_fold-long_s : simple_fold 383 ≡ 115
 unfolding ucd_case

@@ -20,13 +20,13 @@ pub enum Fault {
     #[error("Specifier")]
     Specifier,
     /// The tree or the comments don't fit the source.
-    #[error("{0}")]
+    #[error(transparent)]
     Source(SourceFault),
     /// A module's stored information can't be converted.
-    #[error("{0}")]
+    #[error(transparent)]
     Convert(ConvertFault),
     /// The JSON isn't what `reach` reads, or a module's isn't that of a `ModuleInfo`.
-    #[error("{0}")]
+    #[error(transparent)]
     Info(InfoFault),
     /// A write failed.
     #[error("Output")]

@@ -40,10 +40,14 @@ pub fn serve<R: Read, W: Write, E: Write>(
         Ok(true) => 0,
         Ok(false) => 1,
         Err(fault) => {
-            let _ = writeln!(errors, "modinfo: {fault}");
+            tell(errors, &fault);
             1
         }
     }
+}
+
+fn tell<E: Write>(errors: &mut E, fault: &Fault) {
+    let _ = writeln!(errors, "modinfo: {fault}");
 }
 
 fn answer<R: Read, W: Write>(

@@ -1,11 +1,28 @@
-use Rattle.std.proofs.Common.{◌≡◌, inl, inr, ◌++◌, drop, arith, ap, ◌∙◌, subst, refl}
-use Rattle.std.proofs.lemmas.Bool.{cases_lt}
+use Rattle.std.proofs.Common.{◌≡◌, inl, inr, ◌++◌, length, drop, length-drop, arith, ap, ◌∙◌, subst, refl}
+use Rattle.std.proofs.lemmas.Bool.{cases_lt, false≢true}
 use Rattle.std.proofs.lemmas.Str.{IsUtf8-drop, IsCharBoundary-past_char, drop_past_char}
 use Rattle.std.specs.Str.Iter.{chars_rest}
 use lib.Utf8.{encode}
 use Rattle.deno_graph_text.specs.Position.{IsBefore, position_at}
 use Rattle.deno_graph_text.proofs.PlaceLemmas.{line_le_pos, character_le_pos, IsPlace-past, past_char_le}
 use Rattle.deno_graph_text.proofs.text.place.Place.first_not_before.Goals as goal
+
+pub loop-c-init : goal.loop-c-init
+loop-c-init c = record {
+  place = c.skip_before-place.ensures.place;
+  rest = cc (c.range_from.ensures.value, c.chars-c-items.ensures.rest);
+  before = c.skip_before-place.ensures.before;
+}
+
+pub past-place-requires-clause-pos : goal.past-place-requires-clause-pos
+past-place-requires-clause-pos c =
+    let text = c.args.text.now in
+    let is = c.loop-c.invariant.place in
+    let here : drop c.loop-c.place.pos text ≡ encode c.in-Some.c ++ chars_rest c.next.new.self =
+    c.loop-c.invariant.rest ∙ c.in-Some.ensures.steps.0 in
+    let next = IsCharBoundary-past_char text _ _ _ is.boundary.0 (IsUtf8-drop text _ c.utf8.text is.boundary)
+    here in
+    omega (arith, next.0)
 
 pub past-place-requires-clause-line : goal.past-place-requires-clause-line
 past-place-requires-clause-line c =
@@ -50,3 +67,23 @@ loop-c-preserved c =
         ]
       ];
     }
+
+pub returns-then-not-is_before : goal.returns-then-not-is_before
+returns-then-not-is_before c = record {
+  place = c.loop-c.invariant.place;
+  before = c.loop-c.invariant.before;
+  end = λ is. absurd (false≢true (c.if-not-is_before.ensures.fact.1 is));
+}
+
+pub returns : goal.returns
+returns c = record {
+  place = c.loop-c.invariant.place;
+  before = c.loop-c.invariant.before;
+  end = λ _. omega (
+    arith,
+    length-drop c.loop-c.place.pos c.args.text.now,
+    ap length c.loop-c.invariant.rest,
+    c.in-None.ensures.steps.0.0,
+    c.loop-c.invariant.place.boundary.0,
+  );
+}
