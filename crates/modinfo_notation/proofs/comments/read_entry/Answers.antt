@@ -3,7 +3,7 @@ use Rattle.flat_json.specs.View.{items_left, value_of}
 use Rattle.modinfo_notation.specs.Answer.{IsRefusal}
 use Rattle.modinfo_notation.specs.Comments.{reads_comment, reads_entry}
 use Rattle.modinfo_notation.specs.Partial.{reads_items, reads_array, required}
-use Rattle.modinfo_notation.proofs.Filed.{empty_on, more_on}
+use Rattle.modinfo_notation.proofs.Filed.{empty_on, entry_with, more_on}
 use Rattle.modinfo_notation.proofs.Reading.{
   before,
   before_nil,
@@ -54,7 +54,8 @@ loop-value-preserved c =
       search rules,
       (
         filed ++ c.in_ok-comment.comment ∷ [],
-        more_on c.args.side c.args.comments.now c.loop-value.comments c.add.new.comments c.in_ok-pos.pos filed c.in_ok-comment.comment kept.3.1 c.in_ok-add.ensures,
+        more_on c.args.side c.args.comments.now c.loop-value.comments c.add.new.comments c.in_ok-pos.pos filed
+            c.in_ok-comment.comment kept.3.1 c.in_ok-add.ensures,
         sym (items_more reads_comment filed (value_of c.in-Some.value)
             (items_left c.next.new.self) c.in_ok-comment.comment c.in_ok-comment.ensures.read)
             ∙ ap (λ vs. before filed (reads_items reads_comment vs)) (sym c.in-Some.ensures.steps.2)
@@ -89,6 +90,6 @@ returns-clause-read c =
     (items_left c.in_ok-value-items.value-items) c.in_ok-value-items.ensures.read in
     let is : reads_array reads_comment (value_of c.in_ok-required-2.field-0) ≡ Some kept.3.0 =
     all ∙ sym left ∙ items_done reads_comment kept.3.0 _ here in
-    let whole : reads_entry (value_of c.args.entry) ≡ Some (c.in_ok-pos.pos, kept.3.0) = grind
+    let whole : reads_entry (value_of c.args.entry) ≡ Some (entry_with c.in_ok-pos.pos kept.3.0) = grind
     (arith, goes_on, is) in
-    some_and _ _ (c.in_ok-pos.pos, kept.3.0) whole kept.3.1
+    some_and _ _ (entry_with c.in_ok-pos.pos kept.3.0) whole kept.3.1
