@@ -4,7 +4,8 @@ use Rattle.std.proofs.lemmas.Result.{IfOk-weaker}
 use Rattle.std.specs.BTreeMap.{get, is_at}
 use Rattle.deno_graph_source.proofs.NodePaths.{Contains-from_slice_get}
 use Rattle.deno_graph_source.specs.Source.{IsSpelled}
-use Rattle.deno_graph_ast.specs.Pragma.{dependency_types_pragmas, NamesByFirst, NamesDependencyTypes, NamesDependencyTypesIn}
+use Rattle.deno_graph_ast.specs.Pragma.{dependency_types_pragmas, NamesByFirst, NamesDependencyTypes}
+use Rattle.deno_graph_ast.specs.Pragma.{NamesDependencyTypesIn}
 use Rattle.deno_graph_ast.specs.ReadTypes.{place_cmp}
 use Rattle.deno_graph_ast.proofs.ReadTypes.{read_more}
 use Rattle.deno_graph_ast.proofs.read_types.types_before.Goals as goal
@@ -18,7 +19,8 @@ returns-in-Some-get-clause-is c =
     let spelled = All-contains (IsSpelled text) c.args.leading_comments.now comment c.requires.spelled
     (Contains-from_slice_get c.args.leading_comments.now _ comment (sym last)) in
     let named = c.requires.read comment types spelled (sym c.in-Some-get.ensures.value) in
-    IfOk-weaker c.try_clone.result (λ copy. copy ≡ types) (NamesDependencyTypes text c.args.leading_comments.now)
+    IfOk-weaker c.try_clone.result (λ copy. copy ≡ types)
+    (NamesDependencyTypes text c.args.leading_comments.now)
     (λ copy same. subst (λ found. NamesDependencyTypesIn text found copy) last
     (subst (NamesByFirst text dependency_types_pragmas comment) (sym same) named.0)) c.try_clone.ensures
 
