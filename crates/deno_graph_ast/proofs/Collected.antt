@@ -29,6 +29,7 @@ use Rattle.std.proofs.lemmas.List.{append-nil}
 use Rattle.std.proofs.lemmas.List.Elements.{All-contains, Contains-append_left, Contains-push}
 use Rattle.std.specs.List.{All, Contains}
 use Rattle.std.specs.Str.{IsUtf8, chars}
+use Rattle.deno_graph_pragmas.specs.Piece.{star}
 use Rattle.deno_graph_jsdoc.specs.JsDocHits.{Ascend}
 use Rattle.deno_graph_jsdoc.specs.JsDocImport.{Import, moved}
 use Rattle.deno_graph_jsdoc.proofs.Collected.{gain, hits_of}
@@ -89,16 +90,16 @@ IsJsDocText kind text = (kind ≡ Block) × ((rest : List ℕ) × (text ≡ code
 decided : (kind : CommentKind) (text : List ℕ) → IsJsDocText kind text ⊎ (IsJsDocText kind text → ⊥)
 decided Line text = inr (λ is. false≢true (ap is_block is.0))
 decided Block [] = inr (λ is.
-    let same : [] ≡ 42 ∷ is.1.0 = is.1.1 in
+    let same : [] ≡ star ∷ is.1.0 = is.1.1 in
     absurd (cc))
-decided Block (c ∷ cs) = by_first (c == 42) refl
+decided Block (c ∷ cs) = by_first (c == star) refl
   where
-    by_first : (b : Bool) → (c == 42) ≡ b → IsJsDocText Block (c ∷ cs) ⊎ (IsJsDocText Block (c ∷ cs) → ⊥)
-    by_first true is = inl (refl, (cs, ap (λ d. d ∷ cs) (eqb-true c 42 is)))
+    by_first : (b : Bool) → (c == star) ≡ b → IsJsDocText Block (c ∷ cs) ⊎ (IsJsDocText Block (c ∷ cs) → ⊥)
+    by_first true is = inl (refl, (cs, ap (λ d. d ∷ cs) (eqb-true c star is)))
     by_first false is = inr (λ jsdoc.
-        let same : c ∷ cs ≡ 42 ∷ jsdoc.1.0 = jsdoc.1.1 in
-        let heads : c ≡ 42 = cc in
-        eqb-false c 42 is heads)
+        let same : c ∷ cs ≡ star ∷ jsdoc.1.0 = jsdoc.1.1 in
+        let heads : c ≡ star = cc in
+        eqb-false c star is heads)
 
 module _ (text : List ℕ) (comments : List DependencyComment) (spelled : All (IsSpelled text) comments)
     (apart : AreApart comments)

@@ -33,7 +33,8 @@ use Rattle.std.proofs.lemmas.List.Elements.{
 }
 use Rattle.std.specs.List.{All, AllPairs, Contains}
 use Rattle.std.specs.Str.{IsUtf8, chars}
-use Rattle.deno_graph_jsdoc.specs.JsDocHits.{AreHits, GainsImport, IsHit}
+use Rattle.deno_graph_jsdoc.specs.JsDocHits.{AreHits, IsHit}
+use Rattle.deno_graph_jsdoc.specs.JsDocPass.{GainsImport}
 use Rattle.deno_graph_jsdoc.specs.JsDocImport.{Import, import_of, moved}
 use Rattle.deno_graph_jsdoc.specs.declared.import.JsDocImport.{JsDocImport}
 use Rattle.deno_graph_jsdoc.proofs.Hits.{hit_placed}

@@ -55,7 +55,7 @@ use Rattle.deno_graph_ast.specs.Pragma.{range_in_source, specifier_of_part, posi
 use Rattle.deno_graph_ast.specs.FoundPragma.{Covers}
 use Rattle.deno_graph_ast.specs.Spelled.{HasBetween}
 
--- the text stands in the source from here on, up to a place where the source may be cut
+-- the text is in the source from here on, up to a place where the source may be cut
 pub record HasFault (source text : List ℕ) (start limit : ℕ) : Type 0 where
   pub rest : List ℕ
   pub inside : start ≤ length source
@@ -175,7 +175,7 @@ slice_in_source source text start limit part there slice =
       omega (arith, there.within, inside),
     )
 
--- what is found in a comment stands in the source
+-- what is found in a comment is in the source
 pub record InSource (source : List ℕ) (comment : DependencyComment) (part : TextPart)
     (is_quoteless : Bool) : Type 0 where
   pub range : IsTextRange source (range_in_source comment.range.start part.start part.end is_quoteless)

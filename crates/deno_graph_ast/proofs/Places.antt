@@ -41,6 +41,7 @@ use Rattle.std.proofs.lemmas.Str.{
 use Rattle.std.specs.List.{Contains}
 use Rattle.std.specs.Str.{IsCharBoundary, IsUtf8, chars}
 use lib.Utf8.{encodes, encode, scalar, scalars}
+use Rattle.deno_graph_jsdoc.specs.Characters.{apostrophe, double_quote}
 use Rattle.deno_graph_jsdoc.specs.JsDocGrammar.{IsQuote}
 use Rattle.deno_graph_jsdoc.specs.JsDocHits.{IsHit}
 use Rattle.deno_graph_jsdoc.specs.JsDocImport.{Import, moved, byte_count}
@@ -58,7 +59,7 @@ scalars_back : (xs ys : List ℕ) → scalars (xs ++ ys) ≡ true → scalars ys
 scalars_back [] ys all = all
 scalars_back (x ∷ xs) ys all = scalars_back xs ys (and_parts (scalar x) (scalars (xs ++ ys)) all).1
 
--- where a hit stands in the bytes of its text
+-- where a hit lies in the bytes of its text
 pub hit_bounds : (bytes : List ℕ) (import : Import) → IsUtf8 bytes → IsHit (chars bytes) import
     → (import.start ≤ import.end) × (import.end ≤ length bytes)
 hit_bounds bytes import utf8 hit =
@@ -79,13 +80,14 @@ quote_bytes : (inside quote : List ℕ) → IsQuote inside quote
     ⊎ (encodes quote ≡ codes "'" ++ encodes inside ++ codes "'")
 unfolding encode
 quote_bytes inside quote (inl (_, is)) =
-    let first : encodes (34 ∷ inside) ≡ 34 ∷ encodes inside = refl in
-    let last : encodes (34 ∷ []) ≡ 34 ∷ [] = refl in
-    inl (ap encodes is ∙ encodes-append (34 ∷ inside) (34 ∷ []) ∙ (λ k. first k ++ last k))
+    let first : encodes (double_quote ∷ inside) ≡ double_quote ∷ encodes inside = refl in
+    let last : encodes (double_quote ∷ []) ≡ double_quote ∷ [] = refl in
+    inl (ap encodes is ∙ encodes-append (double_quote ∷ inside) (double_quote ∷ [])
+    ∙ (λ k. first k ++ last k))
 quote_bytes inside quote (inr (_, is)) =
-    let first : encodes (39 ∷ inside) ≡ 39 ∷ encodes inside = refl in
-    let last : encodes (39 ∷ []) ≡ 39 ∷ [] = refl in
-    inr (ap encodes is ∙ encodes-append (39 ∷ inside) (39 ∷ []) ∙ (λ k. first k ++ last k))
+    let first : encodes (apostrophe ∷ inside) ≡ apostrophe ∷ encodes inside = refl in
+    let last : encodes (apostrophe ∷ []) ≡ apostrophe ∷ [] = refl in
+    inr (ap encodes is ∙ encodes-append (apostrophe ∷ inside) (apostrophe ∷ []) ∙ (λ k. first k ++ last k))
 
 -- before an ASCII byte, and before a text, a text may be cut
 ascii_first : (b : ℕ) (rest : List ℕ) → b < 128 → IsCharBoundary (b ∷ rest) 0
@@ -104,9 +106,9 @@ quoted_first inside quote rest is = by_kind (quote_bytes inside quote is)
         ⊎ (encodes quote ≡ codes "'" ++ encodes inside ++ codes "'")
         → IsCharBoundary (encodes quote ++ rest) 0
     by_kind (inl same) = subst (λ q. IsCharBoundary (q ++ rest) 0) (sym same)
-        (ascii_first 34 (encodes inside ++ codes "\"" ++ rest) (omega arith))
+        (ascii_first double_quote (encodes inside ++ codes "\"" ++ rest) (omega arith))
     by_kind (inr same) = subst (λ q. IsCharBoundary (q ++ rest) 0) (sym same)
-        (ascii_first 39 (encodes inside ++ codes "'" ++ rest) (omega arith))
+        (ascii_first apostrophe (encodes inside ++ codes "'" ++ rest) (omega arith))
 
 -- a block comment in the source
 module _ (text : List ℕ) (comment : DependencyComment) (spelled : IsSpelled text comment)

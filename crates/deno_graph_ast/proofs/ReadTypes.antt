@@ -1,5 +1,6 @@
--- What is held of a comment that was read, it names; and no other comment stands at its place.
-use Rattle.std.proofs.Common.{◌≡◌, ℕ, ◌-◌, All, length, slice_get, Bool, true, false, cond, List, [], ◌∷◌, drop, get_or, Option, Some, IfSome, unwrap_or, refl, sym, ap, ◌∙◌, subst, arith}
+-- What is held of a comment that was read, it names; and no other comment is at its place.
+use Rattle.std.proofs.Common.{◌≡◌, ℕ, ◌-◌, All, length, slice_get, Bool, true, false, cond, List, [], ◌∷◌}
+use Rattle.std.proofs.Common.{drop, get_or, Option, Some, IfSome, unwrap_or, refl, sym, ap, ◌∙◌, subst, arith}
 use Rattle.std.proofs.lemmas.Bool.{false≢true}
 use Rattle.std.proofs.lemmas.Grind.{common_steps}
 use Rattle.std.proofs.lemmas.List.{append_cancel_right}
@@ -71,7 +72,8 @@ read_more source old new comment types spelled names covers updates read other f
         (updates place)) ∙ is in
         let same : types ≡ found = ap (λ o. unwrap_or o types) held in
         let ends = same_place (comment.range.start, comment.range.end) place at in
-        let alike : comment ≡ other = same_comment source comment other spelled other_spelled ends.0 ends.1 in (
+        let alike : comment ≡ other =
+        same_comment source comment other spelled other_spelled ends.0 ends.1 in (
           subst (λ c. NamesByFirst source dependency_types_pragmas c found) alike
               (subst (NamesByFirst source dependency_types_pragmas comment) same names),
           subst (λ t. IfSome t (CoversAsWritten source)) same covers,

@@ -57,7 +57,7 @@ neither true b is = cc
 not_both : {b : Bool} → b ≡ false → IsTrue b → ⊥
 not_both is holds = cc
 
--- a bare await below a child that stands in no function is bare below its parent
+-- a bare await below a child that is in no function is bare below its parent
 bare_above : (node child : Node) (k : ℕ) (path : NodePath) → slice_get (children_of node) k ≡ Some child
     → is_function (kind_of node) ≡ false → IsBareAwait child path → IsBareAwait node (k ∷ path)
 bare_above node child k path at outside bare = record {
@@ -134,7 +134,7 @@ no_prefix_of_nothing : (front : NodePath) → IsStrictPrefix front [] → ⊥
 no_prefix_of_nothing [] goes = let e = goes.joined in cc
 no_prefix_of_nothing (j ∷ front) goes = let e = goes.joined in cc
 
--- an await below a node that makes no module stands in a function: round the node, the node itself,
+-- an await below a node that makes no module is in a function: round the node, the node itself,
 -- or one between
 await_in_function : (inside : Bool) (node : Node) (path : NodePath) → LeadsBelow IsAwait node path
     → ¬ MakesModule inside node

@@ -86,7 +86,7 @@ abbrev pub comments_before : Item → List DependencyComment
 comments_before (static_item item) = item.leading_comments
 comments_before (dynamic_item item) = item.leading_comments
 
--- the ranges of a dependency are ranges of the text, and the comments before it stand in the text
+-- the ranges of a dependency are ranges of the text, and the comments before it are in the text
 -- as they say
 pub record FitsText (source : List ℕ) (item : Item) : Type 0 where
   pub ranges : HasTextRanges source item

@@ -33,7 +33,7 @@ use Rattle.deno_graph_pragmas.specs.Finders as finder
 use Rattle.deno_graph_pragmas.specs.Split.{Pattern, TextPart, HasSplit, IsCaptured}
 
 -- A pragma: the pattern of the texts that have it, whether it counts in block comments alone, and
--- whether its specifier stands without quotes.
+-- whether its specifier has no quotes.
 pub record Pragma : Type 0 where
   pub pattern : Pattern
   pub is_in_blocks_alone : Bool
@@ -76,7 +76,7 @@ pub record HasPragma (pragma : Pragma) (comment : DependencyComment) : Type 0 wh
 abbrev pub quotes_beside : Bool → ℕ
 quotes_beside is_quoteless = if is_quoteless then 0 else 1
 
--- Where a part of a comment's text, from its start to its end, stands in the source, with its
+-- Where a part of a comment's text, from its start to its end, lies in the source, with its
 -- quotes. The text begins two bytes behind the comment's start.
 abbrev pub range_in_source : ℕ → ℕ → ℕ → Bool → SourceRange
 range_in_source comment_start start end is_quoteless = record {

@@ -43,7 +43,7 @@ IsFunction node = IsTrue (is_function (kind_of node))
 abbrev pub IsImportMeta : Node → Type 0
 IsImportMeta node = IsTrue (is_import_meta (kind_of node))
 
--- Nothing in the body makes it a module: no item imports or exports, each await stands inside a
+-- Nothing in the body makes it a module: no item imports or exports, each await is inside a
 -- function, and there is no `import.meta`, at any depth.
 pub record IsScript (body : List Node) : Type 0 where
   pub no_module_item : All (λ item. is_module_item (kind_of item) ≡ false) body

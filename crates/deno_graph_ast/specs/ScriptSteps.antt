@@ -8,13 +8,13 @@ use Rattle.deno_graph_ast.specs.Script.{IsAwait, IsFunction, IsImportMeta}
 abbrev pub LeadsBelow : (Node → Type 0) → Node → NodePath → Type 0
 LeadsBelow P node path = IsSomeAnd (node_below (Some node) path) P
 
--- an await below the node that no function stands round, neither the node nor one between
+-- an await below the node that no function is round, neither the node nor one between
 pub record IsBareAwait (node : Node) (path : NodePath) : Type 0 where
   pub await : LeadsBelow IsAwait node path
   pub bare : (prefix : NodePath) → IsStrictPrefix prefix path → ¬ LeadsBelow IsFunction node prefix
 
 -- the node or one below it makes a module: an `import.meta`, or a bare await where no function
--- stands round the node
+-- is round the node
 abbrev pub MakesModule : Bool → Node → Type 0
 MakesModule inside_function node =
     (path : NodePath)

@@ -123,7 +123,7 @@ at_path : {X Y : Type 0} (f : X → Option Y) (o : Option X) (y : Y) → option_
 at_path f None y is = cc
 at_path f (Some x) y is = (x, cc)
 
--- each node of a listing stands at a path, and is listed
+-- each node of a listing is at a path, and is listed
 pub listed_one : (body nodes : List Node) (k : ℕ) (node : Node) → AreListed body nodes
     → slice_get nodes k ≡ Some node
     → (path : NodePath) × (node_at body path ≡ Some node) × (is_listed node ≡ true)

@@ -124,13 +124,14 @@ count_paths : (path : NodePath) (steps : List Step) (first : Node)
 unfolding unknown_count
 count_paths path [] first = length-unknown_path path first (kind_of first) refl
 count_paths path (step ∷ below) first =
-    ap unknown_count (map-append part_of (operands_of below first) (step.1 ∷ []))
+    ap unknown_count (map-append part_of (operands_of below first) (step.right ∷ []))
     ∙ omega (
       arith,
-      unknown_count-append (map part_of (operands_of below first)) (part_of step.1 ∷ []),
+      unknown_count-append (map part_of (operands_of below first)) (part_of step.right ∷ []),
       count_paths (path ++ 0 ∷ []) below first,
-      length-unknown_path (path ++ 1 ∷ []) step.1 (kind_of step.1) refl,
-      length-append (unknown_operands (path ++ 0 ∷ []) below first) (unknown_path (path ++ 1 ∷ []) step.1),
+      length-unknown_path (path ++ 1 ∷ []) step.right (kind_of step.right) refl,
+      length-append (unknown_operands (path ++ 0 ∷ []) below first)
+          (unknown_path (path ++ 1 ∷ []) step.right),
     )
 
 -- what a right operand contributes
@@ -163,7 +164,7 @@ both_true false b is = cc
 -- a sum's parts spell its text
 sum_text : (given : Assignment) (path : NodePath) (node : Node) (steps : List Step) (first : Node)
     → LeftSpine node steps first
-    → is_string (kind_of first) ≡ true → list_all (λ (step : Step). is_add step.0) steps ≡ true
+    → is_string (kind_of first) ≡ true → list_all (λ (step : Step). is_add step.operator) steps ≡ true
     → All (λ operand. IsReadableAt (kind_of operand)) (operands_of steps first)
     → HasText given path node
     (joined (map part_of (operands_of steps first)) (map given (unknown_operands path steps first)))
@@ -175,11 +176,11 @@ sum_text given path node [] first spine string sums readable =
     (sym spine.0)
     (first_text given path first points.0 points.1 here)
 sum_text given path node (step ∷ below) first spine string sums readable =
-    let adds = both_true (is_add step.0) (list_all (λ (s : Step). is_add s.0) below) sums in
+    let adds = both_true (is_add step.operator) (list_all (λ (s : Step). is_add s.operator) below) sums in
     let split = All-pop (λ operand. IsReadableAt (kind_of operand)) (operands_of (step ∷ below) first)
-    (operands_of below first) (Some step.1) refl readable in
+    (operands_of below first) (Some step.right) refl readable in
     let left = spine.1.0 in
-    let right = step.1 in
+    let right = step.right in
     let front = sum_text given (path ++ 0 ∷ []) left below first spine.1.2 string adds.1 split.0 in
     let back = contributes given (path ++ 1 ∷ []) right (kind_of right) refl split.1 in
     let ps = map part_of (operands_of below first) in
@@ -195,13 +196,13 @@ sum_text given path node (step ∷ below) first spine string sums readable =
     (map given (unknown_path (path ++ 1 ∷ []) right))
     (count_paths (path ++ 0 ∷ []) below first ∙ sym (length-map paths given)) in
     subst (HasText given path node) (sym same)
-    (of_sum path node left right _ _ (spine.0 ∙ ap Binary (add_of step.0 adds.0)) spine.1.1 front back)
+    (of_sum path node left right _ _ (spine.0 ∙ ap Binary (add_of step.operator adds.0)) spine.1.1 front back)
 
 -- a sum of any form spells its text
 spells_sum : (given : Assignment) (node : Node) (op : BinaryOp) (steps : List Step) (first : Node)
     (string sums : Bool)
     → kind_of node ≡ Binary op → LeftSpine node steps first
-    → is_string (kind_of first) ≡ string → list_all (λ (step : Step). is_add step.0) steps ≡ sums
+    → is_string (kind_of first) ≡ string → list_all (λ (step : Step). is_add step.operator) steps ≡ sums
     → HasReadableLiteralsAt (Binary op) node
     → Spells given node (if string && sums then parts (map part_of (operands_of steps first)) else expression)
 spells_sum given node op steps first false sums is spine string all_sums readable = tt
@@ -269,7 +270,7 @@ spells_at given node form (Template quasis) is shape has readable =
 spells_at given node form (Binary op) is shape has readable =
     subst (Spells given node) (sym has.3)
     (spells_sum given node op has.0 has.1 (is_string (kind_of has.1))
-    (list_all (λ (step : Step). is_add step.0) has.0) is has.2 refl refl readable)
+    (list_all (λ (step : Step). is_add step.operator) has.0) is has.2 refl refl readable)
 spells_at given node form _ is shape has readable = subst (Spells given node) (sym has) tt
 
 -- the form of a node spells its text, whatever the unknown parts are

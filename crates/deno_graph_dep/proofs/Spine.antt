@@ -109,21 +109,25 @@ pub left_at : (node left right : Node) → children_of node ≡ left ∷ right �
     → slice_get (children_of node) 0 ≡ Some left
 left_at node left right is = ap (λ xs. slice_get xs 0) is
 
+abbrev pub step_with : BinaryOp → Node → Step
+step_with op node = record { operator = op; right = node }
+
 -- from node down along left children, through nodes that are sums, to operand
 abbrev pub Descends : Node → List Step → Node → Type 0
 Descends node [] operand = node ≡ operand
 Descends node (step ∷ below) operand =
-    (kind_of node ≡ Binary step.0) × (is_add step.0 ≡ true)
-    × ((left : Node) × (children_of node ≡ left ∷ step.1 ∷ []) × Descends left below operand)
+    (kind_of node ≡ Binary step.operator) × (is_add step.operator ≡ true)
+    × ((left : Node) × (children_of node ≡ left ∷ step.right ∷ []) × Descends left below operand)
 
 -- one step more
 pub Descends-step : (node operand left : Node) (above : List Step) (step : Step) → Descends node above operand
-    → kind_of operand ≡ Binary step.0 → is_add step.0 ≡ true → children_of operand ≡ left ∷ step.1 ∷ []
+    → kind_of operand ≡ Binary step.operator → is_add step.operator ≡ true
+    → children_of operand ≡ left ∷ step.right ∷ []
     → Descends node (above ++ step ∷ []) left
 Descends-step node operand left [] step d is plus at = (
-  subst (λ n. kind_of n ≡ Binary step.0) (sym d) is,
+  subst (λ n. kind_of n ≡ Binary step.operator) (sym d) is,
   plus,
-  (left, subst (λ n. children_of n ≡ left ∷ step.1 ∷ []) (sym d) at, refl),
+  (left, subst (λ n. children_of n ≡ left ∷ step.right ∷ []) (sym d) at, refl),
 )
 Descends-step node operand left (top ∷ above) step d is plus at =
     (d.0, d.1, (d.2.0, d.2.1, Descends-step d.2.0 operand left above step d.2.2 is plus at))
@@ -143,7 +147,7 @@ LeftSpine-end node operand (top ∷ above) d is =
     (d.0, (d.2.0, d.2.1, LeftSpine-end d.2.0 operand above d.2.2 is))
 
 pub Descends-all_sums : (node operand : Node) (above : List Step) → Descends node above operand
-    → list_all (λ (step : Step). is_add step.0) above ≡ true
+    → list_all (λ (step : Step). is_add step.operator) above ≡ true
 Descends-all_sums node operand [] d = refl
 Descends-all_sums node operand (top ∷ above) d = rw (d.1, Descends-all_sums d.2.0 operand above d.2.2)
 
@@ -158,7 +162,7 @@ spine_by_kind node true is shaped below =
     let op = operator_of (kind_of node) is in
     let two = children_of-binary node is shaped in
     let rest = below two.0 (left_at node two.0 two.1 two.2) in
-    ((op.0, two.1) ∷ rest.0, rest.1, (op.1, (two.0, two.2, rest.2)))
+    (step_with op.0 two.1 ∷ rest.0, rest.1, (op.1, (two.0, two.2, rest.2)))
 
 has_spine_within : (n : ℕ) (node : Node) → size-Node node ≤ n → AllShaped node → Spine node
 has_spine_within zero node small shaped =
@@ -174,14 +178,14 @@ has_spine node shaped = has_spine_within (size-Node node) node (omega arith) sha
 
 -- the right children that a descent has passed, from the outermost in
 abbrev pub rights_of : List Step → List Node
-rights_of steps = map (λ step. step.1) steps
+rights_of steps = map (λ (step : Step). step.right) steps
 
 operands_of-reverse : (above : List Step) (first : Node)
     → operands_of above first ≡ first ∷ reverse (rights_of above)
 operands_of-reverse [] first = refl
 operands_of-reverse (top ∷ above) first =
-    ap (λ nodes. nodes ++ top.1 ∷ []) (operands_of-reverse above first)
-    ∙ ap (λ nodes. first ∷ nodes) (sym (reverse-append (top.1 ∷ []) (rights_of above)))
+    ap (λ nodes. nodes ++ top.right ∷ []) (operands_of-reverse above first)
+    ∙ ap (λ nodes. first ∷ nodes) (sym (reverse-append (top.right ∷ []) (rights_of above)))
 
 reverse-map : {A B : Type 0} (f : A → B) (xs : List A) → map f (reverse xs) ≡ reverse (map f xs)
 reverse-map f [] = refl
@@ -190,13 +194,13 @@ reverse-map f (x ∷ xs) =
     ∙ ap (λ ys. ys ++ f x ∷ []) (reverse-map f xs) ∙ sym (reverse-append (f x ∷ []) (map f xs))
 
 pub seen_push : {X : Type 0} (seen : X → ArgumentPart) (ps : List X) (p : X) (above : List Step) (step : Step)
-    → map seen ps ≡ map part_of (rights_of above) → seen p ≡ part_of step.1
+    → map seen ps ≡ map part_of (rights_of above) → seen p ≡ part_of step.right
     → map seen (ps ++ p ∷ []) ≡ map part_of (rights_of (above ++ step ∷ []))
 seen_push seen ps p above step so_far here =
     map-append seen ps (p ∷ []) ∙ ap (λ qs. qs ++ seen p ∷ []) so_far
     ∙ ap (λ q. map part_of (rights_of above) ++ q ∷ []) here
-    ∙ sym (map-append part_of (rights_of above) (step.1 ∷ []))
-    ∙ ap (map part_of) (sym (map-append (λ (s : Step). s.1) above (step ∷ [])))
+    ∙ sym (map-append part_of (rights_of above) (step.right ∷ []))
+    ∙ ap (map part_of) (sym (map-append (λ (s : Step). s.right) above (step ∷ [])))
 
 pub seen_reverse : {X : Type 0} (seen : X → ArgumentPart) (ps : List X) (p : X) (above : List Step)
     (operand : Node)
@@ -211,11 +215,11 @@ seen_reverse seen ps p above operand so_far here =
     ∙ ap (map part_of) (sym (operands_of-reverse above operand))
 
 -- an operator that is no plus makes the whole unknown
-list_all-fails : (above rest : List Step) (step : Step) → is_add step.0 ≡ false
-    → list_all (λ (s : Step). is_add s.0) (above ++ step ∷ rest) ≡ false
+list_all-fails : (above rest : List Step) (step : Step) → is_add step.operator ≡ false
+    → list_all (λ (s : Step). is_add s.operator) (above ++ step ∷ rest) ≡ false
 list_all-fails [] rest step not_plus = rw not_plus
 list_all-fails (top ∷ above) rest step not_plus =
-    rw (list_all-fails above rest step not_plus) (and_false (is_add top.0))
+    rw (list_all-fails above rest step not_plus) (and_false (is_add top.operator))
   where
     and_false : (b : Bool) → (b && false) ≡ false
     and_false true = refl
@@ -228,7 +232,7 @@ sum_form-unknown operand first above [] spine no_sum no_string =
     let e : is_string (kind_of first) ≡ false =
     subst (λ n. is_string (kind_of n) ≡ false) spine.0 no_string in rw e
 sum_form-unknown operand first above (step ∷ rest) spine no_sum no_string =
-    let not_plus : is_add step.0 ≡ false = subst (λ k. is_sum k ≡ false) spine.0 no_sum in
+    let not_plus : is_add step.operator ≡ false = subst (λ k. is_sum k ≡ false) spine.0 no_sum in
     rw (list_all-fails above rest step not_plus)
     (neither (is_string (kind_of first)) (parts (map part_of (operands_of (above ++ step ∷ rest) first))))
   where
@@ -237,7 +241,7 @@ sum_form-unknown operand first above (step ∷ rest) spine no_sum no_string =
     neither false f = refl
 
 pub sum_form-known : (above : List Step) (operand : Node) → is_string (kind_of operand) ≡ true
-    → list_all (λ (step : Step). is_add step.0) above ≡ true
+    → list_all (λ (step : Step). is_add step.operator) above ≡ true
     → sum_form above operand ≡ parts (map part_of (operands_of above operand))
 sum_form-known above operand string sums = rw (string, sums)
 

@@ -57,6 +57,7 @@ use Rattle.deno_graph_dep.specs.Stated.{
   specified_item,
 }
 use Rattle.deno_graph_dep.proofs.Items.{AreListed-unique}
+use Rattle.deno_graph_dep.proofs.Spine.{step_with}
 use Rattle.deno_graph_dep.proofs.UniqueAttributes.{
   IsUnique,
   unique_equal,
@@ -79,19 +80,22 @@ LeftSpine-unique : (node : Node) (steps others : List Step) (first other : Node)
     → LeftSpine node others other
     → SameSpine steps others first other
 LeftSpine-unique node [] [] first other a b = (refl, sym a.0 ∙ b.0)
-LeftSpine-unique node [] (step ∷ others) first other a b = absurd (no_binary node step.0 b.0 a.1)
-LeftSpine-unique node (step ∷ steps) [] first other a b = absurd (no_binary node step.0 a.0 b.1)
-LeftSpine-unique node ((op, right) ∷ steps) ((other_op, other_right) ∷ others) first other a b =
-    let kinds : Binary op ≡ Binary other_op = sym a.0 ∙ b.0 in
-    let ops : op ≡ other_op = cc in
+LeftSpine-unique node [] (step ∷ others) first other a b = absurd (no_binary node step.operator b.0 a.1)
+LeftSpine-unique node (step ∷ steps) [] first other a b = absurd (no_binary node step.operator a.0 b.1)
+LeftSpine-unique node (step ∷ steps) (other_step ∷ others) first other a b =
+    let right = step.right in
+    let other_op = other_step.operator in
+    let other_right = other_step.right in
+    let kinds : Binary step.operator ≡ Binary other_op = sym a.0 ∙ b.0 in
+    let ops : step.operator ≡ other_op = cc in
     let left = a.1.0 in
     let children : left ∷ right ∷ [] ≡ b.1.0 ∷ other_right ∷ [] = sym a.1.1 ∙ b.1.1 in
     let lefts : b.1.0 ≡ left = cc in
     let rights : right ≡ other_right = cc in
     let rest = LeftSpine-unique left steps others first other a.1.2
     (subst (λ n. LeftSpine n others other) lefts b.1.2) in (
-      ap (λ o. (o, right) ∷ steps) ops
-          ∙ (ap (λ r. (other_op, r) ∷ steps) rights ∙ ap (λ s. (other_op, other_right) ∷ s) rest.0),
+      ap (λ o. step_with o right ∷ steps) ops
+          ∙ (ap (λ r. step_with other_op r ∷ steps) rights ∙ ap (λ s. other_step ∷ s) rest.0),
       rest.1,
     )
 

@@ -70,8 +70,9 @@ is_sum (Binary op) = is_add op
 is_sum _ = false
 
 -- a step down a left spine: the operator of a binary node, and its right child
-abbrev pub Step : Type 0
-Step = BinaryOp × Node
+pub record Step : Type 0 where
+  pub operator : BinaryOp
+  pub right : Node
 
 -- The left spine of a node: the node, its left child, that one's left child, and so on while they
 -- are binary. Its steps are those of the binary nodes from the node in, and `first` is the operand
@@ -79,14 +80,14 @@ Step = BinaryOp × Node
 abbrev pub LeftSpine : Node → List Step → Node → Type 0
 LeftSpine node [] first = (node ≡ first) × (is_binary (kind_of node) ≡ false)
 LeftSpine node (step ∷ below) first =
-    (kind_of node ≡ Binary step.0)
-    × ((left : Node) × (children_of node ≡ left ∷ step.1 ∷ []) × LeftSpine left below first)
+    (kind_of node ≡ Binary step.operator)
+    × ((left : Node) × (children_of node ≡ left ∷ step.right ∷ []) × LeftSpine left below first)
 
 -- the operands of a spine from left to right: the first, and then the right children from the
 -- innermost out
 abbrev pub operands_of : List Step → Node → List Node
 operands_of [] first = first ∷ []
-operands_of (step ∷ below) first = operands_of below first ++ step.1 ∷ []
+operands_of (step ∷ below) first = operands_of below first ++ step.right ∷ []
 
 -- a string literal is known, and any other operand is not
 abbrev pub part_of_kind : Kind → ArgumentPart
@@ -100,7 +101,7 @@ part_of node = part_of_kind (kind_of node)
 -- one part for each operand, from left to right
 abbrev pub sum_form : List Step → Node → Form
 sum_form steps first =
-    if is_string (kind_of first) && list_all (λ step. is_add step.0) steps
+    if is_string (kind_of first) && list_all (λ (step : Step). is_add step.operator) steps
     then parts (map part_of (operands_of steps first)) else expression
 
 -- the form of a node of a kind

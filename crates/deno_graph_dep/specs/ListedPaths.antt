@@ -14,7 +14,7 @@ under f (ps ∷ pss) = map (λ p. f 0 ∷ p) ps ++ under (λ n. f (suc n)) pss
 abbrev pub here : Bool → List NodePath
 here b = cond b ([] ∷ []) []
 
--- what stands before, inside and after a node
+-- what comes before, inside and after a node
 abbrev pub placed : {A : Type 0} → Rules → Node → List A → List A → List A
 placed rules node own inside =
     cond (rules.is_after_inside node) [] own

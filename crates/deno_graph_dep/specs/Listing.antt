@@ -3,7 +3,7 @@ use Rattle.std.specs.Prelude.{List, Bool, IsTrue, IsSome, Contains, AllPairs, â—
 use Rattle.deno_graph_source.specs.declared.tree.node.Node.{Node}
 use Rattle.deno_graph_source.specs.NodePath.{NodePath, node_at, LeadsTo, IsStrictPrefix, PartsBelow}
 
--- what a listing asks of a node, whatever stands round it
+-- what a listing asks of a node, whatever is round it
 pub record Rules : Type 0 where
   -- nothing inside it is reached
   pub is_closed : Node â†’ Bool

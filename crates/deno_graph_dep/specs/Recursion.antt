@@ -5,7 +5,7 @@ use Rattle.deno_graph_dep.specs.Listing.{Rules}
 use Rattle.deno_graph_source.specs.declared.tree.node.Node as layers
 use Rattle.deno_graph_source.specs.declared.tree.node.Node.{Node, Node-F, fold-Node, roll-Node}
 
--- a node with what it gives, where its children stand with what they give
+-- a node with what it gives, where its children are given with what they give
 abbrev pub with_result : {A : Type 0} → (Node → List A → A) → Node-F (Node × A) → Node × A
 with_result {A} step layer =
     let node = roll-Node (layers.map-Node (Node × A) Node (λ child. child.0) layer) in
@@ -15,7 +15,7 @@ with_result {A} step layer =
 unfoldable pub by_children : {A : Type 0} → (Node → List A → A) → Node → A
 by_children {A} step node = (fold-Node (Node × A) (with_result step) node).1
 
--- a node's own entries stand before those of its children, or after them where the rules say so,
+-- a node's own entries come before those of its children, or after them where the rules say so,
 -- and there are none from inside a closed node
 abbrev pub with_entries : {A : Type 0} → Rules → (Node → List A) → Node → List (List A) → List A
 with_entries rules own node below =

@@ -96,7 +96,7 @@ paths_to_come rules level (frame ∷ frames) nodes =
 abbrev pub AreLastOf : List Node → List Node → Type 0
 AreLastOf level nodes = (before : List Node) × (level ≡ before ++ nodes)
 
--- each entered node stands in the level inside the one before it, with its siblings after it
+-- each entered node is in the level inside the one before it, with its siblings after it
 abbrev pub StandsIn : List Node → List Frame → List Node → Type 0
 StandsIn level [] nodes = AreLastOf level nodes
 StandsIn level (frame ∷ frames) nodes =
@@ -122,7 +122,7 @@ next_of body stack = next_path body stack.frames.items stack.nodes.now
 abbrev pub IsPassed : NodePath → NodePath → Type 0
 IsPassed next path = PartsBelow path next ⊎ IsStrictPrefix path next
 
--- The stack stands in a body: it leads down from there, and what it counts are the paths that were
+-- The stack is one of a body: it leads down from there, and what it counts are the paths that were
 -- entered, which all are passed and which those still to come follow.
 pub record IsStackOf (body : List Node) (stack : Stack) : Type 0 where
   pub stands : StandsIn body stack.frames.items stack.nodes.now

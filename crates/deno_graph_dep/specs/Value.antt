@@ -77,7 +77,7 @@ unknown_path path node = if is_string (kind_of node) then [] else path ∷ []
 abbrev pub unknown_operands : NodePath → List Step → Node → List NodePath
 unknown_operands path [] first = unknown_path path first
 unknown_operands path (step ∷ below) first =
-    unknown_operands (path ++ 0 ∷ []) below first ++ unknown_path (path ++ 1 ∷ []) step.1
+    unknown_operands (path ++ 0 ∷ []) below first ++ unknown_path (path ++ 1 ∷ []) step.right
 
 -- the unknowns of a node of a kind: a template's children, or the operands of a sum that are no
 -- string literals

@@ -23,7 +23,7 @@ pub record GivesNone (old new : WalkState) : Type 0 where
   pub entered : IsCountOf (IsReachable dependency_rules old.program.body) new.entered
 
 -- The node is the first still to come, and is so no more. By then exactly those nodes are entered
--- that stand before it or round it, the node itself, and what is inside it if it comes after that.
+-- that are before it or round it, the node itself, and what is inside it if it comes after that.
 pub record GivesNode (old new : WalkState) (node : Node) : Type 0 where
   pub path : NodePath
   pub at_path : node_at old.program.body path ≡ Some node

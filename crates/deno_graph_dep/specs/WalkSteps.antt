@@ -9,7 +9,7 @@ use Rattle.deno_graph_dep.specs.Stack.{IsStackOf, to_come}
 use Rattle.deno_graph_dep.specs.declared.stack.Stack.{Stack}
 use Rattle.deno_graph_dep.specs.Walk.{WalkState}
 
--- what a stack says of the program in whose body it stands
+-- what a stack says of the program of whose body it is
 abbrev pub state_of : Program → Stack → WalkState
 state_of program stack = record {
   program = program;
@@ -17,7 +17,7 @@ state_of program stack = record {
   entered = stack.entered;
 }
 
--- the stack stands in the body, and what is still to come ends the body's listing
+-- the stack is one of the body, and what is still to come ends the body's listing
 pub record IsWalkOf (body : List Node) (stack : Stack) : Type 0 where
   pub is_stack : IsStackOf body stack
   pub given : List NodePath

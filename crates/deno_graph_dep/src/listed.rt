@@ -25,7 +25,7 @@ pub fn is_listed(node: &Node) -> bool
 
 /// Whether a module declaration of this name may add to a module: a name with `*` is a pattern,
 /// unless it is a relative path.
-pub fn may_name_module(name: &str) -> bool
+fn may_name_module(name: &str) -> bool
     ensures { result ≡ may_name_module name.now }
 {
     !name.as_bytes().contains(&b'*') || is_relative(name)
@@ -54,7 +54,7 @@ fn is_module_call(callee: Callee, children: &[Node]) -> bool
 }
 
 /// Whether a node is the identifier `require`.
-pub fn is_require(node: &Node) -> bool
+fn is_require(node: &Node) -> bool
     ensures { result ≡ is_require (Some (kind_of node.now)) }
 {
     match &node.kind {

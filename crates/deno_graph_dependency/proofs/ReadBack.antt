@@ -1,5 +1,6 @@
 -- What is written is read back: members of tables, lists, maps, flags, positions and modes.
-use Rattle.std.proofs.Common.{◌≡◌, ℕ, ◌<◌, ◌^◌, List, [], ◌∷◌, map, Bool, true, false, Option, Some, None, option_map, nat_lt, All, refl, ap, ◌∙◌, lt-ltb}
+use Rattle.std.proofs.Common.{◌≡◌, ℕ, ◌<◌, ◌^◌, List, [], ◌∷◌, map, Bool, true, false, Option, Some, None}
+use Rattle.std.proofs.Common.{option_map, nat_lt, All, refl, ap, ◌∙◌, lt-ltb}
 use Rattle.std.proofs.lemmas.List.Elements.{All-head, All-tail}
 use Rattle.serde_json.specs.Data.{Data, number, unsigned, no_members}
 use Rattle.serde_json.specs.Find.{as_bool}
@@ -106,7 +107,8 @@ module _ {A : Type 0} (reads : Data → Option A) (f : A → Data) (P : A → Ty
       → reads_map reads (map_object_of f es) ≡ Some es
   unfolding reads_map
   reads_map-map_object_of es h all =
-      ap (reads_members reads) (put_entries-present (map_entries f es) (ascending (map_entries f es) (ascending-map f es h)))
+      ap (reads_members reads)
+      (put_entries-present (map_entries f es) (ascending (map_entries f es) (ascending-map f es h)))
       ∙ reads_members-map es all
 
   -- a list that is left out where it is empty

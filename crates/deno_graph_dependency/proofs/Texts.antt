@@ -1,5 +1,6 @@
 -- What the tokens of a form print, and the tokens of an object by its table.
-use Rattle.std.proofs.Common.{◌≡◌, ℕ, List, [], ◌∷◌, ◌++◌, true, Option, Some, None, refl, sym, ap, ◌∙◌, append_assoc}
+use Rattle.std.proofs.Common.{◌≡◌, ℕ, List, [], ◌∷◌, ◌++◌, true, Option, Some, None, refl, sym, ap, ◌∙◌}
+use Rattle.std.proofs.Common.{append_assoc}
 use Rattle.json.specs.Token.{Token, key, begin_object, end_object}
 use Rattle.json.specs.Print.{print}
 use Rattle.json.specs.Tree.{members_tokens}
@@ -36,5 +37,6 @@ pub object_text : (es : List Entry) (ts : List Token) → has_ascending_keys es 
     → with_entries with_member_text es (ts ++ begin_object ∷ []) ++ end_object ∷ []
     ≡ ts ++ text_tokens (object_of es)
 object_text es ts h =
-    entries_text es (ts ++ begin_object ∷ []) ∙ append_assoc ts (begin_object ∷ []) (members_text (present es))
+    entries_text es (ts ++ begin_object ∷ [])
+    ∙ append_assoc ts (begin_object ∷ []) (members_text (present es))
     ∙ ap (λ ms. ts ++ begin_object ∷ members_text ms) (sym (put_entries-present es (ascending es h)))

@@ -1,5 +1,7 @@
 -- Dependencies that are converted one by one, and what conversion leaves when it is done again.
-use Rattle.std.proofs.Common.{◌≡◌, ℕ, codes, List, [], ◌∷◌, ◌++◌, map, Option, Some, None, option_map, IsSome, IfSome, Result, Ok, Err, OnOk, OnErr, String, Global, string_bytes, string_cmp, true≢false, inl, inr, refl, sym, ap, subst, ◌∙◌}
+use Rattle.std.proofs.Common.{◌≡◌, ℕ, codes, List, [], ◌∷◌, ◌++◌, map, Option, Some, None, option_map, IsSome}
+use Rattle.std.proofs.Common.{IfSome, Result, Ok, Err, OnOk, OnErr, String, Global, string_bytes, string_cmp}
+use Rattle.std.proofs.Common.{true≢false, inl, inr, refl, sym, ap, subst, ◌∙◌}
 use Rattle.std.proofs.lemmas.List.{append_assoc, map-append}
 use Rattle.std.specs.BTreeMap.{insert_entry}
 use Rattle.std.specs.Map.{lookup}

@@ -339,7 +339,7 @@ module _ {V : Type 0} where
 
   -- ---- the search
 
-  -- What is reached stands in each closed set, and is closed but for the modules that are pending.
+  -- What is reached is in each closed set, and is closed but for the modules that are pending.
   pub record IsUnderway (ms : Modules) (root : List ℕ) (reached : List (List ℕ × V))
       (pending : List ModuleInfo) : Type 0 where
     pub has_root : IsKey ms root → IsReached reached root

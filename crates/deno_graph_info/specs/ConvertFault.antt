@@ -6,7 +6,7 @@ use Rattle.deno_graph_info.specs.declared.conversion.fault.ConvertFault.TheVaria
   OutOfMemory,
 }
 
--- the fault is ColumnOverflow, and it stands; or memory was refused
+-- the fault is ColumnOverflow, and it is there; or memory was refused
 abbrev pub IsColumnFault : Type 0 → ConvertFault → Type 0
 IsColumnFault Overflows ColumnOverflow = Overflows
 IsColumnFault Overflows Float = ⊥

@@ -132,7 +132,7 @@ up_to_none_unclosed word input unclosed lacks (inr (behind, closed)) none other 
     (append_assoc parts.0 word rest ∙ sym parts.1 ∙ closed) in
     none parts.0 middle.0 (middle.1 ∙ append_assoc parts.0 word middle.0)
 
--- and where it has one, the first in the whole text stands before the first mark
+-- and where it has one, the first in the whole text is before the first mark
 pub up_to_read_unclosed : (word input unclosed front rest : List ℕ) → Lacks closing_brace unclosed
     → (input ≡ unclosed) ⊎ ((behind : List ℕ) × (input ≡ unclosed ++ closing_brace ∷ behind))
     → (some after : List ℕ) → unclosed ≡ some ++ (word ++ after)

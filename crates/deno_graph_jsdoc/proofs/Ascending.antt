@@ -11,7 +11,7 @@ use Rattle.std.proofs.lemmas.List.Sorted.{Contains-permutation, IsPermutation-in
 use Rattle.std.specs.List.{AllPairs, Contains, insert}
 use Rattle.std.specs.List.Sorted.{IsPartitionedBy, IsPartitionPoint}
 use Rattle.deno_graph_jsdoc.specs.JsDocImport.{Import, import_of}
-use Rattle.deno_graph_jsdoc.specs.JsDocHits.{GainsImport}
+use Rattle.deno_graph_jsdoc.specs.JsDocPass.{GainsImport}
 use Rattle.deno_graph_jsdoc.specs.declared.import.JsDocImport.{JsDocImport}
 
 module _ {X : Type 0} (R : X → X → Type 0) (xs : List X) (at : ℕ) (y : X) (fits : at ≤ length xs)

@@ -6,7 +6,8 @@ use Rattle.std.proofs.lemmas.Bool.{cases_lt}
 use Rattle.std.specs.List.{Contains, insert}
 use Rattle.deno_graph_jsdoc.specs.JsDocReading.{ReadsImport}
 use Rattle.deno_graph_jsdoc.specs.JsDocImport.{Import, IsDeclaration, IsDynamicImport, moved, byte_count}
-use Rattle.deno_graph_jsdoc.specs.JsDocHits.{Ascend, AreHits, IsHit, GainsImport}
+use Rattle.deno_graph_jsdoc.specs.JsDocHits.{Ascend, AreHits, IsHit}
+use Rattle.deno_graph_jsdoc.specs.JsDocPass.{GainsImport}
 use Rattle.deno_graph_jsdoc.proofs.Ascending.{GainsImport-insert, GainsImport-same, tail_pairs}
 use Rattle.deno_graph_jsdoc.proofs.ExistenceOfDeclarations.{read_declaration}
 use Rattle.deno_graph_jsdoc.proofs.ExistenceOfDynamicImports.{read_dynamic}
@@ -71,7 +72,7 @@ pub record Collected (text : List ℕ) (limit : ℕ) (imports : List Import) : T
       → Contains imports import
 
 module _ (text front back : List ℕ) (whole : text ≡ front ++ back) where
-  -- what stands at one place, as a parser gives it
+  -- what is at one place, as a parser gives it
   abbrev At : (List ℕ → Import → List ℕ → Type 0) → List Import → Type 0
   At G imports = (here : Import) (rest : List ℕ) → G back here rest
       → Contains imports (moved (byte_count front) here)

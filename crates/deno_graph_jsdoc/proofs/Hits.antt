@@ -1,4 +1,4 @@
--- A hit stands behind an `import`, and its start determines it.
+-- A hit is behind an `import`, and its start determines it.
 use Rattle.std.proofs.Common.{◌≡◌, ℕ, ◌+◌, ◌<◌, ◌≤◌, ◌⊎◌, inl, inr, true, false, Some, None, List, [], ◌∷◌}
 use Rattle.std.proofs.Common.{◌++◌, length, refl, sym, ap, ◌∙◌, subst, codes, append_assoc, arith}
 use Rattle.std.proofs.lemmas.Bool.{both_ways, cases_lt}
@@ -412,7 +412,7 @@ one_hit text import other hit again same = by_form (hit_stated text import hit) 
     by_form (inr x) (inl y) =
         absurd (forms_apart text other import (dynamic other y) (declaration import x) (sym same))
 
--- where the specifier of a hit stands in its text
+-- where the specifier of a hit lies in its text
 pub record IsPlaced (text : List ℕ) (import : Import) : Type 0 where
   pub before : List ℕ
   pub quote : List ℕ

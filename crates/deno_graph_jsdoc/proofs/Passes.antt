@@ -10,8 +10,8 @@ use Rattle.deno_graph_jsdoc.specs.Characters.{at_sign, opening_brace}
 use Rattle.deno_graph_jsdoc.specs.JsDocReading.{ReadsImport, IsDeclarationEnd, IsDynamicEnd}
 use Rattle.deno_graph_jsdoc.specs.JsDocImport.{Import, moved, byte_count}
 use Rattle.deno_graph_jsdoc.specs.JsDocHits.{AreHits, HasFronts, IsHit, IsFront, EndsAtDynamicImport}
-use Rattle.deno_graph_jsdoc.specs.JsDocHits.{EndsAtDeclaration, GainsImport}
-use Rattle.deno_graph_jsdoc.specs.JsDocPass.{EndsWithAt, LeavesOpen}
+use Rattle.deno_graph_jsdoc.specs.JsDocHits.{EndsAtDeclaration}
+use Rattle.deno_graph_jsdoc.specs.JsDocPass.{EndsWithAt, GainsImport, LeavesOpen}
 use Rattle.deno_graph_jsdoc.proofs.Hits.{IsStated, IsDynamicHit, IsDeclarationHit, hit_stated, dynamic_hit}
 use Rattle.deno_graph_jsdoc.proofs.Hits.{declaration_hit, dynamic_ends, declaration_ends, stated_none}
 use Rattle.deno_graph_jsdoc.proofs.Hits.{stated_only, stated_some, one_hit}
@@ -23,22 +23,22 @@ use Rattle.deno_graph_jsdoc.proofs.Sites.{Counted, Counted-start, Counted-skip, 
 no_brace : (middle rest behind : List ℕ)
     → word ++ rest ≡ middle ++ opening_brace ∷ behind → length middle < 6 → ⊥
 no_brace [] rest behind same short =
-    let heads : ◌≡◌ {A = ℕ} 105 123 = cc in
+    let heads : ◌≡◌ {A = ℕ} 105 opening_brace = cc in
     omega (arith, heads)
 no_brace (a ∷ []) rest behind same short =
-    let heads : ◌≡◌ {A = ℕ} 109 123 = cc in
+    let heads : ◌≡◌ {A = ℕ} 109 opening_brace = cc in
     omega (arith, heads)
 no_brace (a ∷ b ∷ []) rest behind same short =
-    let heads : ◌≡◌ {A = ℕ} 112 123 = cc in
+    let heads : ◌≡◌ {A = ℕ} 112 opening_brace = cc in
     omega (arith, heads)
 no_brace (a ∷ b ∷ c ∷ []) rest behind same short =
-    let heads : ◌≡◌ {A = ℕ} 111 123 = cc in
+    let heads : ◌≡◌ {A = ℕ} 111 opening_brace = cc in
     omega (arith, heads)
 no_brace (a ∷ b ∷ c ∷ d ∷ []) rest behind same short =
-    let heads : ◌≡◌ {A = ℕ} 114 123 = cc in
+    let heads : ◌≡◌ {A = ℕ} 114 opening_brace = cc in
     omega (arith, heads)
 no_brace (a ∷ b ∷ c ∷ d ∷ e ∷ []) rest behind same short =
-    let heads : ◌≡◌ {A = ℕ} 116 123 = cc in
+    let heads : ◌≡◌ {A = ℕ} 116 opening_brace = cc in
     omega (arith, heads)
 no_brace (a ∷ b ∷ c ∷ d ∷ e ∷ f ∷ more) rest behind same short = omega arith
 
@@ -111,7 +111,8 @@ module _ (text front before behind : List ℕ) (cut : IsCut front)
           let same : (earlier ++ codes "impor") ++ 116 ∷ [] ≡ site.front ++ at_sign ∷ [] =
           append_assoc earlier (codes "impor") (116 ∷ []) ∙ sym is ∙ sym (append-nil front)
           ∙ ap (λ t. front ++ t) (sym empty) ∙ all in
-          let last : ◌≡◌ {A = ℕ} 116 64 = same_last 116 64 (earlier ++ codes "impor") site.front same in
+          let last : ◌≡◌ {A = ℕ} 116 at_sign =
+          same_last 116 at_sign (earlier ++ codes "impor") site.front same in
           absurd (omega (arith, last))
 
       empty_before : length before ≡ 0 → before ≡ []
@@ -242,7 +243,7 @@ module _ (text front before behind : List ℕ) (cut : IsCut front)
             };
           }
 
--- the imports of one form that stand behind fronts up to a length
+-- the imports of one form that are behind fronts up to a length
 module _ (P : List ℕ → Type 0) (ends : (front : List ℕ) → P front → EndsIn front)
     (G : List ℕ → Import → List ℕ → Type 0) (text : List ℕ) where
   abbrev pub Complete : ℕ → List Import → Type 0

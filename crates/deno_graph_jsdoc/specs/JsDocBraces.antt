@@ -25,7 +25,7 @@ abbrev pub IsWithin : JsDocImport → ℕ → Type 0
 IsWithin import count =
     (import.specifier_range.start ≤ import.specifier_range.end) × (import.specifier_range.end ≤ count)
 
--- the source that stands behind a `}` and white space, as it is read there
+-- the source that is behind a `}` and white space, as it is read there
 pub record IsNamesEnd (end : NamesEnd) : Type 0 where
   pub utf8 : IsUtf8 end.behind.now
   pub from : chars end.from.now ≡ skip_leading_whitespace (chars end.behind.now)

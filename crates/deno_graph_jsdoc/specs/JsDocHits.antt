@@ -6,7 +6,7 @@ use Rattle.std.specs.Str.{bytes_eq}
 use Rattle.deno_graph_jsdoc.specs.JsDocGrammar.{◌·◌, Anything, Is, IsUpTo}
 use Rattle.deno_graph_jsdoc.specs.JsDocImport.{Import, IsDeclaration, IsDynamicImport, moved, byte_count}
 
--- behind some front of the text stands a dynamic import or a declaration that states this import
+-- behind some front of the text there is a dynamic import or a declaration that states this import
 pub record IsHit (text : List ℕ) (import : Import) : Type 0 where
   pub front : List ℕ
   pub back : List ℕ
@@ -24,14 +24,6 @@ Ascend imports = AllPairs (λ (import later : Import). import.start < later.star
 pub record AreHits (text : List ℕ) (imports : List Import) : Type 0 where
   pub ascending : Ascend imports
   pub exact : (import : Import) → Contains imports import ↔ IsHit text import
-
--- The new list has this import, or one with its start, and else what the old one has. It ascends as that
--- does.
-pub record GainsImport (old : List Import) (import : Import) (new : List Import) : Type 0 where
-  pub ascending : Ascend new
-  pub only : (other : Import) → Contains new other → Contains old other ⊎ (import ≡ other)
-  pub kept : (other : Import) → Contains old other → Contains new other
-  pub there : (other : Import) × Contains new other × (other.start ≡ import.start)
 
 -- a front of the text
 abbrev pub IsFront : List ℕ → List ℕ → Type 0

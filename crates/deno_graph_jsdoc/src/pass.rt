@@ -5,8 +5,8 @@ ghost use Rattle.std.specs.Prelude.{IfSome, MatchOption, map};
 ghost use Rattle.std.specs.Str.{chars};
 ghost use Rattle.deno_graph_jsdoc.specs.JsDocImport.{import_of, moved};
 ghost use Rattle.deno_graph_jsdoc.specs.JsDocHits.{Ascend, AreHits, HasFronts, EndsAtDynamicImport};
-ghost use Rattle.deno_graph_jsdoc.specs.JsDocHits.{EndsAtDeclaration, GainsImport, occurrences};
-ghost use Rattle.deno_graph_jsdoc.specs.JsDocPass.{LeavesOpen, EndsWithAt};
+ghost use Rattle.deno_graph_jsdoc.specs.JsDocHits.{EndsAtDeclaration, occurrences};
+ghost use Rattle.deno_graph_jsdoc.specs.JsDocPass.{EndsWithAt, GainsImport, LeavesOpen};
 
 use crate::grammar::known::known_lists;
 use crate::grammar::parts::unclosed_len;

@@ -73,7 +73,7 @@ hit_from m n input source (as_before same) is has = (source, sym same ∙ is, ha
 hit_from m n input source (now_marked before was now) is has =
     (before, was, unmarked_text input before (subst (HasText input) (some_is (sym is ∙ now)) has))
 
--- a source that the store that was asked has for the input stood there before
+-- a source that the store that was asked has for the input was there before
 pub hit_before : (scope : Bool) (m : Sources) (input : Input) (source : ParsedModule)
     → source_at (asked_for scope m input.specifier) input.specifier ≡ Some source → HasText input source
     → IsHit m input
@@ -85,7 +85,7 @@ found_from m n input (as_before same) hit = (hit.0, same ∙ hit.1, hit.2)
 found_from m n input (now_marked before was now) hit =
     (marked before, now, marked_text input before (subst (HasText input) (some_is (sym hit.1 ∙ was)) hit.2))
 
--- and one that stood there is found
+-- and one that was there is found
 pub hit_after : (scope : Bool) (m : Sources) (input : Input) → IsHit m input
     → (source : ParsedModule) × (source_at (asked_for scope m input.specifier) input.specifier ≡ Some source)
     × HasText input source

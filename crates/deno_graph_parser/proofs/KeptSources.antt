@@ -51,7 +51,7 @@ same_sources m n is = same_map nat_list_cmp_total exact_texts m n is
 equal_either_way : (key other : List ℕ) → eq_by_cmp (slice_cmp nat_cmp) other key ≡ bytes_eq key other
 equal_either_way key other = (eq_by_cmp_equiv nat_list_cmp_total).symm other key ∙ is_eq-slice_cmp key other
 
--- what stands at each specifier after a change
+-- what is at each specifier after a change
 pub source_at-with_source : (m : Sources) (key : List ℕ) (source : ParsedModule) (other : List ℕ)
     → source_at (with_source m key source) other ≡ cond (bytes_eq key other) (Some source) (source_at m other)
 source_at-with_source m key source other = get-insert nat_list_cmp_total m key source other
@@ -68,13 +68,13 @@ same_text key = (bytes_eq-Decides key key).1 refl
 pub equal_text : (key other : List ℕ) → bytes_eq key other ≡ true → key ≡ other
 equal_text key other = (bytes_eq-Decides key other).0
 
--- the new source is what stands there
+-- the new source is what is there
 pub source_at-with_source_here : (m : Sources) (key : List ℕ) (source : ParsedModule)
     → source_at (with_source m key source) key ≡ Some source
 source_at-with_source_here m key source = source_at-with_source m key source key
     ∙ ap (λ b. cond b (Some source) (source_at m key)) (same_text key)
 
--- the source that stands there, put there once more, changes nothing
+-- the source that is there, put there once more, changes nothing
 pub with_source_again : (m : Sources) (key : List ℕ) (source : ParsedModule) → source_at m key ≡ Some source
     → with_source m key source ≡ m
 with_source_again m key source is =

@@ -227,7 +227,7 @@ module _ {P : Type 0} (parses : P → ParseFunction) (count : P → ℕ) (is_sou
       by (bytes_eq key other) (sym (source_at-without m key other) ∙ at)
 
   module _ (start : List ℕ → Option Unmarked) where
-    -- the state stands as the parser alone would have left it after these commands
+    -- the state is as the parser alone would have left it after these commands
     pub record Kept (past : List Command) (state : State P) : Type 0 where
       pub sound : IsSoundState parses is_sound state
       pub function : parses state.parser ≡ f

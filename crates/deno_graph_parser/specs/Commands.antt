@@ -77,7 +77,7 @@ input specifier text media_type = record {
 }
 
 -- The last successful Analyze or Parse of a specifier since its last Remove, among the commands so
--- far, of which the newest comes first; else what stood there at the start.
+-- far, of which the newest comes first; else what was there at the start.
 module _ (parses : ParseFunction) (start : List ℕ → Option Unmarked) where
   unfoldable pub latest : List Command → List ℕ → Option Unmarked
   latest [] key = start key

@@ -18,7 +18,7 @@ use Rattle.deno_graph_parser.specs.declared.command.Command.TheVariants.{Analyze
 use Rattle.deno_graph_parser.specs.declared.command.Answer.{Answer}
 use Rattle.deno_graph_parser.specs.declared.command.Answer.TheVariants.{Analyzed, Parsed, Removed}
 
--- an answer without want of memory, as a call gives it that has this error for a diagnostic
+-- an answer but that memory was refused, as a call gives it that has this error for a diagnostic
 abbrev pub as_called : {T E : Type 0} → (ParseDiagnostic → E) → Result T ParseDiagnostic → Result T E
 as_called error (Ok answer) = Ok answer
 as_called error (Err diagnostic) = Err (error diagnostic)

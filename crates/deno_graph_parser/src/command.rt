@@ -50,8 +50,7 @@ impl TryClone for Answer {
             Answer::Parsed(Err(diagnostic)) => {
                 Ok(Answer::Parsed(Err(diagnostic.try_clone(alloc)?)))
             }
-            Answer::Removed(Some(source)) => Ok(Answer::Removed(Some(source.try_clone(alloc)?))),
-            Answer::Removed(None) => Ok(Answer::Removed(None)),
+            Answer::Removed(found) => Ok(Answer::Removed(found.try_clone(alloc)?)),
         }
     }
 }

@@ -1,4 +1,4 @@
--- The first line of a text, and what stands in it.
+-- The first line of a text, and what is in it.
 use Rattle.std.proofs.Common.{◌≡◌, ◌↔◌, ℕ, ◌<◌, Bool, true, List, [], ◌∷◌, ◌++◌, length, take, drop, get_or}
 use Rattle.std.proofs.Common.{refl, sym, ap, subst, ◌∙◌, append_assoc, length-append, arith, inl, inr, codes}
 use Rattle.std.proofs.lemmas.Bool.{and_parts, and_from, both_ways}

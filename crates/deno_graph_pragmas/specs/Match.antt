@@ -18,7 +18,7 @@ Captures pattern text found = IsCaptured pattern text (part_of found)
 abbrev pub IsSliceIn : List ℕ → Match → Type 0
 IsSliceIn text found = IsSliceOf text (part_of found)
 
--- what is found stands in quotes
+-- what is found is in quotes
 abbrev pub IsQuotedIn : List ℕ → Match → Type 0
 IsQuotedIn text found = StandsInQuotes text (part_of found)
 

@@ -12,7 +12,7 @@ pub data Piece : Type 0 where
   any : (ℕ → Bool) → Piece
   -- at least one of them
   some : (ℕ → Bool) → Piece
-  -- as many of them as stand there, at least one
+  -- as many of them as there are, at least one
   run : (ℕ → Bool) → Piece
   -- these characters
   exactly : List ℕ → Piece

@@ -68,7 +68,7 @@ begins_above_star (letter ∷ word) = nat_lt star letter && nat_lt letter 128
 abbrev pub assignment : List ℕ → List Piece
 assignment name = keyword name ∷ any_white_space ∷ literal "=" ∷ any_white_space ∷ []
 
--- The part stands where `rest` begins, with which `text` ends. It is what reading passes over as `piece`, and
+-- The part begins where `rest` does, with which `text` ends. It is what reading passes over as `piece`, and
 -- `back` can
 -- be read behind it.
 pub record IsReadAt (piece : Piece) (back : List Piece) (text rest : List ℕ) (part : TextPart) : Type 0 where
@@ -97,7 +97,7 @@ HasNoAttribute name text =
     (value : List ℕ) → after_pieces (attribute_front name) text ≡ Some value
     → after_pieces (unquoted ∷ quote ∷ []) value ≡ None
 
--- `/>` stands in the first line of the text
+-- `/>` is in the first line of the text
 abbrev pub IsClosedInLine : List ℕ → Type 0
 IsClosedInLine text =
     (line : List ℕ) × (after : List ℕ) × IsTrue (list_all is_in_line line)

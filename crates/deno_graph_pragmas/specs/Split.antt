@@ -59,7 +59,7 @@ pub record IsCaptured (pattern : Pattern) (text : List ℕ) (part : TextPart) : 
   pub start : part.start ≡ byte_count (split.before ++ split.front)
   pub end : part.end ≡ byte_count (split.before ++ split.front ++ split.captured)
 
--- the part is what stands between its ends, and these are boundaries of the text
+-- the part is what lies between its ends, and these are boundaries of the text
 pub record IsSliceOf (text : List ℕ) (part : TextPart) : Type 0 where
   pub start : IsCharBoundary text part.start
   pub end : IsCharBoundary text part.end
@@ -74,7 +74,7 @@ with_beside left right part = record {
   end = part.end + 1;
 }
 
--- a quote of either kind stands directly before the part, and one directly behind it
+-- a quote of either kind is directly before the part, and one directly behind it
 pub record StandsInQuotes (text : List ℕ) (part : TextPart) : Type 0 where
   pub left : ℕ
   pub right : ℕ

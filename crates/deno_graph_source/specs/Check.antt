@@ -1,4 +1,4 @@
--- What the checks of a source answer: `Ok`, or a fault that stands.
+-- What the checks of a source answer: `Ok`, or a fault that the source has.
 use Rattle.std.specs.Prelude.{
   ◌≡◌,
   ◌≢◌,

@@ -52,7 +52,7 @@ use Rattle.deno_graph_source.specs.declared.tree.node.Node.TheFolds.{fold-Node, 
 unfoldable pub kind_of : Node → Kind
 kind_of node = (out-Node node).kind
 
--- where it stands in the text, in bytes
+-- where it is in the text, in bytes
 unfoldable pub range_of : Node → SourceRange
 range_of node = (out-Node node).range
 

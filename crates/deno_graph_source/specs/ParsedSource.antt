@@ -5,7 +5,7 @@ use Rattle.deno_graph_source.specs.Comments.{FiledComments}
 use Rattle.deno_graph_source.specs.declared.tree.media_type.MediaType.{MediaType}
 use Rattle.deno_graph_source.specs.declared.tree.node.Program.{Program}
 
--- where it stands, its text, what it was parsed as, its tree and comments, and whether its scopes
+-- where it is from, its text, what it was parsed as, its tree and comments, and whether its scopes
 -- were analysed
 pub record ParsedModule : Type 0 where
   pub specifier : Parts

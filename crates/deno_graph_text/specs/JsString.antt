@@ -45,7 +45,7 @@ IsReadable points = All (λ p. is_surrogate p ≡ false) points
 abbrev pub readable_text : List ℕ → Option (List ℕ)
 readable_text points = if list_all (λ p. not (is_surrogate p)) points then Some (lossy_text points) else None
 
--- no high surrogate stands directly before a low one
+-- no high surrogate is directly before a low one
 abbrev pub IsPaired : List ℕ → Type 0
 IsPaired points =
     (k : ℕ) → IsTrue (is_high_surrogate (slice_index points k))

@@ -20,7 +20,7 @@ pub record ArePlaces (text : List ℕ) (places : List Place) : Type 0 where
 abbrev pub reach : ℕ
 reach = STRIDE + 1
 
--- `pos` is within reach of the start of the text or of one of `places`, which stands at or before it
+-- `pos` is within reach of the start of the text or of one of `places`, which is at or before it
 abbrev pub IsNear : List Place → ℕ → Type 0
 IsNear places pos = (pos < reach) ⊎ Any (λ place. (place.pos ≤ pos) × (pos < place.pos + reach)) places
 

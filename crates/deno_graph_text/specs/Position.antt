@@ -1,4 +1,4 @@
--- Where a place in a text stands: its line, and its character in that line.
+-- Where a place in a text is: its line, and its character in that line.
 use Rattle.std.specs.Prelude.{
   ◌≡◌,
   ◌==◌,

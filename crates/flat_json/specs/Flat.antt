@@ -47,7 +47,7 @@ abbrev pub item_count : Items → ℕ
 item_count no_items = 0
 item_count (item j js) = item_count js + 1
 
--- A value's node, and behind it those of what stands in it.
+-- A value's node, and behind it those of what is in it.
 abbrev mutual
   pub flat_list : Json → List PlainNode
   flat_list json.null = null ∷ []

@@ -1,5 +1,5 @@
--- Where a value stands, as a JSON Pointer (RFC 6901).
-use Rattle.std.specs.Prelude.{◌≡◌, ℕ, ◌+◌, ◌==◌, if◌then◌else◌, List, [], ◌∷◌, flat_map}
+-- Where a value is, as a JSON Pointer (RFC 6901).
+use Rattle.std.specs.Prelude.{◌≡◌, ℕ, ◌+◌, ◌==◌, if◌then◌else◌, List, [], ◌∷◌, codes, flat_map}
 use Rattle.std.specs.Char.{encode_utf8}
 use Rattle.std.specs.Fmt.{decimal}
 use Rattle.std.specs.Str.{chars}
@@ -10,10 +10,18 @@ use Rattle.flat_json.specs.declared.Tape.{Tape}
 use Rattle.flat_json.specs.declared.pointer.Step.{Step}
 use Rattle.flat_json.specs.declared.pointer.Step.TheVariants.{Index, Name}
 
+-- `~`
+abbrev pub tilde : ℕ
+tilde = 126
+
+-- `/`
+abbrev pub slash : ℕ
+slash = 47
+
 -- `~` is written `~0`, and `/` is written `~1`
 abbrev pub escaped_letter : ℕ → List ℕ
-escaped_letter letter = if letter == 126 then 126 ∷ 48 ∷ []
-    else (if letter == 47 then 126 ∷ 49 ∷ [] else encode_utf8 letter)
+escaped_letter letter = if letter == tilde then codes "~0"
+    else (if letter == slash then codes "~1" else encode_utf8 letter)
 
 abbrev pub escaped : List ℕ → List ℕ
 escaped name = flat_map escaped_letter (chars name)
@@ -24,8 +32,8 @@ pub data Part : Type 0 where
   name : List ℕ → Part
 
 abbrev pub part_text : Part → List ℕ
-part_text (index number) = 47 ∷ decimal number
-part_text (name text) = 47 ∷ escaped text
+part_text (index number) = slash ∷ decimal number
+part_text (name text) = slash ∷ escaped text
 
 abbrev pub part_of : Step → Part
 part_of (Index number) = index number

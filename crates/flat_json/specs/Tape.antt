@@ -20,10 +20,11 @@ tape_nodes tape = tape.nodes.items
 abbrev pub number_of : Element → ℕ
 number_of element = element.number
 
+-- how many nodes the value takes
 abbrev pub nodes_of : Element → ℕ
 nodes_of element = length element.nodes.now
 
--- the value's node, and those of what stands in it
+-- the value's node, and those of what is in it
 abbrev pub own_nodes : Element → List Node
 own_nodes element = element.nodes.now
 
@@ -69,7 +70,7 @@ HasNode element number = (number_of element ≤ number) × (number < number_of e
 abbrev pub TakesSame : Element → Element → Type 0
 TakesSame a b = (number_of a ≡ number_of b) × (nodes_of a ≡ nodes_of b)
 
--- how many nodes stand in the value of this node
+-- how many nodes are in the value of this node
 abbrev pub inside_of : Node → ℕ
 inside_of Null = 0
 inside_of (Bool _) = 0
@@ -80,7 +81,7 @@ inside_of (Key _) = 0
 inside_of (Array _ nodes) = nodes
 inside_of (Object nodes) = nodes
 
--- at this place among an element's nodes there is one, and behind it those that stand in its value
+-- at this place among an element's nodes there is one, and behind it those that are in its value
 abbrev pub HasValueAt : Element → ℕ → Type 0
 HasValueAt element at = (node : Node) × (slice_get element.nodes.now at ≡ Some node)
     × (at + inside_of node < nodes_of element)
@@ -91,7 +92,7 @@ IsValueAt holder at value = (number_of value ≡ number_of holder + at)
     × (value.nodes.now ≡ take (nodes_of value) (drop at holder.nodes.now))
     × ((node : Node) → slice_get holder.nodes.now at ≡ Some node → nodes_of value ≡ inside_of node + 1)
 
--- So many values stand one behind another from a place on, and behind them is the other place.
+-- So many values are one behind another from a place on, and behind them is the other place.
 abbrev pub ArePassed : Element → ℕ → ℕ → ℕ → Type 0
 ArePassed holder from zero place = place ≡ from
 ArePassed holder from (suc count) place =
@@ -146,7 +147,7 @@ left_of_entries entries = nodes_of (object_of_entries entries) - entries.at
 abbrev pub place_of_entries : Entries → ℕ
 place_of_entries entries = entries.at
 
--- right before the value, which stands in the object, there is a name, and it is this text
+-- right before the value, which is in the object, there is a name, and it is this text
 abbrev pub IsNamed : Element → List ℕ → Element → Type 0
 IsNamed object text value = (name : Bor (List ℕ))
     × (slice_get object.nodes.now (number_of value - number_of object - 1) ≡ Some (Key name))
@@ -162,7 +163,7 @@ abbrev pub HasNameAt : Element → List ℕ → ℕ → Type 0
 HasNameAt object text at =
     (name : Bor (List ℕ)) × (slice_get object.nodes.now at ≡ Some (Key name)) × (name.now ≡ text)
 
--- So many members stand one behind another from a place on, and the other place is that of one more.
+-- So many members are one behind another from a place on, and the other place is that of one more.
 abbrev pub HasMember : Element → ℕ → ℕ → ℕ → Type 0
 HasMember object from zero place = HasMemberAt object place × (place ≡ from)
 HasMember object from (suc count) place =

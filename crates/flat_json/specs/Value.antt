@@ -52,7 +52,7 @@ unfoldable mutual
   plain_members json.no_members = no_members
   plain_members (json.member k j ms) = member k (plain_value j) (plain_members ms)
 
--- A value's node, and behind it those of what stands in it.
+-- A value's node, and behind it those of what is in it.
 unfoldable mutual
   pub flat_value : Value → List PlainNode
   flat_value null = flat.null ∷ []
@@ -73,7 +73,7 @@ unfoldable mutual
 
 -- ---- from the list back to the value
 
--- how many nodes stand in the value of this node
+-- how many nodes are in the value of this node
 abbrev pub plain_inside : PlainNode → ℕ
 plain_inside flat.null = 0
 plain_inside (flat.boolean _) = 0
@@ -84,7 +84,7 @@ plain_inside (flat.key _) = 0
 plain_inside (flat.array _ nodes) = nodes
 plain_inside (flat.object nodes) = nodes
 
--- what stands behind the first value
+-- what is behind the first value
 abbrev pub behind : List PlainNode → List PlainNode
 behind [] = []
 behind (n ∷ ns) = drop (plain_inside n) ns

@@ -2,7 +2,7 @@
 
 ghost use Rattle.std.specs.Prelude.{◌≡◌, ◌++◌, ◌∷◌, [], IfOk, OnOk, IfSome, IfNone};
 ghost use Rattle.std.specs.String.{string_bytes};
-ghost use Rattle.flat_json.specs.Pointer.{HasInner, IsPointer, LeadsTo, escaped, part_of, part_text};
+ghost use Rattle.flat_json.specs.Pointer.{HasInner, IsPointer, LeadsTo, escaped, part_of, part_text, slash};
 ghost use Rattle.flat_json.specs.Tape.{HasNode, StandsIn};
 
 use crate::{Element, Tape};
@@ -73,7 +73,7 @@ fn push_step(pointer: &mut String, step: Step<'_>) -> Result<(), AllocError>
 /// Pushes a name with `~` as `~0` and `/` as `~1`.
 fn push_name(pointer: &mut String, name: &str) -> Result<(), AllocError>
     ensures { OnOk result (string_bytes pointer.new ≡ string_bytes pointer.old
-        ++ 47 ∷ escaped name.now) }
+        ++ slash ∷ escaped name.now) }
 {
     pointer.push('/')?;
     for letter in name.chars() {

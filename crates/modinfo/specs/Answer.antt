@@ -51,7 +51,8 @@ IsNoModule text fault = (told : NotationFault) × (fault_of_notation told ≡ fa
 
 -- the document is JSON that is converted to this
 abbrev pub IsConversionOf : List ℕ → Data → Type 0
-IsConversionOf document after = (before : Data) × (read_text document ≡ Some before) × IsConverted before after
+IsConversionOf document after = (before : Data) × (read_text document ≡ Some before)
+    × IsConverted before after
 
 -- the JSON of what the document is converted to
 abbrev pub IsConvertedText : List ℕ → List ℕ → Type 0

@@ -7,7 +7,15 @@ use Rattle.deno_graph_info.specs.declared.analysis.fault.InfoFault.TheVariants a
 use Rattle.deno_graph_info.specs.declared.conversion.fault.ConvertFault.{ConvertFault}
 use Rattle.deno_graph_info.specs.declared.conversion.fault.ConvertFault.TheVariants as convert
 use Rattle.modinfo.specs.declared.fault.Fault.{Fault}
-use Rattle.modinfo.specs.declared.fault.Fault.TheVariants.{Json, NotInNotation, Specifier, Source, Convert, Info, OutOfMemory}
+use Rattle.modinfo.specs.declared.fault.Fault.TheVariants.{
+  Json,
+  NotInNotation,
+  Specifier,
+  Source,
+  Convert,
+  Info,
+  OutOfMemory,
+}
 
 -- why a document gave no source
 abbrev pub fault_of_notation : NotationFault → Fault

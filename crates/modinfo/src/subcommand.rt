@@ -107,16 +107,9 @@ fn convert(alloc: Global, input: Vec<u8>) -> Result<Value, Fault>
     Ok(module_graph_1_into_2(alloc, before)?)
 }
 
-// `modules` is looked for before `root`, and both before any information is read.
+// Both members are looked for before any information is read.
 fn reach_of(alloc: Global, input: Vec<u8>) -> Result<Value, Fault> {
-    let Value::Object(members) = parse_json(alloc, input)? else {
-        return Err(Fault::Info(InfoFault::Shape));
-    };
-    let mut members = members;
-    let Some(Value::Object(modules)) = members.remove("modules") else {
-        return Err(Fault::Info(InfoFault::Shape));
-    };
-    let Some(Value::String(root)) = members.remove("root") else {
+    let Some((modules, root)) = modules_and_root(parse_json(alloc, input)?) else {
         return Err(Fault::Info(InfoFault::Shape));
     };
     let infos = read_infos(alloc, modules)?;
@@ -125,6 +118,19 @@ fn reach_of(alloc: Global, input: Vec<u8>) -> Result<Value, Fault> {
         keys.push(Value::String(key))?;
     }
     Ok(Value::Array(keys))
+}
+
+fn modules_and_root(document: Value) -> Option<(Map<String, Value>, String)> {
+    match document {
+        Value::Object(members) => {
+            let mut members = members;
+            match (members.remove("modules"), members.remove("root")) {
+                (Some(Value::Object(modules)), Some(Value::String(root))) => Some((modules, root)),
+                _ => None,
+            }
+        }
+        _ => None,
+    }
 }
 
 // The JSON of a module is gone before that of the next is read.

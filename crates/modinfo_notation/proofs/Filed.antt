@@ -29,6 +29,7 @@ use Rattle.deno_graph_source.specs.declared.tree.fault_place.CommentSide.TheVari
 use Rattle.deno_graph_source.specs.declared.tree.comments.DependencyComment.{DependencyComment}
 use Rattle.modinfo_notation.specs.Comments.{
   Entry,
+  entry_with,
   AddsOn,
   entries_at,
   filed_at,
@@ -43,14 +44,16 @@ filed_both : (old mid new : Filing) (es fs : List Entry) → AreFiled old mid es
 filed_both old mid new es fs first then_ q =
     then_ q ∙ ap (λ xs. xs ++ entries_at q fs) (first q)
     ∙ append_assoc (filed_at old q) (entries_at q es) (entries_at q fs)
-    ∙ ap (λ xs. filed_at old q ++ xs) (sym (flat_map-append (λ e. if eqb e.0 q then e.1 else []) es fs))
+    ∙ ap (λ xs. filed_at old q ++ xs)
+    (sym (flat_map-append (λ e. if eqb e.position q then e.comments else []) es fs))
 
 one_more : {A : Type 0} (ys xs : List A) (x : A) → (ys ++ (xs ++ [])) ++ x ∷ [] ≡ ys ++ ((xs ++ x ∷ []) ++ [])
 one_more ys xs x = simp (append_assoc, append-nil) refl
 
 -- the comments of one entry, up to one, and then that
 filed_more : (old mid new : Filing) (pos : ℕ) (xs : List DependencyComment) (x : DependencyComment)
-    → AreFiled old mid ((pos, xs) ∷ []) → AddsItem mid new pos x → AreFiled old new ((pos, xs ++ x ∷ []) ∷ [])
+    → AreFiled old mid (entry_with pos xs ∷ []) → AddsItem mid new pos x
+    → AreFiled old new (entry_with pos (xs ++ x ∷ []) ∷ [])
 filed_more old mid new pos xs x first added q = elim (eqb_tells pos q) [
   | inl is ↦
       let here : value_at new q ≡ Some (filed_at mid q ++ x ∷ []) =
@@ -65,7 +68,7 @@ filed_more old mid new pos xs x first added q = elim (eqb_tells pos q) [
       ∙ sym (ap (λ b. filed_at old q ++ ((if b then xs ++ x ∷ [] else []) ++ [])) isnt.0)
 ]
 
-empty_filed : (filing : Filing) (pos : ℕ) → AreFiled filing filing ((pos, []) ∷ [])
+empty_filed : (filing : Filing) (pos : ℕ) → AreFiled filing filing (entry_with pos [] ∷ [])
 empty_filed filing pos q = elim (eqb_tells pos q) [
   | inl is ↦ sym (append-nil (filed_at filing q))
       ∙ sym (ap (λ b. filed_at filing q ++ ((if b then [] else []) ++ [])) is.0)
@@ -81,7 +84,7 @@ none_on Trailing filed = (λ q. sym (append-nil (filed_at filed.trailing q)), re
 
 -- an entry without comments
 pub empty_on : (side : CommentSide) (filed : FiledComments) (pos : ℕ)
-    → AreFiledOn side filed filed ((pos, []) ∷ [])
+    → AreFiledOn side filed filed (entry_with pos [] ∷ [])
 empty_on Leading filed pos = (empty_filed filed.leading pos, refl)
 empty_on Trailing filed pos = (empty_filed filed.trailing pos, refl)
 
@@ -101,16 +104,18 @@ both_on Trailing old mid new es fs first then_ = (
 
 pub more_on : (side : CommentSide) (old mid new : FiledComments) (pos : ℕ) (xs : List DependencyComment)
     (x : DependencyComment)
-    → AreFiledOn side old mid ((pos, xs) ∷ []) → AddsOn side mid new pos x
-    → AreFiledOn side old new ((pos, xs ++ x ∷ []) ∷ [])
-more_on Leading old mid new pos xs x first added = (filed_more _ mid.leading _ pos xs x first.0 added.0, added.1 ∙ first.1)
-more_on Trailing old mid new pos xs x first added = (filed_more _ mid.trailing _ pos xs x first.0 added.0, added.1 ∙ first.1)
+    → AreFiledOn side old mid (entry_with pos xs ∷ []) → AddsOn side mid new pos x
+    → AreFiledOn side old new (entry_with pos (xs ++ x ∷ []) ∷ [])
+more_on Leading old mid new pos xs x first added =
+    (filed_more _ mid.leading _ pos xs x first.0 added.0, added.1 ∙ first.1)
+more_on Trailing old mid new pos xs x first added =
+    (filed_more _ mid.trailing _ pos xs x first.0 added.0, added.1 ∙ first.1)
 
 -- one side is filed, and then the other
 pub both_sides : (none mid new : FiledComments) (leading trailing : List Entry) → none.leading ≡ []
     → none.trailing ≡ []
     → AreFiledOn Leading none mid leading → AreFiledOn Trailing mid new trailing
-    → AreThoseOf (leading, trailing) new
+    → AreThoseOf (record { leading = leading; trailing = trailing }) new
 both_sides none mid new leading trailing no_leading no_trailing first then_ = (
   λ q. ap (λ filing. filed_at filing q) then_.1 ∙ first.0 q
       ∙ ap (λ filing. filed_at filing q ++ entries_at q leading) no_leading,

@@ -49,6 +49,7 @@ use Rattle.deno_graph_source.specs.declared.tree.fault_place.CommentSide.{Commen
 use Rattle.deno_graph_source.specs.declared.tree.fault_place.CommentSide.TheVariants.{Leading, Trailing}
 use Rattle.modinfo_notation.specs.Comments.{
   Entry,
+  Sides,
   entries_at,
   reads_comment,
   reads_entry,
@@ -61,6 +62,7 @@ use Rattle.modinfo_notation.specs.Kind.{media_types, reads_named}
 use Rattle.modinfo_notation.specs.Node.{reads_program}
 use Rattle.modinfo_notation.specs.Partial.{◌>>=◌, found_or, reads_array, reads_items, required}
 use Rattle.modinfo_notation.specs.Place.{entries_of, entry_items}
+use Rattle.modinfo_notation.specs.Comments.{entry_with}
 use Rattle.modinfo_notation.proofs.Places.{items_from, read_from, step}
 use Rattle.modinfo_notation.proofs.Reading.{goes_on}
 
@@ -77,12 +79,13 @@ items_count reads (item value values) xs is =
 
 -- what an entry has at a position: its comments, where it is filed there
 abbrev IsFoundIn : Entry → ℕ → Option Items → Type 0
-IsFoundIn entry position None = eqb entry.0 position ≡ false
-IsFoundIn entry position (Some values) = (eqb entry.0 position ≡ true)
-    × (reads_items reads_comment values ≡ Some entry.1)
+IsFoundIn entry position None = eqb entry.position position ≡ false
+IsFoundIn entry position (Some values) = (eqb entry.position position ≡ true)
+    × (reads_items reads_comment values ≡ Some entry.comments)
 
-by_test : (entry : Entry) (position : ℕ) (values : Items) → reads_items reads_comment values ≡ Some entry.1
-    → (b : Bool) → eqb entry.0 position ≡ b → (found : Option Items)
+by_test : (entry : Entry) (position : ℕ) (values : Items) → reads_items reads_comment values
+    ≡ Some entry.comments
+    → (b : Bool) → eqb entry.position position ≡ b → (found : Option Items)
     → found ≡ (if b then Some values else None) → IsFoundIn entry position found
 by_test entry position values read true test None is = absurd (none-some values is)
 by_test entry position values read true test
@@ -105,8 +108,8 @@ found_in value entry is position found at =
     (λ array there is_array. option_and_then_some (reads_items reads_comment)
     (as_array array) comments is_array
     (λ values array_is read_values.
-    subst (λ e. IsFoundIn e position found) (same_Some (pos, comments) entry made)
-    (by_test (pos, comments) position values read_values (eqb pos position) refl found
+    subst (λ e. IsFoundIn e position found) (same_Some (entry_with pos comments) entry made)
+    (by_test (entry_with pos comments) position values read_values (eqb pos position) refl found
     (at ∙ goes_on (as_object value) _ members _ object
     (goes_on (last_named (codes "pos") members >>= as_whole) _ pos _ pos_is
     (ap (λ o. if eqb pos position then o else None)
@@ -144,16 +147,16 @@ module _ (position : ℕ) (value : Value) (values : Items) (rest : List Entry)
         split.1,
         split.3,
         ap (entries_at position) (sym split.4)
-            ∙ ap (λ b. (if b then split.0.1 else []) ++ entries_at position split.1) found,
+            ∙ ap (λ b. (if b then split.0.comments else []) ++ entries_at position split.1) found,
       )
 
   module _ (comments : Items) (at : Some comments ≡ entry_items position value) where
-    here : (reads_items reads_comment comments ≡ Some split.0.1)
-        × (split.0.1 ++ entries_at position split.1 ≡ entries_at position rest)
+    here : (reads_items reads_comment comments ≡ Some split.0.comments)
+        × (split.0.comments ++ entries_at position split.1 ≡ entries_at position rest)
     here =
         let found = found_in value split.0 split.2 position (Some comments) at in (
           found.1,
-          sym (ap (λ b. (if b then split.0.1 else []) ++ entries_at position split.1) found.0)
+          sym (ap (λ b. (if b then split.0.comments else []) ++ entries_at position split.1) found.0)
               ∙ ap (entries_at position) split.4,
         )
 
@@ -161,10 +164,10 @@ module _ (position : ℕ) (value : Value) (values : Items) (rest : List Entry)
     pub within : (n : ℕ) → n < item_count comments
         → (item_at n comments >>= reads_comment) ≡ slice_get (entries_at position rest) n
     within n fits =
-        let count = items_count reads_comment comments split.0.1 here.0 in
-        read_from reads_comment (item_at n comments) (slice_get split.0.1 n)
-        (items_from reads_comment comments split.0.1 here.0 n)
-        ∙ within_front split.0.1 (entries_at position split.1) n (subst (λ m. n < m) count fits)
+        let count = items_count reads_comment comments split.0.comments here.0 in
+        read_from reads_comment (item_at n comments) (slice_get split.0.comments n)
+        (items_from reads_comment comments split.0.comments here.0 n)
+        ∙ within_front split.0.comments (entries_at position split.1) n (subst (λ m. n < m) count fits)
         ∙ ap (λ cs. slice_get cs n) here.1
 
     -- it is behind those of this entry
@@ -173,11 +176,11 @@ module _ (position : ℕ) (value : Value) (values : Items) (rest : List Entry)
         × (slice_get (entries_at position rest) n ≡ slice_get (entries_at position more)
         (n - item_count comments))
     past n fits =
-        let count = items_count reads_comment comments split.0.1 here.0 in (
+        let count = items_count reads_comment comments split.0.comments here.0 in (
           split.1,
           split.3,
           ap (λ cs. slice_get cs n) (sym here.1)
-              ∙ past_front split.0.1 (entries_at position split.1) n (subst (λ m. m ≤ n) count fits)
+              ∙ past_front split.0.comments (entries_at position split.1) n (subst (λ m. m ≤ n) count fits)
               ∙ ap (λ m. slice_get (entries_at position split.1) (n - m)) (sym count),
         )
 
@@ -212,7 +215,10 @@ of_member entries None is None at = sym (same_Some [] entries is)
 of_member entries None is (Some found) at = absurd (none-some found (sym at))
 of_member entries (Some listed) is found at = of_array entries listed is found at
 
-side_in : (side : CommentSide) (members : Members) (sides : List Entry × List Entry)
+abbrev sides_with : List Entry → List Entry → Sides
+sides_with leading trailing = record { leading = leading; trailing = trailing }
+
+side_in : (side : CommentSide) (members : Members) (sides : Sides)
     → reads_sides members ≡ Some sides
     → reads_side side members ≡ Some (entries_of sides side)
 unfolding reads_sides
@@ -221,12 +227,12 @@ side_in side members sides is =
     (λ leading leading_is with_leading. option_and_then_some _
     (reads_side Trailing members) sides with_leading
     (λ trailing trailing_is made. subst (λ s. reads_side side members ≡ Some (entries_of s side))
-    (same_Some (leading, trailing) sides made)
+    (same_Some (sides_with leading trailing) sides made)
     (of_side side leading trailing leading_is trailing_is)))
   where
     of_side : (side : CommentSide) (leading trailing : List Entry)
         → reads_side Leading members ≡ Some leading → reads_side Trailing members ≡ Some trailing
-        → reads_side side members ≡ Some (entries_of (leading, trailing) side)
+        → reads_side side members ≡ Some (entries_of (sides_with leading trailing) side)
     of_side Leading leading trailing first second = first
     of_side Trailing leading trailing first second = second
 

@@ -39,8 +39,12 @@ reads_comment value = do
   Some (record { kind = kind; range = range; text = text })
 
 -- a position, and the comments at it
-abbrev pub Entry : Type 0
-Entry = ℕ × List DependencyComment
+pub record Entry : Type 0 where
+  pub position : ℕ
+  pub comments : List DependencyComment
+
+abbrev pub entry_with : ℕ → List DependencyComment → Entry
+entry_with position comments = record { position = position; comments = comments }
 
 -- `{"pos":POSITION,"comments":[COMMENT ..]}`
 unfoldable pub reads_entry : Value → Option Entry
@@ -48,7 +52,7 @@ reads_entry value = do
   members ← as_object value
   position ← required as_whole (codes "pos") members
   comments ← required (reads_array reads_comment) (codes "comments") members
-  Some (position, comments)
+  Some (record { position = position; comments = comments })
 
 -- the name of the member with the comments of a side
 abbrev pub side_name : CommentSide → List ℕ
@@ -68,7 +72,7 @@ AddsOn Trailing old new position comment = AddsItem old.trailing new.trailing po
 
 -- the comments of the entries with this position, one entry behind another
 abbrev pub entries_at : ℕ → List Entry → List DependencyComment
-entries_at position entries = flat_map (λ e. if e.0 == position then e.1 else []) entries
+entries_at position entries = flat_map (λ e. if e.position == position then e.comments else []) entries
 
 -- the comments filed at a position
 abbrev pub filed_at : Filing → ℕ → List DependencyComment
@@ -85,12 +89,17 @@ AreFiledOn Leading old new entries = AreFiled old.leading new.leading entries ×
 AreFiledOn Trailing old new entries = AreFiled old.trailing new.trailing entries × (new.leading ≡ old.leading)
 
 -- the entries of both sides
-unfoldable pub reads_sides : Members → Option (List Entry × List Entry)
+pub record Sides : Type 0 where
+  pub leading : List Entry
+  pub trailing : List Entry
+
+unfoldable pub reads_sides : Members → Option Sides
 reads_sides members = do
   leading ← reads_side Leading members
   trailing ← reads_side Trailing members
-  Some (leading, trailing)
+  Some (record { leading = leading; trailing = trailing })
 
 -- the comments of these entries, and no others
-abbrev pub AreThoseOf : List Entry × List Entry → FiledComments → Type 0
-AreThoseOf sides comments = AreFiled [] comments.leading sides.0 × AreFiled [] comments.trailing sides.1
+abbrev pub AreThoseOf : Sides → FiledComments → Type 0
+AreThoseOf sides comments = AreFiled [] comments.leading sides.leading
+    × AreFiled [] comments.trailing sides.trailing

@@ -13,7 +13,7 @@ use Rattle.url.specs.Parser.{parse_url}
 use Rattle.url.specs.declared.error.ParseError.{ParseError}
 use Rattle.modinfo_notation.specs.Partial.{◌>>=◌, required}
 use Rattle.modinfo_notation.specs.Kind.{media_types, reads_named}
-use Rattle.modinfo_notation.specs.Comments.{Entry, reads_sides, AreThoseOf}
+use Rattle.modinfo_notation.specs.Comments.{Sides, reads_sides, AreThoseOf}
 use Rattle.modinfo_notation.specs.Node.{reads_program}
 use Rattle.modinfo_notation.specs.declared.document.Document.{Document}
 use Rattle.modinfo_notation.specs.declared.fault.NotationFault.{NotationFault}
@@ -30,7 +30,7 @@ pub record Stated : Type 0 where
   pub specifier : List ℕ
   pub media_type : MediaType
   pub source : List ℕ
-  pub comments : List Entry × List Entry
+  pub comments : Sides
   pub program : Program
 
 -- the comments of both sides, and the program

@@ -1,10 +1,16 @@
--- Where what isn't in the notation stands.
+-- Where what isn't in the notation is.
 use Rattle.flat_json.specs.declared.Element.{Element}
 use Rattle.std.specs.Prelude.{Some, None, Option}
 use Rattle.flat_json.specs.declared.Members.{Members}
 use Rattle.flat_json.specs.Tape.{HasNode, StandsIn, object_of}
 use Rattle.modinfo_notation.specs.declared.fault.NotationFault.{NotationFault}
-use Rattle.modinfo_notation.specs.declared.fault.NotationFault.TheVariants.{Json, NotInNotation, Specifier, Source, OutOfMemory}
+use Rattle.modinfo_notation.specs.declared.fault.NotationFault.TheVariants.{
+  Json,
+  NotInNotation,
+  Specifier,
+  Source,
+  OutOfMemory,
+}
 
 -- it is one of the value's nodes
 abbrev pub IsIn : Element → NotationFault → Type 0
@@ -19,6 +25,6 @@ abbrev pub IsInFound : Option Element → NotationFault → Type 0
 IsInFound None _ = ⊥
 IsInFound (Some value) fault = IsIn value fault
 
--- the value stands in the object that has the members
+-- the value is inside the object that has the members
 abbrev pub IsMemberOf : Members → Element → Type 0
 IsMemberOf members value = StandsIn value (object_of members)

@@ -19,7 +19,7 @@ use Rattle.deno_graph_source.specs.declared.tree.fault_place.CommentSide.TheVari
 use Rattle.deno_graph_source.specs.declared.tree.node.Program.{Program}
 use Rattle.deno_graph_source.specs.NodePath.{NodePath, node_at}
 use Rattle.modinfo_notation.specs.Partial.{◌>>=◌, required}
-use Rattle.modinfo_notation.specs.Comments.{Entry, entries_at, reads_comment}
+use Rattle.modinfo_notation.specs.Comments.{Entry, Sides, entries_at, reads_comment}
 use Rattle.modinfo_notation.specs.Node.{reads_node, reads_program}
 
 -- the item of this number of the array that is the last member of this name
@@ -50,9 +50,9 @@ entry_items position value = do
   if found == position then required as_array (codes "comments") members else None
 
 -- the entries of a side
-abbrev pub entries_of : List Entry × List Entry → CommentSide → List Entry
-entries_of sides Leading = sides.0
-entries_of sides Trailing = sides.1
+abbrev pub entries_of : Sides → CommentSide → List Entry
+entries_of sides Leading = sides.leading
+entries_of sides Trailing = sides.trailing
 
 -- The comment of this number among those of a side at a position is read from what was found.
 abbrev pub IsCommentAt : List Entry → ℕ → ℕ → Option Value → Type 0

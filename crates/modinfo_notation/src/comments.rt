@@ -7,7 +7,7 @@ ghost use Rattle.modinfo_notation.specs.Misfit.{IsIn};
 ghost use Rattle.modinfo_notation.specs.Answer.{Answers, AnswersBy};
 ghost use Rattle.modinfo_notation.specs.Comments.{AddsOn, AreFiledOn, AreThoseOf, comment_kinds};
 ghost use Rattle.modinfo_notation.specs.Comments.{reads_comment, reads_entry, reads_side, reads_sides};
-ghost use Rattle.modinfo_notation.specs.Comments.{side_name};
+ghost use Rattle.modinfo_notation.specs.Comments.{entry_with, side_name};
 ghost use Rattle.modinfo_notation.specs.Kind.{reads_named};
 ghost use Rattle.modinfo_notation.specs.Partial.{reads_array, reads_items};
 
@@ -99,7 +99,7 @@ fn file_comments(
     comments: &mut Comments,
 ) -> Result<(), NotationFault>
     ensures misfit { IfErr result (IsIn (array_of values.entry)) }
-    ensures read { AnswersBy (λ filed _. AreFiledOn side comments.old comments.new ((pos, filed) ∷ []))
+    ensures read { AnswersBy (λ filed _. AreFiledOn side comments.old comments.new (entry_with pos filed ∷ []))
         (reads_items reads_comment (items_left values.entry)) result }
 {
     for value in values {

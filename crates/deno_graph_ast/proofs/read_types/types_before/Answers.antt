@@ -1,7 +1,8 @@
 use Rattle.std.proofs.Common.{◌≡◌, Some, IfSome, cond, sym, subst}
 use Rattle.std.proofs.lemmas.Result.{IfOk-weaker}
 use Rattle.std.specs.BTreeMap.{get, is_at}
-use Rattle.deno_graph_ast.specs.Pragma.{dependency_types_pragmas, NamesByFirst, NamesDependencyTypes, NamesDependencyTypesIn}
+use Rattle.deno_graph_ast.specs.Pragma.{dependency_types_pragmas, NamesByFirst, NamesDependencyTypes}
+use Rattle.deno_graph_ast.specs.Pragma.{NamesDependencyTypesIn}
 use Rattle.deno_graph_ast.specs.ReadTypes.{place_cmp}
 use Rattle.deno_graph_ast.specs.Spelled.{CoversAsWritten}
 use Rattle.deno_graph_ast.proofs.ReadTypes.{read_more, spelled_last}

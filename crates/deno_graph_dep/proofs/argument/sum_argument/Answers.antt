@@ -9,6 +9,7 @@ use Rattle.deno_graph_dep.proofs.Spine.{
   Descends-step,
   child_shaped,
   seen_push,
+  step_with,
   seen_reverse,
   has_spine,
   LeftSpine-join,
@@ -36,15 +37,15 @@ loop-operand-preserved c =
     let plus = plus_of (kind_of operand) sum in
     let at = left_at operand left right c.operands.ensures in
     record {
-      above = so_far.above ++ (plus.0, right) ∷ [];
+      above = so_far.above ++ step_with plus.0 right ∷ [];
       descends =
-          Descends-step c.args.node.now operand left so_far.above (plus.0, right) so_far.descends
+          Descends-step c.args.node.now operand left so_far.above (step_with plus.0 right) so_far.descends
           plus.1 plus.2 c.operands.ensures;
       shaped = child_shaped operand left 0 at so_far.shaped;
       parts =
           ap (map part_seen) c.in_ok-push.ensures.items
-          ∙ seen_push part_seen c.loop-operand.parts.items c.operand_part.result so_far.above (plus.0, right)
-          so_far.parts c.operand_part.ensures;
+          ∙ seen_push part_seen c.loop-operand.parts.items c.operand_part.result so_far.above
+          (step_with plus.0 right) so_far.parts c.operand_part.ensures;
     }
 
 pub returns-then-not-is_string : goal.returns-then-not-is_string

@@ -11,7 +11,8 @@ use Rattle.deno_graph_jsdoc.specs.declared.import.JsDocImport.{JsDocImport}
 use Rattle.deno_graph_jsdoc.specs.JsDocImport.{import_of, moved, byte_count}
 use Rattle.deno_graph_jsdoc.specs.JsDocBraces.{Keeps}
 use Rattle.deno_graph_jsdoc.specs.JsDocKnown.{AreKnown, AreSpaces}
-use Rattle.deno_graph_jsdoc.specs.JsDocHits.{GainsImport, occurrences}
+use Rattle.deno_graph_jsdoc.specs.JsDocHits.{occurrences}
+use Rattle.deno_graph_jsdoc.specs.JsDocPass.{GainsImport}
 use Rattle.deno_graph_jsdoc.proofs.Braces.{IsUnclosed-back, Keeps-back}
 use Rattle.deno_graph_jsdoc.proofs.Imports.{byte_count_before}
 use Rattle.deno_graph_jsdoc.proofs.Known.{AreKnown-back, AreSpaces-back}
@@ -262,17 +263,20 @@ none c = split_word (codes "import") c.loop-before.rest.now None (search rules)
 pub returns-clause-hits : goal.returns-clause-hits
 returns-clause-hits c =
     let i = c.loop-before.invariant in
-    Found-hits (chars c.args.text.now) i.front (chars c.loop-before.rest.now) i.cut i.whole (none (goal.at.returns-clause-hits c).In_default) (map
-    import_of c.loop-before.imports.items) c.loop-before.dynamic_starts c.loop-before.decl_starts i.found
+    Found-hits (chars c.args.text.now) i.front (chars c.loop-before.rest.now) i.cut i.whole
+    (none (goal.at.returns-clause-hits c).In_default)
+    (map import_of c.loop-before.imports.items) c.loop-before.dynamic_starts c.loop-before.decl_starts i.found
 
 pub returns-clause-dynamic : goal.returns-clause-dynamic
 returns-clause-dynamic c =
     let i = c.loop-before.invariant in
-    Found-dynamics (chars c.args.text.now) i.front (chars c.loop-before.rest.now) i.cut i.whole (none (goal.at.returns-clause-dynamic c).In_default) (map
-    import_of c.loop-before.imports.items) c.loop-before.dynamic_starts c.loop-before.decl_starts i.found
+    Found-dynamics (chars c.args.text.now) i.front (chars c.loop-before.rest.now) i.cut i.whole
+    (none (goal.at.returns-clause-dynamic c).In_default)
+    (map import_of c.loop-before.imports.items) c.loop-before.dynamic_starts c.loop-before.decl_starts i.found
 
 pub returns-clause-declarations : goal.returns-clause-declarations
 returns-clause-declarations c =
     let i = c.loop-before.invariant in
-    Found-decls (chars c.args.text.now) i.front (chars c.loop-before.rest.now) i.cut i.whole (none (goal.at.returns-clause-declarations c).In_default) (map
-    import_of c.loop-before.imports.items) c.loop-before.dynamic_starts c.loop-before.decl_starts i.found
+    Found-decls (chars c.args.text.now) i.front (chars c.loop-before.rest.now) i.cut i.whole
+    (none (goal.at.returns-clause-declarations c).In_default)
+    (map import_of c.loop-before.imports.items) c.loop-before.dynamic_starts c.loop-before.decl_starts i.found

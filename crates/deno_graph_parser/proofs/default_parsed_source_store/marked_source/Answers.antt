@@ -1,4 +1,4 @@
--- The source at the key is marked where it stands, or nothing is there and all stays.
+-- The source at the key is marked where it is, or nothing is there and all stays.
 use Rattle.std.proofs.Common.{◌≡◌, ◌∙◌, ap, sym, Some, None, Result, Ok, Err, OnErr, rules}
 use Rattle.deno_graph_source.specs.ParsedSource.{marked}
 use Rattle.deno_graph_parser.specs.Sources.{source_at, sources_of, with_source, with_mark_of}

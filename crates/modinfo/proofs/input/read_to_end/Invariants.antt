@@ -1,4 +1,4 @@
--- What was read stands before what is left, and there is room to read more.
+-- What was read is before what is left, and there is room to read more.
 use Rattle.std.proofs.Common.{◌<◌, length}
 use Rattle.std.specs.Io.KnownBytes.{Consumes}
 use Rattle.modinfo.proofs.input.read_to_end.Given as goal

@@ -2,7 +2,7 @@ use Rattle.std.specs.Prelude.{◌≡◌, [], ◌∷◌, List}
 use Rattle.flat_json.specs.Tape.{TakesSame, array_of}
 use Rattle.flat_json.specs.View.{items_left}
 use Rattle.deno_graph_source.specs.declared.tree.comments.DependencyComment.{DependencyComment}
-use Rattle.modinfo_notation.specs.Comments.{AreFiledOn, reads_comment}
+use Rattle.modinfo_notation.specs.Comments.{AreFiledOn, entry_with, reads_comment}
 use Rattle.modinfo_notation.specs.Partial.{reads_items}
 use Rattle.modinfo_notation.proofs.Reading.{before}
 use Rattle.modinfo_notation.proofs.comments.file_comments.Given as goal
@@ -12,5 +12,5 @@ invariant-loop-value l = (goal.iterator-loop-value).can_next l.value-iterator
     × (goal.iterator-loop-value).is_finite l.value-iterator
     × TakesSame (array_of l.value-iterator) (array_of l.fn.values)
     × ((filed : List DependencyComment) × AreFiledOn l.fn.side l.fn.comments l.comments
-    ((l.fn.pos, filed) ∷ []) × (before filed (reads_items reads_comment (items_left l.value-iterator))
+    (entry_with l.fn.pos filed ∷ []) × (before filed (reads_items reads_comment (items_left l.value-iterator))
     ≡ reads_items reads_comment (items_left l.fn.values)))

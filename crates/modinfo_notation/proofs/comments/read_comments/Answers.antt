@@ -1,7 +1,7 @@
 use Rattle.std.proofs.Common.{◌≡◌, arith, Some}
 use Rattle.flat_json.specs.View.{members_of}
 use Rattle.deno_graph_source.specs.declared.tree.fault_place.CommentSide.TheVariants.{Leading, Trailing}
-use Rattle.modinfo_notation.specs.Comments.{AreFiledOn, reads_side, reads_sides}
+use Rattle.modinfo_notation.specs.Comments.{AreFiledOn, Sides, reads_side, reads_sides}
 use Rattle.modinfo_notation.proofs.Filed.{both_sides}
 use Rattle.modinfo_notation.proofs.Reading.{goes_on, reading_by, some_and, some_with}
 use Rattle.modinfo_notation.proofs.comments.read_comments.Goals as goal
@@ -29,7 +29,9 @@ returns-clause-read c =
     (reads_side Trailing ms) c.in_ok-read_side-2.ensures.read in
     let leading_is = leading.1 in
     let trailing_is = trailing.1 in
-    let is : reads_sides ms ≡ Some (leading.0, trailing.0) =
+    let sides : Sides = record { leading = leading.0; trailing = trailing.0 } in
+    let is : reads_sides ms ≡ Some sides =
     grind (arith, goes_on, leading_is, trailing_is) in
-    some_and _ _ (leading.0, trailing.0) is
-    (both_sides c.new-comments.result c.read_side.new.comments c.read_side-2.new.comments leading.0 trailing.0 c.new-comments.ensures.leading c.new-comments.ensures.trailing leading.2 trailing.2)
+    some_and _ _ sides is
+    (both_sides c.new-comments.result c.read_side.new.comments c.read_side-2.new.comments leading.0 trailing.0
+    c.new-comments.ensures.leading c.new-comments.ensures.trailing leading.2 trailing.2)

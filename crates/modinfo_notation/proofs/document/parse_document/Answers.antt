@@ -27,4 +27,5 @@ of_text text value (Err (Source fault)) is h = absurd h
 pub returns : goal.returns
 returns c =
     let read = rw c.root.ensures.value at c.read_document.ensures.read in
-    of_text c.args.text.now (tape_value c.in_ok-tape.tape) c.read_document.result c.in_ok-tape.ensures.value read
+    of_text c.args.text.now (tape_value c.in_ok-tape.tape) c.read_document.result c.in_ok-tape.ensures.value
+    read

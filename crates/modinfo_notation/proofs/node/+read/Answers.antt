@@ -39,7 +39,8 @@ unfolding node_with required
 read_node-returns-in_err-kind-clause-read t c = rw (node_read (value_of c.args.value))
     (grind (arith, reading))
 
-pub read_node-returns-in_err-children-in-Some-clause-read : goal.read_node-returns-in_err-children-in-Some-clause-read
+pub read_node-returns-in_err-children-in-Some-clause-read :
+    goal.read_node-returns-in_err-children-in-Some-clause-read
 unfolding node_with required
 read_node-returns-in_err-children-in-Some-clause-read t c = rw (node_read (value_of c.args.value))
     (grind (arith, reading))

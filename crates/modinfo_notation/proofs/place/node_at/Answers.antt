@@ -23,7 +23,8 @@ returns-in_err-child-in-Some-clause-read c =
     let value = value_of c.args.root in
     let program : program_in value ≡ Some (value_of c.in_ok-program.program) = grind arith in
     let through = body_path value
-    (value_of c.in_ok-program.program) c.args.path.now c.in-Some.rest.now c.in-Some.first.now program c.in-Some.ensures.cases.0 in
+    (value_of c.in_ok-program.program) c.args.path.now c.in-Some.rest.now c.in-Some.first.now program
+    c.in-Some.ensures.cases.0 in
     of_path value _ c.args.path.now
     (ap (option_map value_of) c.from_residual-in_err-child-in-Some.ensures
     ∙ ap (λ o. o >>= below c.in-Some.rest.now) c.in_err-child-in-Some.ensures.item ∙ through)
@@ -40,7 +41,8 @@ returns-in_ok-child-in-Some-clause-read c =
     let value = value_of c.args.root in
     let program : program_in value ≡ Some (value_of c.in_ok-program.program) = grind arith in
     let through = body_path value
-    (value_of c.in_ok-program.program) c.args.path.now c.in-Some.rest.now c.in-Some.first.now program c.in-Some.ensures.cases.0 in
+    (value_of c.in_ok-program.program) c.args.path.now c.in-Some.rest.now c.in-Some.first.now program
+    c.in-Some.ensures.cases.0 in
     of_path value _ c.args.path.now
     (c.below.ensures.item ∙ ap (λ o. o >>= below c.in-Some.rest.now) c.in_ok-child-in-Some.ensures.item
     ∙ through)

@@ -20,7 +20,8 @@ use Rattle.std.proofs.Common.{
 }
 use Rattle.std.proofs.lemmas.List.{map-append}
 use Rattle.std.specs.Str.{IsUtf8, chars}
-use Rattle.deno_graph_jsdoc.specs.JsDocHits.{AreHits, GainsImport}
+use Rattle.deno_graph_jsdoc.specs.JsDocHits.{AreHits}
+use Rattle.deno_graph_jsdoc.specs.JsDocPass.{GainsImport}
 use Rattle.deno_graph_jsdoc.specs.JsDocImport.{Import, import_of}
 use Rattle.deno_graph_jsdoc.specs.declared.import.JsDocImport.{JsDocImport}
 use Rattle.deno_graph_ast.proofs.Gathered.{insert_next, insert_all, item_hit}

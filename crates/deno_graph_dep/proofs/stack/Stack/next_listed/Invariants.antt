@@ -1,4 +1,4 @@
--- The stack stands in the same body, the same is still to come, and rounds are left.
+-- The stack is one of the same body, the same is still to come, and rounds are left.
 use Rattle.std.proofs.Common.{List}
 use Rattle.deno_graph_source.specs.declared.tree.node.Node.{Node}
 use Rattle.deno_graph_dep.specs.Stack.{IsStackOf}

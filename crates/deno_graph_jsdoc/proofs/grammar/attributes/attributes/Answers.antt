@@ -4,7 +4,8 @@ use Rattle.std.specs.Str.{chars}
 use Rattle.deno_graph_jsdoc.specs.JsDocGrammar.{Anything}
 use Rattle.deno_graph_jsdoc.specs.JsDocKnown.{AreKnown}
 use Rattle.deno_graph_jsdoc.specs.JsDocReading.{IsModeBlockEnd, Reads, rest_and_mode, text_of}
-use Rattle.deno_graph_jsdoc.proofs.Blocks.{SoFar, SoFar-more, block_fails, block_known, block_no_attribute, block_closed, block_broken}
+use Rattle.deno_graph_jsdoc.proofs.Blocks.{SoFar, SoFar-more, block_fails, block_known, block_no_attribute}
+use Rattle.deno_graph_jsdoc.proofs.Blocks.{block_closed, block_broken}
 use Rattle.deno_graph_jsdoc.proofs.Readings.{Begins-length, Begins-shorter, space_read}
 use Rattle.deno_graph_jsdoc.proofs.Known.{AreKnown-behind, AreKnown-skipped}
 use Rattle.deno_graph_jsdoc.proofs.grammar.attributes.attributes.Goals as goal

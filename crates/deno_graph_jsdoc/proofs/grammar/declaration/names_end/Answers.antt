@@ -11,7 +11,10 @@ pub returns-then-input-unclosed : goal.returns-then-input-unclosed
 returns-then-input-unclosed c =
     let fits : byte_count (chars c.args.input.now) ≤ c.args.unclosed =
     omega (arith, c.if-input-unclosed.true, ap length (encodes-chars c.args.input.now c.utf8.input)) in
-    record { is_end = tt; is_next = no_brace_left (chars c.args.input.now) c.args.unclosed c.requires.unclosed fits }
+    record {
+      is_end = tt;
+      is_next = no_brace_left (chars c.args.input.now) c.args.unclosed c.requires.unclosed fits;
+    }
 
 pub source-requires : goal.source-requires
 source-requires c =

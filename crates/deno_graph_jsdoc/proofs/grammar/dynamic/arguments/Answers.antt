@@ -9,7 +9,8 @@ use Rattle.deno_graph_jsdoc.specs.JsDocKnown.{AreSpaces}
 use Rattle.deno_graph_jsdoc.proofs.Arguments.{open_none, open_read, arguments_end}
 use Rattle.deno_graph_jsdoc.proofs.Imports.{no_head, no_quote, no_tail, stated, byte_count_before}
 use Rattle.deno_graph_jsdoc.proofs.Imports.{States-within}
-use Rattle.deno_graph_jsdoc.proofs.Known.{AreKnown-behind, AreKnown-skipped, AreSpaces-behind, AreSpaces-skipped}
+use Rattle.deno_graph_jsdoc.proofs.Known.{AreKnown-behind, AreKnown-skipped, AreSpaces-behind}
+use Rattle.deno_graph_jsdoc.proofs.Known.{AreSpaces-skipped}
 use Rattle.deno_graph_jsdoc.proofs.Known.{AreSpaces-options}
 use Rattle.deno_graph_jsdoc.proofs.grammar.dynamic.arguments.Goals as goal
 use Rattle.deno_graph_jsdoc.proofs.grammar.dynamic.arguments.Goals.{In_ok-quoted, After-skip_space-behind}

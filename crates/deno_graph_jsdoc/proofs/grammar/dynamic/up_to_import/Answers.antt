@@ -1,4 +1,4 @@
--- The first `import`, where it stands before the first brace.
+-- The first `import`, where it is before the first brace.
 use Rattle.std.proofs.Common.{◌≡◌, ◌⊎◌, inl, inr, Some, None, List, ℕ, ◌++◌, ◌∷◌, codes, refl, lit<, rules}
 use Rattle.std.proofs.Common.{sym, subst, arith}
 use Rattle.std.specs.Str.{IsUtf8, chars}

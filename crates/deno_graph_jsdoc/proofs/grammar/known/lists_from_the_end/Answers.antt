@@ -34,7 +34,8 @@ input_at : (c : After-as_slice) → (front : List ℕ)
 input_at c =
     let here = split (goal.at.After-as_slice c).In-Some in
     behind_mark_and_space comma c.args.text.now c.in-Some.sooner.now here.0 c.range_from.result.now
-    c.skip_space-input.result.now c.utf8.text (lit< tt) here.1 c.range_from.ensures.value c.skip_space-input.ensures
+    c.skip_space-input.result.now c.utf8.text (lit< tt) here.1 c.range_from.ensures.value
+    c.skip_space-input.ensures
 
 pub attributes-read-requires : goal.attributes-read-requires
 attributes-read-requires c =

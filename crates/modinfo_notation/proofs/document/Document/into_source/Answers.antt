@@ -55,12 +55,18 @@ no_source document url.OutOfMemory h = tt
 no_source document url.EmptyHost h = (url.EmptyHost, no_url document url.EmptyHost refl h)
 no_source document url.IdnaError h = (url.IdnaError, no_url document url.IdnaError refl h)
 no_source document url.InvalidPort h = (url.InvalidPort, no_url document url.InvalidPort refl h)
-no_source document url.InvalidIpv4Address h = (url.InvalidIpv4Address, no_url document url.InvalidIpv4Address refl h)
-no_source document url.InvalidIpv6Address h = (url.InvalidIpv6Address, no_url document url.InvalidIpv6Address refl h)
-no_source document url.InvalidDomainCharacter h = (url.InvalidDomainCharacter, no_url document url.InvalidDomainCharacter refl h)
-no_source document url.RelativeUrlWithoutBase h = (url.RelativeUrlWithoutBase, no_url document url.RelativeUrlWithoutBase refl h)
-no_source document url.RelativeUrlWithCannotBeABaseBase h = (url.RelativeUrlWithCannotBeABaseBase, no_url document url.RelativeUrlWithCannotBeABaseBase refl h)
-no_source document url.SetHostOnCannotBeABaseUrl h = (url.SetHostOnCannotBeABaseUrl, no_url document url.SetHostOnCannotBeABaseUrl refl h)
+no_source document url.InvalidIpv4Address h =
+    (url.InvalidIpv4Address, no_url document url.InvalidIpv4Address refl h)
+no_source document url.InvalidIpv6Address h =
+    (url.InvalidIpv6Address, no_url document url.InvalidIpv6Address refl h)
+no_source document url.InvalidDomainCharacter h =
+    (url.InvalidDomainCharacter, no_url document url.InvalidDomainCharacter refl h)
+no_source document url.RelativeUrlWithoutBase h =
+    (url.RelativeUrlWithoutBase, no_url document url.RelativeUrlWithoutBase refl h)
+no_source document url.RelativeUrlWithCannotBeABaseBase h =
+    (url.RelativeUrlWithCannotBeABaseBase, no_url document url.RelativeUrlWithCannotBeABaseBase refl h)
+no_source document url.SetHostOnCannotBeABaseUrl h =
+    (url.SetHostOnCannotBeABaseUrl, no_url document url.SetHostOnCannotBeABaseUrl refl h)
 no_source document url.CannotSet h = (url.CannotSet, no_url document url.CannotSet refl h)
 
 pub returns-in_err-specifier : goal.returns-in_err-specifier
