@@ -3,7 +3,7 @@ use Rattle.std.proofs.Common.{◌≡◌, ℕ, List, codes, Option, Some, None, r
 use Rattle.flat_json.specs.Value.{Value, Members, as_object, as_str}
 use Rattle.deno_graph_source.specs.declared.tree.media_type.MediaType.{MediaType}
 use Rattle.deno_graph_source.specs.declared.tree.node.Program.{Program}
-use Rattle.modinfo_notation.specs.Comments.{Entry, reads_sides}
+use Rattle.modinfo_notation.specs.Comments.{Sides, reads_sides}
 use Rattle.modinfo_notation.specs.Document.{Stated, reads_document, reads_tree}
 use Rattle.modinfo_notation.specs.Kind.{media_types, reads_named}
 use Rattle.modinfo_notation.specs.Node.{reads_program}
@@ -20,7 +20,7 @@ both_read (Some x) (Some y) make = refl
 
 module _ (specifier : List ℕ) (media_type : MediaType) (source : List ℕ) where
   -- what is stated, once its first three parts are known
-  abbrev pub stated_with : (List Entry × List Entry) × Program → Stated
+  abbrev pub stated_with : Sides × Program → Stated
   stated_with tree = record {
     specifier = specifier;
     media_type = media_type;

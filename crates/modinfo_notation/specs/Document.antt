@@ -34,7 +34,7 @@ pub record Stated : Type 0 where
   pub program : Program
 
 -- the comments of both sides, and the program
-unfoldable pub reads_tree : Members → Option ((List Entry × List Entry) × Program)
+unfoldable pub reads_tree : Members → Option (Sides × Program)
 reads_tree members = do
   comments ← reads_sides members
   program ← required reads_program (codes "program") members
@@ -59,7 +59,7 @@ reads_document value = do
   })
 
 -- the comments of these entries, and this program
-abbrev pub HasTree : (List Entry × List Entry) × Program → FiledComments × Program → Type 0
+abbrev pub HasTree : Sides × Program → FiledComments × Program → Type 0
 HasTree stated tree = AreThoseOf stated.0 tree.0 × (tree.1 ≡ stated.1)
 
 -- the document has what is stated
