@@ -7,6 +7,7 @@ ghost use Rattle.deno_graph_dep.specs.Value.{SpellsItsText};
 
 use deno_graph_source::tree::{BinaryOp, Kind, Node};
 use deno_graph_text::text::JsString;
+use deno_graph_text::values::Items;
 use std::alloc::{AllocError, Global};
 
 /// A part of a template or of a sum of strings.
@@ -35,24 +36,11 @@ impl<'a> DynamicArgument<'a> {
         match self {
             DynamicArgument::String(text) => Ok(DynamicArgument::String(*text)),
             DynamicArgument::Template(parts) => {
-                Ok(DynamicArgument::Template(copied(alloc, parts)?))
+                Ok(DynamicArgument::Template(Vec::from_slice(alloc, parts)?))
             }
             DynamicArgument::Expr => Ok(DynamicArgument::Expr),
         }
     }
-}
-
-fn copied<'a>(
-    alloc: Global,
-    parts: &[DynamicTemplatePart<'a>],
-) -> Result<Vec<DynamicTemplatePart<'a>>, AllocError>
-    ensures { IfOk result (λ copy. copy.items ≡ parts.now) }
-{
-    let mut copy = Vec::with_capacity(alloc, parts.len())?;
-    for part in parts {
-        copy.push(*part)?;
-    }
-    Ok(copy)
 }
 
 /// What is known of the text that an argument evaluates to.
@@ -98,22 +86,22 @@ fn template_parts<'a>(
     ensures { IfOk result (λ parts.
         map part_seen parts.items ≡ template_parts (first.now ∷ rest.now)) }
 {
-    let mut parts = Vec::new(alloc);
+    let mut parts = Items::new(alloc);
     push_quasi(&mut parts, first)?;
     for quasi in rest {
         parts.push(DynamicTemplatePart::Expr)?;
         push_quasi(&mut parts, quasi)?;
     }
-    Ok(parts)
+    Ok(parts.into_vec())
 }
 
 /// Adds a quasi, unless it is empty.
 fn push_quasi<'a>(
-    parts: &mut Vec<DynamicTemplatePart<'a>>,
+    parts: &mut Items<DynamicTemplatePart<'a>>,
     quasi: &'a JsString,
 ) -> Result<(), AllocError>
-    ensures { OnOk result (map part_seen parts.new.items
-        ≡ map part_seen parts.old.items ++ quasi_part quasi.now) }
+    ensures { OnOk result (map part_seen parts.new
+        ≡ map part_seen parts.old ++ quasi_part quasi.now) }
 {
     if !quasi.is_empty() {
         parts.push(DynamicTemplatePart::String(quasi.to_str_lossy()))?;

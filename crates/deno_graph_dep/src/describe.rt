@@ -1,9 +1,11 @@
 #![tactic(auto, unfolding(deno_graph_source::specs::Node::kind_of, deno_graph_source::specs::Node::children_of, deno_graph_source::specs::Node::range_of, crate::specs::DependencyRules::is_listed, crate::specs::Stated::States))]
 
-ghost use Rattle.std.specs.Prelude.{◌≡◌, ◌≤◌, false, IfOk, IsTrue, List, Some, All};
+ghost use Rattle.std.specs.Prelude.{◌≡◌, ◌≢◌, ◌≤◌, false, IfOk, IsTrue, List, Some, All};
 ghost use Rattle.std.specs.Option.{option_copied, option_map};
 ghost use Rattle.deno_graph_source.specs.KindGroups.{is_export, is_import};
 ghost use Rattle.deno_graph_source.specs.Node.{callee_count, kind_of, nodes_in, range_of, IsShaped};
+ghost use Rattle.deno_graph_source.specs.declared.tree.node.Arg.{Arg};
+ghost use Rattle.deno_graph_source.specs.declared.tree.node.Callee.{Callee};
 ghost use Rattle.deno_graph_source.specs.declared.tree.node.Node.{Node};
 ghost use Rattle.deno_graph_source.specs.declared.tree.node.Kind.TheVariants.{Call};
 ghost use Rattle.deno_graph_dep.specs.DependencyKind.{call_kind, export_kind, import_equals_kind, import_kind, phase_kind};
@@ -37,20 +39,34 @@ pub(crate) fn describe<'a>(
     ensures { IfOk result (λ found. States comments.now node.now (item_of found)) }
 {
     match &node.kind {
+        Kind::Call { callee, args } => {
+            Ok(call(alloc, comments, node, *callee, args.as_slice())?.into())
+        }
+        _ => Ok(describe_static(alloc, comments, node)?.into()),
+    }
+}
+
+/// The dependency of a listed node that is no call.
+fn describe_static<'a>(
+    alloc: Global,
+    comments: &'a Comments,
+    node: &'a Node,
+) -> Result<StaticDependencyDescriptor<'a>, AllocError>
+    requires listed { IsTrue (is_listed node.now) }
+    requires no_call { (callee : Callee) → (args : List Arg) → kind_of node.now ≢ Call callee args }
+    ensures { IfOk result (λ found.
+        States comments.now node.now (static_item (static_item_of found))) }
+{
+    match &node.kind {
         Kind::ImportDecl { .. } | Kind::ImportEquals { .. } | Kind::ImportType { .. } => {
-            Ok(import(alloc, comments, node)?.into())
+            import(alloc, comments, node)
         }
-        Kind::NamedExport { .. } | Kind::ExportAll { .. } => {
-            Ok(export(alloc, comments, node)?.into())
-        }
+        Kind::NamedExport { .. } | Kind::ExportAll { .. } => export(alloc, comments, node),
         Kind::ModuleDecl { name: Some(name) } => {
             let kind = StaticDependencyKind::MaybeTsModuleAugmentation;
             let mut found = specified(comments, node, kind, name, ImportAttributes::None);
             found.range = name.range;
-            Ok(found.into())
-        }
-        Kind::Call { callee, args } => {
-            Ok(call(alloc, comments, node, *callee, args.as_slice())?.into())
+            Ok(found)
         }
         _ => unreachable!(),
     }
@@ -237,9 +253,8 @@ fn second_argument<'a>(
     ensures { option_map (λ second. (second.0.now, second.1.now)) result
         ≡ second_argument callee args.now children.now }
 {
-    let arg = args.get(1)?;
-    let node = children.get(callee_count(callee) + 1)?;
-    Some((arg, node))
+    let node = children.get(callee_count(callee) + 1);
+    args.get(1).zip(node)
 }
 
 /// The attributes of an import type, by the object literal of its clause.

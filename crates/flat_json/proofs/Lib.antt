@@ -6,4 +6,5 @@ pub mod Steps
 pub mod Letters
 pub mod Values
 pub mod Kept
+pub mod Said
 pub mod Looking

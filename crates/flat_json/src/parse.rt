@@ -84,7 +84,6 @@ impl<'a> Parser<'a> {
         ensures put { OnOk result (IsPut 127 self.old.reader self.new.reader
             self.old.nodes.items self.new.nodes.items) }
         ensures none { result ≡ Err Stop.Json → NoneAhead 127 self.old.reader }
-        ensures longer { OnOk result (length self.old.nodes.items < length self.new.nodes.items) }
     {
         let first = self.token()?;
         self.value(first, MAX_DEPTH)
@@ -114,7 +113,6 @@ impl<'a> Parser<'a> {
         ensures none { result ≡ Err Stop.Json
             → NoneAhead depth (token_of first.entry ∷ self.old.reader) }
         ensures shorter { OnOk result (length self.new.reader ≤ length self.old.reader) }
-        ensures longer { OnOk result (length self.old.nodes.items < length self.new.nodes.items) }
     {
         match first {
             Token::String(text) => Ok(self.nodes.push(Node::String(text))?),
@@ -136,7 +134,6 @@ impl<'a> Parser<'a> {
         ensures fits { OnOk result (IsTrue (number_fits digits.now)) }
         ensures large { result ≡ Err Stop.Json → number_fits digits.now ≡ false }
         ensures reader { self.new.reader ≡ self.old.reader }
-        ensures longer { OnOk result (length self.old.nodes.items < length self.new.nodes.items) }
     {
         match short_whole(digits.as_bytes()) {
             Some(whole) => Ok(self.nodes.push(Node::Whole(whole))?),
@@ -153,7 +150,6 @@ impl<'a> Parser<'a> {
         ensures none { result ≡ Err Stop.Json
             → NoneAhead (depth + 1) (begin_array ∷ self.old.reader) }
         ensures shorter { OnOk result (length self.new.reader ≤ length self.old.reader) }
-        ensures longer { OnOk result (length self.old.nodes.items < length self.new.nodes.items) }
     {
         let at = self.nodes.len();
         self.nodes.push(Node::Array {
@@ -182,7 +178,6 @@ impl<'a> Parser<'a> {
         ensures none { result ≡ Err Stop.Json
             → NoneAhead (depth + 1) (begin_object ∷ self.old.reader) }
         ensures shorter { OnOk result (length self.new.reader ≤ length self.old.reader) }
-        ensures longer { OnOk result (length self.old.nodes.items < length self.new.nodes.items) }
     {
         let at = self.nodes.len();
         self.nodes.push(Node::Object { nodes: 0 })?;

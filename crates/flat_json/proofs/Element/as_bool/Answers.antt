@@ -1,7 +1,8 @@
 use Rattle.std.proofs.Common.{◌≡◌, Bool, Some, rules, sym}
 use Rattle.flat_json.specs.Tape.{node_of}
 use Rattle.flat_json.specs.declared.Node.TheVariants as node
-use Rattle.flat_json.proofs.Kept.{node_found, bool_said, no_bool}
+use Rattle.flat_json.proofs.Kept.{node_found}
+use Rattle.flat_json.proofs.Said.{bool_said, no_bool}
 use Rattle.flat_json.proofs.Element.as_bool.Goals as goal
 
 pub returns-in-Some-Bool-clause-value : goal.returns-in-Some-Bool-clause-value

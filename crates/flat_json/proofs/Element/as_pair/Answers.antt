@@ -1,5 +1,5 @@
 use Rattle.std.proofs.Common.{arith, rules}
-use Rattle.flat_json.proofs.Kept.{pair_told, none_told}
+use Rattle.flat_json.proofs.Said.{pair_told, none_told}
 use Rattle.flat_json.proofs.Element.as_pair.Goals as goal
 
 pub returns-in-Array-clause-value : goal.returns-in-Array-clause-value

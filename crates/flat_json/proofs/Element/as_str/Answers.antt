@@ -1,7 +1,8 @@
 use Rattle.std.proofs.Common.{rules, sym, subst}
 use Rattle.flat_json.specs.Tape.{IsString, IsStringNode}
 use Rattle.flat_json.specs.declared.Node.TheVariants.{String}
-use Rattle.flat_json.proofs.Kept.{node_found, string_said, no_string}
+use Rattle.flat_json.proofs.Kept.{node_found}
+use Rattle.flat_json.proofs.Said.{string_said, no_string}
 use Rattle.flat_json.proofs.Element.as_str.Goals as goal
 
 pub returns-in-Some-String-clause-value : goal.returns-in-Some-String-clause-value

@@ -1,7 +1,8 @@
 use Rattle.std.proofs.Common.{◌≡◌, ℕ, Some, rules, sym}
 use Rattle.flat_json.specs.Tape.{node_of}
 use Rattle.flat_json.specs.declared.Node.TheVariants.{Whole}
-use Rattle.flat_json.proofs.Kept.{node_found, whole_said, no_whole}
+use Rattle.flat_json.proofs.Kept.{node_found}
+use Rattle.flat_json.proofs.Said.{whole_said, no_whole}
 use Rattle.flat_json.proofs.Element.as_u64.Goals as goal
 
 pub returns-in-Some-Whole-clause-value : goal.returns-in-Some-Whole-clause-value

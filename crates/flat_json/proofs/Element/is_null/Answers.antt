@@ -1,13 +1,15 @@
 use Rattle.std.proofs.Common.{◌≡◌, Some, rules, sym}
 use Rattle.flat_json.specs.Tape.{node_of}
 use Rattle.flat_json.specs.declared.Node.TheVariants.{Null}
-use Rattle.flat_json.proofs.Kept.{node_found, null_said, no_null}
+use Rattle.flat_json.proofs.Kept.{node_found}
+use Rattle.flat_json.proofs.Said.{null_said, no_null}
 use Rattle.flat_json.proofs.Element.is_null.Goals as goal
 
 pub returns-in-Some-Null-clause-value : goal.returns-in-Some-Null-clause-value
 returns-in-Some-Null-clause-value c =
     sym (null_said c.args.self Null
-    (node_found c.args.self c.first.result c.in-Some-Null.field-0 Null c.first.ensures.value c.in-Some-Null.is c.in-Some-Null.field-0-is))
+    (node_found c.args.self c.first.result c.in-Some-Null.field-0 Null c.first.ensures.value
+    c.in-Some-Null.is c.in-Some-Null.field-0-is))
 
 pub returns-in_default : goal.returns-in_default
 returns-in_default c =

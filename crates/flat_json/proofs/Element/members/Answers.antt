@@ -2,14 +2,16 @@ use Rattle.std.proofs.Common.{◌≡◌, ◌↔◌, true, false, rules, sym}
 use Rattle.flat_json.specs.Tape.{IsObject}
 use Rattle.flat_json.specs.View.{members_of}
 use Rattle.flat_json.specs.declared.Node.TheVariants.{Object}
-use Rattle.flat_json.proofs.Kept.{node_found, members_inside, object_said, no_object}
+use Rattle.flat_json.proofs.Kept.{node_found}
+use Rattle.flat_json.proofs.Said.{members_inside, object_said, no_object}
 use Rattle.flat_json.proofs.Element.members.Goals as goal
 
 pub invariant_of-result : goal.invariant_of-result
 invariant_of-result c =
     let found = c.in-Some-Object in
     let own = Object found.field-0-0 in
-    let is = node_found c.args.self c.first.result found.field-0 own c.first.ensures.value found.is found.field-0-is in
+    let is = node_found c.args.self c.first.result found.field-0 own c.first.ensures.value found.is
+    found.field-0-is in
     record { of_members = members_inside c.args.self found.field-0-0 is }
 
 pub returns-in-Some-Object-clause-members : goal.returns-in-Some-Object-clause-members
@@ -17,7 +19,8 @@ unfolding members_of
 returns-in-Some-Object-clause-members c =
     let found = c.in-Some-Object in
     let own = Object found.field-0-0 in
-    let is = node_found c.args.self c.first.result found.field-0 own c.first.ensures.value found.is found.field-0-is in
+    let is = node_found c.args.self c.first.result found.field-0 own c.first.ensures.value found.is
+    found.field-0-is in
     sym (object_said c.args.self found.field-0-0 is)
 
 pub returns-in_default-clause-members : goal.returns-in_default-clause-members

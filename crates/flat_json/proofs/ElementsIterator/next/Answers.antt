@@ -42,7 +42,10 @@ returns-clause-steps c =
     (arith, found.ensures.end, found.ensures.nodes) in (
       (λ some. found.ensures.some.0 some, λ has. refl),
       (
-        (omega (arith, found.ensures.end, found.ensures.nodes, found.ensures.number, old.behind_bracket), omega (arith, found.ensures.end, found.ensures.nodes, found.ensures.number)),
+        (
+          omega (arith, found.ensures.end, found.ensures.nodes, found.ensures.number, old.behind_bracket),
+          omega (arith, found.ensures.end, found.ensures.nodes, found.ensures.number),
+        ),
         found.ensures.number,
         found.ensures.value,
         sym behind,

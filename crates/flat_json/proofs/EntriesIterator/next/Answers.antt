@@ -6,15 +6,7 @@ use Rattle.flat_json.specs.Tape.{HasMemberAt, number_of, nodes_of, object_of_ent
 use Rattle.flat_json.specs.Value.{AreOfMembers, member, members_in}
 use Rattle.flat_json.specs.View.{members_left, value_of}
 use Rattle.flat_json.specs.declared.Node.TheVariants.{Key}
-use Rattle.flat_json.proofs.Kept.{
-  node_at,
-  got_at,
-  none_named,
-  no_member_found,
-  value_behind_name,
-  members_behind,
-  member_first,
-}
+use Rattle.flat_json.proofs.Kept.{node_at, got_at, none_named, no_member_found, value_behind_name, members_behind, member_first}
 use Rattle.flat_json.proofs.EntriesIterator.next.Goals as goal
 use Rattle.flat_json.proofs.EntriesIterator.next.Goals.{
   in_default-via-in-Some+in_default,
@@ -28,7 +20,10 @@ returns-in_default-clause-steps c =
     let got = got_at old.object.nodes.now old.at c.get.result c.get.ensures.lookup.0 c.get.ensures.lookup.1 in
     let none : HasMemberAt (object_of_entries old) (place_of_entries old) → ⊥ = λ has.
     let is = got ∙ has.0.1 in
-    elim c.in_default.branch [ in_default-via-in-Some+in_default w ↦ search rules | in_default-via-in_default w ↦ search rules ] in
+    elim c.in_default.branch [
+      | in_default-via-in-Some+in_default w ↦ search rules
+      | in_default-via-in_default w ↦ search rules
+    ] in
     ((λ some. absurd (cc), λ has. absurd (none has)), tt, none_named old.object old.at old.of_members none)
 
 pub value_at-requires : goal.value_at-requires

@@ -17,7 +17,8 @@ loop-step-preserved c =
     let old = string_bytes c.loop-step.pointer in (
       λ first. absurd (omega (arith, found.node.0, found.inside.0, first)),
       λ parts path.
-          let all = c.loop-step.invariant.1 (part ∷ parts) (c.in-Some.inner, found.step, found.node, path) in (
+          let all = c.loop-step.invariant.1 (part ∷ parts)
+          (c.in-Some.inner, found.step, found.node, path) in (
             all.0,
             all.1,
             ap (λ bytes. bytes ++ flat_map part_text parts) c.in_ok-push_step.ensures
@@ -27,5 +28,11 @@ loop-step-preserved c =
 
 pub returns-clause-spelled : goal.returns-clause-spelled
 returns-clause-spelled c =
-    let all = c.loop-step.invariant.1 [] c.in_default.ensures.none in
-    (c.root-value.result, all.0, c.root-value.ensures.own, c.root-value.ensures.number, all.1, sym (append-nil (string_bytes c.loop-step.pointer)) ∙ all.2)
+    let all = c.loop-step.invariant.1 [] c.in_default.ensures.none in (
+      c.root-value.result,
+      all.0,
+      c.root-value.ensures.own,
+      c.root-value.ensures.number,
+      all.1,
+      sym (append-nil (string_bytes c.loop-step.pointer)) ∙ all.2,
+    )

@@ -1,11 +1,15 @@
 use Rattle.flat_json.specs.View.{tape_value}
-use Rattle.flat_json.proofs.Kept.{text_listed, text_value}
+use Rattle.flat_json.proofs.Said.{text_listed, text_value}
 use Rattle.flat_json.proofs.Tape.read.Goals as goal
 
 pub invariant_of-result : goal.invariant_of-result
 invariant_of-result c =
     let read = c.in_ok-nodes in
-    record { has_node = read.ensures.some; of_value = text_listed c.args.text.now read.nodes.items read.ensures.flat }
+    record {
+      has_node = read.ensures.some;
+      of_value =
+          text_listed c.args.text.now read.nodes.items read.ensures.flat;
+    }
 
 pub returns-clause-value : goal.returns-clause-value
 unfolding tape_value

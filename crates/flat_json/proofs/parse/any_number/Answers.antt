@@ -2,9 +2,11 @@ use Rattle.std.proofs.Common.{◌≡◌, ◌<◌, ◌^◌, rules, subst, sym, �
 use Rattle.std.specs.Str.Parse.{IsNumeral, digits_value, without_leading_plus}
 use Rattle.std.specs.Float.{binary64}
 use Rattle.std.specs.Float.Parse.{parse_float}
-use Rattle.flat_json.proofs.Numbers.{read_whole, whole_node, no_whole, no_whole_node, whole_fits, float_fits, no_float}
+use Rattle.flat_json.proofs.Numbers.{read_whole, whole_node, no_whole, no_whole_node, whole_fits}
+use Rattle.flat_json.proofs.Numbers.{float_fits, no_float}
 use Rattle.flat_json.proofs.parse.any_number.Goals as goal
-use Rattle.flat_json.proofs.parse.any_number.Goals.{in_default-parse-via-in-Ok-parse+else-is_finite, in_default-parse-via-in_default-parse}
+use Rattle.flat_json.proofs.parse.any_number.Goals.{in_default-parse-via-in-Ok-parse+else-is_finite}
+use Rattle.flat_json.proofs.parse.any_number.Goals.{in_default-parse-via-in_default-parse}
 
 abbrev Reads : List ℕ → Type 0
 Reads text = IsNumeral 10 (without_leading_plus text) × (digits_value 10 (without_leading_plus text) < 2 ^ 64)
@@ -34,8 +36,12 @@ returns-in_default-parse-clause-large c same =
     elim c.in_default-parse.branch [
       | in_default-parse-via-in-Ok-parse+else-is_finite w ↦
           let x = w.in-Ok-parse.number in
-          let read : parse_float binary64 text ≡ Some x = subst (λ t. parse_float binary64 t ≡ Some x) c.as_bytes-2.ensures.value w.in-Ok-parse.ensures.exact in
+          let read : parse_float binary64 text ≡ Some x =
+          subst (λ t. parse_float binary64 t ≡ Some x) c.as_bytes-2.ensures.value
+          w.in-Ok-parse.ensures.exact in
           float_fits text x part read ∙ sym w.if-is_finite.ensures.value
       | in_default-parse-via-in_default-parse w ↦
-          no_float text part (subst (λ t. parse_float binary64 t ≡ None) c.as_bytes-2.ensures.value w.in_default-parse.ensures.exact)
+          no_float text part
+          (subst (λ t. parse_float binary64 t ≡ None) c.as_bytes-2.ensures.value
+          w.in_default-parse.ensures.exact)
     ]

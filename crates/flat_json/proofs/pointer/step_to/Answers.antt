@@ -1,6 +1,8 @@
 use Rattle.std.proofs.Common.{◌≡◌, ◌+◌, ◌<◌, ◌^◌, rules, arith, refl, sym, subst}
-use Rattle.flat_json.specs.Tape.{HasMemberAt, HasNameAt, HasNode, HasValueAt, IsArray, IsObject, IsValueAt, StandsIn, nodes_of, number_of, place_of, place_of_entries}
-use Rattle.flat_json.proofs.Steps.{ElementsMissed, element_missed, element_step, no_element_step, member_missed, no_member_step}
+use Rattle.flat_json.specs.Tape.{HasMemberAt, HasNameAt, HasNode, HasValueAt, IsArray, IsObject}
+use Rattle.flat_json.specs.Tape.{IsValueAt, StandsIn, nodes_of, number_of, place_of, place_of_entries}
+use Rattle.flat_json.proofs.Steps.{ElementsMissed, element_missed, element_step, no_element_step}
+use Rattle.flat_json.proofs.Steps.{member_missed, no_member_step}
 use Rattle.flat_json.proofs.pointer.step_to.Goals as goal
 
 pub returns-then-has_node-clause-step : goal.returns-then-has_node-clause-step
@@ -14,7 +16,8 @@ returns-then-has_node-clause-step c =
     let is_object : IsObject value = c.in-Some.ensures.some.0 refl in
     let there : HasMemberAt value from = subst (λ held. HasMemberAt held from) kept.3 (steps.0.0 refl) in
     let named : HasNameAt value name from = subst (λ held. HasNameAt held name from) kept.3 steps.1.2 in
-    let is : IsValueAt value (from + 1) inner = subst (λ held. IsValueAt held (from + 1) inner) kept.3 steps.1.3 in
+    let is : IsValueAt value (from + 1) inner =
+    subst (λ held. IsValueAt held (from + 1) inner) kept.3 steps.1.3 in
     (is_object, (from, kept.4.0 from (0, (there, refl)), named, is))
 
 pub loop-name-preserved : goal.loop-name-preserved
@@ -26,7 +29,8 @@ loop-name-preserved c =
     let inner = c.in-Some-2.inner in
     let steps = c.in-Some-2.ensures.steps in
     let there : HasMemberAt value from = subst (λ held. HasMemberAt held from) kept.3 (steps.0.0 refl) in
-    let is : IsValueAt value (from + 1) inner = subst (λ held. IsValueAt held (from + 1) inner) kept.3 steps.1.3 in
+    let is : IsValueAt value (from + 1) inner =
+    subst (λ held. IsValueAt held (from + 1) inner) kept.3 steps.1.3 in
     let behind : next ≡ from + 1 + nodes_of inner = steps.1.4 in
     let other : HasNode inner c.args.number → ⊥ = λ has. absurd (cc (c.if-has_node.ensures.1 has)) in (
       tt,
@@ -43,7 +47,8 @@ returns-in-Some-clause-none c =
     let from = place_of_entries c.loop-name.name-iterator in
     let is_object : IsObject value = c.in-Some.ensures.some.0 refl in
     let none : HasMemberAt value from → ⊥ =
-    λ there. absurd (cc (c.in-None.ensures.steps.0.1 (subst (λ held. HasMemberAt held from) (sym kept.3) there))) in
+    λ there. absurd
+    (cc (c.in-None.ensures.steps.0.1 (subst (λ held. HasMemberAt held from) (sym kept.3) there))) in
     no_member_step value c.args.number from is_object kept.4 none
 
 pub returns-then-has_node-2-clause-step : goal.returns-then-has_node-2-clause-step
@@ -75,7 +80,8 @@ loop-inner-preserved c =
     let behind : next ≡ from + nodes_of inner = steps.1.3 in
     let some : 0 < nodes_of inner = inner.has_node in
     let few : number_of value + nodes_of value < 2 ^ 64 = value.number_fits in
-    let more : c.saturating_add-index.result ≡ index + 1 = omega (arith, c.saturating_add-index.ensures, kept.4, kept.5, few) in
+    let more : c.saturating_add-index.result ≡ index + 1 =
+    omega (arith, c.saturating_add-index.ensures, kept.4, kept.5, few) in
     let other : HasNode inner c.args.number → ⊥ = λ has. absurd (cc (c.if-has_node-2.ensures.1 has)) in (
       tt,
       tt,
@@ -94,5 +100,6 @@ returns-clause-none c =
     let from = place_of c.loop-inner.inner-iterator in
     let is_array : IsArray value = c.in_ok-inner-items.ensures.some.0 refl in
     let none : HasValueAt value from → ⊥ =
-    λ there. absurd (cc (c.in-None-inner.ensures.steps.0.1 (subst (λ held. HasValueAt held from) (sym kept.3) there))) in
+    λ there. absurd
+    (cc (c.in-None-inner.ensures.steps.0.1 (subst (λ held. HasValueAt held from) (sym kept.3) there))) in
     no_element_step value c.args.number from c.loop-inner.index is_array kept.6 none
