@@ -1,5 +1,5 @@
 ghost use Rattle.std.specs.Prelude.{refl};
-ghost use Rattle.deno_graph_dependency.specs.Json.SpecifierWithRange.{json_of_specifier, reads_specifier, specifier_entries, specifier_of, IsHeldSpecifier};
+ghost use Rattle.deno_graph_dependency.specs.Json.SpecifierWithRange.{json_of_specifier, reads_specifier, specifier_at, specifier_entries, specifier_of, IsHeldSpecifier};
 ghost use Rattle.deno_graph_dependency.specs.ObjectReader.{readable};
 ghost use Rattle.deno_graph_dependency.specs.Read.Answer.{Answers};
 
@@ -67,11 +67,23 @@ impl FromJson for SpecifierWithRange {
 }
 
 /// The specifier that has these members.
-#[tactic(auto, using(crate::proofs::Reading::reading), unfolding(crate::specs::Json::SpecifierWithRange::specifier_of))]
+#[tactic(auto, unfolding(crate::specs::Json::SpecifierWithRange::specifier_of))]
 pub fn read_specifier(object: &ObjectReader) -> Result<SpecifierWithRange, ReadFault>
     ensures { Answers (specifier_of (readable object.now)) result }
 {
-    let text = object.read("text")?;
-    let range = object.read("range")?;
+    read_specifier_at(object, "text", "range")
+}
+
+/// The specifier whose text and range are the members at these keys.
+#[tactic(auto, using(crate::proofs::Reading::reading), unfolding(crate::specs::Json::SpecifierWithRange::specifier_at))]
+pub(crate) fn read_specifier_at(
+    object: &ObjectReader,
+    text_key: &str,
+    range_key: &str,
+) -> Result<SpecifierWithRange, ReadFault>
+    ensures { Answers (specifier_at text_key.now range_key.now (readable object.now)) result }
+{
+    let text = object.read(text_key)?;
+    let range = object.read(range_key)?;
     Ok(SpecifierWithRange { text, range })
 }

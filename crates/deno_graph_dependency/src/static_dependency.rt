@@ -10,7 +10,7 @@ use crate::json_form::{
     FromJson, MemberWriter, ObjectReader, ReadFault, TextWriter, ToJson, ToObject, object_value,
     write_object,
 };
-use crate::specifier_with_range::SpecifierWithRange;
+use crate::specifier_with_range::{SpecifierWithRange, read_specifier_at};
 use deno_graph_text::text::PositionRange;
 use deno_graph_text::values::{Text, TryClone};
 use serde_json::Value;
@@ -171,15 +171,14 @@ pub(crate) fn read_static(object: &ObjectReader) -> Result<StaticDependencyDescr
 {
     let kind = object.read("kind")?;
     let types_specifier = object.read_or("typesSpecifier", None)?;
-    let specifier = object.read("specifier")?;
-    let specifier_range = object.read("specifierRange")?;
+    let specifier = read_specifier_at(object, "specifier", "specifierRange")?;
     let is_side_effect = object.read_or("sideEffect", false)?;
     let import_attributes = object.read_or("importAttributes", ImportAttributes::None)?;
     Ok(StaticDependencyDescriptor {
         kind,
         types_specifier,
-        specifier,
-        specifier_range,
+        specifier: specifier.text,
+        specifier_range: specifier.range,
         is_side_effect,
         import_attributes,
     })

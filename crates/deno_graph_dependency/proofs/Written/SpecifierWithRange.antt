@@ -1,6 +1,7 @@
 -- What is written of a specifier is read back, and has no float.
 use Rattle.std.proofs.Common.{
   ◌≡◌,
+  ℕ,
   false,
   codes,
   Option,
@@ -25,6 +26,7 @@ use Rattle.deno_graph_dependency.specs.Json.SpecifierWithRange.{
   json_of_specifier,
   IsHeldSpecifier,
   reads_specifier,
+  specifier_at,
   specifier_of,
 }
 use Rattle.deno_graph_dependency.specs.Json.Position.{json_of_range, reads_range}
@@ -33,16 +35,23 @@ use Rattle.deno_graph_dependency.proofs.NoFloats.{option_has_float, no_float-obj
 use Rattle.deno_graph_dependency.proofs.ReadBack.{member_at-table, range_back}
 use Rattle.deno_graph_dependency.proofs.Reading.{goes_on}
 
+pub specifier_at_back : (s : SpecifierWithRange) (text_key range_key : List ℕ) (es : List Entry)
+    → has_distinct_keys es ≡ true → entry_at text_key es ≡ Some (string s.text)
+    → entry_at range_key es ≡ Some (json_of_range s.range) → IsHeldSpecifier s
+    → specifier_at text_key range_key (put_entries es no_members) ≡ Some s
+unfolding specifier_at
+specifier_at_back s text_key range_key es distinct text range h =
+    goes_on _ _ s.text _ (member_at-table as_str text_key es _ distinct (ap (λ o. o >>= as_str) text))
+    (goes_on _ _ s.range _ (member_at-table reads_range range_key es _ distinct
+    (ap (λ o. o >>= reads_range) range ∙ range_back s.range h))
+    refl)
+
 pub specifier_members_back : (s : SpecifierWithRange) (es : List Entry) → has_distinct_keys es ≡ true
     → entry_at (codes "text") es ≡ Some (string s.text)
     → entry_at (codes "range") es ≡ Some (json_of_range s.range) → IsHeldSpecifier s
     → specifier_of (put_entries es no_members) ≡ Some s
 unfolding specifier_of
-specifier_members_back s es distinct text range h =
-    goes_on _ _ s.text _ (member_at-table as_str (codes "text") es _ distinct (ap (λ o. o >>= as_str) text))
-    (goes_on _ _ s.range _ (member_at-table reads_range (codes "range") es _ distinct
-    (ap (λ o. o >>= reads_range) range ∙ range_back s.range h))
-    refl)
+specifier_members_back s es = specifier_at_back s (codes "text") (codes "range") es
 
 specifier_back : (s : SpecifierWithRange) → IsHeldSpecifier s → reads_specifier (json_of_specifier s) ≡ Some s
 unfolding reads_specifier

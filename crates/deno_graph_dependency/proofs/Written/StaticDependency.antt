@@ -1,7 +1,8 @@
 -- What is written of a static dependency is read back, and has no float.
-use Rattle.std.proofs.Common.{◌≡◌, false, Some, refl}
+use Rattle.std.proofs.Common.{◌≡◌, codes, false, Some, refl}
 use Rattle.serde_json.specs.Data.{string, no_members}
 use Rattle.serde_json.specs.Written.{has_float}
+use Rattle.deno_graph_dependency.specs.declared.specifier_with_range.SpecifierWithRange.{SpecifierWithRange}
 use Rattle.deno_graph_dependency.specs.declared.static_dependency.StaticDependencyDescriptor.{
   StaticDependencyDescriptor,
 }
@@ -28,8 +29,13 @@ use Rattle.deno_graph_dependency.specs.Json.StaticDependency.{
   static_kind_named,
 }
 use Rattle.deno_graph_dependency.proofs.NoFloats.{neither, no_float-object_of, no_float-if_true}
-use Rattle.deno_graph_dependency.proofs.ReadBack.{reads_at, reads_or, range_back, flag_back}
-use Rattle.deno_graph_dependency.proofs.Written.SpecifierWithRange.{specifier_option_back, types_no_float}
+use Rattle.deno_graph_dependency.proofs.ReadBack.{reads_at, reads_or, flag_back}
+use Rattle.deno_graph_dependency.proofs.Reading.{goes_on}
+use Rattle.deno_graph_dependency.proofs.Written.SpecifierWithRange.{
+  specifier_at_back,
+  specifier_option_back,
+  types_no_float,
+}
 use Rattle.deno_graph_dependency.proofs.Written.ImportAttributes.{attributes_back, attributes_no_float}
 
 static_kind_back : (k : StaticDependencyKind) → reads_static_kind (string (static_kind_name k)) ≡ Some k
@@ -44,6 +50,10 @@ static_kind_back ExportType = refl
 static_kind_back ExportEquals = refl
 static_kind_back MaybeTsModuleAugmentation = refl
 
+-- the specifier, with its range
+abbrev specifier_in : StaticDependencyDescriptor → SpecifierWithRange
+specifier_in d = record { text = d.specifier; range = d.specifier_range }
+
 pub static_back : (d : StaticDependencyDescriptor) → IsHeldStatic d
     → reads_static (put_entries (static_entries d) no_members) ≡ Some d
 unfolding reads_static
@@ -51,11 +61,11 @@ static_back d h =
     let es = static_entries d in
     reads_at _ _ _ _ es d.kind refl (static_kind_back d.kind)
     (reads_or _ _ _ _ _ es d.types_specifier refl (specifier_option_back d.types_specifier h.types_specifier)
-    (reads_at _ _ _ _ es d.specifier refl refl
-    (reads_at _ _ _ _ es d.specifier_range refl (range_back d.specifier_range h.specifier_range)
+    (goes_on _ _ (specifier_in d) _ (specifier_at_back (specifier_in d) (codes "specifier")
+    (codes "specifierRange") es refl refl refl h.specifier_range)
     (reads_or _ _ _ _ _ es d.is_side_effect refl (flag_back d.is_side_effect)
     (reads_or _ _ _ _ _ es d.import_attributes refl (attributes_back d.import_attributes h.import_attributes)
-    refl)))))
+    refl))))
 
 pub static_no_float : (d : StaticDependencyDescriptor) → has_float (json_of_static d) ≡ false
 static_no_float d =

@@ -1,5 +1,5 @@
 -- A specifier with its range, as JSON and from it.
-use Rattle.std.specs.Prelude.{List, [], ◌∷◌, codes, Some, Option}
+use Rattle.std.specs.Prelude.{ℕ, List, [], ◌∷◌, codes, Some, Option}
 use Rattle.serde_json.specs.Data.{Data, string, Members}
 use Rattle.serde_json.specs.Find.{as_object, as_str}
 use Rattle.deno_graph_dependency.specs.declared.specifier_with_range.SpecifierWithRange.{SpecifierWithRange}
@@ -20,12 +20,16 @@ json_of_specifier s = object_of (specifier_entries s)
 abbrev pub IsHeldSpecifier : SpecifierWithRange → Type 0
 IsHeldSpecifier s = IsHeldRange s.range
 
--- the members `text` and `range`, which have to be there
-unfoldable pub specifier_of : Members → Option SpecifierWithRange
-specifier_of ms = do
-  text ← member_at as_str (codes "text") ms
-  range ← member_at reads_range (codes "range") ms
+-- the members of a text and its range, which have to be there
+unfoldable pub specifier_at : List ℕ → List ℕ → Members → Option SpecifierWithRange
+specifier_at text_key range_key ms = do
+  text ← member_at as_str text_key ms
+  range ← member_at reads_range range_key ms
   Some (record { text = text; range = range })
+
+-- these are `text` and `range`
+unfoldable pub specifier_of : Members → Option SpecifierWithRange
+specifier_of ms = specifier_at (codes "text") (codes "range") ms
 
 -- an object with these members
 unfoldable pub reads_specifier : Data → Option SpecifierWithRange

@@ -41,11 +41,12 @@ use Rattle.deno_graph_dependency.specs.Json.ImportAttributes.{
   reads_attributes,
 }
 use Rattle.deno_graph_dependency.specs.Object.{Entry, object_of, if_true, unless}
-use Rattle.deno_graph_dependency.specs.Json.Position.{json_of_range, reads_range, IsHeldRange}
+use Rattle.deno_graph_dependency.specs.Json.Position.{json_of_range, IsHeldRange}
 use Rattle.deno_graph_dependency.specs.Json.SpecifierWithRange.{
   json_of_specifier,
   IsHeldSpecifier,
   reads_specifier,
+  specifier_at,
 }
 use Rattle.deno_graph_dependency.specs.Read.Partial.{◌>>=◌, member_at, member_or, reads_optional}
 
@@ -110,15 +111,14 @@ unfoldable pub reads_static : Members → Option StaticDependencyDescriptor
 reads_static ms = do
   kind ← member_at reads_static_kind (codes "kind") ms
   types_specifier ← member_or (reads_optional reads_specifier) (codes "typesSpecifier") None ms
-  specifier ← member_at as_str (codes "specifier") ms
-  specifier_range ← member_at reads_range (codes "specifierRange") ms
+  specifier ← specifier_at (codes "specifier") (codes "specifierRange") ms
   is_side_effect ← member_or as_bool (codes "sideEffect") false ms
   import_attributes ← member_or reads_attributes (codes "importAttributes") NoAttributes ms
   Some (record {
     kind = kind;
     types_specifier = types_specifier;
-    specifier = specifier;
-    specifier_range = specifier_range;
+    specifier = specifier.text;
+    specifier_range = specifier.range;
     is_side_effect = is_side_effect;
     import_attributes = import_attributes;
   })

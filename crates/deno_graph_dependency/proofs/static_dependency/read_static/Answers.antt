@@ -20,21 +20,12 @@ returns-in_err-specifier c = rw (
   c.in_ok-types_specifier.ensures,
 ) (exits _ _ _ _ c.from_residual-in_err-specifier.ensures.1 c.in_err-specifier.ensures)
 
-pub returns-in_err-specifier_range : goal.returns-in_err-specifier_range
-unfolding reads_static
-returns-in_err-specifier_range c = rw (
-  c.in_ok-kind.ensures,
-  c.in_ok-types_specifier.ensures,
-  c.in_ok-specifier.ensures,
-) (exits _ _ _ _ c.from_residual-in_err-specifier_range.ensures.1 c.in_err-specifier_range.ensures)
-
 pub returns-in_err-is_side_effect : goal.returns-in_err-is_side_effect
 unfolding reads_static
 returns-in_err-is_side_effect c = rw (
   c.in_ok-kind.ensures,
   c.in_ok-types_specifier.ensures,
   c.in_ok-specifier.ensures,
-  c.in_ok-specifier_range.ensures,
 ) (exits _ _ _ _ c.from_residual-in_err-is_side_effect.ensures.1 c.in_err-is_side_effect.ensures)
 
 pub returns-in_err-import_attributes : goal.returns-in_err-import_attributes
@@ -43,7 +34,6 @@ returns-in_err-import_attributes c = rw (
   c.in_ok-kind.ensures,
   c.in_ok-types_specifier.ensures,
   c.in_ok-specifier.ensures,
-  c.in_ok-specifier_range.ensures,
   c.in_ok-is_side_effect.ensures,
 ) (exits _ _ _ _ c.from_residual-in_err-import_attributes.ensures.1 c.in_err-import_attributes.ensures)
 
@@ -53,7 +43,6 @@ returns c = rw (
   c.in_ok-kind.ensures,
   c.in_ok-types_specifier.ensures,
   c.in_ok-specifier.ensures,
-  c.in_ok-specifier_range.ensures,
   c.in_ok-is_side_effect.ensures,
   c.in_ok-import_attributes.ensures,
 )
