@@ -1,4 +1,5 @@
 -- What is written is read back, a file for each type.
 pub mod JsDocImportInfo
 pub mod ModuleInfo
+pub mod SpecifierWithMode
 pub mod TypeScriptReference

@@ -1,4 +1,5 @@
 -- The JSON form, a file for each type.
 pub mod JsDocImportInfo
 pub mod ModuleInfo
+pub mod SpecifierWithMode
 pub mod TypeScriptReference

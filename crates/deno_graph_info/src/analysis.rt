@@ -3,6 +3,7 @@
 pub mod fault;
 pub mod js_doc_import_info;
 pub mod module_info;
+pub(crate) mod specifier_with_mode;
 pub mod type_script_reference;
 
 pub use crate::conversion::{ConvertFault, laws, module_graph_1_into_2, module_graph_1_to_2};

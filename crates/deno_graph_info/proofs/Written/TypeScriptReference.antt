@@ -1,18 +1,9 @@
 -- What is written of a triple-slash reference is read back, and has no float.
-use Rattle.std.proofs.Common.{◌≡◌, false, codes, Option, Some, None, option_map, refl}
+use Rattle.std.proofs.Common.{◌≡◌, false, codes, Some, refl}
 use Rattle.serde_json.specs.Find.{as_str}
 use Rattle.serde_json.specs.Written.{has_float}
-use Rattle.deno_graph_text.specs.declared.values.resolution_mode.TypeScriptTypesResolutionMode.{
-  TypeScriptTypesResolutionMode,
-}
-use Rattle.deno_graph_text.specs.declared.values.resolution_mode.TypeScriptTypesResolutionMode.TheVariants.{
-  Require,
-  Import,
-}
-use Rattle.deno_graph_dependency.specs.Read.Partial.{reads_optional}
-use Rattle.deno_graph_dependency.specs.Json.ResolutionMode.{reads_mode, json_of_mode}
-use Rattle.deno_graph_dependency.proofs.NoFloats.{option_has_float, neither, no_float-object_of}
-use Rattle.deno_graph_dependency.proofs.ReadBack.{member_at-table, member_or-table, mode_back}
+use Rattle.deno_graph_dependency.proofs.NoFloats.{neither, no_float-object_of}
+use Rattle.deno_graph_dependency.proofs.ReadBack.{member_at-table}
 use Rattle.deno_graph_dependency.proofs.Reading.{goes_on}
 use Rattle.deno_graph_dependency.proofs.Written.SpecifierWithRange.{specifier_members_back}
 use Rattle.deno_graph_info.specs.declared.analysis.type_script_reference.TypeScriptReference.{
@@ -31,6 +22,7 @@ use Rattle.deno_graph_info.specs.Json.TypeScriptReference.{
   types_entries,
   json_of_reference,
 }
+use Rattle.deno_graph_info.proofs.Written.SpecifierWithMode.{specifier_with_mode_back, mode_no_float}
 
 pub reference_back : (r : TypeScriptReference) → IsHeldReference r
     → reads_reference (json_of_reference r) ≡ Some r
@@ -41,15 +33,7 @@ reference_back (Path s) h =
 reference_back (Types s mode) h =
     let es = types_entries s mode in
     goes_on _ _ (codes "types") _ (member_at-table as_str (codes "type") es _ refl refl)
-    (goes_on _ _ s _ (specifier_members_back s es refl refl refl h)
-    (goes_on _ _ mode _ (member_or-table (reads_optional reads_mode) (codes "resolutionMode") None es _ refl
-    (mode_back mode)) refl))
-
-pub mode_no_float : (o : Option TypeScriptTypesResolutionMode)
-    → option_has_float (option_map json_of_mode o) ≡ false
-mode_no_float None = refl
-mode_no_float (Some Require) = refl
-mode_no_float (Some Import) = refl
+    (goes_on _ _ (s, mode) _ (specifier_with_mode_back s mode es refl refl refl refl h) refl)
 
 pub reference_no_float : (r : TypeScriptReference) → has_float (json_of_reference r) ≡ false
 reference_no_float (Path s) = no_float-object_of (path_entries s) refl

@@ -20,8 +20,8 @@ use Rattle.deno_graph_text.specs.declared.values.resolution_mode.TypeScriptTypes
 use Rattle.deno_graph_dependency.specs.declared.specifier_with_range.SpecifierWithRange.{SpecifierWithRange}
 use Rattle.deno_graph_dependency.specs.Object.{Entry, object_of}
 use Rattle.deno_graph_dependency.specs.Json.Position.{json_of_range}
-use Rattle.deno_graph_dependency.specs.Json.ResolutionMode.{json_of_mode, reads_mode}
-use Rattle.deno_graph_dependency.specs.Read.Partial.{◌>>=◌, member_at, member_or, reads_optional}
+use Rattle.deno_graph_dependency.specs.Json.ResolutionMode.{json_of_mode}
+use Rattle.deno_graph_dependency.specs.Read.Partial.{◌>>=◌, member_at}
 use Rattle.deno_graph_dependency.specs.Json.SpecifierWithRange.{specifier_of, IsHeldSpecifier}
 use Rattle.deno_graph_info.specs.declared.analysis.type_script_reference.TypeScriptReference.{
   TypeScriptReference,
@@ -30,6 +30,7 @@ use Rattle.deno_graph_info.specs.declared.analysis.type_script_reference.TypeScr
   Path,
   Types,
 }
+use Rattle.deno_graph_info.specs.Json.SpecifierWithMode.{specifier_with_mode}
 
 abbrev pub path_entries : SpecifierWithRange → List Entry
 path_entries s =
@@ -62,9 +63,8 @@ IsHeldReference (Types s mode) = IsHeldSpecifier s
 -- the members but `type`, of which `resolutionMode` may be missing
 unfoldable pub reference_to_types : Members → Option TypeScriptReference
 reference_to_types ms = do
-  specifier ← specifier_of ms
-  mode ← member_or (reads_optional reads_mode) (codes "resolutionMode") None ms
-  Some (Types specifier mode)
+  stated ← specifier_with_mode ms
+  Some (Types stated.0 stated.1)
 
 -- the reference that has this `type`
 unfoldable pub reference_of_type : List ℕ → Members → Option TypeScriptReference

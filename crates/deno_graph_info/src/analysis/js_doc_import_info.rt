@@ -1,11 +1,12 @@
 ghost use Rattle.std.specs.Prelude.{refl};
 ghost use Rattle.deno_graph_info.specs.Json.JsDocImportInfo.{js_doc_import_entries, json_of_js_doc_import, reads_js_doc_import, IsHeldJsDocImport};
 
+use crate::analysis::specifier_with_mode::{put_specifier_with_mode, read_specifier_with_mode};
+use deno_graph_dependency::SpecifierWithRange;
 use deno_graph_dependency::json_form::{
     FromJson, MemberWriter, ObjectReader, ReadFault, TextWriter, ToJson, ToObject, object_value,
     write_object,
 };
-use deno_graph_dependency::{SpecifierWithRange, read_specifier};
 use deno_graph_text::values::{TryClone, TypeScriptTypesResolutionMode};
 use serde_json::Value;
 use std::alloc::{AllocError, Global};
@@ -49,9 +50,7 @@ impl ToObject for JsDocImportInfo {
     ghost ascends = { λ _ _. refl };
 
     fn put_members<W: MemberWriter>(&self, out: &mut W) -> Result<(), AllocError> {
-        out.put("range", &self.specifier.range)?;
-        out.put_some("resolutionMode", &self.resolution_mode)?;
-        out.put("text", &self.specifier.text)
+        put_specifier_with_mode(&self.specifier, &self.resolution_mode, out)
     }
 }
 
@@ -61,8 +60,7 @@ impl FromJson for JsDocImportInfo {
     #[tactic(auto, using(deno_graph_dependency::proofs::Reading::reading), unfolding(crate::specs::Json::JsDocImportInfo::reads_js_doc_import))]
     fn from_json(alloc: Global, value: &Value) -> Result<JsDocImportInfo, ReadFault> {
         let object = ObjectReader::new(alloc, value)?;
-        let specifier = read_specifier(&object)?;
-        let resolution_mode = object.read_or("resolutionMode", None)?;
+        let (specifier, resolution_mode) = read_specifier_with_mode(&object)?;
         Ok(JsDocImportInfo {
             specifier,
             resolution_mode,

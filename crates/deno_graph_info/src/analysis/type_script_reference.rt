@@ -4,6 +4,7 @@ ghost use Rattle.deno_graph_dependency.specs.ObjectReader.{readable};
 ghost use Rattle.deno_graph_dependency.specs.Read.Answer.{Answers};
 ghost use Rattle.deno_graph_info.specs.Json.TypeScriptReference.{json_of_reference, reads_reference, reference_entries, reference_of_type, reference_to_types, IsHeldReference};
 
+use crate::analysis::specifier_with_mode::{put_specifier_with_mode, read_specifier_with_mode};
 use deno_graph_dependency::json_form::{
     FromJson, MemberWriter, ObjectReader, ReadFault, TextWriter, ToJson, ToObject, object_value,
     write_object,
@@ -70,17 +71,14 @@ impl ToObject for TypeScriptReference {
     fn put_members<W: MemberWriter>(&self, out: &mut W) -> Result<(), AllocError> {
         match self {
             TypeScriptReference::Path(specifier) => {
-                out.put("range", &specifier.range)?;
-                out.put("text", &specifier.text)?;
+                specifier.put_members(out)?;
                 out.put_str("type", "path")
             }
             TypeScriptReference::Types {
                 specifier,
                 resolution_mode,
             } => {
-                out.put("range", &specifier.range)?;
-                out.put_some("resolutionMode", resolution_mode)?;
-                out.put("text", &specifier.text)?;
+                put_specifier_with_mode(specifier, resolution_mode, out)?;
                 out.put_str("type", "types")
             }
         }
@@ -121,8 +119,7 @@ fn read_reference(
 fn read_types(object: &ObjectReader) -> Result<TypeScriptReference, ReadFault>
     ensures { Answers (reference_to_types (readable object.now)) result }
 {
-    let specifier = read_specifier(object)?;
-    let resolution_mode = object.read_or("resolutionMode", None)?;
+    let (specifier, resolution_mode) = read_specifier_with_mode(object)?;
     Ok(TypeScriptReference::Types {
         specifier,
         resolution_mode,

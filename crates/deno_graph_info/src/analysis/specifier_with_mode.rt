@@ -1,0 +1,40 @@
+//! A specifier with the resolution mode that is stated beside it, as members of an object.
+
+ghost use Rattle.std.specs.Prelude.{◌≡◌, OnOk};
+ghost use Rattle.deno_graph_dependency.specs.Json.SpecifierWithRange.{IsHeldSpecifier};
+ghost use Rattle.deno_graph_dependency.specs.Object.{with_entries};
+ghost use Rattle.deno_graph_dependency.specs.ObjectReader.{readable};
+ghost use Rattle.deno_graph_dependency.specs.Read.Answer.{Answers};
+ghost use Rattle.deno_graph_info.specs.Json.SpecifierWithMode.{specifier_with_mode, specifier_with_mode_entries};
+
+use deno_graph_dependency::json_form::{MemberWriter, ObjectReader, ReadFault};
+use deno_graph_dependency::{SpecifierWithRange, read_specifier};
+use deno_graph_text::values::TypeScriptTypesResolutionMode;
+use std::alloc::AllocError;
+
+/// Puts both, the mode if there is one.
+pub(crate) fn put_specifier_with_mode<W: MemberWriter>(
+    specifier: &SpecifierWithRange,
+    resolution_mode: &Option<TypeScriptTypesResolutionMode>,
+    out: &mut W,
+) -> Result<(), AllocError>
+    ensures ok { OnOk result (W.state out.new ≡ with_entries W.with_member
+        (specifier_with_mode_entries specifier.now resolution_mode.now) (W.state out.old)) }
+    ensures held { OnOk result (IsHeldSpecifier specifier.now) }
+{
+    out.put("range", &specifier.range)?;
+    out.put_some("resolutionMode", resolution_mode)?;
+    out.put("text", &specifier.text)
+}
+
+/// Both, as these members have them.
+#[tactic(auto, using(deno_graph_dependency::proofs::Reading::reading), unfolding(crate::specs::Json::SpecifierWithMode::specifier_with_mode))]
+pub(crate) fn read_specifier_with_mode(
+    object: &ObjectReader,
+) -> Result<(SpecifierWithRange, Option<TypeScriptTypesResolutionMode>), ReadFault>
+    ensures { Answers (specifier_with_mode (readable object.now)) result }
+{
+    let specifier = read_specifier(object)?;
+    let resolution_mode = object.read_or("resolutionMode", None)?;
+    Ok((specifier, resolution_mode))
+}
