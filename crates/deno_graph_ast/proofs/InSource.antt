@@ -50,13 +50,13 @@ use Rattle.deno_graph_source.specs.declared.tree.comments.CommentKind.{CommentKi
 use Rattle.deno_graph_source.specs.declared.tree.comments.CommentKind.TheVariants.{Line, Block}
 use Rattle.deno_graph_source.specs.declared.tree.comments.DependencyComment.{DependencyComment}
 use Rattle.deno_graph_dependency.specs.declared.specifier_with_range.SpecifierWithRange.{SpecifierWithRange}
-use Rattle.deno_graph_pragmas.specs.Split.{TextPart, IsSliceOf, StandsInQuotes, with_beside}
+use Rattle.deno_graph_pragmas.specs.Split.{TextPart, IsSliceOf, IsInQuotes, with_beside}
 use Rattle.deno_graph_ast.specs.Pragma.{range_in_source, specifier_of_part, positions_of}
 use Rattle.deno_graph_ast.specs.FoundPragma.{Covers}
 use Rattle.deno_graph_ast.specs.Spelled.{HasBetween}
 
 -- the text is in the source from here on, up to a place where the source may be cut
-pub record HasFault (source text : List ℕ) (start limit : ℕ) : Type 0 where
+pub record LiesIn (source text : List ℕ) (start limit : ℕ) : Type 0 where
   pub rest : List ℕ
   pub inside : start ≤ length source
   pub dropped : drop start source ≡ text ++ rest
@@ -88,9 +88,9 @@ slice_length source range is =
       inside,
     )
 
-stands : (source text : List ℕ) (kind : CommentKind) (range : SourceRange) → IsTextRange source range
-    → slice_of source range ≡ spelling kind text → HasFault source text (range.start + 2) range.end
-stands source text Line range is slice =
+comment_lies : (source text : List ℕ) (kind : CommentKind) (range : SourceRange) → IsTextRange source range
+    → slice_of source range ≡ spelling kind text → LiesIn source text (range.start + 2) range.end
+comment_lies source text Line range is slice =
     let size : range.end ≡ range.start + 2 + length text =
     omega (arith, slice_length source range is, ap length slice, is.ordered) in
     let inside : range.end ≤ length source = is.end.0 in
@@ -102,7 +102,7 @@ stands source text Line range is slice =
       end = subst (IsCharBoundary source) size is.end;
       within = omega (arith, size);
     }
-stands source text Block range is slice =
+comment_lies source text Block range is slice =
     let size : range.end ≡ range.start + 2 + length text + 2 =
     omega (
       arith,
@@ -130,7 +130,7 @@ stands source text Block range is slice =
     }
 
 -- a place where the text may be cut is one where the source may be
-cut_in_source : (source text : List ℕ) (start limit i : ℕ) → HasFault source text start limit
+cut_in_source : (source text : List ℕ) (start limit i : ℕ) → LiesIn source text start limit
     → IsCharBoundary text i → IsCharBoundary source (start + i)
 cut_in_source source text start limit i there cut = by_order (cases_order i (length text))
   where
@@ -151,7 +151,7 @@ range_from start part = record { start = start + part.start; end = start + part.
 
 -- a slice of the text is one of the source
 slice_in_source : (source text : List ℕ) (start limit : ℕ) (part : TextPart)
-    → HasFault source text start limit
+    → LiesIn source text start limit
     → IsSliceOf text part
     → IsTextRange source (range_from start part) × (slice_of source (range_from start part) ≡ part.text)
     × (start + part.end ≤ limit)
@@ -200,10 +200,10 @@ has_between source range bytes is slice = record {
 
 pub in_source : (source : List ℕ) (comment : DependencyComment) (part : TextPart) (is_quoteless : Bool)
     → IsSpelled source comment → IsSliceOf comment.text part
-    → (is_quoteless ≡ false → StandsInQuotes comment.text part) → InSource source comment part is_quoteless
+    → (is_quoteless ≡ false → IsInQuotes comment.text part) → InSource source comment part is_quoteless
 unfolding range_from
 in_source source comment part true spelled slice quoted =
-    let there = stands source comment.text comment.kind comment.range spelled.range spelled.slice in
+    let there = comment_lies source comment.text comment.kind comment.range spelled.range spelled.slice in
     let here = slice_in_source source comment.text
     (comment.range.start + 2) comment.range.end part there slice in
     let range = range_in_source comment.range.start part.start part.end true in
@@ -216,7 +216,7 @@ in_source source comment part true spelled slice quoted =
       covers = has_between source range part.text is (ap (slice_of source) (sym same) ∙ here.1);
     }
 in_source source comment part false spelled slice quoted =
-    let there = stands source comment.text comment.kind comment.range spelled.range spelled.slice in
+    let there = comment_lies source comment.text comment.kind comment.range spelled.range spelled.slice in
     let quotes = quoted refl in
     let wide = with_beside quotes.left quotes.right part in
     let here = slice_in_source source comment.text

@@ -42,7 +42,7 @@ use Rattle.deno_graph_source.specs.declared.tree.comments.CommentKind.TheVariant
 use Rattle.deno_graph_source.specs.declared.tree.comments.DependencyComment.{DependencyComment}
 use Rattle.deno_graph_dependency.specs.declared.specifier_with_range.SpecifierWithRange.{SpecifierWithRange}
 use Rattle.deno_graph_pragmas.specs.Finders as finder
-use Rattle.deno_graph_pragmas.specs.Match.{Captures, FindsFirst, IsQuotedIn, IsSliceIn, part_of}
+use Rattle.deno_graph_pragmas.specs.Match.{IsCapturedIn, FindsFirst, IsQuotedIn, IsSliceIn, match_part_of}
 use Rattle.deno_graph_pragmas.specs.declared.finders.matches.Match.{Match}
 use Rattle.deno_graph_pragmas.specs.Split.{TextPart, HasSplit, IsCaptured}
 use Rattle.deno_graph_ast.specs.Pragma.{
@@ -94,11 +94,11 @@ pub found_in_comment : (pragma : Pragma) (comment : DependencyComment) (text : L
     → (IsTrue pragma.is_in_blocks_alone → comment.kind ≡ Block)
     → FindsFirst pragma.pattern text answer
     → (pragma.is_quoteless ≡ false → IfSome answer (IsQuotedIn text))
-    → IfSome answer (λ found. IsFound pragma comment (part_of found))
+    → IfSome answer (λ found. IsFound pragma comment (match_part_of found))
 found_in_comment pragma comment text None is kind finds quotes = tt
 found_in_comment pragma comment text (Some found) is kind finds quotes = record {
   kind = kind;
-  is_captured = subst (λ t. Captures pragma.pattern t found) is finds.found;
+  is_captured = subst (λ t. IsCapturedIn pragma.pattern t found) is finds.found;
   is_slice = subst (λ t. IsSliceIn t found) is finds.slice;
   quotes = λ quoted. subst (λ t. IsQuotedIn t found) is (quotes quoted);
 }

@@ -3,7 +3,7 @@ use Rattle.std.specs.Prelude.{◌≡◌, ℕ, Bool, true, false, List, IsTrue}
 use Rattle.deno_graph_source.specs.declared.tree.comments.CommentKind.TheVariants.{Block}
 use Rattle.deno_graph_source.specs.declared.tree.comments.DependencyComment.{DependencyComment}
 use Rattle.deno_graph_dependency.specs.declared.specifier_with_range.SpecifierWithRange.{SpecifierWithRange}
-use Rattle.deno_graph_pragmas.specs.Split.{TextPart, IsCaptured, IsSliceOf, StandsInQuotes}
+use Rattle.deno_graph_pragmas.specs.Split.{TextPart, IsCaptured, IsSliceOf, IsInQuotes}
 use Rattle.deno_graph_ast.specs.declared.head_pragmas.HeadPragma.{HeadPragma}
 use Rattle.deno_graph_ast.specs.declared.head_pragmas.HeadPragma.TheVariants.{
   TsSelfTypes,
@@ -28,7 +28,7 @@ pub record IsFound (pragma : Pragma) (comment : DependencyComment) (part : TextP
   pub kind : IsTrue pragma.is_in_blocks_alone → comment.kind ≡ Block
   pub is_captured : IsCaptured pragma.pattern comment.text part
   pub is_slice : IsSliceOf comment.text part
-  pub quotes : pragma.is_quoteless ≡ false → StandsInQuotes comment.text part
+  pub quotes : pragma.is_quoteless ≡ false → IsInQuotes comment.text part
 
 -- the pragmas of which the first in the comments at the head counts
 abbrev pub head_pragma : HeadPragma → Pragma

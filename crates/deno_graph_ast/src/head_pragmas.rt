@@ -4,7 +4,7 @@ ghost use Rattle.std.specs.Prelude.{◌≡◌, false, IfOk, IfSome, IsNone, None
 ghost use Rattle.deno_graph_ast.specs.Pragma.{comments_for_jsx, comments_for_types, has_jsx, jsx_import_source_pragma, jsx_import_source_types_pragma, self_types_pragma, HasPragma, NamesFirst};
 ghost use Rattle.deno_graph_ast.specs.FoundPragma.{head_pragma, Covers, IsFound};
 ghost use Rattle.deno_graph_ast.specs.Spelled.{CoversBare, CoversQuoted};
-ghost use Rattle.deno_graph_pragmas.specs.Match.{part_of, FindsFirst, IsQuotedIn};
+ghost use Rattle.deno_graph_pragmas.specs.Match.{match_part_of, FindsFirst, IsQuotedIn};
 
 use crate::specifier::found_specifier;
 use crate::spelled::SpelledComments;
@@ -94,7 +94,7 @@ impl HeadPragma {
     /// What the comment's pragma names, if it has the pragma.
     fn find(self, comment: &DependencyComment) -> Option<Match<'_>>
         ensures found { IfSome result
-            (λ found. IsFound (head_pragma self) comment.now (part_of found)) }
+            (λ found. IsFound (head_pragma self) comment.now (match_part_of found)) }
         ensures none { IsNone result → ¬ HasPragma (head_pragma self) comment.now }
     {
         if self.is_quoteless() && comment.kind == CommentKind::Line {

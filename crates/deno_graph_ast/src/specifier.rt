@@ -5,8 +5,8 @@ ghost use Rattle.deno_graph_source.specs.Source.{IsSpelled};
 ghost use Rattle.deno_graph_text.specs.SourceRange.{IsTextRange};
 ghost use Rattle.deno_graph_ast.specs.Pragma.{positions_of, range_in_source, specifier_of_part};
 ghost use Rattle.deno_graph_ast.specs.FoundPragma.{Covers};
-ghost use Rattle.deno_graph_pragmas.specs.Match.{part_of};
-ghost use Rattle.deno_graph_pragmas.specs.Split.{IsSliceOf, StandsInQuotes};
+ghost use Rattle.deno_graph_pragmas.specs.Match.{match_part_of};
+ghost use Rattle.deno_graph_pragmas.specs.Split.{IsSliceOf, IsInQuotes};
 
 use deno_graph_dependency::SpecifierWithRange;
 use deno_graph_pragmas::finders::Match;
@@ -28,7 +28,7 @@ pub(crate) fn specifier_with_range(
     requires spelled { IsSpelled text_info.now comment.now }
     requires slice { IsSliceOf comment.now.text
         (record { text = text.now; start = range.start; end = range.end }) }
-    requires quoted { is_quoteless ≡ false → StandsInQuotes comment.now.text
+    requires quoted { is_quoteless ≡ false → IsInQuotes comment.now.text
         (record { text = text.now; start = range.start; end = range.end }) }
     ensures is { IfOk result (λ specifier. specifier ≡ specifier_of_part text_info.now comment.now
         (record { text = text.now; start = range.start; end = range.end }) is_quoteless) }
@@ -49,10 +49,10 @@ pub(crate) fn found_specifier(
     is_quoteless: bool,
 ) -> Result<SpecifierWithRange, AllocError>
     requires spelled { IsSpelled text_info.now comment.now }
-    requires slice { IsSliceOf comment.now.text (part_of found) }
-    requires quoted { is_quoteless ≡ false → StandsInQuotes comment.now.text (part_of found) }
+    requires slice { IsSliceOf comment.now.text (match_part_of found) }
+    requires quoted { is_quoteless ≡ false → IsInQuotes comment.now.text (match_part_of found) }
     ensures is { IfOk result (λ specifier.
-        specifier ≡ specifier_of_part text_info.now comment.now (part_of found.entry) is_quoteless) }
+        specifier ≡ specifier_of_part text_info.now comment.now (match_part_of found.entry) is_quoteless) }
     ensures covers { IfOk result (Covers text_info.now is_quoteless) }
 {
     let (text, range) = (found.as_str(), found.range());

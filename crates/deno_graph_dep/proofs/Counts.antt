@@ -45,13 +45,13 @@ use Rattle.deno_graph_dep.specs.Entered.{IsEnteredBy, EnteredBy, IsCountOf}
 use Rattle.deno_graph_dep.specs.Stack.{
   entry_rules,
   frame_of,
-  is_before,
-  is_after,
+  is_given_before,
+  is_given_after,
   index_of,
   next_path,
   paths_to_come,
   next_of,
-  StandsIn,
+  AreNested,
   to_come,
   IsPassed,
   IsStackOf,
@@ -102,9 +102,9 @@ use Rattle.deno_graph_dep.proofs.Steps.{
   path_of,
   to_come-enter,
   to_come-leave,
-  stands-left,
-  stands-enter,
-  stands-leave,
+  nested-left,
+  nested-enter,
+  nested-leave,
 }
 
 next-first : (body : List Node) (old new : Stack) (node : Bor Node) (siblings : Bor (List Node))
@@ -134,11 +134,11 @@ next-last body old new node siblings step =
 
 next-leave : (body : List Node) (old new : Stack) (node : Bor Node) (siblings : Bor (List Node))
     → Left old new node siblings
-    → StandsIn body old.frames.items old.nodes.now
+    → AreNested body old.frames.items old.nodes.now
     → AreNext (path_of body new.frames.items node siblings) (next_of body new)
-next-leave body old new node siblings step stands =
+next-leave body old new node siblings step nested =
     let next = next_path-sibling body new.frames.items node.now siblings.now
-    (stands-left body old new node siblings step stands) in
+    (nested-left body old new node siblings step nested) in
     let P : List Node → Type 0 =
     λ ns. AreNext (path_of body new.frames.items node siblings) (next_path body new.frames.items ns) in
     subst P (sym step.nodes) next
@@ -155,7 +155,7 @@ IsStackOf-enter body old new node siblings step s =
     let path = path_of body old.frames.items node siblings in
     let entries = entry_rules dependency_rules in
     record {
-      stands = stands-enter body old new node siblings step s.stands;
+      nested = nested-enter body old new node siblings step s.nested;
       passed = s.passed ++ path ∷ [];
       follow = s.follow ∙ ap (λ ps. s.passed ++ ps)
           (to_come-enter entries entries_close body old new node siblings step)
@@ -185,13 +185,13 @@ pub IsStackOf-leave : (body : List Node) (old new : Stack) (node : Bor Node) (si
 IsStackOf-leave body old new node siblings step s =
     let path = path_of body new.frames.items node siblings in
     let entries = entry_rules dependency_rules in
-    let next = next-leave body old new node siblings step s.stands in
+    let next = next-leave body old new node siblings step s.nested in
     let j = index_of (children_to_visit node.now) [] in
     record {
-      stands = stands-leave body old new node siblings step s.stands;
+      nested = nested-leave body old new node siblings step s.nested;
       passed = s.passed;
       follow = s.follow ∙ ap (λ ps. s.passed ++ ps)
-          (to_come-leave entries body old new node siblings step s.stands);
+          (to_come-leave entries body old new node siblings step s.nested);
       all_passed = λ q m.
           let P : NodePath → Type 0 = λ n. Past n q in
           let inside = subst P (next-last body old new node siblings step)
@@ -278,7 +278,7 @@ after_of false listed e = absurd (false≢true e)
 
 -- a node that is given before its inside is not one that comes after it, and the other way round
 no_inner : (body : List Node) (path : NodePath) (node : Node) → node_at body path ≡ Some node
-    → is_before dependency_rules node ≡ true
+    → is_given_before dependency_rules node ≡ true
     → IsAfterInside dependency_rules body path → ⊥
 no_inner body path node at before h =
     let P : Option Node → Type 0 = λ o. IsSomeAnd o (λ n. IsTrue (dependency_rules.is_after_inside n)) in
@@ -286,7 +286,7 @@ no_inner body path node at before h =
     (dependency_rules.is_listed node) before) ∙ subst P at h)
 
 is_inner : (body : List Node) (path : NodePath) (node : Node) → node_at body path ≡ Some node
-    → is_after dependency_rules node ≡ true
+    → is_given_after dependency_rules node ≡ true
     → IsAfterInside dependency_rules body path
 is_inner body path node at after =
     let P : Option Node → Type 0 = λ o. IsSomeAnd o (λ n. IsTrue (dependency_rules.is_after_inside n)) in
@@ -324,7 +324,7 @@ around_entered body path q (by.inner g h) = inr (inr (inr (Below-from_IsStrictPr
 pub count-enter : (body : List Node) (old new : Stack) (node : Bor Node) (siblings : Bor (List Node))
     → Enters old new node siblings
     → IsStackOf body new → node_at body (path_of body old.frames.items node siblings) ≡ Some node.now
-    → is_before dependency_rules node.now ≡ true
+    → is_given_before dependency_rules node.now ≡ true
     → IsCountOf (EnteredBy dependency_rules body (path_of body old.frames.items node siblings)) new.entered
 count-enter body old new node siblings step s at before =
     let path = path_of body old.frames.items node siblings in
@@ -343,11 +343,11 @@ pub count-leave : (body : List Node) (old new : Stack) (node : Bor Node) (siblin
     → Left old new node siblings
     → IsStackOf body old → IsStackOf body new
     → node_at body (path_of body new.frames.items node siblings) ≡ Some node.now
-    → is_after dependency_rules node.now ≡ true
+    → is_given_after dependency_rules node.now ≡ true
     → IsCountOf (EnteredBy dependency_rules body (path_of body new.frames.items node siblings)) new.entered
 count-leave body old new node siblings step before s at after =
     let path = path_of body new.frames.items node siblings in
-    let next = next-leave body old new node siblings step before.stands in
+    let next = next-leave body old new node siblings step before.nested in
     let here = next.front ++ next.index ∷ [] in
     count_of (IsEnteredBy dependency_rules body path) body new s (λ q r.
     let P : NodePath → Type 0 = λ n. Past n q in

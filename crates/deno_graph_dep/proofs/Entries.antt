@@ -20,13 +20,14 @@ use Rattle.std.specs.List.{flat_map}
 use Rattle.deno_graph_source.specs.Node.{children_of}
 use Rattle.deno_graph_source.specs.declared.tree.node.Node.{Node}
 use Rattle.deno_graph_dep.specs.Listing.{Rules}
-use Rattle.deno_graph_dep.specs.Recursion.{entries_at, with_entries}
+use Rattle.deno_graph_dep.specs.Recursion.{entries_at, with_own_entries}
 use Rattle.deno_graph_dep.proofs.Nodes.{by_children-is}
 
 pub entries_at-is : {A : Type 0} (rules : Rules) (own : Node → List A) (node : Node)
-    → entries_at rules own node ≡ with_entries rules own node (map (entries_at rules own) (children_of node))
+    → entries_at rules own node
+    ≡ with_own_entries rules own node (map (entries_at rules own) (children_of node))
 unfolding entries_at
-entries_at-is rules own node = by_children-is (with_entries rules own) node
+entries_at-is rules own node = by_children-is (with_own_entries rules own) node
 
 flat_map-map : {X A : Type 0} (f : X → List A) (xs : List X)
     → flat_map (λ entries. entries) (map f xs) ≡ flat_map f xs

@@ -31,7 +31,7 @@ use Rattle.deno_graph_dep.specs.Stack.{
   frame_index,
   next_path,
   paths_to_come,
-  StandsIn,
+  AreNested,
   IsPassed,
 }
 use Rattle.deno_graph_dep.specs.ListedPaths.{under, paths_at}
@@ -203,16 +203,16 @@ pub record AreNext (p next : NodePath) : Type 0 where
   pub second : next ≡ front ++ suc index ∷ []
 
 pub next_path-sibling : (level : List Node) (frames : List Frame) (node : Node) (siblings : List Node)
-    → StandsIn level frames (node ∷ siblings)
+    → AreNested level frames (node ∷ siblings)
     → AreNext (next_path level frames (node ∷ siblings)) (next_path level frames siblings)
-next_path-sibling level [] node siblings stands = record {
+next_path-sibling level [] node siblings nested = record {
   front = [];
   index = index_of level (node ∷ siblings);
   first = refl;
-  second = ap (λ k. k ∷ []) (sym (next_index level node siblings stands));
+  second = ap (λ k. k ∷ []) (sym (next_index level node siblings nested));
 }
-next_path-sibling level (frame ∷ frames) node siblings stands =
-    let below = next_path-sibling (children_to_visit frame.node.now) frames node siblings stands.1 in
+next_path-sibling level (frame ∷ frames) node siblings nested =
+    let below = next_path-sibling (children_to_visit frame.node.now) frames node siblings nested.1 in
     let i = frame_index level frame in
     record {
       front = i ∷ below.front;

@@ -24,7 +24,7 @@ use Rattle.std.specs.Borrow.{Bor}
 use Rattle.deno_graph_source.specs.declared.tree.node.Node.{Node}
 use Rattle.deno_graph_source.specs.declared.tree.node.Program.{Program}
 use Rattle.deno_graph_dep.specs.DependencyRules.{dependency_rules}
-use Rattle.deno_graph_dep.specs.Stack.{is_before, is_after, once, IsStackOf, to_come}
+use Rattle.deno_graph_dep.specs.Stack.{is_given_before, is_given_after, once, IsStackOf, to_come}
 use Rattle.deno_graph_dep.specs.Walk.{Gives}
 use Rattle.deno_graph_dep.specs.WalkSteps.{state_of}
 use Rattle.deno_graph_dep.specs.declared.stack.Stack.{Stack}
@@ -43,8 +43,8 @@ use Rattle.deno_graph_dep.proofs.Steps.{
   path_of,
   to_come-enter,
   to_come-leave,
-  stands-first,
-  stands-left,
+  nested-first,
+  nested-left,
 }
 
 -- only nodes that are not listed were passed
@@ -80,7 +80,7 @@ left-rises body first old new node siblings step p =
 -- a node that is not given is passed
 pub Progress-enter : (body : List Node) (first old new : Stack) (node : Bor Node) (siblings : Bor (List Node))
     → Enters old new node siblings
-    → is_before dependency_rules node.now ≡ false → Progress body first old → Progress body first new
+    → is_given_before dependency_rules node.now ≡ false → Progress body first old → Progress body first new
 Progress-enter body first old new node siblings step passed p = record {
   stack = IsStackOf-enter body old new node siblings step p.stack;
   same =
@@ -93,11 +93,11 @@ Progress-enter body first old new node siblings step passed p = record {
 
 pub Progress-leave : (body : List Node) (first old new : Stack) (node : Bor Node) (siblings : Bor (List Node))
     → Left old new node siblings
-    → is_after dependency_rules node.now ≡ false → Progress body first old → Progress body first new
+    → is_given_after dependency_rules node.now ≡ false → Progress body first old → Progress body first new
 Progress-leave body first old new node siblings step passed p = record {
   stack = IsStackOf-leave body old new node siblings step p.stack;
   same =
-      sym (to_come-leave dependency_rules body old new node siblings step p.stack.stands
+      sym (to_come-leave dependency_rules body old new node siblings step p.stack.nested
       ∙ ap (λ b. once b (path_of body new.frames.items node siblings)
       ++ to_come dependency_rules body new) passed)
       ∙ p.same;
@@ -107,13 +107,13 @@ Progress-leave body first old new node siblings step passed p = record {
 -- a node that is given
 pub gives-enter : (program : Program) (first old new : Stack) (node : Bor Node) (siblings : Bor (List Node))
     → Enters old new node siblings
-    → is_before dependency_rules node.now ≡ true → Progress program.body first old
+    → is_given_before dependency_rules node.now ≡ true → Progress program.body first old
     → Gives (state_of program first) (state_of program new) (Some node)
 gives-enter program first old new node siblings step given p =
     let body = program.body in
     let path = path_of body old.frames.items node siblings in
     let at = node_at-next_path body old.frames.items node.now siblings.now
-    (stands-first body old new node siblings step p.stack.stands) in
+    (nested-first body old new node siblings step p.stack.nested) in
     record {
       path = path;
       at_path = at;
@@ -125,17 +125,17 @@ gives-enter program first old new node siblings step given p =
 
 pub gives-leave : (program : Program) (first old new : Stack) (node : Bor Node) (siblings : Bor (List Node))
     → Left old new node siblings
-    → is_after dependency_rules node.now ≡ true → Progress program.body first old
+    → is_given_after dependency_rules node.now ≡ true → Progress program.body first old
     → Gives (state_of program first) (state_of program new) (Some node)
 gives-leave program first old new node siblings step given p =
     let body = program.body in
     let path = path_of body new.frames.items node siblings in
     let at = node_at-next_path body new.frames.items node.now siblings.now
-    (stands-left body old new node siblings step p.stack.stands) in
+    (nested-left body old new node siblings step p.stack.nested) in
     record {
       path = path;
       at_path = at;
-      first = sym p.same ∙ to_come-leave dependency_rules body old new node siblings step p.stack.stands
+      first = sym p.same ∙ to_come-leave dependency_rules body old new node siblings step p.stack.nested
           ∙ ap (λ b. once b path ++ to_come dependency_rules body new) given;
       entered = count-leave body old new node siblings step p.stack
           (IsStackOf-leave body old new node siblings step p.stack) at given;
@@ -154,7 +154,7 @@ pub IsStackOf-same : (body : List Node) (old new : Stack) → new.frames.items �
     → new.nodes.now ≡ old.nodes.now
     → new.entered ≡ old.entered → IsStackOf body old → IsStackOf body new
 IsStackOf-same body old new frames nodes entered s = record {
-  stands = rw (frames, nodes) s.stands;
+  nested = rw (frames, nodes) s.nested;
   passed = s.passed;
   follow = rw (frames, nodes) s.follow;
   all_passed = rw (frames, nodes) s.all_passed;

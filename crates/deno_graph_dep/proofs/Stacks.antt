@@ -36,15 +36,15 @@ use Rattle.deno_graph_dep.specs.Listing.{Rules}
 use Rattle.deno_graph_source.specs.NodePath.{NodePath, node_below, node_at}
 use Rattle.deno_graph_dep.specs.Stack.{
   frame_of,
-  is_before,
-  is_after,
+  is_given_before,
+  is_given_after,
   once,
   index_of,
   frame_index,
   next_path,
   paths_to_come,
   AreLastOf,
-  StandsIn,
+  AreNested,
 }
 use Rattle.deno_graph_dep.specs.declared.stack.Frame.{Frame}
 use Rattle.deno_graph_dep.proofs.ListedPaths.{paths_at-is}
@@ -79,11 +79,11 @@ ClosesAsVisited rules = (node : Node)
 
 paths_at-pieces : (rules : Rules) → ClosesAsVisited rules → (node : Node) →
     paths_at rules node
-    ≡ once (is_before rules node) [] ++ under (λ n. n) (map (paths_at rules) (children_to_visit node))
-    ++ once (is_after rules node) []
+    ≡ once (is_given_before rules node) [] ++ under (λ n. n) (map (paths_at rules) (children_to_visit node))
+    ++ once (is_given_after rules node) []
 paths_at-pieces rules closes node =
-    let own = once (is_before rules node) [] in
-    let after = once (is_after rules node) [] in
+    let own = once (is_given_before rules node) [] in
+    let after = once (is_given_after rules node) [] in
     paths_at-is rules node ∙
     pieces_by (paths_at rules) (rules.is_after_inside node) (rules.is_closed node) (rules.is_listed node)
     (children_of node) ∙
@@ -108,22 +108,23 @@ once_out n b p ys own rest =
 pub paths_to_come-enter : (rules : Rules) → ClosesAsVisited rules
     → (level : List Node) (frames : List Frame) (node : Bor Node) (siblings : Bor (List Node)) →
     paths_to_come rules level frames (node.now ∷ siblings.now)
-    ≡ once (is_before rules node.now) (next_path level frames (node.now ∷ siblings.now))
+    ≡ once (is_given_before rules node.now) (next_path level frames (node.now ∷ siblings.now))
     ++ paths_to_come rules level (frames ++ frame_of node siblings ∷ []) (children_to_visit node.now)
 paths_to_come-enter rules closes level [] node siblings =
     let k = index_of level (node.now ∷ siblings.now) in
     let inner = children_to_visit node.now in
-    let own = once (is_after rules node.now) [] in
-    let before = once (is_before rules node.now) [] in
+    let own = once (is_given_after rules node.now) [] in
+    let before = once (is_given_before rules node.now) [] in
     let below = map (paths_at rules) inner in
     let beside = map (paths_at rules) siblings.now in
     ap (λ j. map (λ p. j ∷ p) (paths_at rules node.now) ++ under (λ n. suc n + k) beside) (first_number k) ∙
     ap (λ ps. map (λ p. k ∷ p) ps ++ under (λ n. suc n + k) beside) (paths_at-pieces rules closes node.now) ∙
-    once_out k (is_before rules node.now) [] (under (λ n. n) below) own (under (λ n. suc n + k) beside) ∙
-    ap (λ ps. once (is_before rules node.now) (k ∷ [])
+    once_out k (is_given_before rules node.now) [] (under (λ n. n) below) own (under (λ n. suc n + k) beside)
+    ∙
+    ap (λ ps. once (is_given_before rules node.now) (k ∷ [])
     ++ (map (λ p. k ∷ p) (ps ++ own) ++ under (λ n. suc n + k) beside))
     (under-same (λ n. n) (λ n. n + index_of inner inner) (λ n. none_before inner n) below) ∙
-    ap (λ ps. once (is_before rules node.now) (k ∷ [])
+    ap (λ ps. once (is_given_before rules node.now) (k ∷ [])
     ++ (map (λ p. k ∷ p) (under (λ n. n + index_of inner inner) below ++ own) ++ ps))
     (under-same (λ n. suc n + k) (λ n. n + suc k) (λ n. omega arith) beside)
   where
@@ -134,12 +135,12 @@ paths_to_come-enter rules closes level [] node siblings =
     none_before inner n = omega arith
 paths_to_come-enter rules closes level (frame ∷ frames) node siblings =
     let inner = children_to_visit frame.node.now in
-    let own = once (is_after rules frame.node.now) [] in
+    let own = once (is_given_after rules frame.node.now) [] in
     let i = frame_index level frame in
     let beside = under (λ n. n + suc i) (map (paths_at rules) frame.siblings.now) in
     ap (λ ps. map (λ p. i ∷ p) (ps ++ own) ++ beside)
     (paths_to_come-enter rules closes inner frames node siblings) ∙
-    once_out i (is_before rules node.now) (next_path inner frames (node.now ∷ siblings.now))
+    once_out i (is_given_before rules node.now) (next_path inner frames (node.now ∷ siblings.now))
     (paths_to_come rules inner (frames ++ frame_of node siblings ∷ [])
     (children_to_visit node.now)) own beside
 
@@ -154,50 +155,50 @@ next_index level node siblings last =
 -- when a node is left, it comes first if it is given after its inside, and its siblings come next
 pub paths_to_come-leave : (rules : Rules) (level : List Node) (frames : List Frame) (node : Bor Node)
     (siblings : Bor (List Node)) →
-    StandsIn level (frames ++ frame_of node siblings ∷ []) [] →
+    AreNested level (frames ++ frame_of node siblings ∷ []) [] →
     paths_to_come rules level (frames ++ frame_of node siblings ∷ []) []
-    ≡ once (is_after rules node.now) (next_path level frames (node.now ∷ siblings.now))
+    ≡ once (is_given_after rules node.now) (next_path level frames (node.now ∷ siblings.now))
     ++ paths_to_come rules level frames siblings.now
-paths_to_come-leave rules level [] node siblings stands =
+paths_to_come-leave rules level [] node siblings nested =
     let k = index_of level (node.now ∷ siblings.now) in
     let beside = map (paths_at rules) siblings.now in
-    ap (λ ps. ps ++ under (λ n. n + suc k) beside) (map-once k (is_after rules node.now) []) ∙
-    ap (λ j. once (is_after rules node.now) (k ∷ []) ++ under (λ n. n + j) beside)
-    (next_index level node.now siblings.now stands.0)
-paths_to_come-leave rules level (frame ∷ frames) node siblings stands =
+    ap (λ ps. ps ++ under (λ n. n + suc k) beside) (map-once k (is_given_after rules node.now) []) ∙
+    ap (λ j. once (is_given_after rules node.now) (k ∷ []) ++ under (λ n. n + j) beside)
+    (next_index level node.now siblings.now nested.0)
+paths_to_come-leave rules level (frame ∷ frames) node siblings nested =
     let inner = children_to_visit frame.node.now in
-    let own = once (is_after rules frame.node.now) [] in
+    let own = once (is_given_after rules frame.node.now) [] in
     let i = frame_index level frame in
     let beside = under (λ n. n + suc i) (map (paths_at rules) frame.siblings.now) in
     ap (λ ps. map (λ p. i ∷ p) (ps ++ own) ++ beside)
-    (paths_to_come-leave rules inner frames node siblings stands.1) ∙
-    once_out i (is_after rules node.now) (next_path inner frames (node.now ∷ siblings.now))
+    (paths_to_come-leave rules inner frames node siblings nested.1) ∙
+    once_out i (is_given_after rules node.now) (next_path inner frames (node.now ∷ siblings.now))
     (paths_to_come rules inner frames siblings.now) own beside
 
 -- the nodes on the stack stay in their levels
-pub StandsIn-enter : (level : List Node) (frames : List Frame) (node : Bor Node)
+pub AreNested-enter : (level : List Node) (frames : List Frame) (node : Bor Node)
     (siblings : Bor (List Node)) →
-    StandsIn level frames (node.now ∷ siblings.now)
-    → StandsIn level (frames ++ frame_of node siblings ∷ []) (children_to_visit node.now)
-StandsIn-enter level [] node siblings stands = (stands, ([], refl))
-StandsIn-enter level (frame ∷ frames) node siblings stands =
-    (stands.0, StandsIn-enter (children_to_visit frame.node.now) frames node siblings stands.1)
+    AreNested level frames (node.now ∷ siblings.now)
+    → AreNested level (frames ++ frame_of node siblings ∷ []) (children_to_visit node.now)
+AreNested-enter level [] node siblings nested = (nested, ([], refl))
+AreNested-enter level (frame ∷ frames) node siblings nested =
+    (nested.0, AreNested-enter (children_to_visit frame.node.now) frames node siblings nested.1)
 
-pub StandsIn-leave : (level : List Node) (frames : List Frame) (node : Bor Node) (siblings : Bor (List Node))
+pub AreNested-leave : (level : List Node) (frames : List Frame) (node : Bor Node) (siblings : Bor (List Node))
     (nodes : List Node) →
-    StandsIn level (frames ++ frame_of node siblings ∷ []) nodes → StandsIn level frames siblings.now
-StandsIn-leave level [] node siblings nodes stands =
-    (stands.0.0 ++ node.now ∷ [], stands.0.1 ∙ sym (append_assoc stands.0.0 (node.now ∷ []) siblings.now))
-StandsIn-leave level (frame ∷ frames) node siblings nodes stands =
-    (stands.0, StandsIn-leave (children_to_visit frame.node.now) frames node siblings nodes stands.1)
+    AreNested level (frames ++ frame_of node siblings ∷ []) nodes → AreNested level frames siblings.now
+AreNested-leave level [] node siblings nodes nested =
+    (nested.0.0 ++ node.now ∷ [], nested.0.1 ∙ sym (append_assoc nested.0.0 (node.now ∷ []) siblings.now))
+AreNested-leave level (frame ∷ frames) node siblings nodes nested =
+    (nested.0, AreNested-leave (children_to_visit frame.node.now) frames node siblings nodes nested.1)
 
-pub StandsIn-left : (level : List Node) (frames : List Frame) (node : Bor Node) (siblings : Bor (List Node))
+pub AreNested-left : (level : List Node) (frames : List Frame) (node : Bor Node) (siblings : Bor (List Node))
     (nodes : List Node) →
-    StandsIn level (frames ++ frame_of node siblings ∷ []) nodes
-    → StandsIn level frames (node.now ∷ siblings.now)
-StandsIn-left level [] node siblings nodes stands = stands.0
-StandsIn-left level (frame ∷ frames) node siblings nodes stands =
-    (stands.0, StandsIn-left (children_to_visit frame.node.now) frames node siblings nodes stands.1)
+    AreNested level (frames ++ frame_of node siblings ∷ []) nodes
+    → AreNested level frames (node.now ∷ siblings.now)
+AreNested-left level [] node siblings nodes nested = nested.0
+AreNested-left level (frame ∷ frames) node siblings nodes nested =
+    (nested.0, AreNested-left (children_to_visit frame.node.now) frames node siblings nodes nested.1)
 
 -- the node that begins the last ones of a level
 first_of_last : (level : List Node) (node : Node) (siblings : List Node) → AreLastOf level (node ∷ siblings)
@@ -231,13 +232,13 @@ below_inside outer (k ∷ path) node is = by_test (is_closed (kind_of outer)) is
 
 -- the path of the node to enter next leads to it
 pub node_at-next_path : (level : List Node) (frames : List Frame) (node : Node) (siblings : List Node) →
-    StandsIn level frames (node ∷ siblings)
+    AreNested level frames (node ∷ siblings)
     → node_at level (next_path level frames (node ∷ siblings)) ≡ Some node
-node_at-next_path level [] node siblings stands =
-    ap (λ o. node_below o []) (first_of_last level node siblings stands)
-node_at-next_path level (frame ∷ frames) node siblings stands =
+node_at-next_path level [] node siblings nested =
+    ap (λ o. node_below o []) (first_of_last level node siblings nested)
+node_at-next_path level (frame ∷ frames) node siblings nested =
     let inner = children_to_visit frame.node.now in
     ap (λ o. node_below o (next_path inner frames (node ∷ siblings)))
-    (first_of_last level frame.node.now frame.siblings.now stands.0) ∙
+    (first_of_last level frame.node.now frame.siblings.now nested.0) ∙
     below_inside frame.node.now (next_path inner frames (node ∷ siblings)) node
-    (node_at-next_path inner frames node siblings stands.1)
+    (node_at-next_path inner frames node siblings nested.1)

@@ -5,7 +5,8 @@ use Rattle.deno_graph_source.specs.declared.tree.node.Node.{Node}
 use Rattle.deno_graph_dep.specs.DependencyRules.{children_to_visit}
 use Rattle.deno_graph_dep.specs.Listing.{Rules}
 use Rattle.deno_graph_source.specs.NodePath.{NodePath}
-use Rattle.deno_graph_dep.specs.Stack.{frame_of, is_before, is_after, once, next_path, StandsIn, to_come}
+use Rattle.deno_graph_dep.specs.Stack.{frame_of, is_given_before, is_given_after, once, next_path, AreNested}
+use Rattle.deno_graph_dep.specs.Stack.{to_come}
 use Rattle.deno_graph_dep.specs.declared.stack.Frame.{Frame}
 use Rattle.deno_graph_dep.specs.declared.stack.Stack.{Stack}
 use Rattle.deno_graph_dep.proofs.Rounds.{rounds, rounds_of, rounds_of-push, to_enter, to_enter-first}
@@ -13,9 +14,9 @@ use Rattle.deno_graph_dep.proofs.Stacks.{
   ClosesAsVisited,
   paths_to_come-enter,
   paths_to_come-leave,
-  StandsIn-enter,
-  StandsIn-leave,
-  StandsIn-left,
+  AreNested-enter,
+  AreNested-leave,
+  AreNested-left,
 }
 
 pub record Enters (old new : Stack) (node : Bor Node) (siblings : Bor (List Node)) : Type 0 where
@@ -37,7 +38,8 @@ path_of body frames node siblings = next_path body frames (node.now ∷ siblings
 pub to_come-enter : (rules : Rules) → ClosesAsVisited rules
     → (body : List Node) (old new : Stack) (node : Bor Node) (siblings : Bor (List Node)) →
     Enters old new node siblings →
-    to_come rules body old ≡ once (is_before rules node.now) (path_of body old.frames.items node siblings)
+    to_come rules body old
+    ≡ once (is_given_before rules node.now) (path_of body old.frames.items node siblings)
     ++ to_come rules body new
 to_come-enter rules closes body old new node siblings step =
     rw (step.first, step.frames, step.nodes)
@@ -45,47 +47,48 @@ to_come-enter rules closes body old new node siblings step =
 
 pub to_come-leave : (rules : Rules) (body : List Node) (old new : Stack) (node : Bor Node)
     (siblings : Bor (List Node)) →
-    Left old new node siblings → StandsIn body old.frames.items old.nodes.now →
-    to_come rules body old ≡ once (is_after rules node.now) (path_of body new.frames.items node siblings)
+    Left old new node siblings → AreNested body old.frames.items old.nodes.now →
+    to_come rules body old
+    ≡ once (is_given_after rules node.now) (path_of body new.frames.items node siblings)
     ++ to_come rules body new
-to_come-leave rules body old new node siblings step stands =
-    let P : List Frame → Type 0 = λ fs. StandsIn body fs old.nodes.now in
-    let Q : List Node → Type 0 = λ ns. StandsIn body (new.frames.items ++ frame_of node siblings ∷ []) ns in
-    let there = subst Q step.none (subst P step.frames stands) in
+to_come-leave rules body old new node siblings step nested =
+    let P : List Frame → Type 0 = λ fs. AreNested body fs old.nodes.now in
+    let Q : List Node → Type 0 = λ ns. AreNested body (new.frames.items ++ frame_of node siblings ∷ []) ns in
+    let there = subst Q step.none (subst P step.frames nested) in
     rw (step.none, step.frames, step.nodes)
     (paths_to_come-leave rules body new.frames.items node siblings there)
 
-pub stands-first : (body : List Node) (old new : Stack) (node : Bor Node) (siblings : Bor (List Node))
+pub nested-first : (body : List Node) (old new : Stack) (node : Bor Node) (siblings : Bor (List Node))
     → Enters old new node siblings →
-    StandsIn body old.frames.items old.nodes.now → StandsIn body old.frames.items (node.now ∷ siblings.now)
-stands-first body old new node siblings step stands =
-    let Q : List Node → Type 0 = λ ns. StandsIn body old.frames.items ns in subst Q step.first stands
+    AreNested body old.frames.items old.nodes.now → AreNested body old.frames.items (node.now ∷ siblings.now)
+nested-first body old new node siblings step nested =
+    let Q : List Node → Type 0 = λ ns. AreNested body old.frames.items ns in subst Q step.first nested
 
-pub stands-left : (body : List Node) (old new : Stack) (node : Bor Node) (siblings : Bor (List Node))
+pub nested-left : (body : List Node) (old new : Stack) (node : Bor Node) (siblings : Bor (List Node))
     → Left old new node siblings →
-    StandsIn body old.frames.items old.nodes.now → StandsIn body new.frames.items (node.now ∷ siblings.now)
-stands-left body old new node siblings step stands =
-    let P : List Frame → Type 0 = λ fs. StandsIn body fs old.nodes.now in
-    StandsIn-left body new.frames.items node siblings old.nodes.now (subst P step.frames stands)
+    AreNested body old.frames.items old.nodes.now → AreNested body new.frames.items (node.now ∷ siblings.now)
+nested-left body old new node siblings step nested =
+    let P : List Frame → Type 0 = λ fs. AreNested body fs old.nodes.now in
+    AreNested-left body new.frames.items node siblings old.nodes.now (subst P step.frames nested)
 
-pub stands-enter : (body : List Node) (old new : Stack) (node : Bor Node) (siblings : Bor (List Node))
+pub nested-enter : (body : List Node) (old new : Stack) (node : Bor Node) (siblings : Bor (List Node))
     → Enters old new node siblings →
-    StandsIn body old.frames.items old.nodes.now → StandsIn body new.frames.items new.nodes.now
-stands-enter body old new node siblings step stands =
-    let there = StandsIn-enter body old.frames.items node siblings
-    (stands-first body old new node siblings step stands) in
-    let P : List Frame → Type 0 = λ fs. StandsIn body fs new.nodes.now in
-    let Q : List Node → Type 0 = λ ns. StandsIn body (old.frames.items ++ frame_of node siblings ∷ []) ns in
+    AreNested body old.frames.items old.nodes.now → AreNested body new.frames.items new.nodes.now
+nested-enter body old new node siblings step nested =
+    let there = AreNested-enter body old.frames.items node siblings
+    (nested-first body old new node siblings step nested) in
+    let P : List Frame → Type 0 = λ fs. AreNested body fs new.nodes.now in
+    let Q : List Node → Type 0 = λ ns. AreNested body (old.frames.items ++ frame_of node siblings ∷ []) ns in
     subst P (sym step.frames) (subst Q (sym step.nodes) there)
 
-pub stands-leave : (body : List Node) (old new : Stack) (node : Bor Node) (siblings : Bor (List Node))
+pub nested-leave : (body : List Node) (old new : Stack) (node : Bor Node) (siblings : Bor (List Node))
     → Left old new node siblings →
-    StandsIn body old.frames.items old.nodes.now → StandsIn body new.frames.items new.nodes.now
-stands-leave body old new node siblings step stands =
-    let P : List Frame → Type 0 = λ fs. StandsIn body fs old.nodes.now in
-    let Q : List Node → Type 0 = λ ns. StandsIn body new.frames.items ns in
+    AreNested body old.frames.items old.nodes.now → AreNested body new.frames.items new.nodes.now
+nested-leave body old new node siblings step nested =
+    let P : List Frame → Type 0 = λ fs. AreNested body fs old.nodes.now in
+    let Q : List Node → Type 0 = λ ns. AreNested body new.frames.items ns in
     subst Q (sym step.nodes)
-    (StandsIn-leave body new.frames.items node siblings old.nodes.now (subst P step.frames stands))
+    (AreNested-leave body new.frames.items node siblings old.nodes.now (subst P step.frames nested))
 
 -- each round is one less
 pub rounds-enter : (old new : Stack) (node : Bor Node) (siblings : Bor (List Node))

@@ -28,7 +28,7 @@ use Rattle.std.specs.Borrow.{Bor}
 use Rattle.deno_graph_source.specs.declared.tree.node.Node.{Node}
 use Rattle.deno_graph_source.specs.declared.tree.node.Program.{Program}
 use Rattle.deno_graph_dep.specs.DependencyRules.{dependency_rules}
-use Rattle.deno_graph_dep.specs.Stack.{entry_rules, index_of, paths_to_come, to_come, StandsIn, IsStackOf}
+use Rattle.deno_graph_dep.specs.Stack.{entry_rules, index_of, paths_to_come, to_come, AreNested, IsStackOf}
 use Rattle.deno_graph_dep.specs.ListedPaths.{listed_paths, paths_at}
 use Rattle.deno_graph_dep.specs.Listing.{Rules, IsListing}
 use Rattle.deno_graph_source.specs.NodePath.{NodePath}
@@ -59,10 +59,10 @@ pub IsWalkOf-new : (body : List Node) (stack : Stack) → stack.frames.items ≡
     → IsWalkOf body stack
 IsWalkOf-new body stack frames nodes entered = record {
   is_stack = record {
-    stands =
-        let P : List Frame → Type 0 = λ fs. StandsIn body fs stack.nodes.now in
-        let Q : List Node → Type 0 = λ ns. StandsIn body [] ns in
-        let at_start : StandsIn body [] body = ([], refl) in
+    nested =
+        let P : List Frame → Type 0 = λ fs. AreNested body fs stack.nodes.now in
+        let Q : List Node → Type 0 = λ ns. AreNested body [] ns in
+        let at_start : AreNested body [] body = ([], refl) in
         subst P (sym frames) (subst Q (sym nodes) at_start);
     passed = [];
     follow = to_come-new (entry_rules dependency_rules) body stack frames nodes;

@@ -17,12 +17,12 @@ by_children {A} step node = (fold-Node (Node × A) (with_result step) node).1
 
 -- a node's own entries come before those of its children, or after them where the rules say so,
 -- and there are none from inside a closed node
-abbrev pub with_entries : {A : Type 0} → Rules → (Node → List A) → Node → List (List A) → List A
-with_entries rules own node below =
+abbrev pub with_own_entries : {A : Type 0} → Rules → (Node → List A) → Node → List (List A) → List A
+with_own_entries rules own node below =
     (if rules.is_after_inside node then [] else own node)
     ++ (if rules.is_closed node then [] else flat_map (λ entries. entries) below)
     ++ (if rules.is_after_inside node then own node else [])
 
 -- the entries of a node and of what is inside it, in tree order, by plain recursion
 unfoldable pub entries_at : {A : Type 0} → Rules → (Node → List A) → Node → List A
-entries_at rules own = by_children (with_entries rules own)
+entries_at rules own = by_children (with_own_entries rules own)

@@ -55,11 +55,11 @@ Leaves old new (Some node) =
     × (new.nodes.now ≡ siblings.now)
 
 -- a listed node that is given before what is inside it, and one that is given after that
-abbrev pub is_before : Rules → Node → Bool
-is_before rules node = not (rules.is_after_inside node) && rules.is_listed node
+abbrev pub is_given_before : Rules → Node → Bool
+is_given_before rules node = not (rules.is_after_inside node) && rules.is_listed node
 
-abbrev pub is_after : Rules → Node → Bool
-is_after rules node = rules.is_after_inside node && rules.is_listed node
+abbrev pub is_given_after : Rules → Node → Bool
+is_given_after rules node = rules.is_after_inside node && rules.is_listed node
 
 -- a path, if the test holds
 abbrev pub once : Bool → NodePath → List NodePath
@@ -89,7 +89,7 @@ paths_to_come rules level (frame ∷ frames) nodes =
     let node = frame.node.now in
     let index = frame_index level frame in
     let inside = paths_to_come rules (children_to_visit node) frames nodes in
-    map (λ path. index ∷ path) (inside ++ once (is_after rules node) [])
+    map (λ path. index ∷ path) (inside ++ once (is_given_after rules node) [])
     ++ under (λ n. n + suc index) (map (paths_at rules) frame.siblings.now)
 
 -- the nodes are the last ones of a level
@@ -97,11 +97,11 @@ abbrev pub AreLastOf : List Node → List Node → Type 0
 AreLastOf level nodes = (before : List Node) × (level ≡ before ++ nodes)
 
 -- each entered node is in the level inside the one before it, with its siblings after it
-abbrev pub StandsIn : List Node → List Frame → List Node → Type 0
-StandsIn level [] nodes = AreLastOf level nodes
-StandsIn level (frame ∷ frames) nodes =
+abbrev pub AreNested : List Node → List Frame → List Node → Type 0
+AreNested level [] nodes = AreLastOf level nodes
+AreNested level (frame ∷ frames) nodes =
     AreLastOf level (frame.node.now ∷ frame.siblings.now)
-    × StandsIn (children_to_visit frame.node.now) frames nodes
+    × AreNested (children_to_visit frame.node.now) frames nodes
 
 -- the paths that are still to come
 abbrev pub to_come : Rules → List Node → Stack → List NodePath
@@ -125,7 +125,7 @@ IsPassed next path = PartsBelow path next ⊎ IsStrictPrefix path next
 -- The stack is one of a body: it leads down from there, and what it counts are the paths that were
 -- entered, which all are passed and which those still to come follow.
 pub record IsStackOf (body : List Node) (stack : Stack) : Type 0 where
-  pub stands : StandsIn body stack.frames.items stack.nodes.now
+  pub nested : AreNested body stack.frames.items stack.nodes.now
   pub passed : List NodePath
   pub follow : entry_paths body ≡ passed ++ entries_to_come body stack
   pub all_passed : (path : NodePath) → Contains passed path → IsPassed (next_of body stack) path

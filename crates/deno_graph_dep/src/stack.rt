@@ -7,7 +7,7 @@ ghost use Rattle.deno_graph_source.specs.declared.tree.node.Program.{Program};
 ghost use Rattle.deno_graph_dep.specs.DependencyRules.{children_to_visit, dependency_rules};
 ghost use Rattle.deno_graph_dep.specs.Walk.{Gives};
 ghost use Rattle.deno_graph_dep.specs.WalkSteps.{state_of};
-ghost use Rattle.deno_graph_dep.specs.Stack.{frame_of, Leaves, IsStackOf, is_after, is_before, to_come};
+ghost use Rattle.deno_graph_dep.specs.Stack.{frame_of, Leaves, IsStackOf, is_given_after, is_given_before, to_come};
 
 use crate::listed::{is_closed, is_listed, is_listed_after_inside};
 use deno_graph_source::tree::Node;
@@ -113,14 +113,14 @@ fn inside(node: &Node) -> &[Node]
 
 /// Whether a node is listed, and before what is inside it.
 fn is_given_before_inside(node: &Node) -> bool
-    ensures { result ≡ is_before dependency_rules node.now }
+    ensures { result ≡ is_given_before dependency_rules node.now }
 {
     !is_listed_after_inside(&node.kind) && is_listed(node)
 }
 
 /// Whether a node is listed, and after what is inside it.
 fn is_given_after_inside(node: &Node) -> bool
-    ensures { result ≡ is_after dependency_rules node.now }
+    ensures { result ≡ is_given_after dependency_rules node.now }
 {
     is_listed_after_inside(&node.kind) && is_listed(node)
 }

@@ -26,10 +26,10 @@ use Rattle.serde_json.specs.declared.value.Value.{Value}
 use Rattle.deno_graph_dependency.specs.Read.Partial.{◌>>=◌, member_at, reads_array}
 use Rattle.deno_graph_dependency.specs.declared.specifier_with_range.SpecifierWithRange.{SpecifierWithRange}
 use Rattle.deno_graph_info.proofs.MembersLemmas.{TextEntry, has_key, get_member-without, put_again}
-use Rattle.deno_graph_info.specs.Comment.{reads_comment}
+use Rattle.deno_graph_info.specs.Comment.{reads_stored_comment}
 use Rattle.deno_graph_info.specs.Conversion.{
-  with_member,
-  without_member,
+  with_value_at,
+  without_value_at,
   with_types,
   comments_in,
   dependencies_in,
@@ -140,7 +140,7 @@ converted_members ms left after found emptied made present is was h put_there =
 
 -- ---- again
 
-without_comments : (d : Data) → comments_in (without_member (codes "leadingComments") d) ≡ None
+without_comments : (d : Data) → comments_in (without_value_at (codes "leadingComments") d) ≡ None
 unfolding comments_in member_at
 without_comments null = refl
 without_comments (boolean b) = refl
@@ -148,7 +148,7 @@ without_comments (number n) = refl
 without_comments (string s) = refl
 without_comments (array ds) = refl
 without_comments (object ms) =
-    ap (λ o. o >>= reads_array reads_comment) (get_member-without (codes "leadingComments") ms)
+    ap (λ o. o >>= reads_array reads_stored_comment) (get_member-without (codes "leadingComments") ms)
 
 dependency_again_at : (d after : Data) (found : Option (List Comment)) → comments_in d ≡ found
     → IsConvertedDependency d after → IsConvertedDependency after after
@@ -157,7 +157,7 @@ dependency_again_at d after None is h =
     rw (ap comments_in same ∙ is) refl
 dependency_again_at d after (Some comments) is h =
     let changed : (types : Option SpecifierWithRange) × AreTypes comments types
-    × (after ≡ without_member (codes "leadingComments") (with_types types d)) = rw is at h in
+    × (after ≡ without_value_at (codes "leadingComments") (with_types types d)) = rw is at h in
     rw (ap comments_in changed.2 ∙ without_comments (with_types changed.0 d)) refl
 
 dependency_again : (d after : Data) → IsConvertedDependency d after → IsConvertedDependency after after
@@ -171,7 +171,7 @@ all_again (item d ds) (item e es) h = (dependency_again d e h.0, all_again ds es
 
 -- dependencies that were put are found, and put again change nothing
 put_found : (v : Data) (old new : Items) → dependencies_in v ≡ Some old
-    → dependencies_in (with_member (codes "dependencies") (array new) v) ≡ Some new
+    → dependencies_in (with_value_at (codes "dependencies") (array new) v) ≡ Some new
 unfolding dependencies_in member_at
 put_found null old new is = absurd (cc)
 put_found (boolean b) old new is = absurd (cc)
@@ -182,7 +182,7 @@ put_found (object ms) old new is =
     ap (λ o. o >>= as_array) (get_member-put (codes "dependencies") (array new) ms)
 
 with_member_again : (key : List ℕ) (d : Data) (v : Data)
-    → with_member key d (with_member key d v) ≡ with_member key d v
+    → with_value_at key d (with_value_at key d v) ≡ with_value_at key d v
 with_member_again key d null = refl
 with_member_again key d (boolean b) = refl
 with_member_again key d (number n) = refl
@@ -197,12 +197,12 @@ again_at v after None is h =
     rw (ap dependencies_in same ∙ is) refl
 again_at v after (Some old) is h =
     let changed : (new : Items) × AreConverted old new
-    × (after ≡ with_member (codes "dependencies") (array new) v) = rw is at h in
+    × (after ≡ with_value_at (codes "dependencies") (array new) v) = rw is at h in
     let found : dependencies_in after ≡ Some changed.0 =
     ap dependencies_in changed.2 ∙ put_found v old changed.0 is in
-    let kept : after ≡ with_member (codes "dependencies") (array changed.0) after =
+    let kept : after ≡ with_value_at (codes "dependencies") (array changed.0) after =
     changed.2 ∙ sym (with_member_again (codes "dependencies") (array changed.0) v)
-    ∙ ap (with_member (codes "dependencies") (array changed.0)) (sym changed.2) in
+    ∙ ap (with_value_at (codes "dependencies") (array changed.0)) (sym changed.2) in
     rw found (changed.0, all_again old changed.0 changed.1, kept)
 
 -- conversion of what is converted changes nothing

@@ -21,8 +21,8 @@ use Rattle.deno_graph_dependency.specs.declared.specifier_with_range.SpecifierWi
 use Rattle.deno_graph_pragmas.specs.Finders.{deno_types_pattern, quoteless_deno_types_pattern}
 use Rattle.deno_graph_pragmas.specs.Split.{TextPart, HasOnePart}
 use Rattle.deno_graph_info.specs.Conversion.{
-  with_member,
-  without_member,
+  with_value_at,
+  without_value_at,
   with_types,
   comments_in,
   dependencies_in,
@@ -81,10 +81,10 @@ module _ (quoted : HasOnePart deno_types_pattern) (bare : HasOnePart quoteless_d
       let p : one ≡ d = rw is at a in let q : other ≡ d = rw is at b in p ∙ sym q
   one_dependency_at d one other (Some comments) is a b =
       let p : (types : Option SpecifierWithRange) × AreTypes comments types
-      × (one ≡ without_member (codes "leadingComments") (with_types types d)) = rw is at a in
+      × (one ≡ without_value_at (codes "leadingComments") (with_types types d)) = rw is at a in
       let q : (types : Option SpecifierWithRange) × AreTypes comments types
-      × (other ≡ without_member (codes "leadingComments") (with_types types d)) = rw is at b in
-      p.2 ∙ ap (λ types. without_member (codes "leadingComments") (with_types types d))
+      × (other ≡ without_value_at (codes "leadingComments") (with_types types d)) = rw is at b in
+      p.2 ∙ ap (λ types. without_value_at (codes "leadingComments") (with_types types d))
       (one_types comments p.0 q.0 p.1 q.1) ∙ sym q.2
 
   no_dependency_at : (d one : Data) (found : Option (List Comment)) → comments_in d ≡ found
@@ -92,7 +92,7 @@ module _ (quoted : HasOnePart deno_types_pattern) (bare : HasOnePart quoteless_d
   no_dependency_at d one None is a b = let q : ⊥ = rw is at b in q
   no_dependency_at d one (Some comments) is a b =
       let p : (types : Option SpecifierWithRange) × AreTypes comments types
-      × (one ≡ without_member (codes "leadingComments") (with_types types d)) = rw is at a in
+      × (one ≡ without_value_at (codes "leadingComments") (with_types types d)) = rw is at a in
       let q : HasNoColumn comments = rw is at b in
       column_or_none comments p.0 p.1 q
 
@@ -122,10 +122,10 @@ module _ (quoted : HasOnePart deno_types_pattern) (bare : HasOnePart quoteless_d
   one_at v one other None is a b = let p : one ≡ v = rw is at a in let q : other ≡ v = rw is at b in p ∙ sym q
   one_at v one other (Some old) is a b =
       let p : (new : Items) × AreConverted old new
-      × (one ≡ with_member (codes "dependencies") (array new) v) = rw is at a in
+      × (one ≡ with_value_at (codes "dependencies") (array new) v) = rw is at a in
       let q : (new : Items) × AreConverted old new
-      × (other ≡ with_member (codes "dependencies") (array new) v) = rw is at b in
-      p.2 ∙ ap (λ new. with_member (codes "dependencies") (array new) v) (one_each old p.0 q.0 p.1 q.1)
+      × (other ≡ with_value_at (codes "dependencies") (array new) v) = rw is at b in
+      p.2 ∙ ap (λ new. with_value_at (codes "dependencies") (array new) v) (one_each old p.0 q.0 p.1 q.1)
       ∙ sym q.2
 
   none_at : (v one : Data) (found : Option Items) → dependencies_in v ≡ found → IsConverted v one
@@ -133,7 +133,7 @@ module _ (quoted : HasOnePart deno_types_pattern) (bare : HasOnePart quoteless_d
   none_at v one None is a b = let q : ⊥ = rw is at b in q
   none_at v one (Some old) is a b =
       let p : (new : Items) × AreConverted old new
-      × (one ≡ with_member (codes "dependencies") (array new) v) = rw is at a in
+      × (one ≡ with_value_at (codes "dependencies") (array new) v) = rw is at a in
       let q : AnyOverflows old = rw is at b in
       no_each old p.0 p.1 q
 

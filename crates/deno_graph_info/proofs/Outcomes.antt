@@ -28,7 +28,7 @@ use Rattle.serde_json.specs.Data.{Data}
 use Rattle.std.specs.Prelude.{codes, List}
 use Rattle.deno_graph_dependency.specs.declared.specifier_with_range.SpecifierWithRange.{SpecifierWithRange}
 use Rattle.deno_graph_info.specs.Conversion.{
-  without_member,
+  without_value_at,
   with_types,
   comments_in,
   IsConvertedDependency,
@@ -66,7 +66,7 @@ exits_column P Q fault answer on is h =
 -- a dependency with comments that can be read
 pub converted_with : (d after : Data) (comments : List Comment) (types : Option SpecifierWithRange)
     → comments_in d ≡ Some comments → AreTypes comments types
-    → after ≡ without_member (codes "leadingComments") (with_types types d)
+    → after ≡ without_value_at (codes "leadingComments") (with_types types d)
     → IsConvertedDependency d after
 converted_with d after comments types is are made = rw is (types, are, made)
 

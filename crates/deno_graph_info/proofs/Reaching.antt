@@ -64,7 +64,7 @@ use Rattle.std.specs.Borrow.{Bor}
 use Rattle.std.specs.Map.{keys_of}
 use Rattle.deno_graph_text.specs.TextMap.{value_at, IsAscending}
 use Rattle.deno_graph_dependency.specs.declared.dependency.DependencyDescriptor.{DependencyDescriptor}
-use Rattle.deno_graph_info.specs.Reach.{IsKey, IsClosedUnderDependencies, IsReach, named_specifier}
+use Rattle.deno_graph_info.specs.Reach.{IsModuleKey, IsClosedUnderDependencies, IsReach, named_specifier}
 use Rattle.deno_graph_info.specs.ReachSteps.{infos_of, NamesIn, IsReached, one_unless, unreached, Grows}
 use Rattle.deno_graph_info.specs.declared.analysis.module_info.ModuleInfo.{ModuleInfo}
 
@@ -153,7 +153,7 @@ module _ {V : Type 0} where
 
   unreached-less_at : (m : List ℕ × ModuleInfo) (ms : Modules) (old new : List (List ℕ × V)) (key : List ℕ)
       (same : Bool) → bytes_eq key m.0 ≡ same → ((k : List ℕ) → IsReached old k → IsReached new k)
-      → (IsKey ms key → suc (unreached ms new) ≤ unreached ms old)
+      → (IsModuleKey ms key → suc (unreached ms new) ≤ unreached ms old)
       → IsSome (cond same (Some m.1) (value_at ms key)) → value_at old key ≡ None → IsReached new key
       → suc (unreached (m ∷ ms) new) ≤ unreached (m ∷ ms) old
   unreached-less_at m ms old new key true is kept later known none reached =
@@ -169,7 +169,7 @@ module _ {V : Type 0} where
 
   -- a key that is reached newly is one less
   unreached-less : (ms : Modules) (old new : List (List ℕ × V)) (key : List ℕ)
-      → ((k : List ℕ) → IsReached old k → IsReached new k) → IsKey ms key → value_at old key ≡ None
+      → ((k : List ℕ) → IsReached old k → IsReached new k) → IsModuleKey ms key → value_at old key ≡ None
       → IsReached new key → suc (unreached ms new) ≤ unreached ms old
   unreached-less [] old new key kept known none reached = absurd (true≢false (sym known))
   unreached-less (m ∷ ms) old new key kept known none reached =
@@ -180,12 +180,12 @@ module _ {V : Type 0} where
 
   -- nothing is done for a key that is none, or was reached
   pub grows-not : (ms : Modules) (key : List ℕ) (old new : List (List ℕ × V)) (before after : List ModuleInfo)
-      → (IsKey ms key → IsReached old key) → new ≡ old → after ≡ before
+      → (IsModuleKey ms key → IsReached old key) → new ≡ old → after ≡ before
       → Grows ms (λ k. k ≡ key) old new before after
   grows-not ms key old new before after done same_reached same_pending =
       rw (same_reached, same_pending) (record {
         kept = λ k h. h;
-        named = λ k is known. subst (IsReached old) (sym is) (done (subst (IsKey ms) is known));
+        named = λ k is known. subst (IsReached old) (sym is) (done (subst (IsModuleKey ms) is known));
         added = λ k h. inl h;
         pending_kept = λ info h. h;
         pending_added = λ k info h is. inl h;
@@ -215,7 +215,7 @@ module _ {V : Type 0} where
       ∙ old_stays old k v (bytes_eq key k) h in
       let cases = λ (k : List ℕ) (h : IsReached new k). key_or_old old key k v (bytes_eq key k) refl
       (sym (ap is_some (finds k)) ∙ h) in
-      let known : IsKey ms key = some_is (value_at ms key) info is in
+      let known : IsModuleKey ms key = some_is (value_at ms key) info is in
       let pending : (other : ModuleInfo) → Contains (before ++ info ∷ []) other → Contains after other =
       λ other h. subst (λ l. Contains l other) (sym pushed) h in
       let less = unreached-less ms old new key kept known none reached in
@@ -224,7 +224,7 @@ module _ {V : Type 0} where
         kept = kept;
         named = λ k same h. subst (IsReached new) (sym same) reached;
         added = λ k h. elim (cases k h) [
-          | inl same ↦ inr (sym same, subst (IsKey ms) same known)
+          | inl same ↦ inr (sym same, subst (IsModuleKey ms) same known)
           | inr was
               ↦ inl was
         ];
@@ -342,14 +342,14 @@ module _ {V : Type 0} where
   -- What is reached is in each closed set, and is closed but for the modules that are pending.
   pub record IsUnderway (ms : Modules) (root : List ℕ) (reached : List (List ℕ × V))
       (pending : List ModuleInfo) : Type 0 where
-    pub has_root : IsKey ms root → IsReached reached root
+    pub has_root : IsModuleKey ms root → IsReached reached root
     pub sound : (test : List ℕ → Bool) → IsClosedUnderDependencies ms root (λ k. IsTrue (test k))
         → (key : List ℕ) → IsReached reached key → IsTrue (test key)
     pub pending_known : (info : ModuleInfo) → Contains pending info → (key : List ℕ) × IsReached reached key
         × (value_at ms key ≡ Some info)
     pub named : (key : List ℕ) (info : ModuleInfo) → IsReached reached key → value_at ms key ≡ Some info
         → Contains pending info
-        ⊎ ((to : List ℕ) → NamesIn info.dependencies to → IsKey ms to → IsReached reached to)
+        ⊎ ((to : List ℕ) → NamesIn info.dependencies to → IsModuleKey ms to → IsReached reached to)
 
   underway-first : (ms : Modules) (root : List ℕ) (reached : List (List ℕ × V)) (pending : List ModuleInfo)
       → Grows ms (λ k. k ≡ root) [] reached [] pending → IsUnderway ms root reached pending
@@ -358,7 +358,7 @@ module _ {V : Type 0} where
     sound = λ test closed k h. elim (step.added k h) [
       | inl was ↦ absurd (true≢false (sym was))
       | inr a
-          ↦ subst (λ s. IsTrue (test s)) (sym a.0) (closed.holds_root (subst (IsKey ms) a.0 a.1))
+          ↦ subst (λ s. IsTrue (test s)) (sym a.0) (closed.holds_root (subst (IsModuleKey ms) a.0 a.1))
     ];
     pending_known = λ info h. elim (step.pending_known info h)
         [ inl was ↦ absurd (nothing_contained info was) | inr b ↦ b ];

@@ -31,9 +31,9 @@ use Rattle.deno_graph_dependency.specs.declared.specifier_with_range.SpecifierWi
 use Rattle.deno_graph_info.specs.Conversion.{
   comments_in,
   dependencies_in,
-  with_member,
+  with_value_at,
   with_types,
-  without_member,
+  without_value_at,
   AnyOverflows,
   AreConverted,
   DependencyOverflows,
@@ -88,12 +88,12 @@ some_dependency d = by (comments_in d)
     by : (o : Option (List Comment))
         → ((after : Data) × MatchOption o (after ≡ d)
         (λ comments. (types : Option SpecifierWithRange) × AreTypes comments types
-        × (after ≡ without_member (codes "leadingComments") (with_types types d))))
+        × (after ≡ without_value_at (codes "leadingComments") (with_types types d))))
         ⊎ MatchOption o ⊥ HasNoColumn
     by None = inl (d, refl)
     by (Some comments) =
         ⊎_elim (λ types. inl (
-          without_member (codes "leadingComments") (with_types types.0 d),
+          without_value_at (codes "leadingComments") (with_types types.0 d),
           (types.0, types.1, refl),
         ))
         inr (some_types comments)
@@ -116,9 +116,9 @@ some_converted value = by (dependencies_in value)
     by : (o : Option Items)
         → ((after : Data) × MatchOption o (after ≡ value)
         (λ old. (new : Items) × AreConverted old new
-        × (after ≡ with_member (codes "dependencies") (array new) value)))
+        × (after ≡ with_value_at (codes "dependencies") (array new) value)))
         ⊎ MatchOption o ⊥ AnyOverflows
     by None = inl (value, refl)
     by (Some old) =
-        ⊎_elim (λ new. inl (with_member (codes "dependencies") (array new.0) value, (new.0, new.1, refl)))
+        ⊎_elim (λ new. inl (with_value_at (codes "dependencies") (array new.0) value, (new.0, new.1, refl)))
         inr (some_items old)

@@ -7,8 +7,8 @@ use Rattle.deno_graph_dependency.specs.Json.Position.{reads_range}
 use Rattle.deno_graph_info.specs.declared.conversion.comment.Comment.{Comment}
 
 -- a readable comment: an object with the text `text` and the range `range`; other members say nothing
-unfoldable pub reads_comment : Data → Option Comment
-reads_comment d = do
+unfoldable pub reads_stored_comment : Data → Option Comment
+reads_stored_comment d = do
   ms ← as_object d
   text ← member_at as_str (codes "text") ms
   range ← member_at reads_range (codes "range") ms

@@ -35,7 +35,7 @@ use Rattle.serde_json.specs.Written.{has_float}
 use Rattle.deno_graph_dependency.specs.Read.Partial.{◌>>=◌, member_at, reads_array}
 use Rattle.deno_graph_dependency.specs.Json.SpecifierWithRange.{json_of_specifier}
 use Rattle.deno_graph_dependency.specs.declared.specifier_with_range.SpecifierWithRange.{SpecifierWithRange}
-use Rattle.deno_graph_info.specs.Comment.{reads_comment}
+use Rattle.deno_graph_info.specs.Comment.{reads_stored_comment}
 use Rattle.deno_graph_info.specs.Types.{AreTypes, HasNoColumn}
 use Rattle.deno_graph_info.specs.declared.conversion.comment.Comment.{Comment}
 use Rattle.deno_graph_info.specs.declared.conversion.fault.ConvertFault.{ConvertFault}
@@ -48,13 +48,13 @@ use Rattle.deno_graph_info.specs.declared.conversion.fault.ConvertFault.TheVaria
 -- ---- members of an object
 
 -- an object with d at the key
-abbrev pub with_member : List ℕ → Data → Data → Data
-with_member key d null = null
-with_member key d (boolean b) = boolean b
-with_member key d (number n) = number n
-with_member key d (string s) = string s
-with_member key d (array ds) = array ds
-with_member key d (object ms) = object (put key d ms)
+abbrev pub with_value_at : List ℕ → Data → Data → Data
+with_value_at key d null = null
+with_value_at key d (boolean b) = boolean b
+with_value_at key d (number n) = number n
+with_value_at key d (string s) = string s
+with_value_at key d (array ds) = array ds
+with_value_at key d (object ms) = object (put key d ms)
 
 -- the members but those with the key
 abbrev pub without : List ℕ → Members → Members
@@ -62,13 +62,13 @@ without key no_members = no_members
 without key (member k d ms) = if bytes_eq key k then without key ms else member k d (without key ms)
 
 -- an object with nothing at the key
-abbrev pub without_member : List ℕ → Data → Data
-without_member key null = null
-without_member key (boolean b) = boolean b
-without_member key (number n) = number n
-without_member key (string s) = string s
-without_member key (array ds) = array ds
-without_member key (object ms) = object (without key ms)
+abbrev pub without_value_at : List ℕ → Data → Data
+without_value_at key null = null
+without_value_at key (boolean b) = boolean b
+without_value_at key (number n) = number n
+without_value_at key (string s) = string s
+without_value_at key (array ds) = array ds
+without_value_at key (object ms) = object (without key ms)
 
 -- ---- a dependency
 
@@ -76,19 +76,19 @@ without_member key (object ms) = object (without key ms)
 unfoldable pub comments_in : Data → Option (List Comment)
 comments_in d = do
   ms ← as_object d
-  member_at (reads_array reads_comment) (codes "leadingComments") ms
+  member_at (reads_array reads_stored_comment) (codes "leadingComments") ms
 
 -- with the types, if there are any
 abbrev pub with_types : Option SpecifierWithRange → Data → Data
 with_types None d = d
-with_types (Some types) d = with_member (codes "typesSpecifier") (json_of_specifier types) d
+with_types (Some types) d = with_value_at (codes "typesSpecifier") (json_of_specifier types) d
 
 -- one that has such comments has the types that they name, and no comments; any other stays as it is
 abbrev pub IsConvertedDependency : Data → Data → Type 0
 IsConvertedDependency d after =
     MatchOption (comments_in d) (after ≡ d)
     (λ comments. (types : Option SpecifierWithRange) × AreTypes comments types
-    × (after ≡ without_member (codes "leadingComments") (with_types types d)))
+    × (after ≡ without_value_at (codes "leadingComments") (with_types types d)))
 
 -- its last comment names types whose end has no column
 abbrev pub DependencyOverflows : Data → Type 0
@@ -113,7 +113,8 @@ AreConverted (item d ds) (item e es) = IsConvertedDependency d e × AreConverted
 abbrev pub IsConverted : Data → Data → Type 0
 IsConverted v after =
     MatchOption (dependencies_in v) (after ≡ v)
-    (λ old. (new : Items) × AreConverted old new × (after ≡ with_member (codes "dependencies") (array new) v))
+    (λ old. (new : Items) × AreConverted old new
+    × (after ≡ with_value_at (codes "dependencies") (array new) v))
 
 -- some dependency
 abbrev pub AnyOverflows : Items → Type 0

@@ -27,20 +27,21 @@ named_specifier (Static d) = Some d.specifier
 named_specifier (Dynamic d) = string_of d.argument
 
 -- a dependency of the module has this specifier
-abbrev pub Names : ModuleInfo → List ℕ → Type 0
-Names info specifier =
+abbrev pub DependsOn : ModuleInfo → List ℕ → Type 0
+DependsOn info specifier =
     (dependency : DependencyDescriptor) × Contains info.dependencies dependency
     × (named_specifier dependency ≡ Some specifier)
 
-abbrev pub IsKey : List (List ℕ × ModuleInfo) → List ℕ → Type 0
-IsKey modules key = IsSome (value_at modules key)
+abbrev pub IsModuleKey : List (List ℕ × ModuleInfo) → List ℕ → Type 0
+IsModuleKey modules key = IsSome (value_at modules key)
 
 -- a set holds the root, if that is a key, and with each key every key that its module names
 pub record IsClosedUnderDependencies (modules : List (List ℕ × ModuleInfo)) (root : List ℕ)
     (Holds : List ℕ → Type 0) : Type 0 where
-  pub holds_root : IsKey modules root → Holds root
+  pub holds_root : IsModuleKey modules root → Holds root
   pub holds_named : (key specifier : List ℕ) (info : ModuleInfo) → Holds key
-      → value_at modules key ≡ Some info → Names info specifier → IsKey modules specifier → Holds specifier
+      → value_at modules key ≡ Some info → DependsOn info specifier → IsModuleKey modules specifier
+      → Holds specifier
 
 -- in ascending order, the least such set: it is closed, and within each closed set, as that of all keys
 pub record IsReach (modules : List (List ℕ × ModuleInfo)) (root : List ℕ) (reached : List (List ℕ)) : Type 0

@@ -19,7 +19,7 @@ use Rattle.std.specs.Prelude.{
 use Rattle.std.specs.Borrow.{Bor}
 use Rattle.deno_graph_text.specs.TextMap.{value_at}
 use Rattle.deno_graph_dependency.specs.declared.dependency.DependencyDescriptor.{DependencyDescriptor}
-use Rattle.deno_graph_info.specs.Reach.{IsKey, named_specifier}
+use Rattle.deno_graph_info.specs.Reach.{IsModuleKey, named_specifier}
 use Rattle.deno_graph_info.specs.declared.analysis.module_info.ModuleInfo.{ModuleInfo}
 
 -- the modules that are pending
@@ -51,8 +51,9 @@ module _ {V : Type 0} where
   pub record Grows (modules : List (List ℕ × ModuleInfo)) (IsNamed : List ℕ → Type 0)
       (old new : List (List ℕ × V)) (before after : List ModuleInfo) : Type 0 where
     pub kept : (key : List ℕ) → IsReached old key → IsReached new key
-    pub named : (key : List ℕ) → IsNamed key → IsKey modules key → IsReached new key
-    pub added : (key : List ℕ) → IsReached new key → IsReached old key ⊎ (IsNamed key × IsKey modules key)
+    pub named : (key : List ℕ) → IsNamed key → IsModuleKey modules key → IsReached new key
+    pub added : (key : List ℕ) → IsReached new key
+        → IsReached old key ⊎ (IsNamed key × IsModuleKey modules key)
     pub pending_kept : (info : ModuleInfo) → Contains before info → Contains after info
     pub pending_added : (key : List ℕ) (info : ModuleInfo) → IsReached new key
         → value_at modules key ≡ Some info → IsReached old key ⊎ Contains after info

@@ -6,7 +6,7 @@ use Rattle.std.specs.Str.{skip_leading_whitespace}
 use Rattle.deno_graph_jsdoc.specs.Characters.{opening_brace, closing_brace}
 use Rattle.deno_graph_jsdoc.specs.JsDocGrammar.{◌·◌, Is, IsSpace, IsIdent, IsKey, Attribute, IsAttribute}
 use Rattle.deno_graph_jsdoc.specs.JsDocGrammar.{AreFurther, AreAttributes, IsBlock, IsModeBlock, IsWith}
-use Rattle.deno_graph_jsdoc.specs.JsDocGrammar.{mode_name, mode_of, Begins, Anything, NoSpace}
+use Rattle.deno_graph_jsdoc.specs.JsDocGrammar.{resolution_mode_value, mode_of, Begins, Anything, NoSpace}
 use Rattle.deno_graph_jsdoc.specs.JsDocReading.{IsModeBlockEnd, Reads}
 use Rattle.deno_graph_text.specs.ResolutionMode.{mode_named}
 use Rattle.deno_graph_text.specs.declared.values.resolution_mode.TypeScriptTypesResolutionMode.{
@@ -89,7 +89,7 @@ module _ (rest behind : List ℕ) (a : Attribute)
 -- what has been read of a block: some attributes, whatever follows them
 pub record SoFar (input rest : List ℕ) (name : Option (List ℕ)) : Type 0 where
   pub before : List Attribute
-  pub named : name ≡ mode_name before
+  pub named : name ≡ resolution_mode_value before
   pub sound : (more : List Attribute) (end : List ℕ) → 0 < length more → Begins (Through more) rest end
       → Begins (Through (before ++ more)) input end
   pub complete : (all : List Attribute) (end : List ℕ) → 0 < length all → Begins (Through all) input end
@@ -139,7 +139,7 @@ module _ (input rest : List ℕ) (name : Option (List ℕ)) (so_far : SoFar inpu
 
   pub block_known : (end : List ℕ) (mode whole_mode : Option TypeScriptTypesResolutionMode)
       → Reads Anything IsModeBlockEnd rest (Some (end, mode))
-      → ((before others : List Attribute) → name ≡ mode_name before → mode ≡ mode_of others
+      → ((before others : List Attribute) → name ≡ resolution_mode_value before → mode ≡ mode_of others
       → whole_mode ≡ mode_of (before ++ others))
       → Reads Anything IsModeBlockEnd input (Some (end, whole_mode))
   block_known end mode whole_mode found named =
@@ -163,7 +163,8 @@ module _ (input rest : List ℕ) (name : Option (List ℕ)) (so_far : SoFar inpu
 module _ (input rest behind : List ℕ) (name next : Option (List ℕ)) (a : Attribute)
     (so_far : SoFar input rest name)
     (found : Reads Anything IsAttribute rest (Some (behind, a)))
-    (named : (before : List Attribute) → name ≡ mode_name before → next ≡ mode_name (before ++ a ∷ [])) where
+    (named : (before : List Attribute) → name ≡ resolution_mode_value before
+    → next ≡ resolution_mode_value (before ++ a ∷ [])) where
   -- behind which a comma leads on
   pub SoFar-more : (later : List ℕ) → Reads NoSpace (λ (_ : Unit {0}). Is (codes ",") · IsSpace)
       (skip_leading_whitespace behind) (Some (later, tt)) → SoFar input later next

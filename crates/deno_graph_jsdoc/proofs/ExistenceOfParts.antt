@@ -10,7 +10,7 @@ use Rattle.deno_graph_text.specs.ResolutionMode.{mode_named}
 use Rattle.deno_graph_jsdoc.specs.Characters.{double_quote, apostrophe, closing_brace}
 use Rattle.deno_graph_jsdoc.specs.JsDocGrammar.{◌·◌, Is, IsSpace, IsGap, IsBetween, IsQuote, IsIdent, IsKey}
 use Rattle.deno_graph_jsdoc.specs.JsDocGrammar.{Attribute, IsAttribute, IsModeBlock, IsWith, Lacks}
-use Rattle.deno_graph_jsdoc.specs.JsDocGrammar.{ends_ident, mode_name, Anything, NoSpace}
+use Rattle.deno_graph_jsdoc.specs.JsDocGrammar.{ends_ident, resolution_mode_value, Anything, NoSpace}
 use Rattle.deno_graph_jsdoc.specs.JsDocReading.{IsModeBlockEnd, begins_ident, ReadsImport, EndOfIdent, Reads}
 use Rattle.deno_graph_jsdoc.specs.JsDocImport.{Mode, Import, byte_count}
 use Rattle.deno_graph_jsdoc.proofs.Attributes.{attribute_no_key, attribute_no_colon, attribute_read}
@@ -187,8 +187,9 @@ abbrev next_name : Option (List ℕ) → Attribute → Option (List ℕ)
 next_name (Some name) a = Some name
 next_name None a = cond (bytes_eq a.key (codes "resolution-mode")) (Some a.value) None
 
-next_named : (name : Option (List ℕ)) (a : Attribute) (before : List Attribute) → name ≡ mode_name before
-    → next_name name a ≡ mode_name (before ++ a ∷ [])
+next_named : (name : Option (List ℕ)) (a : Attribute) (before : List Attribute)
+    → name ≡ resolution_mode_value before
+    → next_name name a ≡ resolution_mode_value (before ++ a ∷ [])
 next_named (Some name) a before is = mode_name-kept before (a ∷ []) name is
 next_named None a before is = mode_name-first before a (bytes_eq a.key (codes "resolution-mode")) is refl
 

@@ -9,7 +9,7 @@ use Rattle.deno_graph_jsdoc.specs.Characters.{at_sign}
 use Rattle.deno_graph_jsdoc.specs.JsDocGrammar.{◌·◌, Is, IsSpace, IsGap, IsClause, IsUpTo, IsQuote, Begins}
 use Rattle.deno_graph_jsdoc.specs.JsDocGrammar.{Anything}
 use Rattle.deno_graph_jsdoc.specs.JsDocReading.{ReadsImport, IsDeclarationEnd, IsDynamicEnd}
-use Rattle.deno_graph_jsdoc.specs.JsDocImport.{Mode, Import, States, EndsDeclaration, EndsDynamicImport}
+use Rattle.deno_graph_jsdoc.specs.JsDocImport.{Mode, Import, StatesImport, EndsDeclaration, EndsDynamicImport}
 use Rattle.deno_graph_jsdoc.specs.JsDocImport.{IsDeclaration, IsDynamicImport, moved, byte_count}
 use Rattle.deno_graph_jsdoc.specs.JsDocHits.{IsHit, EndsAtDynamicImport, EndsAtDeclaration}
 use Rattle.deno_graph_jsdoc.proofs.Imports.{parts_of, joined, byte_count-append}
@@ -62,8 +62,8 @@ module _ (First Head Whole : List ℕ → Type 0) (Tail : List ℕ → Mode → 
     (apart : (text : List ℕ) → Whole text → (First · Head) text)
     (together : (text : List ℕ) → (First · Head) text → Whole text) where
   stated_by : (text front back rest : List ℕ) (here import : Import) → text ≡ front ++ back
-      → States Whole Tail back here rest → import ≡ moved (byte_count front) here
-      → (next : List ℕ) × IsStated (Anything · First) (States Head Tail) text next import
+      → StatesImport Whole Tail back here rest → import ≡ moved (byte_count front) here
+      → (next : List ℕ) × IsStated (Anything · First) (StatesImport Head Tail) text next import
   stated_by text front back rest here import whole s place =
       let parts = parts_of Anything First Head Whole Tail apart together (λ _ _ _ _. tt) back s in (
         front ++ parts.first.piece,
@@ -93,11 +93,11 @@ module _ (First Head Whole : List ℕ → Type 0) (Tail : List ℕ → Mode → 
     rest : List ℕ
     here : Import
     whole : text ≡ front ++ back
-    states : States Whole Tail back here rest
+    states : StatesImport Whole Tail back here rest
     place : import ≡ moved (byte_count front) here
 
   found_by : (text next : List ℕ) (import : Import)
-      → IsStated (Anything · First) (States Head Tail) text next import → Found text import
+      → IsStated (Anything · First) (StatesImport Head Tail) text next import → Found text import
   found_by text next import s =
       let site = s.site in
       let first : Begins First (site.back ++ s.behind) s.behind =
@@ -315,7 +315,7 @@ record Specified (Head : List ℕ → Type 0) (Tail : List ℕ → Mode → List
 
 specified_by : (P Head : List ℕ → Type 0) (Tail : List ℕ → Mode → List ℕ → Type 0)
     (text front : List ℕ) (import : Import)
-    → IsStated P (States Head Tail) text front import → Specified Head Tail text import
+    → IsStated P (StatesImport Head Tail) text front import → Specified Head Tail text import
 specified_by P Head Tail text front import s =
     let states = s.states in
     let specifier : import.specifier ≡ s.here.specifier = ap (λ (i : Import). i.specifier) s.place in

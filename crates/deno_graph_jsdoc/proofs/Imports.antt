@@ -11,7 +11,7 @@ use lib.Utf8.{encode, encodes}
 use Rattle.deno_graph_jsdoc.specs.Characters.{double_quote, apostrophe}
 use Rattle.deno_graph_jsdoc.specs.JsDocGrammar.{◌·◌, IsQuote, IsWith, Begins, Anything, NoSpace}
 use Rattle.deno_graph_jsdoc.specs.JsDocReading.{ReadsImport, Reads, rest_and_mode}
-use Rattle.deno_graph_jsdoc.specs.JsDocImport.{Mode, Import, States, EndsDeclaration, byte_count, moved}
+use Rattle.deno_graph_jsdoc.specs.JsDocImport.{Mode, Import, StatesImport, EndsDeclaration, byte_count, moved}
 use Rattle.deno_graph_jsdoc.proofs.Attributes.{IsSolid-quote}
 use Rattle.deno_graph_jsdoc.proofs.Readings.{IsSolid, IsSolid-append, IsSolid-word, NoSpace-solid, space_read}
 use Rattle.deno_graph_jsdoc.proofs.Readings.{behind_space, before_space}
@@ -47,10 +47,10 @@ byte_count_quote inside text (inr (_, is)) =
 
 module _ (Head : List ℕ → Type 0) (Tail : List ℕ → Mode → List ℕ → Type 0) where
   -- the specifier ends in the text
-  pub States-within : (input : List ℕ) (import : Import) (rest : List ℕ) → IsUtf8 input
-      → States Head Tail (chars input) import rest
+  pub StatesImport-within : (input : List ℕ) (import : Import) (rest : List ℕ) → IsUtf8 input
+      → StatesImport Head Tail (chars input) import rest
       → (import.start ≤ import.end) × (import.end ≤ length input)
-  States-within input import rest utf8 s =
+  StatesImport-within input import rest utf8 s =
       let bytes : byte_count (s.before ++ (s.quote ++ s.behind)) ≡ length input =
       ap byte_count (sym s.whole) ∙ ap length (encodes-chars input utf8) in
       let start = s.start in
@@ -66,21 +66,21 @@ module _ (Head : List ℕ → Type 0) (Tail : List ℕ → Mode → List ℕ →
       )
 
   module _ (input : List ℕ) where
-    head_of : {import : Import} {rest : List ℕ} (s : States Head Tail input import rest)
+    head_of : {import : Import} {rest : List ℕ} (s : StatesImport Head Tail input import rest)
         → Begins Head input (s.quote ++ s.behind)
     head_of s = record { piece = s.before; whole = s.whole; is = s.head }
 
-    solid_quote : {import : Import} {rest : List ℕ} (s : States Head Tail input import rest)
+    solid_quote : {import : Import} {rest : List ℕ} (s : StatesImport Head Tail input import rest)
         → NoSpace (s.quote ++ s.behind)
     solid_quote {import} s = NoSpace-solid (s.quote ++ s.behind)
         (IsSolid-append s.quote s.behind (IsSolid-quote import.specifier s.quote s.quoted))
 
     pub no_head : Reads NoSpace (λ (_ : Unit {0}). Head) input None
-        → ReadsImport (States Head Tail) input None
+        → ReadsImport (StatesImport Head Tail) input None
     no_head none import rest s = none tt (s.quote ++ s.behind) (solid_quote s) (head_of s)
 
     module _ (quoted : List ℕ) (head : Reads NoSpace (λ (_ : Unit {0}). Head) input (Some (quoted, tt))) where
-      quote_of : {import : Import} {rest : List ℕ} (s : States Head Tail input import rest)
+      quote_of : {import : Import} {rest : List ℕ} (s : StatesImport Head Tail input import rest)
           → Begins (IsQuote import.specifier) quoted s.behind
       quote_of s = record {
         piece = s.quote;
@@ -88,32 +88,32 @@ module _ (Head : List ℕ → Type 0) (Tail : List ℕ → Mode → List ℕ →
         is = s.quoted;
       }
 
-      same_before : {import : Import} {rest : List ℕ} (s : States Head Tail input import rest)
+      same_before : {import : Import} {rest : List ℕ} (s : StatesImport Head Tail input import rest)
           → s.before ≡ head.0.piece
       same_before s =
           append_cancel_right s.before head.0.piece quoted
           (ap (λ t. s.before ++ t) (sym (head.1 tt (s.quote ++ s.behind) (solid_quote s) (head_of s)).1)
           ∙ sym s.whole ∙ head.0.whole)
 
-      pub no_quote : Reads Anything IsQuote quoted None → ReadsImport (States Head Tail) input None
+      pub no_quote : Reads Anything IsQuote quoted None → ReadsImport (StatesImport Head Tail) input None
       no_quote none import rest s = none import.specifier s.behind tt (quote_of s)
 
       module _ (behind specifier : List ℕ)
           (quote : Reads Anything IsQuote quoted (Some (behind, specifier))) where
-        tail_of : {import : Import} {rest : List ℕ} (s : States Head Tail input import rest)
+        tail_of : {import : Import} {rest : List ℕ} (s : StatesImport Head Tail input import rest)
             → Tail behind import.mode rest
         tail_of {import} {rest} s =
             subst (λ b. Tail b import.mode rest) (quote.1 import.specifier s.behind tt (quote_of s)).1 s.tail
 
         pub no_tail : ((mode : Mode) (rest : List ℕ) → Tail behind mode rest → ⊥)
-            → ReadsImport (States Head Tail) input None
+            → ReadsImport (StatesImport Head Tail) input None
         no_tail none import rest s = none import.mode rest (tail_of s)
 
         pub stated : (import : Import) (rest : List ℕ) → import.specifier ≡ specifier
             → import.start ≡ byte_count head.0.piece + 1 → import.end ≡ import.start + byte_count specifier
             → Tail behind import.mode rest → ((mode : Mode) (other : List ℕ) → Tail behind mode other
             → (mode ≡ import.mode) × (other ≡ rest))
-            → ReadsImport (States Head Tail) input (Some (rest, import))
+            → ReadsImport (StatesImport Head Tail) input (Some (rest, import))
         stated import rest is start end tail only = (
           record {
             before = head.0.piece;
@@ -204,10 +204,11 @@ module _ (F First Head Whole : List ℕ → Type 0) (Tail : List ℕ → Mode �
     pub first : Begins First input middle
     pub ready : F middle
     pub later : Import
-    pub states : States Head Tail middle later rest
+    pub states : StatesImport Head Tail middle later rest
     pub same : import ≡ moved (byte_count first.piece) later
 
-  pub parts_of : {import : Import} {rest : List ℕ} → States Whole Tail input import rest → Parts import rest
+  pub parts_of : {import : Import} {rest : List ℕ} → StatesImport Whole Tail input import rest
+      → Parts import rest
   parts_of {import} {rest} s =
       let parts = apart s.before s.head in
       let start = s.start in
@@ -250,14 +251,15 @@ module _ (F First Head Whole : List ℕ → Type 0) (Tail : List ℕ → Mode �
             λ i. record { specifier = import.specifier; start = first i; end = final i; mode = import.mode };
       }
 
-  pub no_first : Reads F (λ (_ : Unit {0}). First) input None → ReadsImport (States Whole Tail) input None
+  pub no_first : Reads F (λ (_ : Unit {0}). First) input None
+      → ReadsImport (StatesImport Whole Tail) input None
   no_first none import rest s =
       let parts = parts_of s in
       none tt parts.middle parts.ready parts.first
 
   pub joined : (middle : List ℕ) (first : Begins First input middle) {later : Import} {rest : List ℕ}
-      → States Head Tail middle later rest
-      → States Whole Tail input (moved (byte_count first.piece) later) rest
+      → StatesImport Head Tail middle later rest
+      → StatesImport Whole Tail input (moved (byte_count first.piece) later) rest
   joined middle first s = record {
     before = first.piece ++ s.before;
     quote = s.quote;
@@ -274,11 +276,11 @@ module _ (F First Head Whole : List ℕ → Type 0) (Tail : List ℕ → Mode �
 
   pub behind_first : (middle : List ℕ) (first : Reads F (λ (_ : Unit {0}). First) input (Some (middle, tt)))
       (o : Option (List ℕ × Import))
-      → ReadsImport (States Head Tail) middle o → ReadsImport (States Whole Tail) input
+      → ReadsImport (StatesImport Head Tail) middle o → ReadsImport (StatesImport Whole Tail) input
       (option_map (λ x. (x.0, moved (byte_count first.0.piece) x.1)) o)
   behind_first middle first None none = λ import rest s.
       let parts = parts_of s in
-      none parts.later rest (subst (λ m. States Head Tail m parts.later rest)
+      none parts.later rest (subst (λ m. StatesImport Head Tail m parts.later rest)
       (first.1 tt parts.middle parts.ready parts.first).1 parts.states)
   behind_first middle first (Some x) found = (
     joined middle first.0 found.0,
@@ -286,7 +288,7 @@ module _ (F First Head Whole : List ℕ → Type 0) (Tail : List ℕ → Mode �
         let parts = parts_of s in
         let middles = (first.1 tt parts.middle parts.ready parts.first).1 in
         let same = found.1 parts.later others_rest
-        (subst (λ m. States Head Tail m parts.later others_rest) middles parts.states) in
+        (subst (λ m. StatesImport Head Tail m parts.later others_rest) middles parts.states) in
         let pieces : parts.first.piece ≡ first.0.piece =
         append_cancel_right parts.first.piece first.0.piece middle
         (ap (λ t. parts.first.piece ++ t) (sym middles) ∙ sym parts.first.whole ∙ first.0.whole) in
@@ -300,8 +302,8 @@ module _ (Head : List ℕ → Type 0) (Tail Longer : List ℕ → Mode → List 
     (together : (behind : List ℕ) (mode : Mode) (middle rest : List ℕ) → Tail behind mode middle
     → Begins P middle rest → Longer behind mode rest)
     (input : List ℕ) where
-  shorter : {import : Import} {rest : List ℕ} → States Head Longer input import rest
-      → (middle : List ℕ) × States Head Tail input import middle × Begins P middle rest
+  shorter : {import : Import} {rest : List ℕ} → StatesImport Head Longer input import rest
+      → (middle : List ℕ) × StatesImport Head Tail input import middle × Begins P middle rest
   shorter {import} {rest} s =
       let parts = apart s.behind import.mode rest s.tail in (
         parts.0,
@@ -319,15 +321,16 @@ module _ (Head : List ℕ → Type 0) (Tail Longer : List ℕ → Mode → List 
         parts.2,
       )
 
-  pub no_tail_at_all : ReadsImport (States Head Tail) input None → ReadsImport (States Head Longer) input None
+  pub no_tail_at_all : ReadsImport (StatesImport Head Tail) input None
+      → ReadsImport (StatesImport Head Longer) input None
   no_tail_at_all none import rest s =
       let parts = shorter s in
       none import parts.0 parts.1
 
   pub longer : (middle : List ℕ) (import : Import) (o : Option (List ℕ × Unit {0}))
-      → ReadsImport (States Head Tail) input (Some (middle, import))
+      → ReadsImport (StatesImport Head Tail) input (Some (middle, import))
       → Reads Anything (λ (_ : Unit {0}). P) middle o
-      → ReadsImport (States Head Longer) input (option_map (λ x. (x.0, import)) o)
+      → ReadsImport (StatesImport Head Longer) input (option_map (λ x. (x.0, import)) o)
   longer middle import None found none = λ other rest s.
       let parts = shorter s in
       none tt rest tt (subst (λ m. Begins P m rest) (found.1 other parts.0 parts.1).1 parts.2)

@@ -7,7 +7,7 @@ use Rattle.deno_graph_jsdoc.specs.Characters.{closing_brace}
 use Rattle.deno_graph_jsdoc.specs.JsDocGrammar.{◌·◌, Is, IsSpace, IsGap, IsNames, IsNamespace, IsName}
 use Rattle.deno_graph_jsdoc.specs.JsDocGrammar.{IsClause, IsOptions, IsUpTo, Begins, Anything, NoSpace}
 use Rattle.deno_graph_jsdoc.specs.JsDocReading.{EndOfIdent}
-use Rattle.deno_graph_jsdoc.specs.JsDocImport.{Mode, Import, States, EndsDeclaration, EndsDynamicImport}
+use Rattle.deno_graph_jsdoc.specs.JsDocImport.{Mode, Import, StatesImport, EndsDeclaration, EndsDynamicImport}
 use Rattle.deno_graph_jsdoc.specs.JsDocImport.{IsDeclaration, IsDynamicImport, byte_count}
 use Rattle.deno_graph_jsdoc.proofs.Arguments.{tail_apart, options_apart, end_apart, up_to_read, parts_of}
 use Rattle.deno_graph_jsdoc.proofs.Arguments.{Paren, Paren-solid, Through as ThroughBrace}
@@ -154,13 +154,14 @@ only_dynamic_tail text mode other rest behind b c =
 -- the whole
 module _ (Head : List ℕ → Type 0) (Tail : List ℕ → Mode → List ℕ → Type 0) (one_head : OneRest NoSpace Head)
     (only_tail : OnlyTail Tail) where
-  solid_quote : {input rest : List ℕ} {a : Import} (s : States Head Tail input a rest)
+  solid_quote : {input rest : List ℕ} {a : Import} (s : StatesImport Head Tail input a rest)
       → NoSpace (s.quote ++ s.behind)
   solid_quote {a = a} s = NoSpace-solid (s.quote ++ s.behind)
       (IsSolid-append s.quote s.behind (IsSolid-quote a.specifier s.quote s.quoted))
 
-  pub only_import : (input : List ℕ) (a b : Import) (rest behind : List ℕ) → States Head Tail input a rest
-      → States Head Tail input b behind → (a ≡ b) × (rest ≡ behind)
+  pub only_import : (input : List ℕ) (a b : Import) (rest behind : List ℕ)
+      → StatesImport Head Tail input a rest
+      → StatesImport Head Tail input b behind → (a ≡ b) × (rest ≡ behind)
   only_import input a b rest behind s t =
       let quotes = one_head input (s.quote ++ s.behind) (t.quote ++ t.behind) (solid_quote s) (solid_quote t)
       (record { piece = s.before; whole = s.whole; is = s.head })

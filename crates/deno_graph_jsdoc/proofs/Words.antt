@@ -13,7 +13,7 @@ use Rattle.std.specs.Option.{option_or}
 use Rattle.std.specs.Str.{IsAscii, IsUtf8, bytes_eq, chars}
 use denote.Ref.{Bor}
 use lib.Utf8.{encodes}
-use Rattle.deno_graph_jsdoc.specs.JsDocGrammar.{Attribute, mode_name}
+use Rattle.deno_graph_jsdoc.specs.JsDocGrammar.{Attribute, resolution_mode_value}
 use Rattle.deno_graph_jsdoc.specs.JsDocReading.{text_of}
 use Rattle.deno_graph_text.specs.ResolutionMode.{mode_named}
 use Rattle.deno_graph_text.specs.declared.values.resolution_mode.TypeScriptTypesResolutionMode.TheVariants.{
@@ -50,13 +50,13 @@ mode_named-chars text utf8 =
 abbrev is_mode : Attribute → Bool
 is_mode attribute = bytes_eq attribute.key (codes "resolution-mode")
 
-mode_name-append : (before others : List Attribute) → mode_name (before ++ others)
+mode_name-append : (before others : List Attribute) → resolution_mode_value (before ++ others)
     ≡ option_map (λ (a : Attribute). a.value) (option_or (find is_mode before) (find is_mode others))
 mode_name-append before others =
     ap (option_map (λ (a : Attribute). a.value)) (find-append is_mode before others)
 
 pub mode_name-kept : (before others : List Attribute) (name : List ℕ)
-    → Some name ≡ mode_name before → Some name ≡ mode_name (before ++ others)
+    → Some name ≡ resolution_mode_value before → Some name ≡ resolution_mode_value (before ++ others)
 mode_name-kept before others name is = by_found (find is_mode before) is
     ∙ sym (mode_name-append before others)
   where
@@ -65,19 +65,19 @@ mode_name-kept before others name is = by_found (find is_mode before) is
     by_found None is = absurd (cc)
     by_found (Some a) is = is
 
-pub mode_name-later : (before others : List Attribute) → None ≡ mode_name before
-    → mode_name others ≡ mode_name (before ++ others)
+pub mode_name-later : (before others : List Attribute) → None ≡ resolution_mode_value before
+    → resolution_mode_value others ≡ resolution_mode_value (before ++ others)
 mode_name-later before others is = by_found (find is_mode before) is ∙ sym (mode_name-append before others)
   where
     by_found : (found : Option Attribute) → None ≡ option_map (λ (a : Attribute). a.value) found
-        → mode_name others
+        → resolution_mode_value others
         ≡ option_map (λ (a : Attribute). a.value) (option_or found (find is_mode others))
     by_found None is = refl
     by_found (Some a) is = absurd (cc)
 
 pub mode_name-first : (before : List Attribute) (attribute : Attribute) (test : Bool)
-    → None ≡ mode_name before → test ≡ is_mode attribute
-    → cond test (Some attribute.value) None ≡ mode_name (before ++ attribute ∷ [])
+    → None ≡ resolution_mode_value before → test ≡ is_mode attribute
+    → cond test (Some attribute.value) None ≡ resolution_mode_value (before ++ attribute ∷ [])
 mode_name-first before attribute test is tested =
     ap (λ t. cond t (Some attribute.value) None) tested ∙ by_test (is_mode attribute)
     ∙ mode_name-later before (attribute ∷ []) is

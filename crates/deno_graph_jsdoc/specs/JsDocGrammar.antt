@@ -99,14 +99,14 @@ abbrev pub IsBlock : List Attribute → List ℕ → Type 0
 IsBlock attributes = Is (codes "{") · IsSpace · AreAttributes attributes · IsSpace · Is (codes "}")
 
 -- the value of the first `resolution-mode`
-abbrev pub mode_name : List Attribute → Option (List ℕ)
-mode_name attributes =
+abbrev pub resolution_mode_value : List Attribute → Option (List ℕ)
+resolution_mode_value attributes =
     option_map (λ attribute. attribute.value)
     (find (λ attribute. bytes_eq attribute.key (codes "resolution-mode")) attributes)
 
 -- the mode that attributes give: the one that this value names
 abbrev pub mode_of : List Attribute → Option TypeScriptTypesResolutionMode
-mode_of attributes = option_and_then mode_named (mode_name attributes)
+mode_of attributes = option_and_then mode_named (resolution_mode_value attributes)
 
 -- a block whose attributes give this mode, or none
 abbrev pub IsModeBlock : Option TypeScriptTypesResolutionMode → List ℕ → Type 0

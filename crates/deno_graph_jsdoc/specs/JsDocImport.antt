@@ -25,7 +25,7 @@ abbrev pub byte_count : List ℕ → ℕ
 byte_count text = length (encode_utf8_all text)
 
 -- `input` is a text of `Head`, the specifier in quotes, and what gives the mode and ends before `rest`
-pub record States (Head : List ℕ → Type 0) (Tail : List ℕ → Mode → List ℕ → Type 0) (input : List ℕ)
+pub record StatesImport (Head : List ℕ → Type 0) (Tail : List ℕ → Mode → List ℕ → Type 0) (input : List ℕ)
     (import : Import) (rest : List ℕ) : Type 0 where
   pub before : List ℕ
   pub quote : List ℕ
@@ -49,7 +49,8 @@ EndsDeclaration behind mode rest =
 -- `input` begins with a declaration that states `import`, and `rest` is behind it
 abbrev pub IsDeclaration : List ℕ → Import → List ℕ → Type 0
 IsDeclaration =
-    States (Is (codes "@import") · IsGap · IsClause · IsSpace · Is (codes "from") · IsSpace) EndsDeclaration
+    StatesImport (Is (codes "@import") · IsGap · IsClause · IsSpace · Is (codes "from") · IsSpace)
+    EndsDeclaration
 
 -- behind the specifier of a dynamic import: maybe a second argument, and the rest behind the next `}`
 abbrev pub EndsDynamicImport : List ℕ → Mode → List ℕ → Type 0
@@ -60,7 +61,8 @@ EndsDynamicImport behind mode rest =
 -- `input` begins with a dynamic import that states `import`, and `rest` is behind it
 abbrev pub IsDynamicImport : List ℕ → Import → List ℕ → Type 0
 IsDynamicImport =
-    States (Is (codes "{") · IsUpTo (codes "import") · IsSpace · Is (codes "(") · IsSpace) EndsDynamicImport
+    StatesImport (Is (codes "{") · IsUpTo (codes "import") · IsSpace · Is (codes "(") · IsSpace)
+    EndsDynamicImport
 
 -- what a value of the program states
 abbrev pub import_of : JsDocImport → Import

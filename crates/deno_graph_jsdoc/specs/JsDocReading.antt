@@ -6,7 +6,7 @@ use Rattle.std.specs.Str.{chars}
 use denote.Ref.{Bor}
 use Rattle.deno_graph_jsdoc.specs.JsDocGrammar.{◌·◌, Attribute, Begins, EmptyOr, Is, IsSpace, IsGap, IsClause}
 use Rattle.deno_graph_jsdoc.specs.JsDocGrammar.{IsSecond, AreAttributes, ends_ident, mode_of}
-use Rattle.deno_graph_jsdoc.specs.JsDocImport.{Import, Mode, States, EndsDeclaration, EndsDynamicImport}
+use Rattle.deno_graph_jsdoc.specs.JsDocImport.{Import, Mode, StatesImport, EndsDeclaration, EndsDynamicImport}
 use Rattle.deno_graph_jsdoc.specs.JsDocImport.{import_of}
 use Rattle.deno_graph_jsdoc.specs.declared.import.JsDocImport.{JsDocImport}
 use Rattle.deno_graph_text.specs.declared.values.resolution_mode.TypeScriptTypesResolutionMode.{
@@ -30,20 +30,20 @@ IsModeBlockEnd mode text =
 
 -- a declaration and a dynamic import from behind their `import` on
 abbrev pub IsDeclarationEnd : List ℕ → Import → List ℕ → Type 0
-IsDeclarationEnd = States (IsGap · IsClause · IsSpace · Is (codes "from") · IsSpace) EndsDeclaration
+IsDeclarationEnd = StatesImport (IsGap · IsClause · IsSpace · Is (codes "from") · IsSpace) EndsDeclaration
 
 abbrev pub IsDynamicEnd : List ℕ → Import → List ℕ → Type 0
-IsDynamicEnd = States (IsSpace · Is (codes "(") · IsSpace) EndsDynamicImport
+IsDynamicEnd = StatesImport (IsSpace · Is (codes "(") · IsSpace) EndsDynamicImport
 
 -- the declaration from its `from` on, and the dynamic import from its argument list on, to the end of that
 abbrev pub IsSource : List ℕ → Import → List ℕ → Type 0
-IsSource = States (Is (codes "from") · IsSpace) EndsDeclaration
+IsSource = StatesImport (Is (codes "from") · IsSpace) EndsDeclaration
 
 abbrev pub EndsArguments : List ℕ → Mode → List ℕ → Type 0
 EndsArguments behind mode rest = Begins (IsSpace · IsSecond mode · IsSpace · Is (codes ")")) behind rest
 
 abbrev pub HasArguments : List ℕ → Import → List ℕ → Type 0
-HasArguments = States (IsSpace · Is (codes "(") · IsSpace) EndsArguments
+HasArguments = StatesImport (IsSpace · Is (codes "(") · IsSpace) EndsArguments
 
 -- The answer is the only way in which `input` begins with a text of `P value`, for some value, before what
 -- may follow; None where there is no way.

@@ -22,7 +22,7 @@ use Rattle.std.proofs.Common.{
 }
 use Rattle.deno_graph_source.specs.ParsedSource.{ParsedModule}
 use Rattle.deno_graph_parser.specs.Captures.{State, IsSoundState, Captures}
-use Rattle.deno_graph_parser.specs.Capturing.{IsFaithful, HasText, IsHit, asked_for}
+use Rattle.deno_graph_parser.specs.Capturing.{IsFaithful, MatchesInput, HasSourceFor, asked_for}
 use Rattle.deno_graph_parser.specs.Parsing.{ParseFunction, AnswerRelation, Input, AnswersAs}
 use Rattle.deno_graph_parser.specs.Sources.{Sources, source_at, with_source}
 use Rattle.deno_graph_parser.specs.declared.parse_error.ParseError.{ParseError}
@@ -44,12 +44,12 @@ module _ {P : Type 0} (parses : P → ParseFunction) (count : P → ℕ) (is_sou
   -- the source in the store has the text
   pub answered_from_store : (source : ParsedModule) → new.parser ≡ old.parser
       → new.sources ≡ asked_for scope old.sources input.specifier
-      → source_at new.sources input.specifier ≡ Some source → HasText input source
+      → source_at new.sources input.specifier ≡ Some source → MatchesInput input source
       → Captures parses count is_sound may_answer scope input old (Ok source) new
   answered_from_store source parser sources found has =
       let at : source_at (asked_for scope old.sources input.specifier) input.specifier ≡ Some source =
       ap (λ m. source_at m input.specifier) (sym sources) ∙ found in
-      let is_hit : IsHit old.sources input = hit_before scope old.sources input source at has in
+      let is_hit : HasSourceFor old.sources input = hit_before scope old.sources input source at has in
       let function : parses new.parser ≡ parses old.parser = ap parses parser in
       let count_same : count new.parser ≡ count old.parser = ap count parser in
       let still : IsSoundState parses is_sound old → IsFaithful (parses old.parser) new.sources = λ sound.
@@ -74,7 +74,7 @@ module _ {P : Type 0} (parses : P → ParseFunction) (count : P → ℕ) (is_sou
   -- the store that was asked, `between`, has no source with the text
   pub answered_from_parser : (between : Sources) (result : Result ParsedModule ParseError)
       → between ≡ asked_for scope old.sources input.specifier
-      → IfSome (source_at between input.specifier) (λ source. ¬ HasText input source)
+      → IfSome (source_at between input.specifier) (λ source. ¬ MatchesInput input source)
       → (is_sound old.parser → AnswersAs (parses old.parser) input result)
       → ((result ≡ Err OutOfMemory) ⊎ may_answer old.parser input scope result)
       → IfOk result (λ source. new.sources ≡ with_source between input.specifier source)
@@ -84,10 +84,10 @@ module _ {P : Type 0} (parses : P → ParseFunction) (count : P → ℕ) (is_sou
       → (is_sound old.parser → is_sound new.parser)
       → Captures parses count is_sound may_answer scope input old result new
   answered_from_parser between result asked other outcome own kept err function counted sound_parser =
-      let no_hit : ¬ IsHit old.sources input = λ hit.
+      let no_hit : ¬ HasSourceFor old.sources input = λ hit.
       let there = hit_after scope old.sources input hit in
       let at = ap (λ m. source_at m input.specifier) asked ∙ there.1 in
-      subst (λ found. IfSome found (λ source. ¬ HasText input source)) at other there.2 in
+      subst (λ found. IfSome found (λ source. ¬ MatchesInput input source)) at other there.2 in
       record {
         hit = λ hit. absurd (no_hit hit);
         miss = λ miss. record {

@@ -23,7 +23,7 @@ use Rattle.std.proofs.Common.{
 }
 use Rattle.std.specs.Str.{bytes_eq}
 use Rattle.deno_graph_source.specs.ParsedSource.{ParsedModule, marked}
-use Rattle.deno_graph_parser.specs.Capturing.{IsFaithful, HasText, IsHit, asked_for}
+use Rattle.deno_graph_parser.specs.Capturing.{IsFaithful, MatchesInput, HasSourceFor, asked_for}
 use Rattle.deno_graph_parser.specs.Parsing.{ParseFunction, Input, IsParsed, AnswersAs, input_of, input_under}
 use Rattle.deno_graph_parser.specs.Sources.{Sources, source_at, with_source, with_mark_of}
 use Rattle.deno_graph_parser.specs.declared.parse_error.ParseError.{ParseError}
@@ -61,34 +61,40 @@ some_is e = cc
 no_some : {A : Type 0} {x : A} {B : Type 0} → None ≡ Some x → B
 no_some e = cc
 
-unmarked_text : (input : Input) (source : ParsedModule) → HasText input (marked source) → HasText input source
+unmarked_text : (input : Input) (source : ParsedModule) → MatchesInput input (marked source)
+    → MatchesInput input source
 unmarked_text input source has = record { text = has.text; media_type = has.media_type }
 
-marked_text : (input : Input) (source : ParsedModule) → HasText input source → HasText input (marked source)
+marked_text : (input : Input) (source : ParsedModule) → MatchesInput input source
+    → MatchesInput input (marked source)
 marked_text input source has = record { text = has.text; media_type = has.media_type }
 
 hit_from : (m n : Sources) (input : Input) (source : ParsedModule) → MayBeMarked m n input.specifier
-    → source_at n input.specifier ≡ Some source → HasText input source → IsHit m input
+    → source_at n input.specifier ≡ Some source → MatchesInput input source → HasSourceFor m input
 hit_from m n input source (as_before same) is has = (source, sym same ∙ is, has)
 hit_from m n input source (now_marked before was now) is has =
-    (before, was, unmarked_text input before (subst (HasText input) (some_is (sym is ∙ now)) has))
+    (before, was, unmarked_text input before (subst (MatchesInput input) (some_is (sym is ∙ now)) has))
 
 -- a source that the store that was asked has for the input was there before
 pub hit_before : (scope : Bool) (m : Sources) (input : Input) (source : ParsedModule)
-    → source_at (asked_for scope m input.specifier) input.specifier ≡ Some source → HasText input source
-    → IsHit m input
+    → source_at (asked_for scope m input.specifier) input.specifier ≡ Some source → MatchesInput input source
+    → HasSourceFor m input
 hit_before scope m input source = hit_from m _ input source (asked_at scope m input.specifier input.specifier)
 
-found_from : (m n : Sources) (input : Input) → MayBeMarked m n input.specifier → IsHit m input
-    → (source : ParsedModule) × (source_at n input.specifier ≡ Some source) × HasText input source
+found_from : (m n : Sources) (input : Input) → MayBeMarked m n input.specifier → HasSourceFor m input
+    → (source : ParsedModule) × (source_at n input.specifier ≡ Some source) × MatchesInput input source
 found_from m n input (as_before same) hit = (hit.0, same ∙ hit.1, hit.2)
-found_from m n input (now_marked before was now) hit =
-    (marked before, now, marked_text input before (subst (HasText input) (some_is (sym hit.1 ∙ was)) hit.2))
+found_from m n input (now_marked before was now) hit = (
+  marked before,
+  now,
+  marked_text input before
+      (subst (MatchesInput input) (some_is (sym hit.1 ∙ was)) hit.2),
+)
 
 -- and one that was there is found
-pub hit_after : (scope : Bool) (m : Sources) (input : Input) → IsHit m input
+pub hit_after : (scope : Bool) (m : Sources) (input : Input) → HasSourceFor m input
     → (source : ParsedModule) × (source_at (asked_for scope m input.specifier) input.specifier ≡ Some source)
-    × HasText input source
+    × MatchesInput input source
 hit_after scope m input = found_from m _ input (asked_at scope m input.specifier input.specifier)
 
 module _ (parses : ParseFunction) where
@@ -97,7 +103,7 @@ module _ (parses : ParseFunction) where
   parsed_marked input source is = record { from_input = is.from_input; outcome = is.outcome }
 
   -- the parse function's source for the text that it has itself is that for the input with this text
-  parsed_for : (input : Input) (source : ParsedModule) → HasText input source
+  parsed_for : (input : Input) (source : ParsedModule) → MatchesInput input source
       → IsParsed parses (input_under input.specifier source) source → IsParsed parses input source
   parsed_for input source has is =
       let same : input_under input.specifier source ≡ input = λ i. record {
@@ -109,7 +115,7 @@ module _ (parses : ParseFunction) where
 
   -- what a faithful store has for an input is the parse function's
   pub faithful_answer : (m : Sources) (input : Input) (source : ParsedModule) → IsFaithful parses m
-      → source_at m input.specifier ≡ Some source → HasText input source → IsParsed parses input source
+      → source_at m input.specifier ≡ Some source → MatchesInput input source → IsParsed parses input source
   unfolding IsFaithful
   faithful_answer m input source faithful is has =
       parsed_for input source has (faithful input.specifier source is)

@@ -39,7 +39,7 @@ use Rattle.std.proofs.lemmas.Slice.Eq.{bytes_eq-Decides}
 use Rattle.std.proofs.lemmas.Map.Text.{is_eq-slice_cmp, btree_map_updates_text}
 use Rattle.deno_graph_source.specs.ParsedSource.{ParsedModule}
 use Rattle.deno_graph_text.specs.TextMap.{entry_of, entries_of}
-use Rattle.deno_graph_parser.specs.Sources.{Sources, sources_of, source_at, with_source, without}
+use Rattle.deno_graph_parser.specs.Sources.{Sources, sources_of, source_at, with_source, without_source}
 
 exact_texts : IsAntisymmetric (slice_cmp nat_cmp)
 exact_texts = slice_cmp-IsAntisymmetric nat_cmp-IsAntisymmetric
@@ -58,7 +58,7 @@ source_at-with_source m key source other = get-insert nat_list_cmp_total m key s
     ∙ ap (λ b. cond b (Some source) (source_at m other)) (equal_either_way key other)
 
 pub source_at-without : (m : Sources) (key other : List ℕ)
-    → source_at (without m key) other ≡ cond (bytes_eq key other) None (source_at m other)
+    → source_at (without_source m key) other ≡ cond (bytes_eq key other) None (source_at m other)
 source_at-without m key other = get-remove nat_list_cmp_total m key other
     ∙ ap (λ b. cond b None (source_at m other)) (equal_either_way key other)
 
@@ -109,7 +109,7 @@ module _ {Z : Type 0} where
 
   pub without-sources_of : (key : List ℕ) (m n : BTreeMap (String Z) ParsedModule)
       → UpdatesBy string_cmp (λ k. slice_cmp nat_cmp key (string_bytes k)) m n None
-      → sources_of n ≡ without (sources_of m) key
+      → sources_of n ≡ without_source (sources_of m) key
   without-sources_of key m n updates = same_sources _ _ (λ other.
       source_at-sources_of n other ∙ btree_map_updates_text key m n None updates other
       ∙ ap (cond (bytes_eq key other) None) (sym (source_at-sources_of m other))

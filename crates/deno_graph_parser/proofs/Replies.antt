@@ -37,7 +37,7 @@ use Rattle.deno_graph_source.specs.ParsedSource.{ParsedModule}
 use Rattle.deno_graph_source.specs.contracts.tree.media_type.MediaType.{the_type}
 use Rattle.deno_graph_source.specs.contracts.tree.media_type.MediaTypePartialEq.TheImpl as media_types
 use Rattle.deno_graph_info.specs.declared.analysis.module_info.ModuleInfo.{ModuleInfo}
-use Rattle.deno_graph_parser.specs.Capturing.{IsFaithful, HasText, IsHit, asked_for}
+use Rattle.deno_graph_parser.specs.Capturing.{IsFaithful, MatchesInput, HasSourceFor, asked_for}
 use Rattle.deno_graph_parser.specs.Parsing.{
   ParseFunction,
   AnswerRelation,
@@ -47,7 +47,7 @@ use Rattle.deno_graph_parser.specs.Parsing.{
   input_under,
   specifier_text,
 }
-use Rattle.deno_graph_parser.specs.Sources.{Sources, source_at, without}
+use Rattle.deno_graph_parser.specs.Sources.{Sources, source_at, without_source}
 use Rattle.deno_graph_parser.specs.declared.parse_error.ParseDiagnostic.{ParseDiagnostic}
 use Rattle.deno_graph_parser.specs.declared.parse_error.ParseError.{ParseError}
 use Rattle.deno_graph_parser.specs.declared.parse_error.ParseError.TheVariants as parse
@@ -85,7 +85,7 @@ both true b h = (refl, h)
 both false b h = cc
 
 text_from_test : (asked : Input) (source : ParsedModule) → has_text asked (Some (unmarked source)) ≡ true
-    → HasText asked source
+    → MatchesInput asked source
 text_from_test asked source h =
     let each = both (bytes_eq source.text asked.text)
     ((media_types.ghosts).eq source.media_type asked.media_type) h in
@@ -94,7 +94,7 @@ text_from_test asked source h =
       media_type = same_true the_type tt source.media_type asked.media_type each.1;
     }
 
-test_from_text : (asked : Input) (source : ParsedModule) → HasText asked source
+test_from_text : (asked : Input) (source : ParsedModule) → MatchesInput asked source
     → has_text asked (Some (unmarked source)) ≡ true
 test_from_text asked source has =
     rw (has.text, same_text asked.text) (true_same the_type source.media_type asked.media_type has.media_type)
@@ -104,16 +104,17 @@ some_is e = cc
 
 -- the store has a source for the input exactly where the test says so
 hit_from_test : (m : Sources) (asked : Input) (found : Option ParsedModule)
-    → source_at m asked.specifier ≡ found → has_text asked (option_map unmarked found) ≡ true → IsHit m asked
+    → source_at m asked.specifier ≡ found → has_text asked (option_map unmarked found) ≡ true
+    → HasSourceFor m asked
 hit_from_test m asked None is h = cc
 hit_from_test m asked (Some source) is h = (source, is, text_from_test asked source h)
 
 pub is_hit : (m : Sources) (asked : Input)
-    → has_text asked (option_map unmarked (source_at m asked.specifier)) ≡ true → IsHit m asked
+    → has_text asked (option_map unmarked (source_at m asked.specifier)) ≡ true → HasSourceFor m asked
 is_hit m asked = hit_from_test m asked (source_at m asked.specifier) refl
 
 pub is_no_hit : (m : Sources) (asked : Input)
-    → has_text asked (option_map unmarked (source_at m asked.specifier)) ≡ false → ¬ IsHit m asked
+    → has_text asked (option_map unmarked (source_at m asked.specifier)) ≡ false → ¬ HasSourceFor m asked
 is_no_hit m asked h hit =
     let yes = ap (λ found. has_text asked (option_map unmarked found)) hit.1
     ∙ test_from_text asked hit.0 hit.2 in
@@ -218,7 +219,7 @@ module _ {P : Type 0} (parses : P → ParseFunction) (count : P → ℕ) (is_sou
       omega arith
   counted_after scope asked old new result captures false e = captures.counted.1
 
-  faithful_without : (m : Sources) (key : List ℕ) → IsFaithful f m → IsFaithful f (without m key)
+  faithful_without : (m : Sources) (key : List ℕ) → IsFaithful f m → IsFaithful f (without_source m key)
   unfolding IsFaithful
   faithful_without m key faithful = λ other source at.
       let by : (b : Bool) → cond b None (source_at m other) ≡ Some source

@@ -1,7 +1,7 @@
 -- What one call of a capturing parser does, as a relation between what was before and after it.
 use Rattle.std.specs.Prelude.{◌≡◌, ℕ, ◌+◌, ◌≤◌, ◌⊎◌, Bool, Some, Result, Err, IfOk, IfErr, OnOk, OnErr}
 use Rattle.deno_graph_source.specs.ParsedSource.{ParsedModule}
-use Rattle.deno_graph_parser.specs.Capturing.{IsFaithful, IsHit, asked_for}
+use Rattle.deno_graph_parser.specs.Capturing.{IsFaithful, HasSourceFor, asked_for}
 use Rattle.deno_graph_parser.specs.Parsing.{ParseFunction, AnswerRelation, Input, AnswersAs}
 use Rattle.deno_graph_parser.specs.Sources.{Sources, source_at, with_source}
 use Rattle.deno_graph_parser.specs.declared.parse_error.ParseError.{ParseError}
@@ -42,13 +42,13 @@ module _ {P : Type 0} (parses : P → ParseFunction) (count : P → ℕ) (is_sou
   -- the capturing parser was called once, with or without the scope option
   pub record Captures (scope : Bool) (input : Input) (old : State P)
       (result : Result ParsedModule ParseError) (new : State P) : Type 0 where
-    pub hit : IsHit old.sources input
+    pub hit : HasSourceFor old.sources input
         → AnswersFromStore (asked_for scope old.sources input.specifier) input old result new
-    pub miss : ¬ IsHit old.sources input
+    pub miss : ¬ HasSourceFor old.sources input
         → AnswersFromParser (may_answer old.parser input scope)
         (asked_for scope old.sources input.specifier) input result new.sources
     -- where the parser is asked and is sound, the answer is its outcome
-    pub outcome : ¬ IsHit old.sources input → is_sound old.parser
+    pub outcome : ¬ HasSourceFor old.sources input → is_sound old.parser
         → AnswersAs (parses old.parser) input result
     pub err : OnErr result ((new.sources ≡ old.sources)
         ⊎ (new.sources ≡ asked_for scope old.sources input.specifier))

@@ -13,7 +13,7 @@ IsFaithful parses sources =
     → IsParsed parses (input_under specifier source) source
 
 -- the source has the text and the media type of the input
-pub record HasText (input : Input) (source : ParsedModule) : Type 0 where
+pub record MatchesInput (input : Input) (source : ParsedModule) : Type 0 where
   pub text : source.text ≡ input.text
   pub media_type : source.media_type ≡ input.media_type
 
@@ -27,6 +27,6 @@ abbrev pub once_asked : ParseOptions → Sources → Sources
 once_asked options sources = asked_for options.scope_analysis sources (asked options).specifier
 
 -- the store has a source for the input
-abbrev pub IsHit : Sources → Input → Type 0
-IsHit sources input = (source : ParsedModule)
-    × (source_at sources input.specifier ≡ Some source) × HasText input source
+abbrev pub HasSourceFor : Sources → Input → Type 0
+HasSourceFor sources input = (source : ParsedModule)
+    × (source_at sources input.specifier ≡ Some source) × MatchesInput input source

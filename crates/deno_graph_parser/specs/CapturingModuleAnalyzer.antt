@@ -13,5 +13,5 @@ module _ {P S : Type 0} where
   store_of analyzer = analyzer.store
 
   -- its parser, and the sources in its store
-  abbrev pub state_of : (S → Sources) → CapturingModuleAnalyzer P S → State P
-  state_of sources analyzer = state (parser_of analyzer) (sources (store_of analyzer))
+  abbrev pub analyzer_state : (S → Sources) → CapturingModuleAnalyzer P S → State P
+  analyzer_state sources analyzer = state (parser_of analyzer) (sources (store_of analyzer))

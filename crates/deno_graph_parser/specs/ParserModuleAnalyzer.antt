@@ -2,5 +2,5 @@
 use Rattle.std.specs.Borrow.{MutBor}
 use Rattle.deno_graph_parser.specs.declared.parser_module_analyzer.ParserModuleAnalyzer.{ParserModuleAnalyzer}
 
-abbrev pub lent_parser : {P : Type 0} → ParserModuleAnalyzer P → MutBor P
-lent_parser analyzer = analyzer.parser
+abbrev pub borrowed_parser : {P : Type 0} → ParserModuleAnalyzer P → MutBor P
+borrowed_parser analyzer = analyzer.parser

@@ -4,7 +4,7 @@ use Rattle.std.specs.Rc.{rc_str_bytes}
 use Rattle.deno_graph_source.specs.ParsedSource.{ParsedModule}
 use Rattle.deno_graph_info.specs.declared.analysis.module_info.ModuleInfo.{ModuleInfo}
 use Rattle.deno_graph_parser.specs.Parsing.{ParseFunction, AnswerRelation, Input, specifier_text}
-use Rattle.deno_graph_parser.specs.Sources.{source_at, without}
+use Rattle.deno_graph_parser.specs.Sources.{source_at, without_source}
 use Rattle.deno_graph_parser.specs.declared.parse_error.ParseDiagnostic.{ParseDiagnostic}
 use Rattle.deno_graph_parser.specs.declared.parse_error.ParseError.{ParseError}
 use Rattle.deno_graph_parser.specs.declared.parse_error.ParseError.TheVariants as parse
@@ -36,7 +36,7 @@ module _ {P : Type 0} (parses : P → ParseFunction) (count : P → ℕ) (is_sou
   pub record Removes (specifier : List ℕ) (old : State P) (answer : Option ParsedModule)
       (new : State P) : Type 0 where
     pub found : answer ≡ source_at old.sources specifier
-    pub sources : new.sources ≡ without old.sources specifier
+    pub sources : new.sources ≡ without_source old.sources specifier
     pub parser : new.parser ≡ old.parser
 
   -- a command was carried out as the single call of its name is, with this answer

@@ -22,8 +22,8 @@ abbrev pub with_source : Sources → List ℕ → ParsedModule → Sources
 with_source sources key source = map.insert sources key source
 
 -- with nothing under a specifier, and all else as it is
-abbrev pub without : Sources → List ℕ → Sources
-without sources key = map.remove sources key
+abbrev pub without_source : Sources → List ℕ → Sources
+without_source sources key = map.remove sources key
 
 -- the sources with this one in the place of one that is there
 abbrev pub with_mark_of : Sources → List ℕ → Option ParsedModule → Sources

@@ -1,7 +1,7 @@
 ghost use Rattle.std.specs.Prelude.{◌≡◌, ◌+◌, ◌≤◌, ◌⊎◌, ◌↔◌, IsTrue, Some, Err, IfSome, IfNone, IfOk, OnOk, OnErr};
 ghost use Rattle.std.specs.Rc.{rc_str_bytes};
 ghost use Rattle.deno_graph_parser.specs.Captures.{Captures, state};
-ghost use Rattle.deno_graph_parser.specs.Capturing.{HasText, once_asked};
+ghost use Rattle.deno_graph_parser.specs.Capturing.{MatchesInput, once_asked};
 ghost use Rattle.deno_graph_parser.specs.Parsing.{AnswersAs, asked, specifier_text};
 ghost use Rattle.deno_graph_parser.specs.Sources.{source_at, with_source};
 
@@ -56,8 +56,8 @@ fn ask<S: ParsedSourceStore>(
 /// The source where it has the options' text and media type.
 fn matching(found: Option<ParsedSource>, options: &ParseOptions<'_>) -> Option<ParsedSource>
     ensures hit { IfSome result (λ source.
-        (found ≡ Some source) × HasText (asked options.now) source) }
-    ensures miss { IfNone result (IfSome found (λ source. ¬ HasText (asked options.now) source)) }
+        (found ≡ Some source) × MatchesInput (asked options.now) source) }
+    ensures miss { IfNone result (IfSome found (λ source. ¬ MatchesInput (asked options.now) source)) }
 {
     let source = found?;
     if has_text(&source, options) {
@@ -68,7 +68,7 @@ fn matching(found: Option<ParsedSource>, options: &ParseOptions<'_>) -> Option<P
 }
 
 fn has_text(source: &ParsedSource, options: &ParseOptions<'_>) -> bool
-    ensures { IsTrue result ↔ HasText (asked options.now) source.now }
+    ensures { IsTrue result ↔ MatchesInput (asked options.now) source.now }
 {
     source.text().as_str() == options.source.as_str() && source.media_type() == options.media_type
 }

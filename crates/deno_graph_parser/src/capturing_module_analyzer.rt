@@ -3,11 +3,11 @@ ghost use Rattle.std.specs.Rc.{rc_str_bytes};
 ghost use Rattle.deno_graph_parser.specs.Analysis.{AnalyzesAs};
 ghost use Rattle.deno_graph_parser.specs.Captures.{IsSoundState, Captures};
 ghost use Rattle.deno_graph_parser.specs.CapturingEsParser.{lent_parser, lent_store};
-ghost use Rattle.deno_graph_parser.specs.CapturingModuleAnalyzer.{parser_of, store_of, state_of};
+ghost use Rattle.deno_graph_parser.specs.CapturingModuleAnalyzer.{parser_of, store_of, analyzer_state};
 ghost use Rattle.deno_graph_parser.specs.Commands.{input};
 ghost use Rattle.deno_graph_parser.specs.Parsing.{AnswersAs, asked, specifier_text};
 ghost use Rattle.deno_graph_parser.specs.Runs.{Analyzes};
-ghost use Rattle.deno_graph_parser.specs.Sources.{source_at, with_source, without, with_mark};
+ghost use Rattle.deno_graph_parser.specs.Sources.{source_at, with_source, without_source, with_mark};
 
 use crate::analyze_error::AnalyzeError;
 use crate::info_of::info_of;
@@ -52,7 +52,7 @@ impl<P: EsParser, S: ParsedSourceStore> EsParser for CapturingModuleAnalyzer<P, 
 
     ghost count = { λ it. P.count (parser_of it) };
 
-    ghost is_sound = { λ it. IsSoundState P.parses P.is_sound (state_of S.sources it) };
+    ghost is_sound = { λ it. IsSoundState P.parses P.is_sound (analyzer_state S.sources it) };
 
     /// As [`capture`] with its parser and its store.
     fn parse_program(
@@ -62,7 +62,7 @@ impl<P: EsParser, S: ParsedSourceStore> EsParser for CapturingModuleAnalyzer<P, 
     ) -> Result<ParsedSource, ParseError>
         ensures { Captures P.parses P.count P.is_sound P.may_answer
             options.entry.scope_analysis (asked options.entry)
-            (state_of S.sources self.old) result (state_of S.sources self.new) }
+            (analyzer_state S.sources self.old) result (analyzer_state S.sources self.new) }
     {
         capture(alloc, &mut self.parser, &mut self.store, options)
     }
@@ -71,7 +71,7 @@ impl<P: EsParser, S: ParsedSourceStore> EsParser for CapturingModuleAnalyzer<P, 
 impl<P: EsParser, S: ParsedSourceStore> ModuleAnalyzer for CapturingModuleAnalyzer<P, S> {
     ghost parses = { λ it. P.parses (parser_of it) };
 
-    ghost is_sound = { λ it. IsSoundState P.parses P.is_sound (state_of S.sources it) };
+    ghost is_sound = { λ it. IsSoundState P.parses P.is_sound (analyzer_state S.sources it) };
 
     /// Parses as `parse_program` does, without scopes, and analyzes what that answers. An error
     /// leaves the store as the parse left it.
@@ -84,8 +84,8 @@ impl<P: EsParser, S: ParsedSourceStore> ModuleAnalyzer for CapturingModuleAnalyz
     ) -> Result<ModuleInfo, AnalyzeError>
         ensures analyzes { Analyzes P.parses P.count P.is_sound P.may_answer
             (input specifier.now (rc_str_bytes source) media_type)
-            (state_of S.sources self.old) result (state_of S.sources self.new) }
-        ensures answer { IsSoundState P.parses P.is_sound (state_of S.sources self.old)
+            (analyzer_state S.sources self.old) result (analyzer_state S.sources self.new) }
+        ensures answer { IsSoundState P.parses P.is_sound (analyzer_state S.sources self.old)
             → AnalyzesAs (P.parses (parser_of self.old))
             (input specifier.now (rc_str_bytes source) media_type) result }
     {
@@ -136,7 +136,7 @@ impl<P: EsParser, S: ParsedSourceStore> ParsedSourceStore for CapturingModuleAna
         ensures former { IfOk result (λ former.
             former ≡ source_at (S.sources (store_of self.old)) (specifier_text specifier.now)) }
         ensures ok { OnOk result (S.sources (store_of self.new)
-            ≡ without (S.sources (store_of self.old)) (specifier_text specifier.now)) }
+            ≡ without_source (S.sources (store_of self.old)) (specifier_text specifier.now)) }
         ensures err { OnErr result (S.sources (store_of self.new)
             ≡ S.sources (store_of self.old)) }
         ensures parser { parser_of self.new ≡ parser_of self.old }

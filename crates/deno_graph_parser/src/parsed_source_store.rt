@@ -6,7 +6,7 @@ use url::Url;
 pub trait ParsedSourceStore: Drop {
     ghost use Rattle.std.specs.Prelude.{◌≡◌, IfOk, OnOk, OnErr};
     ghost use Rattle.deno_graph_parser.specs.Parsing.{specifier_text};
-    ghost use Rattle.deno_graph_parser.specs.Sources.{Sources, source_at, with_source, without, with_mark};
+    ghost use Rattle.deno_graph_parser.specs.Sources.{Sources, source_at, with_source, without_source, with_mark};
 
     /// The sources by the texts of their specifiers.
     ghost sources: { Self → Sources };
@@ -44,7 +44,7 @@ pub trait ParsedSourceStore: Drop {
         ensures former { IfOk result (λ former.
             former ≡ source_at (sources self.old) (specifier_text specifier.now)) }
         ensures ok { OnOk result (sources self.new
-            ≡ without (sources self.old) (specifier_text specifier.now)) }
+            ≡ without_source (sources self.old) (specifier_text specifier.now)) }
         ensures err { OnErr result (sources self.new ≡ sources self.old) };
 
     /// The source under `specifier` with the mark that its scopes were analysed, which it then has

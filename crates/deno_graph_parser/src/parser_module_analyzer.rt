@@ -1,5 +1,5 @@
 ghost use Rattle.std.specs.Prelude.{◌≡◌, false};
-ghost use Rattle.deno_graph_parser.specs.ParserModuleAnalyzer.{lent_parser};
+ghost use Rattle.deno_graph_parser.specs.ParserModuleAnalyzer.{borrowed_parser};
 
 use crate::analyze_error::AnalyzeError;
 use crate::info_of::info_of;
@@ -20,8 +20,8 @@ pub struct ParserModuleAnalyzer<'a, P: EsParser> {
 impl<'a, P: EsParser> ParserModuleAnalyzer<'a, P> {
     /// An analyzer over `parser`. Takes no memory.
     pub fn new(parser: &'a mut P) -> ParserModuleAnalyzer<'a, P>
-        ensures parser { (lent_parser result).now ≡ parser.old }
-        ensures same_parser { (lent_parser result).ghost_name ≡ parser.entry.ghost_name }
+        ensures parser { (borrowed_parser result).now ≡ parser.old }
+        ensures same_parser { (borrowed_parser result).ghost_name ≡ parser.entry.ghost_name }
     {
         ParserModuleAnalyzer { parser }
     }
@@ -32,9 +32,9 @@ impl<'a, P: EsParser> ModuleAnalyzer for ParserModuleAnalyzer<'a, P> {
     ghost use Rattle.deno_graph_parser.specs.Analysis.{AnalyzesAs, IsAnalysisOfSome};
     ghost use Rattle.deno_graph_parser.specs.Commands.{input};
 
-    ghost parses = { λ it. P.parses (lent_parser it).now };
+    ghost parses = { λ it. P.parses (borrowed_parser it).now };
 
-    ghost is_sound = { λ it. P.is_sound (lent_parser it).now };
+    ghost is_sound = { λ it. P.is_sound (borrowed_parser it).now };
 
     fn analyze_sync(
         &mut self,
@@ -43,17 +43,17 @@ impl<'a, P: EsParser> ModuleAnalyzer for ParserModuleAnalyzer<'a, P> {
         source: RcStr,
         media_type: MediaType,
     ) -> Result<ModuleInfo, AnalyzeError>
-        ensures same_parser { (lent_parser self.new).ghost_name
-            ≡ (lent_parser self.old).ghost_name }
-        ensures function { P.parses (lent_parser self.new).now
-            ≡ P.parses (lent_parser self.old).now }
-        ensures sound { P.is_sound (lent_parser self.old).now
-            → P.is_sound (lent_parser self.new).now }
-        ensures answer { P.is_sound (lent_parser self.old).now
-            → AnalyzesAs (P.parses (lent_parser self.old).now)
+        ensures same_parser { (borrowed_parser self.new).ghost_name
+            ≡ (borrowed_parser self.old).ghost_name }
+        ensures function { P.parses (borrowed_parser self.new).now
+            ≡ P.parses (borrowed_parser self.old).now }
+        ensures sound { P.is_sound (borrowed_parser self.old).now
+            → P.is_sound (borrowed_parser self.new).now }
+        ensures answer { P.is_sound (borrowed_parser self.old).now
+            → AnalyzesAs (P.parses (borrowed_parser self.old).now)
             (input specifier.now (rc_str_bytes source) media_type) result }
         // The parser is asked without the scope option.
-        ensures analysis { IsAnalysisOfSome (P.may_answer (lent_parser self.old).now
+        ensures analysis { IsAnalysisOfSome (P.may_answer (borrowed_parser self.old).now
             (input specifier.now (rc_str_bytes source) media_type) false) result }
     {
         let options = ParseOptions {

@@ -1,5 +1,5 @@
 ghost use Rattle.std.specs.Prelude.{◌≡◌, Err, IfOk, OnErr};
-ghost use Rattle.deno_graph_parser.specs.CapturingModuleAnalyzer.{state_of};
+ghost use Rattle.deno_graph_parser.specs.CapturingModuleAnalyzer.{analyzer_state};
 ghost use Rattle.deno_graph_parser.specs.Runs.{as_called, Ran, WasRefused};
 
 use crate::analyze_error::AnalyzeError;
@@ -17,10 +17,10 @@ pub(crate) fn reply<P: EsParser, S: ParsedSourceStore>(
     command: &Command,
 ) -> Result<Answer, AllocError>
     ensures ran { IfOk result (λ answer. Ran P.parses P.count P.is_sound P.may_answer
-        (state_of S.sources analyzer.old) command.now answer
-        (state_of S.sources analyzer.new)) }
+        (analyzer_state S.sources analyzer.old) command.now answer
+        (analyzer_state S.sources analyzer.new)) }
     ensures refused { OnErr result (WasRefused P.parses P.count P.is_sound P.may_answer
-        (state_of S.sources analyzer.old) command.now (state_of S.sources analyzer.new)) }
+        (analyzer_state S.sources analyzer.old) command.now (analyzer_state S.sources analyzer.new)) }
 {
     match command {
         Command::Analyze {

@@ -1,6 +1,6 @@
 ghost use Rattle.std.specs.Prelude.{◌≡◌, ◌+◌, ◌≤◌, ◌⊎◌, [], None, IfOk, OnOk, OnErr};
 ghost use Rattle.deno_graph_parser.specs.Captures.{IsSoundState};
-ghost use Rattle.deno_graph_parser.specs.CapturingModuleAnalyzer.{parser_of, store_of, state_of};
+ghost use Rattle.deno_graph_parser.specs.CapturingModuleAnalyzer.{parser_of, store_of, analyzer_state};
 ghost use Rattle.deno_graph_parser.specs.Commands.{AreAnswers, misses, seen};
 ghost use Rattle.deno_graph_parser.specs.Runs.{Runs, EndsEarly};
 ghost use Rattle.deno_graph_parser.specs.Sources.{no_sources};
@@ -28,21 +28,21 @@ pub fn run<P: EsParser, S: ParsedSourceStore>(
     commands: &[Command],
 ) -> Result<Vec<Answer>, AllocError>
     ensures ran { IfOk result (λ answers. Runs P.parses P.count P.is_sound P.may_answer
-        (state_of S.sources analyzer.old) commands.now answers.items
-        (state_of S.sources analyzer.new)) }
+        (analyzer_state S.sources analyzer.old) commands.now answers.items
+        (analyzer_state S.sources analyzer.new)) }
     ensures refused { OnErr result ((analyzer.new ≡ analyzer.old)
         ⊎ EndsEarly P.parses P.count P.is_sound P.may_answer
-        (state_of S.sources analyzer.old) commands.now (state_of S.sources analyzer.new)) }
+        (analyzer_state S.sources analyzer.old) commands.now (analyzer_state S.sources analyzer.new)) }
     ensures function { P.parses (parser_of analyzer.new) ≡ P.parses (parser_of analyzer.old) }
 
     // Begun sound it ends sound, after a refusal too, and each answer is that of the parser alone.
-    ensures sound { IsSoundState P.parses P.is_sound (state_of S.sources analyzer.old)
-        → IsSoundState P.parses P.is_sound (state_of S.sources analyzer.new) }
-    ensures replies { IsSoundState P.parses P.is_sound (state_of S.sources analyzer.old)
+    ensures sound { IsSoundState P.parses P.is_sound (analyzer_state S.sources analyzer.old)
+        → IsSoundState P.parses P.is_sound (analyzer_state S.sources analyzer.new) }
+    ensures replies { IsSoundState P.parses P.is_sound (analyzer_state S.sources analyzer.old)
         → IfOk result (λ answers. AreAnswers (P.parses (parser_of analyzer.old))
         (seen (S.sources (store_of analyzer.old))) [] commands.now answers.items) }
     // The parser is asked at most once for each miss.
-    ensures counted { IsSoundState P.parses P.is_sound (state_of S.sources analyzer.old)
+    ensures counted { IsSoundState P.parses P.is_sound (analyzer_state S.sources analyzer.old)
         → OnOk result (P.count (parser_of analyzer.new) ≤ P.count (parser_of analyzer.old)
         + misses (P.parses (parser_of analyzer.old))
         (seen (S.sources (store_of analyzer.old))) [] commands.now) }
@@ -50,7 +50,7 @@ pub fn run<P: EsParser, S: ParsedSourceStore>(
     // An empty store is a sound beginning.
     ensures sound_from_empty { P.is_sound (parser_of analyzer.old)
         → S.sources (store_of analyzer.old) ≡ no_sources
-        → IsSoundState P.parses P.is_sound (state_of S.sources analyzer.new) }
+        → IsSoundState P.parses P.is_sound (analyzer_state S.sources analyzer.new) }
     ensures from_empty { P.is_sound (parser_of analyzer.old)
         → S.sources (store_of analyzer.old) ≡ no_sources
         → IfOk result (λ answers. AreAnswers (P.parses (parser_of analyzer.old)) (λ _. None)
@@ -69,11 +69,11 @@ fn answers_to<P: EsParser, S: ParsedSourceStore>(
     commands: &[Command],
 ) -> Result<Vec<Answer>, AllocError>
     ensures ran { IfOk result (λ answers. Runs P.parses P.count P.is_sound P.may_answer
-        (state_of S.sources analyzer.old) commands.now answers.items
-        (state_of S.sources analyzer.new)) }
+        (analyzer_state S.sources analyzer.old) commands.now answers.items
+        (analyzer_state S.sources analyzer.new)) }
     ensures refused { OnErr result ((analyzer.new ≡ analyzer.old)
         ⊎ EndsEarly P.parses P.count P.is_sound P.may_answer
-        (state_of S.sources analyzer.old) commands.now (state_of S.sources analyzer.new)) }
+        (analyzer_state S.sources analyzer.old) commands.now (analyzer_state S.sources analyzer.new)) }
 {
     let mut answers = Vec::with_capacity(alloc, commands.len())?;
     for command in commands {

@@ -13,10 +13,10 @@ use lib.Utf8.{encodes, encode, scalar, scalars}
 use Rattle.deno_graph_pragmas.specs.Finders.{attribute, quoted_pragma, quoteless_pragma, jsx_pragma}
 use Rattle.deno_graph_pragmas.specs.Finders.{source_mapping_url_pattern, finder_patterns}
 use Rattle.deno_graph_pragmas.specs.declared.finders.matches.Match.{Match}
-use Rattle.deno_graph_pragmas.specs.Match.{part_of}
+use Rattle.deno_graph_pragmas.specs.Match.{match_part_of}
 use Rattle.deno_graph_pragmas.specs.Piece.{Piece, white_space, any_white_space, keyword, literal, quote}
 use Rattle.deno_graph_pragmas.specs.Piece.{is_quote}
-use Rattle.deno_graph_pragmas.specs.Split.{Pattern, ArePieces, Split, IsCaptured, IsSliceOf, StandsInQuotes}
+use Rattle.deno_graph_pragmas.specs.Split.{Pattern, ArePieces, Split, IsCaptured, IsSliceOf, IsInQuotes}
 use Rattle.deno_graph_pragmas.specs.Split.{StartDetermines, HasOnePart, TextPart, byte_count, with_beside}
 use Rattle.deno_graph_pragmas.proofs.Barriers.{attribute_apart, quoted_pragma_apart, quoteless_pragma_apart}
 use Rattle.deno_graph_pragmas.proofs.Barriers.{jsx_pragma_apart, source_mapping_url_apart}
@@ -79,10 +79,10 @@ captured_slice pattern text part utf8 is =
     (slice_of_chars text head split.captured tail utf8 whole)
 
 pub found_slice : (pattern : Pattern) (text : List ℕ) (answer : Option Match)
-    → IsUtf8 text → IfSome answer (λ found. IsCaptured pattern text (part_of found))
-    → IfSome answer (λ found. IsSliceOf text (part_of found))
+    → IsUtf8 text → IfSome answer (λ found. IsCaptured pattern text (match_part_of found))
+    → IfSome answer (λ found. IsSliceOf text (match_part_of found))
 found_slice pattern text answer utf8 found =
-    IfSome_then answer found (λ m. captured_slice pattern text (part_of m) utf8)
+    IfSome_then answer found (λ m. captured_slice pattern text (match_part_of m) utf8)
 
 -- ---- quotes
 
@@ -138,7 +138,7 @@ round pattern pieces text front_is back_is split =
 
 in_quotes : (pattern : Pattern) (text : List ℕ) (part : TextPart) → IsUtf8 text
     → (is : IsCaptured pattern text part) → Round is.split.before is.split.front is.split.captured
-    is.split.back is.split.after → StandsInQuotes text part
+    is.split.back is.split.after → IsInQuotes text part
 in_quotes pattern text part utf8 is around =
     let split = is.split in
     let head = around.head in
@@ -182,13 +182,13 @@ in_quotes pattern text part utf8 is around =
     }
 
 pub attribute_in_quotes : (name : List ℕ) (text : List ℕ) (part : TextPart) → IsUtf8 text
-    → IsCaptured (attribute name) text part → StandsInQuotes text part
+    → IsCaptured (attribute name) text part → IsInQuotes text part
 attribute_in_quotes name text part utf8 is =
     in_quotes (attribute name) text part utf8 is (round (attribute name) (white_space ∷ keyword name
     ∷ any_white_space ∷ literal "=" ∷ any_white_space ∷ []) (chars text) refl refl is.split)
 
 pub pragma_in_quotes : (name : List ℕ) (text : List ℕ) (part : TextPart) → IsUtf8 text
-    → IsCaptured (quoted_pragma name) text part → StandsInQuotes text part
+    → IsCaptured (quoted_pragma name) text part → IsInQuotes text part
 pragma_in_quotes name text part utf8 is =
     in_quotes (quoted_pragma name) text part utf8 is (round (quoted_pragma name) (any_white_space ∷ keyword
     name ∷ any_white_space ∷ literal "=" ∷ any_white_space ∷ []) (chars text) refl refl is.split)

@@ -9,10 +9,10 @@ use Rattle.std.proofs.lemmas.Str.{encodes-chars, encodes-append}
 use Rattle.std.specs.Option.{option_and_then}
 use Rattle.std.specs.Str.{chars, IsUtf8}
 use lib.Utf8.{encodes}
-use Rattle.deno_graph_pragmas.specs.Match.{part_of, FindsFirst, FindsFirstInQuotes}
+use Rattle.deno_graph_pragmas.specs.Match.{match_part_of, FindsFirst, FindsFirstInQuotes}
 use Rattle.deno_graph_pragmas.specs.declared.finders.matches.Match.{Match}
 use Rattle.deno_graph_pragmas.specs.Piece.{Piece, IsPiece}
-use Rattle.deno_graph_pragmas.specs.Reading.{after_piece, after_pieces, IsReadAt}
+use Rattle.deno_graph_pragmas.specs.Reading.{after_piece, after_pieces, IsCapturedAt}
 use Rattle.deno_graph_pragmas.specs.Split.{Pattern, ArePieces, Split, HasSplit, TextPart, IsCaptured}
 use Rattle.deno_graph_pragmas.specs.Split.{byte_count}
 use Rattle.deno_graph_pragmas.proofs.ReadPieces.{after_piece-front, after_pieces-front}
@@ -68,7 +68,7 @@ some_is (Some x) is = (x, refl)
 
 made : (pattern : Pattern) (text rest before tail : List ℕ) (part : TextPart) → chars text ≡ before ++ tail
     → (IsTrue pattern.anchored → before ≡ []) → after_pieces pattern.front tail ≡ Some (chars rest)
-    → IsReadAt pattern.captured pattern.back text rest part → Split pattern (chars text)
+    → IsCapturedAt pattern.captured pattern.back text rest part → Split pattern (chars text)
 made pattern text rest before tail part whole anchored front read =
     let first = after_pieces-front pattern.front tail (chars rest) front in
     let second = after_piece-front pattern.captured (chars rest) read.behind read.captured in
@@ -122,7 +122,7 @@ pub IsCaptured-read : (pattern : Pattern) (text rest before tail : List ℕ) (pa
     → IsUtf8 text → IsUtf8 rest → chars text ≡ before ++ tail → (IsTrue pattern.anchored → before ≡ [])
     → ((other : Split pattern (chars text)) → length before ≤ length other.before)
     → after_pieces pattern.front tail ≡ Some (chars rest)
-    → IsReadAt pattern.captured pattern.back text rest part → IsCaptured pattern text part
+    → IsCapturedAt pattern.captured pattern.back text rest part → IsCaptured pattern text part
 unfolding made
 IsCaptured-read pattern text rest before tail part text_utf8 rest_utf8 whole anchored first front read =
     let split : Split pattern (chars text) =
@@ -149,46 +149,50 @@ IsCaptured-read pattern text rest before tail part text_utf8 rest_utf8 whole anc
 -- at the start of the text
 pub IsCaptured-at_start : (pattern : Pattern) (text rest : List ℕ) (part : TextPart)
     → IsUtf8 text → IsUtf8 rest → after_pieces pattern.front (chars text) ≡ Some (chars rest)
-    → IsReadAt pattern.captured pattern.back text rest part → IsCaptured pattern text part
+    → IsCapturedAt pattern.captured pattern.back text rest part → IsCaptured pattern text part
 IsCaptured-at_start pattern text rest part text_utf8 rest_utf8 front read =
     IsCaptured-read pattern text rest [] (chars text) part text_utf8 rest_utf8 refl (λ _. refl)
     (λ other. zero-le) front read
 
 -- what is read at the start of `rest` is a part
-pub IsReadAt-front : (piece : Piece) (back : List Piece) (text rest front behind : List ℕ) (part : TextPart)
+pub IsCapturedAt-front : (piece : Piece) (back : List Piece) (text rest front behind : List ℕ)
+    (part : TextPart)
     → IsUtf8 front → after_piece piece (chars rest) ≡ Some behind → IsSome (after_pieces back behind)
     → chars rest ≡ chars front ++ behind → part.text ≡ front → part.start ≡ length text - length rest
-    → part.end ≡ part.start + length front → IsReadAt piece back text rest part
-IsReadAt-front piece back text rest front behind part utf8 captured back_read whole is start end = record {
-  behind = behind;
-  captured = captured;
-  back_read = back_read;
-  whole = whole ∙ ap (λ t. chars t ++ behind) (sym is);
-  utf8 = subst IsUtf8 (sym is) utf8;
-  start = start;
-  end = end ∙ ap (λ t. part.start + length t) (sym is);
-}
+    → part.end ≡ part.start + length front → IsCapturedAt piece back text rest part
+IsCapturedAt-front piece back text rest front behind part utf8 captured back_read whole is start end =
+    record {
+      behind = behind;
+      captured = captured;
+      back_read = back_read;
+      whole = whole ∙ ap (λ t. chars t ++ behind) (sym is);
+      utf8 = subst IsUtf8 (sym is) utf8;
+      start = start;
+      end = end ∙ ap (λ t. part.start + length t) (sym is);
+    }
 
 -- ---- what is answered behind a front that was read
 
 pub found_behind : (pattern : Pattern) (text rest : List ℕ) (answer : Option Match)
     → IsUtf8 text → IsUtf8 rest → after_pieces pattern.front (chars text) ≡ Some (chars rest)
-    → IfSome answer (λ found. IsReadAt pattern.captured pattern.back text rest (part_of found))
-    → IfSome answer (λ found. IsCaptured pattern text (part_of found))
+    → IfSome answer (λ found. IsCapturedAt pattern.captured pattern.back text rest (match_part_of found))
+    → IfSome answer (λ found. IsCaptured pattern text (match_part_of found))
 found_behind pattern text rest answer text_utf8 rest_utf8 front read =
     IfSome_then answer read
-    (λ found. IsCaptured-at_start pattern text rest (part_of found) text_utf8 rest_utf8 front)
+    (λ found. IsCaptured-at_start pattern text rest (match_part_of found) text_utf8 rest_utf8 front)
 
 pub none_behind : (pattern : Pattern) (text rest : List ℕ) (answer : Option Match) → IsUtf8 text → IsUtf8 rest
     → IsDetermined pattern → pattern.anchored ≡ true → after_pieces pattern.front (chars text) ≡ Some
-    (chars rest) → IfSome answer (λ found. IsReadAt pattern.captured pattern.back text rest (part_of found))
+    (chars rest)
+    → IfSome answer (λ found. IsCapturedAt pattern.captured pattern.back text rest (match_part_of found))
     → (IsNone answer → after_pieces (pattern.captured ∷ pattern.back) (chars rest) ≡ None)
     → IsNone answer ↔ ¬ (Split pattern (chars text))
 none_behind pattern text rest None text_utf8 rest_utf8 determined anchored front read none =
     none_answer {A = Match} None refl
     (no_rest pattern (chars text) (chars rest) determined anchored front (none refl))
 none_behind pattern text rest (Some found) text_utf8 rest_utf8 determined anchored front read none =
-    some_answer (IsCaptured-at_start pattern text rest (part_of found) text_utf8 rest_utf8 front read).split
+    some_answer
+    (IsCaptured-at_start pattern text rest (match_part_of found) text_utf8 rest_utf8 front read).split
 
 -- ---- the two forms of a finder's answer, where there is none
 

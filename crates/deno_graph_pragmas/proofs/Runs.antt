@@ -8,7 +8,7 @@ use Rattle.std.specs.Option.{option_map, option_and_then}
 use Rattle.std.specs.Str.{chars, IsUtf8}
 use lib.Utf8.{encodes}
 use Rattle.deno_graph_pragmas.specs.Piece.{Piece, any, some}
-use Rattle.deno_graph_pragmas.specs.Reading.{skip_while, after_one, after_some, after_pieces, IsReadAt}
+use Rattle.deno_graph_pragmas.specs.Reading.{skip_while, after_one, after_some, after_pieces, IsCapturedAt}
 use Rattle.deno_graph_pragmas.specs.Split.{TextPart}
 
 length-skip_while : (test : ℕ → Bool) (text : List ℕ) → length (skip_while test text) ≤ length text
@@ -58,15 +58,15 @@ some_same : {x y : List ℕ} → Some x ≡ Some y → x ≡ y
 some_same same = cc
 
 behind_is : (test : ℕ → Bool) (back : List Piece) (text rest : List ℕ) (part : TextPart)
-    → (read : IsReadAt (any test) back text rest part)
+    → (read : IsCapturedAt (any test) back text rest part)
     → chars rest ≡ chars part.text ++ skip_while test (chars rest)
 behind_is test back text rest part read =
     let same : skip_while test (chars rest) ≡ read.behind = some_same read.captured in
     read.whole ∙ ap (λ t. chars part.text ++ t) (sym same)
 
 pub read_nonempty : (test : ℕ → Bool) (back : List Piece) (text rest : List ℕ) (part : TextPart)
-    → IsReadAt (any test) back text rest part → (length part.text == 0) ≡ false
-    → IsReadAt (some test) back text rest part
+    → IsCapturedAt (any test) back text rest part → (length part.text == 0) ≡ false
+    → IsCapturedAt (some test) back text rest part
 read_nonempty test back text rest part read nonempty = record {
   behind = read.behind;
   captured = after_some-nonempty test (chars rest) part.text read.utf8
@@ -79,7 +79,7 @@ read_nonempty test back text rest part read nonempty = record {
 }
 
 pub empty_read : (test : ℕ → Bool) (back : List Piece) (text rest : List ℕ) (part : TextPart)
-    → IsReadAt (any test) back text rest part → (length part.text == 0) ≡ true
+    → IsCapturedAt (any test) back text rest part → (length part.text == 0) ≡ true
     → after_pieces (some test ∷ back) (chars rest) ≡ None
 empty_read test back text rest part read empty =
     ap (option_and_then (after_pieces back))

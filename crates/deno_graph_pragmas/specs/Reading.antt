@@ -71,14 +71,15 @@ assignment name = keyword name ∷ any_white_space ∷ literal "=" ∷ any_white
 -- The part begins where `rest` does, with which `text` ends. It is what reading passes over as `piece`, and
 -- `back` can
 -- be read behind it.
-pub record IsReadAt (piece : Piece) (back : List Piece) (text rest : List ℕ) (part : TextPart) : Type 0 where
-  pub behind : List ℕ
-  pub captured : after_piece piece (chars rest) ≡ Some behind
-  pub back_read : IsSome (after_pieces back behind)
-  pub whole : chars rest ≡ chars part.text ++ behind
-  pub utf8 : IsUtf8 part.text
-  pub start : part.start ≡ length text - length rest
-  pub end : part.end ≡ part.start + length part.text
+pub record IsCapturedAt (piece : Piece) (back : List Piece) (text rest : List ℕ) (part : TextPart) : Type 0
+  where
+    pub behind : List ℕ
+    pub captured : after_piece piece (chars rest) ≡ Some behind
+    pub back_read : IsSome (after_pieces back behind)
+    pub whole : chars rest ≡ chars part.text ++ behind
+    pub utf8 : IsUtf8 part.text
+    pub start : part.start ≡ length text - length rest
+    pub end : part.end ≡ part.start + length part.text
 
 -- what an attribute begins with, behind the white space before it: K(name) W* `=` W* Q
 abbrev pub attribute_front : List ℕ → List Piece
@@ -89,7 +90,7 @@ pub record IsAttributeAt (name text rest : List ℕ) (part : TextPart) : Type 0 
   pub value : List ℕ
   pub utf8 : IsUtf8 value
   pub front : after_pieces (attribute_front name) (chars rest) ≡ Some (chars value)
-  pub read : IsReadAt unquoted (quote ∷ []) text value part
+  pub read : IsCapturedAt unquoted (quote ∷ []) text value part
 
 -- no attribute begins with these characters
 abbrev pub HasNoAttribute : List ℕ → List ℕ → Type 0

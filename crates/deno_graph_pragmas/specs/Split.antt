@@ -75,7 +75,7 @@ with_beside left right part = record {
 }
 
 -- a quote of either kind is directly before the part, and one directly behind it
-pub record StandsInQuotes (text : List ℕ) (part : TextPart) : Type 0 where
+pub record IsInQuotes (text : List ℕ) (part : TextPart) : Type 0 where
   pub left : ℕ
   pub right : ℕ
   pub left_quote : IsTrue (is_quote left)

@@ -12,7 +12,7 @@ use Rattle.json.specs.Token.{Token}
 use Rattle.json.specs.Tree.{json_tokens, items_tokens, members_tokens, depth, items_depth, members_depth}
 use Rattle.json.proofs.Printed.Trees.{value-json_tokens}
 use Rattle.flat_json.specs.Flat.{PlainNode, key, plain, number_node, number_fits, flat_list, items_list}
-use Rattle.flat_json.specs.Flat.{members_list, item_count, token_fits, IsAhead, NoneAhead, IsPut}
+use Rattle.flat_json.specs.Flat.{members_list, element_count, token_fits, IsAhead, NoneAhead, IsPut}
 use Rattle.flat_json.specs.Flat.{IsFlatText, IsRefused}
 use Rattle.flat_json.specs.declared.Node.{Node}
 
@@ -160,7 +160,7 @@ abbrev pub ItemsPassed : ℕ → List Token → List Token → List PlainNode �
 ItemsPassed d start now nodes count =
     (js : Items) → (r : List Token) → ItemsAhead d js now r
     → (all : Items) × ItemsAhead d all start r × (items_list all ≡ nodes ++ items_list js)
-    × (item_count all ≡ count + item_count js)
+    × (element_count all ≡ count + element_count js)
 
 -- Items that stand from `start` on go on from `now`.
 abbrev pub ItemsLeft : ℕ → List Token → List Token → Type 0
@@ -183,7 +183,7 @@ items_passed_more d j start ts us nodes count passed is js r more =
 
 pub items_passed_all : (d : ℕ) (start ts : List Token) (nodes : List PlainNode) (count : ℕ)
     → ItemsPassed d start (Token.end_array ∷ ts) nodes count
-    → (all : Items) × ItemsAhead d all start ts × (items_list all ≡ nodes) × (item_count all ≡ count)
+    → (all : Items) × ItemsAhead d all start ts × (items_list all ≡ nodes) × (element_count all ≡ count)
 items_passed_all d start ts nodes count passed =
     let whole = passed no_items ts (refl, omega arith, refl) in
     (whole.0, whole.1, whole.2 ∙ append-nil nodes, omega (arith, whole.3))

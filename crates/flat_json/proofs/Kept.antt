@@ -14,7 +14,7 @@ use Rattle.flat_json.specs.Value.{Value, null, boolean, whole, number, string, a
 use Rattle.flat_json.specs.Value.{no_items, item, Members, no_members, member, item_count, flat_value}
 use Rattle.flat_json.specs.Value.{flat_items, flat_members, plain_inside, value_in, items_in, members_in}
 use Rattle.flat_json.specs.Value.{AreOfValue, AreOfItems, AreOfMembers, BeginsValue}
-use Rattle.flat_json.specs.Tape.{HasValueAt, HasMemberAt, inside_of, node_of, array_of, place_of}
+use Rattle.flat_json.specs.Tape.{HasValueAt, HasMemberAt, inside_of, node_of, array_of_elements, place_of}
 use Rattle.flat_json.specs.Tape.{object_of_entries, place_of_entries}
 use Rattle.flat_json.specs.View.{items_left, items_with, members_left, members_with}
 use Rattle.flat_json.specs.declared.Element.{Element}
@@ -141,8 +141,8 @@ module _ (e : Element) (at : ℕ) where
   none_left is none = no_item_here (items_in (map plain (drop at e.nodes.now))) is none
 
 pub none_found : (old : Elements) (r : Option Element) (P : Element → Type 0) → r ≡ None
-    → (HasValueAt (array_of old) (place_of old) → ⊥)
-    → (IsSome r ↔ HasValueAt (array_of old) (place_of old)) × IfSome r P
+    → (HasValueAt (array_of_elements old) (place_of old) → ⊥)
+    → (IsSome r ↔ HasValueAt (array_of_elements old) (place_of old)) × IfSome r P
     × (items_left old ≡ items_with r (items_left old))
 unfolding items_left
 none_found old None P e none = (

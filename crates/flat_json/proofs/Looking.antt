@@ -19,11 +19,11 @@ use Rattle.std.proofs.Common.{
 use Rattle.std.specs.Str.{bytes_eq}
 use Rattle.std.proofs.lemmas.Bool.{false_from_ne_true}
 use Rattle.std.proofs.lemmas.Slice.Eq.{bytes_eq-Decides}
-use Rattle.flat_json.specs.Value.{Value, Items, item, Members, member, item_at, later_or, last_named}
+use Rattle.flat_json.specs.Value.{Value, Items, item, Members, member, nth_item, later_or, last_named}
 
-pub item_next : (n : ℕ) (v : Value) (vs : Items) → n ≢ 0 → item_at n (item v vs) ≡ item_at (n - 1) vs
+pub item_next : (n : ℕ) (v : Value) (vs : Items) → n ≢ 0 → nth_item n (item v vs) ≡ nth_item (n - 1) vs
 item_next zero v vs some = absurd (some refl)
-item_next (suc n) v vs some = let fewer : n ≡ suc n - 1 = omega arith in ap (λ k. item_at k vs) fewer
+item_next (suc n) v vs some = let fewer : n ≡ suc n - 1 = omega arith in ap (λ k. nth_item k vs) fewer
 
 later_found : (later found : Option Value) (v : Value)
     → later_or (later_or later (Some v)) found ≡ later_or later (Some v)

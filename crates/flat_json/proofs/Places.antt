@@ -2,11 +2,11 @@
 use Rattle.std.proofs.Common.{◌≡◌, ◌≢◌, ℕ, zero, suc, ◌+◌, ◌-◌, ◌<◌, ◌⊎◌, inl, inr, Option, Some, None}
 use Rattle.std.proofs.Common.{IfSome, IfNone, List, arith, refl, sym, ap, subst, ◌∙◌}
 use Rattle.flat_json.specs.Tape.{HasValueAt, IsValueAt, ArePassed, HasMemberAt, HasMember, HasNameAt}
-use Rattle.flat_json.specs.Tape.{IsMember, IsLastNamed, IsNameless, nodes_of, inside_of}
+use Rattle.flat_json.specs.Tape.{IsMember, IsLastNamed, IsNameless, size_of, inside_of}
 use Rattle.flat_json.specs.declared.Element.{Element}
 
 module _ (holder value : Element) (from next : ℕ) (is : IsValueAt holder from value)
-    (behind : next ≡ from + nodes_of value) where
+    (behind : next ≡ from + size_of value) where
   begins : (first : HasValueAt holder from) → next ≡ from + (inside_of first.0 + 1)
   begins first = behind ∙ ap (λ n. from + n) (is.2 first.0 first.1)
 
@@ -59,7 +59,7 @@ LastPassed object name from (Some value) =
     → IsMember object from later)
 
 module _ (object value : Element) (from next : ℕ) (is : IsValueAt object (from + 1) value)
-    (behind : next ≡ from + 1 + nodes_of value) where
+    (behind : next ≡ from + 1 + size_of value) where
   begins_member : (first : HasMemberAt object from) → next ≡ from + 1 + (inside_of first.1.0 + 1)
   begins_member first = behind ∙ ap (λ n. from + 1 + n) (is.2 first.1.0 first.1.1)
 

@@ -1,8 +1,8 @@
 -- The steps from a value to those right in it.
 use Rattle.std.proofs.Common.{◌≡◌, ℕ, suc, ◌+◌, inl, inr, arith, refl, sym, subst, ◌∙◌}
 use Rattle.flat_json.specs.Tape.{HasNode, HasValueAt, IsValueAt, ArePassed, HasMemberAt, IsMember}
-use Rattle.flat_json.specs.Tape.{IsArray, IsObject, nodes_of}
-use Rattle.flat_json.specs.Pointer.{index, name, LeadsTo, HasInner}
+use Rattle.flat_json.specs.Tape.{IsArray, IsObject, size_of}
+use Rattle.flat_json.specs.Pointer.{index, name, Selects, HasInner}
 use Rattle.flat_json.specs.declared.Element.{Element}
 use Rattle.flat_json.proofs.Places.{before_all, here_or_passed, none_here, member_before, here_or_behind}
 use Rattle.flat_json.proofs.Places.{no_member_here}
@@ -30,7 +30,7 @@ elements_missed_none array number = (
 )
 
 module _ (array value : Element) (number from next : ℕ) (is : IsValueAt array from value)
-    (behind : next ≡ from + nodes_of value) (there : HasValueAt array from) where
+    (behind : next ≡ from + size_of value) (there : HasValueAt array from) where
   pub element_missed : (count : ℕ) → (HasNode value number → ⊥) → ElementsMissed array number from count
       → ElementsMissed array number next (count + 1)
   element_missed count other missed = (
@@ -50,7 +50,7 @@ module _ (array value : Element) (number from next : ℕ) (is : IsValueAt array 
   )
 
   pub element_step : (count : ℕ) → IsArray array → ElementsMissed array number from count
-      → LeadsTo array (index count) value
+      → Selects array (index count) value
   element_step count is_array missed =
       let here = missed.0 0 from refl in
       (is_array, (from, subst (λ n. ArePassed array 1 n from) (omega arith) here, there, is))
@@ -75,7 +75,7 @@ pub members_missed_none : (object : Element) (number : ℕ) → MembersMissed ob
 members_missed_none object number = (λ later is. is, λ later inner is at has. is)
 
 module _ (object value : Element) (number from next : ℕ) (is : IsValueAt object (from + 1) value)
-    (behind : next ≡ from + 1 + nodes_of value) (there : HasMemberAt object from) where
+    (behind : next ≡ from + 1 + size_of value) (there : HasMemberAt object from) where
   pub member_missed : (HasNode value number → ⊥) → MembersMissed object number from
       → MembersMissed object number next
   member_missed other missed = (

@@ -185,7 +185,7 @@ of_members nodes ms e = ap flat_members (is_members nodes ms e) ∙ sym e
 
 -- ---- what is kept of a value of JSON
 
-same_count : (js : json.Items) → item_count (plain_items js) ≡ flat.item_count js
+same_count : (js : json.Items) → item_count (plain_items js) ≡ flat.element_count js
 unfolding plain_value
 same_count json.no_items = refl
 same_count (json.item j js) = ap (λ n. n + 1) (same_count js)
@@ -207,7 +207,7 @@ mutual
   plain_listed (json.array js) =
       ap (λ n. flat.array n (length (flat_items (plain_items js))) ∷ flat_items (plain_items js))
       (same_count js)
-      ∙ ap (λ l. flat.array (flat.item_count js) (length l) ∷ l) (plain_items_listed js)
+      ∙ ap (λ l. flat.array (flat.element_count js) (length l) ∷ l) (plain_items_listed js)
   plain_listed (json.object ms) = ap (λ l. flat.object (length l) ∷ l) (plain_members_listed ms)
 
   pub plain_items_listed : (js : json.Items) → flat_items (plain_items js) ≡ items_list js

@@ -43,9 +43,9 @@ is_whole text = nat_lt 0 (length text) && all_ascii_digits text && nat_lt (digit
 abbrev pub number_node : List ℕ → PlainNode
 number_node text = if is_whole text then whole (digits_value 10 text) else number
 
-abbrev pub item_count : Items → ℕ
-item_count no_items = 0
-item_count (item j js) = item_count js + 1
+abbrev pub element_count : Items → ℕ
+element_count no_items = 0
+element_count (item j js) = element_count js + 1
 
 -- A value's node, and behind it those of what is in it.
 abbrev mutual
@@ -54,7 +54,7 @@ abbrev mutual
   flat_list (json.boolean b) = boolean b ∷ []
   flat_list (json.number text) = number_node text ∷ []
   flat_list (json.string s) = string s ∷ []
-  flat_list (json.array js) = array (item_count js) (length (items_list js)) ∷ items_list js
+  flat_list (json.array js) = array (element_count js) (length (items_list js)) ∷ items_list js
   flat_list (json.object ms) = object (length (members_list ms)) ∷ members_list ms
 
   pub items_list : Items → List PlainNode

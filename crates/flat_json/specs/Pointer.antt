@@ -4,7 +4,7 @@ use Rattle.std.specs.Char.{encode_utf8}
 use Rattle.std.specs.Fmt.{decimal}
 use Rattle.std.specs.Str.{chars}
 use Rattle.flat_json.specs.Tape.{HasNode, IsArray, IsObject, IsValueAt, HasValueAt, HasNameAt}
-use Rattle.flat_json.specs.Tape.{ArePassed, IsMember, own_nodes, tape_nodes, number_of}
+use Rattle.flat_json.specs.Tape.{ArePassed, IsMember, all_nodes, tape_nodes, number_of}
 use Rattle.flat_json.specs.declared.Element.{Element}
 use Rattle.flat_json.specs.declared.Tape.{Tape}
 use Rattle.flat_json.specs.declared.pointer.Step.{Step}
@@ -35,29 +35,29 @@ abbrev pub part_text : Part → List ℕ
 part_text (index number) = slash ∷ decimal number
 part_text (name text) = slash ∷ escaped text
 
-abbrev pub part_of : Step → Part
-part_of (Index number) = index number
-part_of (Name text) = name text.now
+abbrev pub part_of_step : Step → Part
+part_of_step (Index number) = index number
+part_of_step (Name text) = name text.now
 
 -- from the one value the part leads to the other, right in it
-abbrev pub LeadsTo : Element → Part → Element → Type 0
-LeadsTo outer (index number) inner = IsArray outer
+abbrev pub Selects : Element → Part → Element → Type 0
+Selects outer (index number) inner = IsArray outer
     × ((place : ℕ) × ArePassed outer 1 number place × HasValueAt outer place × IsValueAt outer place inner)
-LeadsTo outer (name text) inner = IsObject outer
+Selects outer (name text) inner = IsObject outer
     × ((place : ℕ) × IsMember outer 1 place × HasNameAt outer text place × IsValueAt outer (place + 1) inner)
 
 -- right in the value there is one that has the node of this number
 abbrev pub HasInner : Element → ℕ → Type 0
-HasInner outer number = (part : Part) × (inner : Element) × LeadsTo outer part inner × HasNode inner number
+HasInner outer number = (part : Part) × (inner : Element) × Selects outer part inner × HasNode inner number
 
 -- The parts lead from the value to the innermost one that has the node of this number.
 abbrev pub IsPath : Element → List Part → ℕ → Type 0
 IsPath outer [] number = HasInner outer number → ⊥
 IsPath outer (part ∷ parts) number =
-    (inner : Element) × LeadsTo outer part inner × HasNode inner number × IsPath inner parts number
+    (inner : Element) × Selects outer part inner × HasNode inner number × IsPath inner parts number
 
 -- the parts of such a path from the value of the whole text spell this text
 abbrev pub IsPointer : Tape → ℕ → List ℕ → Type 0
 IsPointer tape number text = (root : Element) × (parts : List Part)
-    × (own_nodes root ≡ tape_nodes tape) × (number_of root ≡ 0)
+    × (all_nodes root ≡ tape_nodes tape) × (number_of root ≡ 0)
     × IsPath root parts number × (text ≡ flat_map part_text parts)

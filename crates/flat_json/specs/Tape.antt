@@ -21,12 +21,12 @@ abbrev pub number_of : Element → ℕ
 number_of element = element.number
 
 -- how many nodes the value takes
-abbrev pub nodes_of : Element → ℕ
-nodes_of element = length element.nodes.now
+abbrev pub size_of : Element → ℕ
+size_of element = length element.nodes.now
 
 -- the value's node, and those of what is in it
-abbrev pub own_nodes : Element → List Node
-own_nodes element = element.nodes.now
+abbrev pub all_nodes : Element → List Node
+all_nodes element = element.nodes.now
 
 -- the value's own node
 abbrev pub node_of : Element → Option Node
@@ -64,11 +64,11 @@ HoldsPair element first second = drop 1 element.nodes.now ≡ Whole first ∷ Wh
 
 -- the number is that of one of the value's nodes
 abbrev pub HasNode : Element → ℕ → Type 0
-HasNode element number = (number_of element ≤ number) × (number < number_of element + nodes_of element)
+HasNode element number = (number_of element ≤ number) × (number < number_of element + size_of element)
 
 -- both take the same nodes
 abbrev pub TakesSame : Element → Element → Type 0
-TakesSame a b = (number_of a ≡ number_of b) × (nodes_of a ≡ nodes_of b)
+TakesSame a b = (number_of a ≡ number_of b) × (size_of a ≡ size_of b)
 
 -- how many nodes are in the value of this node
 abbrev pub inside_of : Node → ℕ
@@ -84,13 +84,13 @@ inside_of (Object nodes) = nodes
 -- at this place among an element's nodes there is one, and behind it those that are in its value
 abbrev pub HasValueAt : Element → ℕ → Type 0
 HasValueAt element at = (node : Node) × (slice_get element.nodes.now at ≡ Some node)
-    × (at + inside_of node < nodes_of element)
+    × (at + inside_of node < size_of element)
 
 -- the nodes of the value are those of the holder from this place on, as many as the first one says
 abbrev pub IsValueAt : Element → ℕ → Element → Type 0
 IsValueAt holder at value = (number_of value ≡ number_of holder + at)
-    × (value.nodes.now ≡ take (nodes_of value) (drop at holder.nodes.now))
-    × ((node : Node) → slice_get holder.nodes.now at ≡ Some node → nodes_of value ≡ inside_of node + 1)
+    × (value.nodes.now ≡ take (size_of value) (drop at holder.nodes.now))
+    × ((node : Node) → slice_get holder.nodes.now at ≡ Some node → size_of value ≡ inside_of node + 1)
 
 -- So many values are one behind another from a place on, and behind them is the other place.
 abbrev pub ArePassed : Element → ℕ → ℕ → ℕ → Type 0
@@ -99,13 +99,13 @@ ArePassed holder from (suc count) place =
     (first : HasValueAt holder from) × ArePassed holder (from + (inside_of first.0 + 1)) count place
 
 -- the nodes of the one value are some of those behind the other's first one
-abbrev pub StandsIn : Element → Element → Type 0
-StandsIn inner outer = (number_of outer < number_of inner)
-    × (number_of inner + nodes_of inner ≤ number_of outer + nodes_of outer)
+abbrev pub IsInside : Element → Element → Type 0
+IsInside inner outer = (number_of outer < number_of inner)
+    × (number_of inner + size_of inner ≤ number_of outer + size_of outer)
 
 -- the array whose elements they are
-abbrev pub array_of : Elements → Element
-array_of elements = elements.array
+abbrev pub array_of_elements : Elements → Element
+array_of_elements elements = elements.array
 
 -- how many elements the array has, as its node says
 abbrev pub count_of : Elements → ℕ
@@ -117,23 +117,23 @@ place_of elements = elements.at
 
 -- how many nodes the elements take at most that are still to come
 abbrev pub left_of : Elements → ℕ
-left_of elements = nodes_of (array_of elements) - elements.at
+left_of elements = size_of (array_of_elements elements) - elements.at
 
 -- the value is the one of this number, from 0 on, of the elements that are still to come
 abbrev pub IsElement : Elements → ℕ → Element → Type 0
 IsElement elements number value = (place : ℕ)
-    × ArePassed (array_of elements) (place_of elements) number place
-    × IsValueAt (array_of elements) place value
+    × ArePassed (array_of_elements elements) (place_of elements) number place
+    × IsValueAt (array_of_elements elements) place value
 
 -- so many are still to come, and one more
 abbrev pub HasElement : Elements → ℕ → Type 0
 HasElement elements number = (place : ℕ)
-    × ArePassed (array_of elements) (place_of elements) number place
-    × HasValueAt (array_of elements) place
+    × ArePassed (array_of_elements elements) (place_of elements) number place
+    × HasValueAt (array_of_elements elements) place
 
 -- the object whose members they are
-abbrev pub object_of : Members → Element
-object_of members = members.object
+abbrev pub object_of_members : Members → Element
+object_of_members members = members.object
 
 -- the object of the members that are still to come
 abbrev pub object_of_entries : Entries → Element
@@ -141,7 +141,7 @@ object_of_entries entries = entries.object
 
 -- how many nodes they take at most
 abbrev pub left_of_entries : Entries → ℕ
-left_of_entries entries = nodes_of (object_of_entries entries) - entries.at
+left_of_entries entries = size_of (object_of_entries entries) - entries.at
 
 -- the place of the next one's name among the object's nodes
 abbrev pub place_of_entries : Entries → ℕ

@@ -223,10 +223,10 @@ as_pair (string s) = None
 as_pair (array vs) = pair_in vs
 as_pair (object ms) = None
 
-abbrev pub item_at : ℕ → Items → Option Value
-item_at n no_items = None
-item_at zero (item v vs) = Some v
-item_at (suc n) (item v vs) = item_at n vs
+abbrev pub nth_item : ℕ → Items → Option Value
+nth_item n no_items = None
+nth_item zero (item v vs) = Some v
+nth_item (suc n) (item v vs) = nth_item n vs
 
 abbrev pub later_or : Option Value → Option Value → Option Value
 later_or None earlier = earlier

@@ -48,7 +48,7 @@ pub struct Tape<'a> {
 impl<'a> Tape<'a> {
     ghost use Rattle.std.specs.Prelude.{ℕ, IfOk, Err};
     ghost use Rattle.flat_json.specs.Flat.{IsFlatText, IsRefused};
-    ghost use Rattle.flat_json.specs.Tape.{node_count, nodes_of, number_of, tape_nodes, own_nodes};
+    ghost use Rattle.flat_json.specs.Tape.{node_count, size_of, number_of, tape_nodes, all_nodes};
     ghost use Rattle.flat_json.specs.View.{tape_value, value_of, IsValueOf};
     ghost use Rattle.flat_json.specs.declared.fault.TapeFault.TheVariants.{Json};
 
@@ -71,8 +71,8 @@ impl<'a> Tape<'a> {
     /// The value of the whole text.
     pub fn root(&self) -> Element<'_>
         ensures number { number_of result ≡ 0 }
-        ensures nodes { nodes_of result ≡ node_count self.now }
-        ensures own { own_nodes result ≡ tape_nodes self.now }
+        ensures nodes { size_of result ≡ node_count self.now }
+        ensures own { all_nodes result ≡ tape_nodes self.now }
         ensures value { value_of result ≡ tape_value self.now }
     {
         Element {
@@ -95,9 +95,9 @@ pub struct Element<'a> {
 
 impl<'a> Element<'a> {
     ghost use Rattle.std.specs.Prelude.{ℕ, Bool, Some, IsSome, option_map};
-    ghost use Rattle.flat_json.specs.Tape.{nodes_of, number_of, node_of, count_of, HasNode, TakesSame};
+    ghost use Rattle.flat_json.specs.Tape.{size_of, number_of, node_of, count_of, HasNode, TakesSame};
     ghost use Rattle.flat_json.specs.Tape.{IsArray, IsObject, IsString, HasCount, HasValueAt, HoldsPair};
-    ghost use Rattle.flat_json.specs.Tape.{IsValueAt, array_of, left_of, object_of, place_of};
+    ghost use Rattle.flat_json.specs.Tape.{IsValueAt, array_of_elements, left_of, object_of_members, place_of};
     ghost use Rattle.flat_json.specs.Value.{is_null, as_bool, as_whole, as_pair, as_str, as_array};
     ghost use Rattle.flat_json.specs.Value.{as_object, item_count, BeginsValue};
     ghost use Rattle.flat_json.specs.View.{value_of, items_left, members_of};
@@ -179,11 +179,11 @@ impl<'a> Element<'a> {
     /// The elements, where it is an array.
     pub fn elements(self) -> Option<Elements<'a>>
         ensures some { IsSome result ↔ IsArray self.entry }
-        ensures array { IfSome result (λ found. TakesSame (array_of found) self.entry) }
-        ensures own { IfSome result (λ found. array_of found ≡ self.entry) }
+        ensures array { IfSome result (λ found. TakesSame (array_of_elements found) self.entry) }
+        ensures own { IfSome result (λ found. array_of_elements found ≡ self.entry) }
         ensures first { IfSome result (λ found. place_of found ≡ 1) }
         ensures count { IfSome result (λ found. HasCount self.entry (count_of found)) }
-        ensures left { IfSome result (λ found. left_of found < nodes_of self.entry) }
+        ensures left { IfSome result (λ found. left_of found < size_of self.entry) }
         ensures items { option_map items_left result ≡ as_array (value_of self.entry) }
         ensures counted { IfSome result (λ found. count_of found ≡ item_count (items_left found)) }
     {
@@ -200,8 +200,8 @@ impl<'a> Element<'a> {
     /// The members, where it is an object.
     pub fn members(self) -> Option<Members<'a>>
         ensures some { IsSome result ↔ IsObject self.entry }
-        ensures object { IfSome result (λ found. TakesSame (object_of found) self.entry) }
-        ensures own { IfSome result (λ found. object_of found ≡ self.entry) }
+        ensures object { IfSome result (λ found. TakesSame (object_of_members found) self.entry) }
+        ensures own { IfSome result (λ found. object_of_members found ≡ self.entry) }
         ensures members { option_map members_of result ≡ as_object (value_of self.entry) }
     {
         match self.nodes.first() {
@@ -215,9 +215,9 @@ impl<'a> Element<'a> {
     fn value_at(self, at: usize) -> Option<(Element<'a>, usize)>
         requires { BeginsValue (map plain (drop at self.nodes.now)) }
         ensures some { IsSome result ↔ HasValueAt self.entry at }
-        ensures end { IfSome result (λ found. (at < found.1) × (found.1 ≤ nodes_of self.entry)) }
+        ensures end { IfSome result (λ found. (at < found.1) × (found.1 ≤ size_of self.entry)) }
         ensures number { IfSome result (λ found. number_of found.0 ≡ number_of self.entry + at) }
-        ensures nodes { IfSome result (λ found. nodes_of found.0 ≡ found.1 - at) }
+        ensures nodes { IfSome result (λ found. size_of found.0 ≡ found.1 - at) }
         ensures value { IfSome result (λ found. IsValueAt self.entry at found.0) }
     {
         let inside = match self.nodes.get(at)? {
@@ -247,8 +247,8 @@ pub struct Elements<'a> {
 
 impl<'a> Elements<'a> {
     ghost use Rattle.std.specs.Prelude.{IfNone, option_map};
-    ghost use Rattle.flat_json.specs.Tape.{StandsIn, IsElement, HasElement, array_of, count_of};
-    ghost use Rattle.flat_json.specs.Value.{item_at};
+    ghost use Rattle.flat_json.specs.Tape.{IsInside, IsElement, HasElement, array_of_elements, count_of};
+    ghost use Rattle.flat_json.specs.Value.{nth_item};
     ghost use Rattle.flat_json.specs.View.{value_of, items_left};
 
     /// How many elements the array has.
@@ -261,10 +261,10 @@ impl<'a> Elements<'a> {
     /// The element of this number, from 0 on, of those that are still to come. It passes those
     /// before it.
     pub fn get(self, number: usize) -> Option<Element<'a>>
-        ensures inside { IfSome result (λ element. StandsIn element (array_of self.entry)) }
+        ensures inside { IfSome result (λ element. IsInside element (array_of_elements self.entry)) }
         ensures element { IfSome result (λ element. IsElement self.entry number element) }
         ensures none { IfNone result (¬ HasElement self.entry number) }
-        ensures value { option_map value_of result ≡ item_at number (items_left self.entry) }
+        ensures value { option_map value_of result ≡ nth_item number (items_left self.entry) }
     {
         let mut left = number;
         for element in self {
@@ -280,19 +280,19 @@ impl<'a> Elements<'a> {
 impl<'a> Iterator for Elements<'a> {
     ghost use Rattle.std.specs.Iterator.{at_most};
     ghost use Rattle.std.specs.Prelude.{IsSome};
-    ghost use Rattle.flat_json.specs.Tape.{TakesSame, StandsIn, HasValueAt, IsValueAt, number_of};
-    ghost use Rattle.flat_json.specs.Tape.{nodes_of, array_of, left_of, place_of};
+    ghost use Rattle.flat_json.specs.Tape.{TakesSame, IsInside, HasValueAt, IsValueAt, number_of};
+    ghost use Rattle.flat_json.specs.Tape.{size_of, array_of_elements, left_of, place_of};
     ghost use Rattle.flat_json.specs.View.{items_left, items_with};
 
     type Item = Element<'a>;
 
     ghost next_gives = { λ old found new.
-        (IsSome found ↔ HasValueAt (array_of old) (place_of old))
-        × IfSome found (λ element. StandsIn element (array_of old)
-        × (number_of element ≡ number_of (array_of old) + place_of old)
-        × IsValueAt (array_of old) (place_of old) element
-        × (place_of new ≡ place_of old + nodes_of element) × (array_of new ≡ array_of old)
-        × TakesSame (array_of new) (array_of old) × (left_of new < left_of old))
+        (IsSome found ↔ HasValueAt (array_of_elements old) (place_of old))
+        × IfSome found (λ element. IsInside element (array_of_elements old)
+        × (number_of element ≡ number_of (array_of_elements old) + place_of old)
+        × IsValueAt (array_of_elements old) (place_of old) element
+        × (place_of new ≡ place_of old + size_of element) × (array_of_elements new ≡ array_of_elements old)
+        × TakesSame (array_of_elements new) (array_of_elements old) × (left_of new < left_of old))
         × (items_left old ≡ items_with found (items_left new)) };
 
     ghost remaining = { λ elements. at_most (left_of elements) };
@@ -313,24 +313,24 @@ pub struct Members<'a> {
 
 impl<'a> Members<'a> {
     ghost use Rattle.std.specs.Prelude.{IfNone, option_map};
-    ghost use Rattle.flat_json.specs.Tape.{number_of, StandsIn, IsNamed, IsLastNamed, IsNameless};
-    ghost use Rattle.flat_json.specs.Tape.{object_of, object_of_entries, place_of_entries};
+    ghost use Rattle.flat_json.specs.Tape.{number_of, IsInside, IsNamed, IsLastNamed, IsNameless};
+    ghost use Rattle.flat_json.specs.Tape.{object_of_members, object_of_entries, place_of_entries};
     ghost use Rattle.flat_json.specs.Value.{last_named};
     ghost use Rattle.flat_json.specs.View.{value_of, members_of, members_left};
 
     /// The number of the object's node in the tape.
     pub fn number(self) -> usize
-        ensures { result ≡ number_of (object_of self.entry) }
+        ensures { result ≡ number_of (object_of_members self.entry) }
     {
         self.object.number
     }
 
     /// The value of the last member of this name. It looks at the name of each member.
     pub fn get(self, name: &str) -> Option<Element<'a>>
-        ensures inside { IfSome result (λ value. StandsIn value (object_of self.entry)) }
-        ensures named { IfSome result (IsNamed (object_of self.entry) name.now) }
-        ensures last { IfSome result (IsLastNamed (object_of self.entry) name.now) }
-        ensures none { IfNone result (IsNameless (object_of self.entry) name.now) }
+        ensures inside { IfSome result (λ value. IsInside value (object_of_members self.entry)) }
+        ensures named { IfSome result (IsNamed (object_of_members self.entry) name.now) }
+        ensures last { IfSome result (IsLastNamed (object_of_members self.entry) name.now) }
+        ensures none { IfNone result (IsNameless (object_of_members self.entry) name.now) }
         ensures value { option_map value_of result ≡ last_named name.now (members_of self.entry) }
     {
         let mut found = None;
@@ -344,7 +344,7 @@ impl<'a> Members<'a> {
 
     /// Each member's name and value, in the order of the text.
     pub fn entries(self) -> Entries<'a>
-        ensures object { object_of_entries result ≡ object_of self.entry }
+        ensures object { object_of_entries result ≡ object_of_members self.entry }
         ensures first { place_of_entries result ≡ 1 }
         ensures members { members_left result ≡ members_of self.entry }
     {
@@ -367,8 +367,8 @@ pub struct Entries<'a> {
 impl<'a> Iterator for Entries<'a> {
     ghost use Rattle.std.specs.Iterator.{at_most};
     ghost use Rattle.std.specs.Prelude.{IsSome};
-    ghost use Rattle.flat_json.specs.Tape.{TakesSame, StandsIn, IsNamed, IsValueAt, HasNameAt};
-    ghost use Rattle.flat_json.specs.Tape.{HasMemberAt, nodes_of, object_of_entries};
+    ghost use Rattle.flat_json.specs.Tape.{TakesSame, IsInside, IsNamed, IsValueAt, HasNameAt};
+    ghost use Rattle.flat_json.specs.Tape.{HasMemberAt, size_of, object_of_entries};
     ghost use Rattle.flat_json.specs.Tape.{left_of_entries, place_of_entries};
     ghost use Rattle.flat_json.specs.View.{members_left, members_with};
 
@@ -376,11 +376,11 @@ impl<'a> Iterator for Entries<'a> {
 
     ghost next_gives = { λ old found new.
         (IsSome found ↔ HasMemberAt (object_of_entries old) (place_of_entries old))
-        × IfSome found (λ member. StandsIn member.1 (object_of_entries old)
+        × IfSome found (λ member. IsInside member.1 (object_of_entries old)
         × IsNamed (object_of_entries old) member.0.now member.1
         × HasNameAt (object_of_entries old) member.0.now (place_of_entries old)
         × IsValueAt (object_of_entries old) (place_of_entries old + 1) member.1
-        × (place_of_entries new ≡ place_of_entries old + 1 + nodes_of member.1)
+        × (place_of_entries new ≡ place_of_entries old + 1 + size_of member.1)
         × (object_of_entries new ≡ object_of_entries old)
         × TakesSame (object_of_entries new) (object_of_entries old)
         × (left_of_entries new < left_of_entries old))

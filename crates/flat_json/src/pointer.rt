@@ -2,8 +2,8 @@
 
 ghost use Rattle.std.specs.Prelude.{◌≡◌, ◌++◌, ◌∷◌, [], IfOk, OnOk, IfSome, IfNone};
 ghost use Rattle.std.specs.String.{string_bytes};
-ghost use Rattle.flat_json.specs.Pointer.{HasInner, IsPointer, LeadsTo, escaped, part_of, part_text, slash};
-ghost use Rattle.flat_json.specs.Tape.{HasNode, StandsIn};
+ghost use Rattle.flat_json.specs.Pointer.{HasInner, IsPointer, Selects, escaped, part_of_step, part_text, slash};
+ghost use Rattle.flat_json.specs.Tape.{HasNode, IsInside};
 
 use crate::{Element, Tape};
 use std::alloc::{AllocError, Global};
@@ -37,9 +37,9 @@ enum Step<'a> {
 
 /// The value right in `value` that has the node of this number.
 fn step_to<'a>(value: Element<'a>, number: usize) -> Option<(Step<'a>, Element<'a>)>
-    ensures inside { IfSome result (λ found. StandsIn found.1 value.entry) }
+    ensures inside { IfSome result (λ found. IsInside found.1 value.entry) }
     ensures node { IfSome result (λ found. HasNode found.1 number) }
-    ensures step { IfSome result (λ found. LeadsTo value.entry (part_of found.0) found.1) }
+    ensures step { IfSome result (λ found. Selects value.entry (part_of_step found.0) found.1) }
     ensures none { IfNone result (¬ HasInner value.entry number) }
 {
     if let Some(members) = value.members() {
@@ -62,7 +62,7 @@ fn step_to<'a>(value: Element<'a>, number: usize) -> Option<(Step<'a>, Element<'
 
 fn push_step(pointer: &mut String, step: Step<'_>) -> Result<(), AllocError>
     ensures { OnOk result (string_bytes pointer.new
-        ≡ string_bytes pointer.old ++ part_text (part_of step.entry)) }
+        ≡ string_bytes pointer.old ++ part_text (part_of_step step.entry)) }
 {
     match step {
         Step::Index(index) => write!(pointer, "/{index}"),

@@ -26,7 +26,7 @@ pub record IsModuleOf (text : List ℕ) (module_ : ParsedModule) : Type 0 where
 
 -- the information is that of the module: it is what its definition says, its ranges are exact, and
 -- its arguments spell what their expressions say
-pub record IsInfoOf (module_ : ParsedModule) (info : ModuleInfo) : Type 0 where
+pub record IsInfoOfModule (module_ : ParsedModule) (info : ModuleInfo) : Type 0 where
   pub is : IsModuleInfo module_.text module_.media_type module_.program module_.comments info
   pub ranges : HasExactRanges module_.text info
   pub spells : SpellDependencies module_.program.body info.dependencies
@@ -34,7 +34,7 @@ pub record IsInfoOf (module_ : ParsedModule) (info : ModuleInfo) : Type 0 where
 -- the compact JSON of the information of the module that a text states
 abbrev pub IsInfoText : List ℕ → List ℕ → Type 0
 IsInfoText document text = (module_ : ParsedModule) × IsModuleOf document module_
-    × (info : ModuleInfo) × IsInfoOf module_ info
+    × (info : ModuleInfo) × IsInfoOfModule module_ info
     × (text ≡ compact_text (json_of_info info))
 
 -- the notation's fault in a text: of the text itself, or of the document that it states

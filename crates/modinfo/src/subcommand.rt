@@ -4,7 +4,7 @@ ghost use Rattle.std.specs.Prelude.{◌≡◌, ◌≢◌, ℕ, IfErr, IfOk, IfSo
 ghost use Rattle.std.specs.String.{string_bytes};
 ghost use Rattle.serde_json.specs.View.{view};
 ghost use Rattle.deno_graph_source.specs.ParsedSource.{ParsedModule};
-ghost use Rattle.modinfo.specs.Answer.{IsAnswerLine, IsAnswerText, IsConversionOf, IsInfoOf, IsInfoText, IsModuleOf, IsNoModule, name_of};
+ghost use Rattle.modinfo.specs.Answer.{IsAnswerLine, IsAnswerText, IsConversionOf, IsInfoOfModule, IsInfoText, IsModuleOf, IsNoModule, name_of};
 
 use crate::fault::Fault;
 use crate::input::{parse_json, parse_source, read_to_end};
@@ -93,7 +93,7 @@ fn analyze(alloc: Global, input: Vec<u8>) -> Result<String, Fault>
 // The tree is gone before what was found is written.
 fn info_of(alloc: Global, input: Vec<u8>) -> Result<ModuleInfo, Fault>
     ensures { MatchResult result
-        (λ info. (module_ : ParsedModule) × IsModuleOf input.items module_ × IsInfoOf module_ info)
+        (λ info. (module_ : ParsedModule) × IsModuleOf input.items module_ × IsInfoOfModule module_ info)
         (IsNoModule input.items) }
 {
     let source = parse_source(alloc, input)?;

@@ -1,7 +1,7 @@
 //! What in a valid document may not be what its author meant.
 
 ghost use Rattle.std.specs.Prelude.{IfSome};
-ghost use Rattle.flat_json.specs.Tape.{StandsIn};
+ghost use Rattle.flat_json.specs.Tape.{IsInside};
 
 use crate::place::literal_of;
 use crate::warning::Warnings;
@@ -180,7 +180,7 @@ fn is_quoted(text: &str) -> bool {
 }
 
 fn member<'a>(value: Element<'a>, name: &str) -> Option<Element<'a>>
-    ensures { IfSome result (λ found. StandsIn found value.entry) }
+    ensures { IfSome result (λ found. IsInside found value.entry) }
 {
     value.members()?.get(name)
 }

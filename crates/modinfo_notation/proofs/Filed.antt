@@ -28,22 +28,23 @@ use Rattle.deno_graph_source.specs.declared.tree.fault_place.CommentSide.{Commen
 use Rattle.deno_graph_source.specs.declared.tree.fault_place.CommentSide.TheVariants.{Leading, Trailing}
 use Rattle.deno_graph_source.specs.declared.tree.comments.DependencyComment.{DependencyComment}
 use Rattle.modinfo_notation.specs.Comments.{
-  Entry,
+  FiledEntry,
   entry_with,
   AddsOn,
-  entries_at,
+  comments_at,
   filed_at,
-  AreFiled,
-  AreFiledOn,
+  AreAppended,
+  AreAppendedOn,
   AreThoseOf,
 }
 
 -- entries are filed, and then others
-filed_both : (old mid new : Filing) (es fs : List Entry) → AreFiled old mid es → AreFiled mid new fs
-    → AreFiled old new (es ++ fs)
+filed_both : (old mid new : Filing) (es fs : List FiledEntry) → AreAppended old mid es
+    → AreAppended mid new fs
+    → AreAppended old new (es ++ fs)
 filed_both old mid new es fs first then_ q =
-    then_ q ∙ ap (λ xs. xs ++ entries_at q fs) (first q)
-    ∙ append_assoc (filed_at old q) (entries_at q es) (entries_at q fs)
+    then_ q ∙ ap (λ xs. xs ++ comments_at q fs) (first q)
+    ∙ append_assoc (filed_at old q) (comments_at q es) (comments_at q fs)
     ∙ ap (λ xs. filed_at old q ++ xs)
     (sym (flat_map-append (λ e. if eqb e.position q then e.comments else []) es fs))
 
@@ -52,8 +53,8 @@ one_more ys xs x = simp (append_assoc, append-nil) refl
 
 -- the comments of one entry, up to one, and then that
 filed_more : (old mid new : Filing) (pos : ℕ) (xs : List DependencyComment) (x : DependencyComment)
-    → AreFiled old mid (entry_with pos xs ∷ []) → AddsItem mid new pos x
-    → AreFiled old new (entry_with pos (xs ++ x ∷ []) ∷ [])
+    → AreAppended old mid (entry_with pos xs ∷ []) → AddsItem mid new pos x
+    → AreAppended old new (entry_with pos (xs ++ x ∷ []) ∷ [])
 filed_more old mid new pos xs x first added q = elim (eqb_tells pos q) [
   | inl is ↦
       let here : value_at new q ≡ Some (filed_at mid q ++ x ∷ []) =
@@ -68,7 +69,7 @@ filed_more old mid new pos xs x first added q = elim (eqb_tells pos q) [
       ∙ sym (ap (λ b. filed_at old q ++ ((if b then xs ++ x ∷ [] else []) ++ [])) isnt.0)
 ]
 
-empty_filed : (filing : Filing) (pos : ℕ) → AreFiled filing filing (entry_with pos [] ∷ [])
+empty_filed : (filing : Filing) (pos : ℕ) → AreAppended filing filing (entry_with pos [] ∷ [])
 empty_filed filing pos q = elim (eqb_tells pos q) [
   | inl is ↦ sym (append-nil (filed_at filing q))
       ∙ sym (ap (λ b. filed_at filing q ++ ((if b then [] else []) ++ [])) is.0)
@@ -78,19 +79,19 @@ empty_filed filing pos q = elim (eqb_tells pos q) [
 
 -- ---- on one side
 
-pub none_on : (side : CommentSide) (filed : FiledComments) → AreFiledOn side filed filed []
+pub none_on : (side : CommentSide) (filed : FiledComments) → AreAppendedOn side filed filed []
 none_on Leading filed = (λ q. sym (append-nil (filed_at filed.leading q)), refl)
 none_on Trailing filed = (λ q. sym (append-nil (filed_at filed.trailing q)), refl)
 
 -- an entry without comments
 pub empty_on : (side : CommentSide) (filed : FiledComments) (pos : ℕ)
-    → AreFiledOn side filed filed (entry_with pos [] ∷ [])
+    → AreAppendedOn side filed filed (entry_with pos [] ∷ [])
 empty_on Leading filed pos = (empty_filed filed.leading pos, refl)
 empty_on Trailing filed pos = (empty_filed filed.trailing pos, refl)
 
-pub both_on : (side : CommentSide) (old mid new : FiledComments) (es fs : List Entry)
-    → AreFiledOn side old mid es
-    → AreFiledOn side mid new fs → AreFiledOn side old new (es ++ fs)
+pub both_on : (side : CommentSide) (old mid new : FiledComments) (es fs : List FiledEntry)
+    → AreAppendedOn side old mid es
+    → AreAppendedOn side mid new fs → AreAppendedOn side old new (es ++ fs)
 both_on Leading old mid new es fs first then_ = (
   filed_both _ mid.leading _ es fs first.0 then_.0,
   then_.1
@@ -104,20 +105,20 @@ both_on Trailing old mid new es fs first then_ = (
 
 pub more_on : (side : CommentSide) (old mid new : FiledComments) (pos : ℕ) (xs : List DependencyComment)
     (x : DependencyComment)
-    → AreFiledOn side old mid (entry_with pos xs ∷ []) → AddsOn side mid new pos x
-    → AreFiledOn side old new (entry_with pos (xs ++ x ∷ []) ∷ [])
+    → AreAppendedOn side old mid (entry_with pos xs ∷ []) → AddsOn side mid new pos x
+    → AreAppendedOn side old new (entry_with pos (xs ++ x ∷ []) ∷ [])
 more_on Leading old mid new pos xs x first added =
     (filed_more _ mid.leading _ pos xs x first.0 added.0, added.1 ∙ first.1)
 more_on Trailing old mid new pos xs x first added =
     (filed_more _ mid.trailing _ pos xs x first.0 added.0, added.1 ∙ first.1)
 
 -- one side is filed, and then the other
-pub both_sides : (none mid new : FiledComments) (leading trailing : List Entry) → none.leading ≡ []
+pub both_sides : (none mid new : FiledComments) (leading trailing : List FiledEntry) → none.leading ≡ []
     → none.trailing ≡ []
-    → AreFiledOn Leading none mid leading → AreFiledOn Trailing mid new trailing
+    → AreAppendedOn Leading none mid leading → AreAppendedOn Trailing mid new trailing
     → AreThoseOf (record { leading = leading; trailing = trailing }) new
 both_sides none mid new leading trailing no_leading no_trailing first then_ = (
   λ q. ap (λ filing. filed_at filing q) then_.1 ∙ first.0 q
-      ∙ ap (λ filing. filed_at filing q ++ entries_at q leading) no_leading,
-  λ q. then_.0 q ∙ ap (λ filing. filed_at filing q ++ entries_at q trailing) (first.1 ∙ no_trailing),
+      ∙ ap (λ filing. filed_at filing q ++ comments_at q leading) no_leading,
+  λ q. then_.0 q ∙ ap (λ filing. filed_at filing q ++ comments_at q trailing) (first.1 ∙ no_trailing),
 )

@@ -37,7 +37,7 @@ use Rattle.flat_json.specs.Value.{
   no_items,
   item,
   item_count,
-  item_at,
+  nth_item,
   as_array,
   as_object,
   as_str,
@@ -48,9 +48,9 @@ use Rattle.flat_json.specs.Value.{
 use Rattle.deno_graph_source.specs.declared.tree.fault_place.CommentSide.{CommentSide}
 use Rattle.deno_graph_source.specs.declared.tree.fault_place.CommentSide.TheVariants.{Leading, Trailing}
 use Rattle.modinfo_notation.specs.Comments.{
-  Entry,
+  FiledEntry,
   Sides,
-  entries_at,
+  comments_at,
   reads_comment,
   reads_entry,
   reads_side,
@@ -61,7 +61,7 @@ use Rattle.modinfo_notation.specs.Document.{Stated, reads_document}
 use Rattle.modinfo_notation.specs.Kind.{media_types, reads_named}
 use Rattle.modinfo_notation.specs.Node.{reads_program}
 use Rattle.modinfo_notation.specs.Partial.{◌>>=◌, found_or, reads_array, reads_items, required}
-use Rattle.modinfo_notation.specs.Place.{entries_of, entry_items}
+use Rattle.modinfo_notation.specs.Place.{side_entries, entry_items}
 use Rattle.modinfo_notation.specs.Comments.{entry_with}
 use Rattle.modinfo_notation.proofs.Places.{items_from, read_from, step}
 use Rattle.modinfo_notation.proofs.Reading.{goes_on}
@@ -78,12 +78,12 @@ items_count reads (item value values) xs is =
     ∙ ap length (same_Some (first.0 ∷ rest.0) xs rest.2)
 
 -- what an entry has at a position: its comments, where it is filed there
-abbrev IsFoundIn : Entry → ℕ → Option Items → Type 0
+abbrev IsFoundIn : FiledEntry → ℕ → Option Items → Type 0
 IsFoundIn entry position None = eqb entry.position position ≡ false
 IsFoundIn entry position (Some values) = (eqb entry.position position ≡ true)
     × (reads_items reads_comment values ≡ Some entry.comments)
 
-by_test : (entry : Entry) (position : ℕ) (values : Items) → reads_items reads_comment values
+by_test : (entry : FiledEntry) (position : ℕ) (values : Items) → reads_items reads_comment values
     ≡ Some entry.comments
     → (b : Bool) → eqb entry.position position ≡ b → (found : Option Items)
     → found ≡ (if b then Some values else None) → IsFoundIn entry position found
@@ -93,7 +93,7 @@ by_test entry position values read true test
 by_test entry position values read false test None is = test
 by_test entry position values read false test (Some found) is = absurd (none-some found (sym is))
 
-found_in : (value : Value) (entry : Entry) → reads_entry value ≡ Some entry
+found_in : (value : Value) (entry : FiledEntry) → reads_entry value ≡ Some entry
     → (position : ℕ) (found : Option Items)
     → found ≡ entry_items position value → IsFoundIn entry position found
 unfolding reads_entry entry_items required reads_array
@@ -127,9 +127,9 @@ past_front (x ∷ xs) ys zero fits = absurd (omega (arith, fits))
 past_front (x ∷ xs) ys (suc n) fits = past_front xs ys n (omega (arith, fits))
     ∙ ap (slice_get ys) (omega arith)
 
-module _ (position : ℕ) (value : Value) (values : Items) (rest : List Entry)
+module _ (position : ℕ) (value : Value) (values : Items) (rest : List FiledEntry)
     (is : reads_items reads_entry (item value values) ≡ Some rest) where
-  split : (entry : Entry) × (more : List Entry) × (reads_entry value ≡ Some entry)
+  split : (entry : FiledEntry) × (more : List FiledEntry) × (reads_entry value ≡ Some entry)
       × (reads_items reads_entry values ≡ Some more) × (entry ∷ more ≡ rest)
   unfolding reads_items
   split =
@@ -140,52 +140,52 @@ module _ (position : ℕ) (value : Value) (values : Items) (rest : List Entry)
 
   -- the entry is filed elsewhere
   pub elsewhere : None ≡ entry_items position value
-      → (more : List Entry) × (reads_items reads_entry values ≡ Some more)
-      × (entries_at position rest ≡ entries_at position more)
+      → (more : List FiledEntry) × (reads_items reads_entry values ≡ Some more)
+      × (comments_at position rest ≡ comments_at position more)
   elsewhere none =
       let found = found_in value split.0 split.2 position None none in (
         split.1,
         split.3,
-        ap (entries_at position) (sym split.4)
-            ∙ ap (λ b. (if b then split.0.comments else []) ++ entries_at position split.1) found,
+        ap (comments_at position) (sym split.4)
+            ∙ ap (λ b. (if b then split.0.comments else []) ++ comments_at position split.1) found,
       )
 
   module _ (comments : Items) (at : Some comments ≡ entry_items position value) where
     here : (reads_items reads_comment comments ≡ Some split.0.comments)
-        × (split.0.comments ++ entries_at position split.1 ≡ entries_at position rest)
+        × (split.0.comments ++ comments_at position split.1 ≡ comments_at position rest)
     here =
         let found = found_in value split.0 split.2 position (Some comments) at in (
           found.1,
-          sym (ap (λ b. (if b then split.0.comments else []) ++ entries_at position split.1) found.0)
-              ∙ ap (entries_at position) split.4,
+          sym (ap (λ b. (if b then split.0.comments else []) ++ comments_at position split.1) found.0)
+              ∙ ap (comments_at position) split.4,
         )
 
     -- it is one of this entry
     pub within : (n : ℕ) → n < item_count comments
-        → (item_at n comments >>= reads_comment) ≡ slice_get (entries_at position rest) n
+        → (nth_item n comments >>= reads_comment) ≡ slice_get (comments_at position rest) n
     within n fits =
         let count = items_count reads_comment comments split.0.comments here.0 in
-        read_from reads_comment (item_at n comments) (slice_get split.0.comments n)
+        read_from reads_comment (nth_item n comments) (slice_get split.0.comments n)
         (items_from reads_comment comments split.0.comments here.0 n)
-        ∙ within_front split.0.comments (entries_at position split.1) n (subst (λ m. n < m) count fits)
+        ∙ within_front split.0.comments (comments_at position split.1) n (subst (λ m. n < m) count fits)
         ∙ ap (λ cs. slice_get cs n) here.1
 
     -- it is behind those of this entry
     pub past : (n : ℕ) → item_count comments ≤ n
-        → (more : List Entry) × (reads_items reads_entry values ≡ Some more)
-        × (slice_get (entries_at position rest) n ≡ slice_get (entries_at position more)
+        → (more : List FiledEntry) × (reads_items reads_entry values ≡ Some more)
+        × (slice_get (comments_at position rest) n ≡ slice_get (comments_at position more)
         (n - item_count comments))
     past n fits =
         let count = items_count reads_comment comments split.0.comments here.0 in (
           split.1,
           split.3,
           ap (λ cs. slice_get cs n) (sym here.1)
-              ∙ past_front split.0.comments (entries_at position split.1) n (subst (λ m. m ≤ n) count fits)
-              ∙ ap (λ m. slice_get (entries_at position split.1) (n - m)) (sym count),
+              ∙ past_front split.0.comments (comments_at position split.1) n (subst (λ m. m ≤ n) count fits)
+              ∙ ap (λ m. slice_get (comments_at position split.1) (n - m)) (sym count),
         )
 
 -- no entry is left
-pub none_left : (values : Items) (rest : List Entry) → values ≡ no_items
+pub none_left : (values : Items) (rest : List FiledEntry) → values ≡ no_items
     → reads_items reads_entry values ≡ Some rest → [] ≡ rest
 unfolding reads_items
 none_left values rest empty is = same_Some [] rest (sym (ap (reads_items reads_entry) empty) ∙ is)
@@ -193,11 +193,11 @@ none_left values rest empty is = same_Some [] rest (sym (ap (reads_items reads_e
 -- ---- the entries of a side
 
 -- what was found are the items that the entries are read from; without them there is no entry
-abbrev pub IsOfEntries : List Entry → Option Items → Type 0
+abbrev pub IsOfEntries : List FiledEntry → Option Items → Type 0
 IsOfEntries entries None = entries ≡ []
 IsOfEntries entries (Some values) = reads_items reads_entry values ≡ Some entries
 
-of_array : (entries : List Entry) (listed : Value) → reads_array reads_entry listed ≡ Some entries
+of_array : (entries : List FiledEntry) (listed : Value) → reads_array reads_entry listed ≡ Some entries
     → (found : Option Items)
     → found ≡ as_array listed → IsOfEntries entries found
 unfolding reads_array
@@ -208,31 +208,31 @@ of_array entries listed is (Some found) at =
     option_and_then_some (reads_items reads_entry) (as_array listed) entries is
     (λ values there read. ap (reads_items reads_entry) (same_Some found values (at ∙ there)) ∙ read)
 
-of_member : (entries : List Entry) (member : Option Value)
+of_member : (entries : List FiledEntry) (member : Option Value)
     → found_or (reads_array reads_entry) [] member ≡ Some entries
     → (found : Option Items) → found ≡ (member >>= as_array) → IsOfEntries entries found
 of_member entries None is None at = sym (same_Some [] entries is)
 of_member entries None is (Some found) at = absurd (none-some found (sym at))
 of_member entries (Some listed) is found at = of_array entries listed is found at
 
-abbrev sides_with : List Entry → List Entry → Sides
+abbrev sides_with : List FiledEntry → List FiledEntry → Sides
 sides_with leading trailing = record { leading = leading; trailing = trailing }
 
 side_in : (side : CommentSide) (members : Members) (sides : Sides)
     → reads_sides members ≡ Some sides
-    → reads_side side members ≡ Some (entries_of sides side)
+    → reads_side side members ≡ Some (side_entries sides side)
 unfolding reads_sides
 side_in side members sides is =
     option_and_then_some _ (reads_side Leading members) sides is
     (λ leading leading_is with_leading. option_and_then_some _
     (reads_side Trailing members) sides with_leading
-    (λ trailing trailing_is made. subst (λ s. reads_side side members ≡ Some (entries_of s side))
+    (λ trailing trailing_is made. subst (λ s. reads_side side members ≡ Some (side_entries s side))
     (same_Some (sides_with leading trailing) sides made)
     (of_side side leading trailing leading_is trailing_is)))
   where
-    of_side : (side : CommentSide) (leading trailing : List Entry)
+    of_side : (side : CommentSide) (leading trailing : List FiledEntry)
         → reads_side Leading members ≡ Some leading → reads_side Trailing members ≡ Some trailing
-        → reads_side side members ≡ Some (entries_of (sides_with leading trailing) side)
+        → reads_side side members ≡ Some (side_entries (sides_with leading trailing) side)
     of_side Leading leading trailing first second = first
     of_side Trailing leading trailing first second = second
 
@@ -242,7 +242,7 @@ side_items side value = as_object value >>= (λ members. last_named (side_name s
 
 pub entries_from : (value : Value) (stated : Stated) → reads_document value ≡ Some stated
     → (side : CommentSide) (found : Option Items)
-    → found ≡ side_items side value → IsOfEntries (entries_of stated.comments side) found
+    → found ≡ side_items side value → IsOfEntries (side_entries stated.comments side) found
 unfolding reads_document required reads_side
 entries_from value stated is side found at =
     option_and_then_some _ (as_object value) stated is
@@ -256,7 +256,7 @@ entries_from value stated is side found at =
     (λ comments read with_comments. option_and_then_some _
     (last_named (codes "program") members >>= reads_program) stated with_comments
     (λ program _ made.
-    subst (λ s. IsOfEntries (entries_of s.comments side) found) (same_Some _ stated made)
-    (of_member (entries_of comments side) (last_named (side_name side) members)
+    subst (λ s. IsOfEntries (side_entries s.comments side) found) (same_Some _ stated made)
+    (of_member (side_entries comments side) (last_named (side_name side) members)
     (side_in side members comments read) found
     (at ∙ ap (λ o. o >>= (λ ms. last_named (side_name side) ms >>= as_array)) object))))))))

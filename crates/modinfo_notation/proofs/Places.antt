@@ -29,7 +29,7 @@ use Rattle.flat_json.specs.Value.{
   as_object,
   as_str,
   last_named,
-  item_at,
+  nth_item,
 }
 use Rattle.deno_graph_source.specs.declared.tree.node.Node.{Node, roll-Node}
 use Rattle.deno_graph_source.specs.declared.tree.node.Node.TheOpen.{Node-F}
@@ -43,9 +43,9 @@ use Rattle.modinfo_notation.specs.Partial.{◌>>=◌, found_or, reads_items, req
 use Rattle.modinfo_notation.specs.Kind.{reads_kind, reads_named, media_types}
 use Rattle.modinfo_notation.specs.Comments.{reads_sides}
 use Rattle.modinfo_notation.specs.Document.{Stated, reads_document}
-use Rattle.modinfo_notation.specs.Literal.{reads_range}
+use Rattle.modinfo_notation.specs.Literal.{reads_source_range}
 use Rattle.modinfo_notation.specs.Node.{reads_node, reads_nodes, reads_program, node_with}
-use Rattle.modinfo_notation.specs.Place.{item_of, below, IsReadAt}
+use Rattle.modinfo_notation.specs.Place.{member_item, below, IsReadAt}
 use Rattle.modinfo_notation.proofs.Nodes.{node_read, nodes_read}
 
 -- a step of a reader that has a value
@@ -70,33 +70,33 @@ module _ {A : Type 0} (reads : Value → Option A) where
 
   -- the items that were read are read from those with their numbers
   pub items_from : (values : Items) (xs : List A) → reads_items reads values ≡ Some xs → (k : ℕ)
-      → IsReadFrom reads (item_at k values) (slice_get xs k)
+      → IsReadFrom reads (nth_item k values) (slice_get xs k)
   unfolding reads_items
   items_from no_items xs is k = subst (λ ys. IsReadFrom reads None (slice_get ys k)) (same_Some [] xs is) tt
   items_from (item value values) xs is k =
       let first = step (reads value) (λ x. reads_items reads values >>= (λ ys. Some (x ∷ ys))) xs is in
       let rest = step (reads_items reads values) (λ ys. Some (first.0 ∷ ys)) xs first.2 in
-      subst (λ ys. IsReadFrom reads (item_at k (item value values)) (slice_get ys k)) (same_Some _ _ rest.2)
+      subst (λ ys. IsReadFrom reads (nth_item k (item value values)) (slice_get ys k)) (same_Some _ _ rest.2)
       (at_number k first.0 rest.0 first.1 (items_from values rest.0 rest.1))
     where
       at_number : (k : ℕ) (x : A) (ys : List A) → reads value ≡ Some x
-          → ((n : ℕ) → IsReadFrom reads (item_at n values) (slice_get ys n))
-          → IsReadFrom reads (item_at k (item value values)) (slice_get (x ∷ ys) k)
+          → ((n : ℕ) → IsReadFrom reads (nth_item n values) (slice_get ys n))
+          → IsReadFrom reads (nth_item k (item value values)) (slice_get (x ∷ ys) k)
       at_number zero x ys is others = is
       at_number (suc n) x ys is others = others n
 
 -- the nodes of an array
 array_from : (value : Value) (nodes : List Node) → reads_nodes value ≡ Some nodes → (k : ℕ)
-    → IsReadFrom reads_node (as_array value >>= item_at k) (slice_get nodes k)
+    → IsReadFrom reads_node (as_array value >>= nth_item k) (slice_get nodes k)
 array_from value nodes is k =
     let found = step (as_array value) (reads_items reads_node) nodes (sym (nodes_read value) ∙ is) in
-    subst (λ o. IsReadFrom reads_node (o >>= item_at k) (slice_get nodes k)) (sym found.1)
+    subst (λ o. IsReadFrom reads_node (o >>= nth_item k) (slice_get nodes k)) (sym found.1)
     (items_from reads_node found.0 nodes found.2 k)
 
 -- the nodes of a member that may be missing
 member_from : (found : Option Value) (nodes : List Node) → found_or reads_nodes [] found ≡ Some nodes
     → (k : ℕ)
-    → IsReadFrom reads_node (found >>= (λ value. as_array value >>= item_at k)) (slice_get nodes k)
+    → IsReadFrom reads_node (found >>= (λ value. as_array value >>= nth_item k)) (slice_get nodes k)
 member_from None nodes is k = subst (λ ns. IsReadFrom reads_node None (slice_get ns k))
     (same_Some [] nodes is) tt
 member_from (Some value) nodes is k = array_from value nodes is k
@@ -116,7 +116,7 @@ children_with : (members : Members) (below : Option (List Node)) (node : Node)
     → below ≡ Some (children_of node)
 unfolding node_with
 children_with members below node is =
-    option_and_then_some _ (required reads_range (codes "range") members) node is
+    option_and_then_some _ (required reads_source_range (codes "range") members) node is
     (λ range _ with_range. option_and_then_some _
     (required (reads_kind members) (codes "kind") members) node with_range
     (λ kind _ with_kind. option_and_then_some _ below node with_kind
@@ -124,13 +124,13 @@ children_with members below node is =
 
 -- a node's children
 pub children_from : (value : Value) (node : Node) → reads_node value ≡ Some node → (k : ℕ)
-    → IsReadFrom reads_node (item_of (codes "children") k value) (slice_get (children_of node) k)
-unfolding item_of
+    → IsReadFrom reads_node (member_item (codes "children") k value) (slice_get (children_of node) k)
+unfolding member_item
 children_from value node is k =
     option_and_then_some _ (as_object value) node (sym (node_read value) ∙ is)
     (λ members object with_members.
     subst (λ o. IsReadFrom reads_node
-    (o >>= (λ ms. last_named (codes "children") ms >>= (λ found. as_array found >>= item_at k)))
+    (o >>= (λ ms. last_named (codes "children") ms >>= (λ found. as_array found >>= nth_item k)))
     (slice_get (children_of node) k)) (sym object)
     (member_from (last_named (codes "children") members) (children_of node)
     (children_with members (found_or reads_nodes []
@@ -138,23 +138,23 @@ children_from value node is k =
 
 -- a program's body
 pub body_from : (value : Value) (program : Program) → reads_program value ≡ Some program → (k : ℕ)
-    → IsReadFrom reads_node (item_of (codes "body") k value) (slice_get program.body k)
-unfolding item_of reads_program required
+    → IsReadFrom reads_node (member_item (codes "body") k value) (slice_get program.body k)
+unfolding member_item reads_program required
 body_from value program is k =
     option_and_then_some _ (as_object value) program is
     (λ members object with_members. option_and_then_some _
-    (last_named (codes "range") members >>= reads_range) program with_members
+    (last_named (codes "range") members >>= reads_source_range) program with_members
     (λ range _ with_range. option_and_then_some _ (flag (codes "shebang") members) program with_range
     (λ shebang _ with_shebang. option_and_then_some _
     (last_named (codes "body") members >>= reads_nodes) program with_shebang
     (λ body read made. option_and_then_some reads_nodes (last_named (codes "body") members) body read
     (λ found there is_body.
     subst (λ o. IsReadFrom reads_node
-    (o >>= (λ ms. last_named (codes "body") ms >>= (λ v. as_array v >>= item_at k)))
+    (o >>= (λ ms. last_named (codes "body") ms >>= (λ v. as_array v >>= nth_item k)))
     (slice_get program.body k)) (sym object)
-    (subst (λ o. IsReadFrom reads_node (o >>= (λ v. as_array v >>= item_at k)) (slice_get program.body k))
+    (subst (λ o. IsReadFrom reads_node (o >>= (λ v. as_array v >>= nth_item k)) (slice_get program.body k))
     (sym there)
-    (subst (λ p. IsReadFrom reads_node (as_array found >>= item_at k) (slice_get p.body k))
+    (subst (λ p. IsReadFrom reads_node (as_array found >>= nth_item k) (slice_get p.body k))
     (same_Some _ program made)
     (array_from found body is_body k))))))))
 
@@ -167,17 +167,17 @@ below_from path None (Some node) is = absurd is
 below_from path (Some value) None is = absurd is
 below_from [] (Some value) (Some node) is = is
 below_from (index ∷ path) (Some value) (Some node) is =
-    below_from path (item_of (codes "children") index value) (slice_get (children_of node) index)
+    below_from path (member_item (codes "children") index value) (slice_get (children_of node) index)
     (children_from value node is index)
 
 -- a path leads from a program's value to the values of its nodes
 pub path_from : (value : Value) (program : Program) → reads_program value ≡ Some program
     → (index : ℕ) (path : NodePath)
-    → IsReadAt program (index ∷ path) (item_of (codes "body") index value >>= below path)
+    → IsReadAt program (index ∷ path) (member_item (codes "body") index value >>= below path)
 path_from value program is index path =
-    read_from reads_node (item_of (codes "body") index value >>= below path)
+    read_from reads_node (member_item (codes "body") index value >>= below path)
     (node_at program.body (index ∷ path))
-    (below_from path (item_of (codes "body") index value) (slice_get program.body index)
+    (below_from path (member_item (codes "body") index value) (slice_get program.body index)
     (body_from value program is index))
 
 -- the value of the program
@@ -188,7 +188,7 @@ program_in value = as_object value >>= last_named (codes "program")
 abbrev pub at_path : Value → NodePath → Option Value
 at_path value [] = program_in value
 at_path value (index ∷ path) = program_in value
-    >>= (λ program. item_of (codes "body") index program >>= below path)
+    >>= (λ program. member_item (codes "body") index program >>= below path)
 
 -- what is read at a path
 pub read_at : (value : Value) (stated : Stated) → reads_document value ≡ Some stated → (path : NodePath)
@@ -216,7 +216,7 @@ read_at value stated is path =
     by [] p pv found is = ap (λ o. o >>= reads_program) found ∙ is
     by (index ∷ path) p pv found is =
         subst (λ o. IsReadAt p (index ∷ path)
-        (o >>= (λ program. item_of (codes "body") index program >>= below path))) (sym found)
+        (o >>= (λ program. member_item (codes "body") index program >>= below path))) (sym found)
         (path_from pv p is index path)
 
 pub of_path : (value : Value) (found : Option Value) (path : NodePath) → found ≡ at_path value path
@@ -228,11 +228,12 @@ of_path value found path at stated is = subst (λ o. IsReadAt stated.program pat
 pub none_at : (value : Value) (path : NodePath) → program_in value ≡ None → None ≡ at_path value path
 none_at value [] none = sym none
 none_at value (index ∷ path) none = sym
-    (ap (λ o. o >>= (λ program. item_of (codes "body") index program >>= below path)) none)
+    (ap (λ o. o >>= (λ program. member_item (codes "body") index program >>= below path)) none)
 
 -- a path through the body
 pub body_path : (value : Value) (program : Value) (path rest : NodePath) (index : ℕ)
     → program_in value ≡ Some program
-    → path ≡ index ∷ rest → (item_of (codes "body") index program >>= below rest) ≡ at_path value path
+    → path ≡ index ∷ rest → (member_item (codes "body") index program >>= below rest) ≡ at_path value path
 body_path value program path rest index found is =
-    sym (ap (at_path value) is ∙ ap (λ o. o >>= (λ p. item_of (codes "body") index p >>= below rest)) found)
+    sym (ap (at_path value) is
+    ∙ ap (λ o. o >>= (λ p. member_item (codes "body") index p >>= below rest)) found)

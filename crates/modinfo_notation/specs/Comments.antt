@@ -23,7 +23,7 @@ use Rattle.deno_graph_source.specs.declared.tree.comments.CommentKind.{CommentKi
 use Rattle.deno_graph_source.specs.declared.tree.comments.CommentKind.TheVariants.{Line, Block}
 use Rattle.deno_graph_source.specs.declared.tree.comments.DependencyComment.{DependencyComment}
 use Rattle.modinfo_notation.specs.Partial.{◌>>=◌, reads_array, required, found_or}
-use Rattle.modinfo_notation.specs.Literal.{reads_range}
+use Rattle.modinfo_notation.specs.Literal.{reads_source_range}
 use Rattle.modinfo_notation.specs.Kind.{reads_named}
 
 abbrev pub comment_kinds : List (List ℕ × CommentKind)
@@ -34,20 +34,20 @@ unfoldable pub reads_comment : Value → Option DependencyComment
 reads_comment value = do
   members ← as_object value
   kind ← required (reads_named comment_kinds) (codes "kind") members
-  range ← required reads_range (codes "range") members
+  range ← required reads_source_range (codes "range") members
   text ← required as_str (codes "text") members
   Some (record { kind = kind; range = range; text = text })
 
 -- a position, and the comments at it
-pub record Entry : Type 0 where
+pub record FiledEntry : Type 0 where
   pub position : ℕ
   pub comments : List DependencyComment
 
-abbrev pub entry_with : ℕ → List DependencyComment → Entry
+abbrev pub entry_with : ℕ → List DependencyComment → FiledEntry
 entry_with position comments = record { position = position; comments = comments }
 
 -- `{"pos":POSITION,"comments":[COMMENT ..]}`
-unfoldable pub reads_entry : Value → Option Entry
+unfoldable pub reads_entry : Value → Option FiledEntry
 reads_entry value = do
   members ← as_object value
   position ← required as_whole (codes "pos") members
@@ -60,7 +60,7 @@ side_name Leading = codes "leading"
 side_name Trailing = codes "trailing"
 
 -- the entries of a side, none where the member is missing
-unfoldable pub reads_side : CommentSide → Members → Option (List Entry)
+unfoldable pub reads_side : CommentSide → Members → Option (List FiledEntry)
 reads_side side members = found_or (reads_array reads_entry) [] (last_named (side_name side) members)
 
 -- a comment was filed on a side, and the other side is as it was
@@ -71,27 +71,29 @@ AddsOn Trailing old new position comment = AddsItem old.trailing new.trailing po
     × (new.leading ≡ old.leading)
 
 -- the comments of the entries with this position, one entry behind another
-abbrev pub entries_at : ℕ → List Entry → List DependencyComment
-entries_at position entries = flat_map (λ e. if e.position == position then e.comments else []) entries
+abbrev pub comments_at : ℕ → List FiledEntry → List DependencyComment
+comments_at position entries = flat_map (λ e. if e.position == position then e.comments else []) entries
 
 -- the comments filed at a position
 abbrev pub filed_at : Filing → ℕ → List DependencyComment
 filed_at filing position = unwrap_or (value_at filing position) []
 
 -- At each position the comments of its entries were filed, in their order, behind those that were there.
-abbrev pub AreFiled : Filing → Filing → List Entry → Type 0
-AreFiled old new entries = (position : ℕ) → filed_at new position
-    ≡ filed_at old position ++ entries_at position entries
+abbrev pub AreAppended : Filing → Filing → List FiledEntry → Type 0
+AreAppended old new entries = (position : ℕ) → filed_at new position
+    ≡ filed_at old position ++ comments_at position entries
 
 -- the same on one side, and the other is as it was
-abbrev pub AreFiledOn : CommentSide → FiledComments → FiledComments → List Entry → Type 0
-AreFiledOn Leading old new entries = AreFiled old.leading new.leading entries × (new.trailing ≡ old.trailing)
-AreFiledOn Trailing old new entries = AreFiled old.trailing new.trailing entries × (new.leading ≡ old.leading)
+abbrev pub AreAppendedOn : CommentSide → FiledComments → FiledComments → List FiledEntry → Type 0
+AreAppendedOn Leading old new entries =
+    AreAppended old.leading new.leading entries × (new.trailing ≡ old.trailing)
+AreAppendedOn Trailing old new entries =
+    AreAppended old.trailing new.trailing entries × (new.leading ≡ old.leading)
 
 -- the entries of both sides
 pub record Sides : Type 0 where
-  pub leading : List Entry
-  pub trailing : List Entry
+  pub leading : List FiledEntry
+  pub trailing : List FiledEntry
 
 unfoldable pub reads_sides : Members → Option Sides
 reads_sides members = do
@@ -101,5 +103,5 @@ reads_sides members = do
 
 -- the comments of these entries, and no others
 abbrev pub AreThoseOf : Sides → FiledComments → Type 0
-AreThoseOf sides comments = AreFiled [] comments.leading sides.leading
-    × AreFiled [] comments.trailing sides.trailing
+AreThoseOf sides comments = AreAppended [] comments.leading sides.leading
+    × AreAppended [] comments.trailing sides.trailing

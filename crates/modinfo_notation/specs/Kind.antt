@@ -52,7 +52,7 @@ use Rattle.deno_graph_source.specs.declared.tree.media_type.MediaType.TheVariant
   Other as OtherType,
 }
 use Rattle.modinfo_notation.specs.Partial.{◌>>=◌, reads_array, required, optional, found_or, flag}
-use Rattle.modinfo_notation.specs.Literal.{reads_range, reads_string, reads_literal}
+use Rattle.modinfo_notation.specs.Literal.{reads_source_range, reads_string, reads_literal}
 
 -- the value of a name in a table of names
 unfoldable pub named : {A : Type 0} → List (List ℕ × A) → List ℕ → Option A
@@ -85,26 +85,26 @@ reads_named table value = do
 unfoldable pub reads_arg : Value → Option Arg
 reads_arg value = do
   members ← as_object value
-  range ← required reads_range (codes "range") members
+  range ← required reads_source_range (codes "range") members
   spread ← flag (codes "spread") members
   Some (record { spread = spread; range = range })
 
 -- one of the two members `str` and `ident`
-abbrev pub static_key : Option Value → Option Value → Option PropKey
-static_key (Some value) None = do
+abbrev pub string_or_identifier : Option Value → Option Value → Option PropKey
+string_or_identifier (Some value) None = do
   text ← reads_string value
   Some (StrKey text)
-static_key None (Some value) = do
+string_or_identifier None (Some value) = do
   text ← as_str value
   Some (IdentKey text)
-static_key None None = None
-static_key (Some _) (Some _) = None
+string_or_identifier None None = None
+string_or_identifier (Some _) (Some _) = None
 
 -- `{"str":STRING}` or `{"ident":TEXT}`
 unfoldable pub reads_static_key : Value → Option PropKey
 reads_static_key value = do
   members ← as_object value
-  static_key (last_named (codes "str") members) (last_named (codes "ident") members)
+  string_or_identifier (last_named (codes "str") members) (last_named (codes "ident") members)
 
 abbrev pub key_of : Option (List ℕ) → Value → Option PropKey
 key_of (Some text) value = if bytes_eq text (codes "other") then Some OtherKey else reads_static_key value

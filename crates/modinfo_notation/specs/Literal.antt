@@ -8,8 +8,8 @@ use Rattle.deno_graph_source.specs.declared.tree.node.StrLit.{StrLit}
 use Rattle.modinfo_notation.specs.Partial.{◌>>=◌, reads_array, required}
 
 -- `[START,END]`: two offsets in bytes
-unfoldable pub reads_range : Value → Option SourceRange
-reads_range value = do
+unfoldable pub reads_source_range : Value → Option SourceRange
+reads_source_range value = do
   pair ← as_pair value
   Some (record { start = pair.0; end = pair.1 })
 
@@ -38,6 +38,6 @@ reads_string value = text_or_units (as_str value) value
 unfoldable pub reads_literal : Value → Option StrLit
 reads_literal value = do
   members ← as_object value
-  range ← required reads_range (codes "range") members
+  range ← required reads_source_range (codes "range") members
   text ← required reads_string (codes "value") members
   Some (record { value = text; range = range })

@@ -2,7 +2,7 @@
 use Rattle.flat_json.specs.declared.Element.{Element}
 use Rattle.std.specs.Prelude.{Some, None, Option}
 use Rattle.flat_json.specs.declared.Members.{Members}
-use Rattle.flat_json.specs.Tape.{HasNode, StandsIn, object_of}
+use Rattle.flat_json.specs.Tape.{HasNode, IsInside, object_of_members}
 use Rattle.modinfo_notation.specs.declared.fault.NotationFault.{NotationFault}
 use Rattle.modinfo_notation.specs.declared.fault.NotationFault.TheVariants.{
   Json,
@@ -27,4 +27,4 @@ IsInFound (Some value) fault = IsIn value fault
 
 -- the value is inside the object that has the members
 abbrev pub IsMemberOf : Members → Element → Type 0
-IsMemberOf members value = StandsIn value (object_of members)
+IsMemberOf members value = IsInside value (object_of_members members)

@@ -21,13 +21,13 @@ use Rattle.flat_json.specs.Value.{
 use Rattle.deno_graph_source.specs.declared.tree.node.Node.{Node, roll-Node}
 use Rattle.deno_graph_source.specs.declared.tree.node.Program.{Program}
 use Rattle.modinfo_notation.specs.Partial.{◌>>=◌, required, flag}
-use Rattle.modinfo_notation.specs.Literal.{reads_range}
+use Rattle.modinfo_notation.specs.Literal.{reads_source_range}
 use Rattle.modinfo_notation.specs.Kind.{reads_kind}
 
 -- a node with these members and these children
 unfoldable pub node_with : Members → Option (List Node) → Option Node
 node_with members below = do
-  range ← required reads_range (codes "range") members
+  range ← required reads_source_range (codes "range") members
   kind ← required (reads_kind members) (codes "kind") members
   children ← below
   Some (roll-Node (record { range = range; kind = kind; children = children }))
@@ -77,7 +77,7 @@ unfoldable mutual
 unfoldable pub reads_program : Value → Option Program
 reads_program value = do
   members ← as_object value
-  range ← required reads_range (codes "range") members
+  range ← required reads_source_range (codes "range") members
   has_shebang ← flag (codes "shebang") members
   body ← required reads_nodes (codes "body") members
   Some (record { range = range; body = body; has_shebang = has_shebang })

@@ -13,28 +13,28 @@ use Rattle.std.specs.Prelude.{
   ◌==◌,
   if◌then◌else◌,
 }
-use Rattle.flat_json.specs.Value.{Value, Items, as_array, as_whole, as_object, last_named, item_at}
+use Rattle.flat_json.specs.Value.{Value, Items, as_array, as_whole, as_object, last_named, nth_item}
 use Rattle.deno_graph_source.specs.declared.tree.fault_place.CommentSide.{CommentSide}
 use Rattle.deno_graph_source.specs.declared.tree.fault_place.CommentSide.TheVariants.{Leading, Trailing}
 use Rattle.deno_graph_source.specs.declared.tree.node.Program.{Program}
 use Rattle.deno_graph_source.specs.NodePath.{NodePath, node_at}
 use Rattle.modinfo_notation.specs.Partial.{◌>>=◌, required}
-use Rattle.modinfo_notation.specs.Comments.{Entry, Sides, entries_at, reads_comment}
+use Rattle.modinfo_notation.specs.Comments.{FiledEntry, Sides, comments_at, reads_comment}
 use Rattle.modinfo_notation.specs.Node.{reads_node, reads_program}
 
 -- the item of this number of the array that is the last member of this name
-unfoldable pub item_of : List ℕ → ℕ → Value → Option Value
-item_of name number value = do
+unfoldable pub member_item : List ℕ → ℕ → Value → Option Value
+member_item name number value = do
   members ← as_object value
   found ← last_named name members
   values ← as_array found
-  item_at number values
+  nth_item number values
 
 -- the value that child indices lead to from a node's value
 abbrev pub below : NodePath → Value → Option Value
 below [] value = Some value
 below (index ∷ path) value = do
-  child ← item_of (codes "children") index value
+  child ← member_item (codes "children") index value
   below path child
 
 -- What the path leads to in the program is read from what was found. The empty path leads to the program.
@@ -50,11 +50,11 @@ entry_items position value = do
   if found == position then required as_array (codes "comments") members else None
 
 -- the entries of a side
-abbrev pub entries_of : Sides → CommentSide → List Entry
-entries_of sides Leading = sides.leading
-entries_of sides Trailing = sides.trailing
+abbrev pub side_entries : Sides → CommentSide → List FiledEntry
+side_entries sides Leading = sides.leading
+side_entries sides Trailing = sides.trailing
 
 -- The comment of this number among those of a side at a position is read from what was found.
-abbrev pub IsCommentAt : List Entry → ℕ → ℕ → Option Value → Type 0
+abbrev pub IsCommentAt : List FiledEntry → ℕ → ℕ → Option Value → Type 0
 IsCommentAt entries position number found = (found >>= reads_comment) ≡ slice_get
-    (entries_at position entries) number
+    (comments_at position entries) number

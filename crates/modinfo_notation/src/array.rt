@@ -1,7 +1,7 @@
 //! Arrays, each item read as its type says.
 
 ghost use Rattle.std.specs.Prelude.{IfErr};
-ghost use Rattle.flat_json.specs.Tape.{array_of};
+ghost use Rattle.flat_json.specs.Tape.{array_of_elements};
 ghost use Rattle.flat_json.specs.View.{items_left, value_of};
 ghost use Rattle.modinfo_notation.specs.Answer.{Answers};
 ghost use Rattle.modinfo_notation.specs.Misfit.{IsIn};
@@ -43,7 +43,7 @@ pub fn read_items<T: FromElement + Drop>(
     alloc: Global,
     values: Elements<'_>,
 ) -> Result<Items<T>, NotationFault>
-    ensures misfit { IfErr result (IsIn (array_of values.entry)) }
+    ensures misfit { IfErr result (IsIn (array_of_elements values.entry)) }
     ensures read { Answers (reads_items T.reads (items_left values.entry)) result }
 {
     let mut items = Items::with_capacity(alloc, values.array_len())?;

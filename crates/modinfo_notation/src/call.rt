@@ -1,7 +1,7 @@
 //! Calls.
 
 ghost use Rattle.std.specs.Prelude.{IfErr};
-ghost use Rattle.flat_json.specs.Tape.{object_of};
+ghost use Rattle.flat_json.specs.Tape.{object_of_members};
 ghost use Rattle.modinfo_notation.specs.Misfit.{IsIn};
 ghost use Rattle.flat_json.specs.View.{members_of, value_of};
 ghost use Rattle.modinfo_notation.specs.Answer.{Answers};
@@ -17,7 +17,7 @@ use std::alloc::Global;
 /// A call.
 #[tactic(auto, using(crate::proofs::Reading::reading), unfolding(crate::specs::Kind::reads_call, crate::specs::Partial::required))]
 pub fn read_call(alloc: Global, members: Members<'_>) -> Result<Kind, NotationFault>
-    ensures misfit { IfErr result (IsIn (object_of members.entry)) }
+    ensures misfit { IfErr result (IsIn (object_of_members members.entry)) }
     ensures read { Answers (reads_call (members_of members.entry)) result }
 {
     let callee = read_callee(required(members, "callee")?)?;

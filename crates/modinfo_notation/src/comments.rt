@@ -1,11 +1,11 @@
 //! Comments, each filed at its position.
 
 ghost use Rattle.std.specs.Prelude.{◌≡◌, [], ◌∷◌, IfErr, OnOk};
-ghost use Rattle.flat_json.specs.Tape.{array_of, object_of};
+ghost use Rattle.flat_json.specs.Tape.{array_of_elements, object_of_members};
 ghost use Rattle.flat_json.specs.View.{items_left, members_of, value_of};
 ghost use Rattle.modinfo_notation.specs.Misfit.{IsIn};
 ghost use Rattle.modinfo_notation.specs.Answer.{Answers, AnswersBy};
-ghost use Rattle.modinfo_notation.specs.Comments.{AddsOn, AreFiledOn, AreThoseOf, comment_kinds};
+ghost use Rattle.modinfo_notation.specs.Comments.{AddsOn, AreAppendedOn, AreThoseOf, comment_kinds};
 ghost use Rattle.modinfo_notation.specs.Comments.{reads_comment, reads_entry, reads_side, reads_sides};
 ghost use Rattle.modinfo_notation.specs.Comments.{entry_with, side_name};
 ghost use Rattle.modinfo_notation.specs.Kind.{reads_named};
@@ -31,7 +31,7 @@ pub fn member_of(side: CommentSide) -> &'static str
 /// The comments of a document: its members `leading` and `trailing`, which are arrays of
 /// `{"pos":POSITION,"comments":[COMMENT ..]}`. They are filed in the order of the document.
 pub fn read_comments(alloc: Global, members: Members<'_>) -> Result<Comments, NotationFault>
-    ensures misfit { IfErr result (IsIn (object_of members.entry)) }
+    ensures misfit { IfErr result (IsIn (object_of_members members.entry)) }
     ensures read { AnswersBy AreThoseOf (reads_sides (members_of members.entry)) result }
 {
     let mut comments = Comments::new(alloc);
@@ -47,8 +47,8 @@ fn read_side(
     side: CommentSide,
     comments: &mut Comments,
 ) -> Result<(), NotationFault>
-    ensures misfit { IfErr result (IsIn (object_of members.entry)) }
-    ensures read { AnswersBy (λ entries _. AreFiledOn side comments.old comments.new entries)
+    ensures misfit { IfErr result (IsIn (object_of_members members.entry)) }
+    ensures read { AnswersBy (λ entries _. AreAppendedOn side comments.old comments.new entries)
         (reads_side side (members_of members.entry)) result }
 {
     match members.get(member_of(side)) {
@@ -64,7 +64,7 @@ fn read_entries(
     comments: &mut Comments,
 ) -> Result<(), NotationFault>
     ensures misfit { IfErr result (IsIn entries.entry) }
-    ensures read { AnswersBy (λ read _. AreFiledOn side comments.old comments.new read)
+    ensures read { AnswersBy (λ read _. AreAppendedOn side comments.old comments.new read)
         (reads_array reads_entry (value_of entries.entry)) result }
 {
     for entry in elements_of(entries)? {
@@ -81,7 +81,7 @@ fn read_entry(
     comments: &mut Comments,
 ) -> Result<(), NotationFault>
     ensures misfit { IfErr result (IsIn entry.entry) }
-    ensures read { AnswersBy (λ read _. AreFiledOn side comments.old comments.new (read ∷ []))
+    ensures read { AnswersBy (λ read _. AreAppendedOn side comments.old comments.new (read ∷ []))
         (reads_entry (value_of entry.entry)) result }
 {
     let members = members_of(entry)?;
@@ -98,8 +98,8 @@ fn file_comments(
     pos: usize,
     comments: &mut Comments,
 ) -> Result<(), NotationFault>
-    ensures misfit { IfErr result (IsIn (array_of values.entry)) }
-    ensures read { AnswersBy (λ filed _. AreFiledOn side comments.old comments.new (entry_with pos filed ∷ []))
+    ensures misfit { IfErr result (IsIn (array_of_elements values.entry)) }
+    ensures read { AnswersBy (λ filed _. AreAppendedOn side comments.old comments.new (entry_with pos filed ∷ []))
         (reads_items reads_comment (items_left values.entry)) result }
 {
     for value in values {

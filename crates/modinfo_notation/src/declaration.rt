@@ -1,7 +1,7 @@
 //! Imports, exports and modules.
 
 ghost use Rattle.std.specs.Prelude.{IfErr, IfSome};
-ghost use Rattle.flat_json.specs.Tape.{object_of};
+ghost use Rattle.flat_json.specs.Tape.{object_of_members};
 ghost use Rattle.modinfo_notation.specs.Misfit.{IsIn, IsInFound, IsMemberOf};
 ghost use Rattle.std.specs.Prelude.{◌≡◌, option_map, codes};
 ghost use Rattle.flat_json.specs.Value.{last_named};
@@ -21,7 +21,7 @@ use std::alloc::Global;
 /// An import declaration.
 #[tactic(auto, using(crate::proofs::Reading::reading), unfolding(crate::specs::Kind::reads_import_decl, crate::specs::Partial::required, crate::specs::Partial::flag))]
 pub fn read_import_decl(alloc: Global, members: Members<'_>) -> Result<Kind, NotationFault>
-    ensures misfit { IfErr result (IsIn (object_of members.entry)) }
+    ensures misfit { IfErr result (IsIn (object_of_members members.entry)) }
     ensures read { Answers (reads_import_decl (members_of members.entry)) result }
 {
     let found = SourceMembers::find(members);
@@ -109,7 +109,7 @@ fn import_phase(found: Option<Element<'_>>) -> Result<ImportPhase, NotationFault
 /// An export of names, with or without a source.
 #[tactic(auto, using(crate::proofs::Reading::reading), unfolding(crate::specs::Kind::reads_named_export))]
 pub fn read_named_export(alloc: Global, members: Members<'_>) -> Result<Kind, NotationFault>
-    ensures misfit { IfErr result (IsIn (object_of members.entry)) }
+    ensures misfit { IfErr result (IsIn (object_of_members members.entry)) }
     ensures read { Answers (reads_named_export (members_of members.entry)) result }
 {
     let type_only = flag(members, "typeOnly")?;
@@ -125,7 +125,7 @@ pub fn read_named_export(alloc: Global, members: Members<'_>) -> Result<Kind, No
 /// An export of all names of another module.
 #[tactic(auto, using(crate::proofs::Reading::reading), unfolding(crate::specs::Kind::reads_export_all, crate::specs::Partial::required, crate::specs::Partial::flag))]
 pub fn read_export_all(alloc: Global, members: Members<'_>) -> Result<Kind, NotationFault>
-    ensures misfit { IfErr result (IsIn (object_of members.entry)) }
+    ensures misfit { IfErr result (IsIn (object_of_members members.entry)) }
     ensures read { Answers (reads_export_all (members_of members.entry)) result }
 {
     let found = SourceMembers::find(members);
@@ -142,7 +142,7 @@ pub fn read_export_all(alloc: Global, members: Members<'_>) -> Result<Kind, Nota
 /// An import-equals declaration.
 #[tactic(auto, using(crate::proofs::Reading::reading), unfolding(crate::specs::Kind::reads_import_equals))]
 pub fn read_import_equals(alloc: Global, members: Members<'_>) -> Result<Kind, NotationFault>
-    ensures misfit { IfErr result (IsIn (object_of members.entry)) }
+    ensures misfit { IfErr result (IsIn (object_of_members members.entry)) }
     ensures read { Answers (reads_import_equals (members_of members.entry)) result }
 {
     let type_only = flag(members, "typeOnly")?;
@@ -158,7 +158,7 @@ pub fn read_import_equals(alloc: Global, members: Members<'_>) -> Result<Kind, N
 /// An import type.
 #[tactic(auto, using(crate::proofs::Reading::reading), unfolding(crate::specs::Kind::reads_import_type, crate::specs::Partial::required))]
 pub fn read_import_type(alloc: Global, members: Members<'_>) -> Result<Kind, NotationFault>
-    ensures misfit { IfErr result (IsIn (object_of members.entry)) }
+    ensures misfit { IfErr result (IsIn (object_of_members members.entry)) }
     ensures read { Answers (reads_import_type (members_of members.entry)) result }
 {
     let has_with = flag(members, "hasWith")?;
@@ -169,7 +169,7 @@ pub fn read_import_type(alloc: Global, members: Members<'_>) -> Result<Kind, Not
 /// A module or namespace, with or without a name that is a string.
 #[tactic(auto, using(crate::proofs::Reading::reading), unfolding(crate::specs::Kind::reads_module_decl))]
 pub fn read_module_decl(alloc: Global, members: Members<'_>) -> Result<Kind, NotationFault>
-    ensures misfit { IfErr result (IsIn (object_of members.entry)) }
+    ensures misfit { IfErr result (IsIn (object_of_members members.entry)) }
     ensures read { Answers (reads_module_decl (members_of members.entry)) result }
 {
     let name = optional_literal(alloc, members, "name")?;

@@ -1,7 +1,7 @@
 //! Documents: modules as a parser hands them over.
 
 ghost use Rattle.std.specs.Prelude.{IfErr, MatchResult};
-ghost use Rattle.flat_json.specs.Tape.{object_of};
+ghost use Rattle.flat_json.specs.Tape.{object_of_members};
 ghost use Rattle.flat_json.specs.View.{members_of, value_of};
 ghost use Rattle.modinfo_notation.specs.Answer.{AnswersBy};
 ghost use Rattle.modinfo_notation.specs.Document.{Has, HasTree, IsDocumentOf, IsNoDocument};
@@ -56,7 +56,7 @@ pub fn read_document(alloc: Global, value: Element<'_>) -> Result<Document, Nota
 /// The comments and the program.
 #[tactic(auto, using(crate::proofs::Reading::reading_by), unfolding(crate::specs::Document::reads_tree, crate::specs::Partial::required))]
 fn read_tree(alloc: Global, members: Members<'_>) -> Result<(Comments, Program), NotationFault>
-    ensures misfit { IfErr result (IsIn (object_of members.entry)) }
+    ensures misfit { IfErr result (IsIn (object_of_members members.entry)) }
     ensures read { AnswersBy HasTree (reads_tree (members_of members.entry)) result }
 {
     let comments = read_comments(alloc, members)?;

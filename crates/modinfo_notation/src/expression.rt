@@ -1,7 +1,7 @@
 //! Literals, names and binary expressions.
 
 ghost use Rattle.std.specs.Prelude.{IfErr};
-ghost use Rattle.flat_json.specs.Tape.{object_of};
+ghost use Rattle.flat_json.specs.Tape.{object_of_members};
 ghost use Rattle.modinfo_notation.specs.Misfit.{IsIn};
 ghost use Rattle.flat_json.specs.View.{members_of};
 ghost use Rattle.modinfo_notation.specs.Answer.{Answers};
@@ -18,7 +18,7 @@ use std::alloc::Global;
 /// A string literal.
 #[tactic(auto, using(crate::proofs::Reading::reading), unfolding(crate::specs::Kind::reads_str, crate::specs::Partial::required))]
 pub fn read_str(alloc: Global, members: Members<'_>) -> Result<Kind, NotationFault>
-    ensures misfit { IfErr result (IsIn (object_of members.entry)) }
+    ensures misfit { IfErr result (IsIn (object_of_members members.entry)) }
     ensures read { Answers (reads_str (members_of members.entry)) result }
 {
     Ok(Kind::Str(read_string(alloc, required(members, "value")?)?))
@@ -27,7 +27,7 @@ pub fn read_str(alloc: Global, members: Members<'_>) -> Result<Kind, NotationFau
 /// A template without a tag, by its quasis.
 #[tactic(auto, using(crate::proofs::Reading::reading), unfolding(crate::specs::Kind::reads_template, crate::specs::Partial::required))]
 pub fn read_template(alloc: Global, members: Members<'_>) -> Result<Kind, NotationFault>
-    ensures misfit { IfErr result (IsIn (object_of members.entry)) }
+    ensures misfit { IfErr result (IsIn (object_of_members members.entry)) }
     ensures read { Answers (reads_template (members_of members.entry)) result }
 {
     let quasis = read_strings(alloc, required(members, "quasis")?)?;
@@ -39,7 +39,7 @@ const OPERATORS: &str = "add, other";
 /// A binary expression.
 #[tactic(auto, using(crate::proofs::Reading::reading), unfolding(crate::specs::Kind::reads_binary, crate::specs::Kind::reads_named, crate::specs::Kind::named, crate::specs::Partial::required))]
 pub fn read_binary(members: Members<'_>) -> Result<Kind, NotationFault>
-    ensures misfit { IfErr result (IsIn (object_of members.entry)) }
+    ensures misfit { IfErr result (IsIn (object_of_members members.entry)) }
     ensures read { Answers (reads_binary (members_of members.entry)) result }
 {
     let value = required(members, "op")?;
@@ -53,7 +53,7 @@ pub fn read_binary(members: Members<'_>) -> Result<Kind, NotationFault>
 /// An identifier.
 #[tactic(auto, using(crate::proofs::Reading::reading), unfolding(crate::specs::Kind::reads_ident))]
 pub fn read_ident(alloc: Global, members: Members<'_>) -> Result<Kind, NotationFault>
-    ensures misfit { IfErr result (IsIn (object_of members.entry)) }
+    ensures misfit { IfErr result (IsIn (object_of_members members.entry)) }
     ensures read { Answers (reads_ident (members_of members.entry)) result }
 {
     let name = Text::from_str(alloc, text(members, "value")?)?;

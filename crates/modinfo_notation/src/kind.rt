@@ -3,7 +3,7 @@
 //! properties in `property`.
 
 ghost use Rattle.std.specs.Prelude.{IfErr};
-ghost use Rattle.flat_json.specs.Tape.{StandsIn, object_of};
+ghost use Rattle.flat_json.specs.Tape.{IsInside, object_of_members};
 ghost use Rattle.modinfo_notation.specs.Misfit.{IsIn};
 ghost use Rattle.flat_json.specs.View.{members_of, value_of};
 ghost use Rattle.modinfo_notation.specs.Answer.{Answers};
@@ -35,8 +35,8 @@ pub fn read_kind(
     members: Members<'_>,
     value: Element<'_>,
 ) -> Result<Kind, NotationFault>
-    ensures misfit { StandsIn value.entry (object_of members.entry)
-        → IfErr result (IsIn (object_of members.entry)) }
+    ensures misfit { IsInside value.entry (object_of_members members.entry)
+        → IfErr result (IsIn (object_of_members members.entry)) }
     ensures read { Answers (reads_kind (members_of members.entry) (value_of value.entry)) result }
 {
     match text_of(value)? {

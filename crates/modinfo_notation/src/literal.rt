@@ -1,5 +1,5 @@
 ghost use Rattle.std.specs.Prelude.{IfErr, IfSome};
-ghost use Rattle.flat_json.specs.Tape.{object_of};
+ghost use Rattle.flat_json.specs.Tape.{object_of_members};
 ghost use Rattle.modinfo_notation.specs.Misfit.{IsIn, IsMemberOf};
 ghost use Rattle.std.specs.Prelude.{option_map, codes, ◌≡◌};
 ghost use Rattle.flat_json.specs.Value.{last_named};
@@ -24,7 +24,7 @@ pub fn optional_literal(
     members: Members<'_>,
     name: &str,
 ) -> Result<Option<StrLit>, NotationFault>
-    ensures misfit { IfErr result (IsIn (object_of members.entry)) }
+    ensures misfit { IfErr result (IsIn (object_of_members members.entry)) }
     ensures read { Answers (optional reads_literal name.now (members_of members.entry)) result }
 {
     match optional(members, name) {

@@ -1,11 +1,11 @@
 //! The members of a JSON object, each read as what the notation asks for.
 
 ghost use Rattle.std.specs.Prelude.{◌≡◌, Some, IfErr, IfOk, IfSome, option_map, codes, false};
-ghost use Rattle.flat_json.specs.Tape.{TakesSame, StandsIn, array_of, object_of};
+ghost use Rattle.flat_json.specs.Tape.{TakesSame, IsInside, array_of_elements, object_of_members};
 ghost use Rattle.flat_json.specs.Value.{as_bool, as_str, as_object, as_array, as_whole, last_named};
 ghost use Rattle.flat_json.specs.View.{value_of, members_of, items_left};
 ghost use Rattle.modinfo_notation.specs.Answer.{Answers, AnswersSeen, IsMisfit};
-ghost use Rattle.modinfo_notation.specs.Literal.{reads_range};
+ghost use Rattle.modinfo_notation.specs.Literal.{reads_source_range};
 ghost use Rattle.modinfo_notation.specs.Misfit.{IsIn, IsInFound};
 ghost use Rattle.modinfo_notation.specs.Partial.{required, found_or, flag, unless_null};
 
@@ -24,7 +24,7 @@ pub fn misfit(value: Element<'_>, expected: Expected) -> NotationFault
 
 /// The members of `value`, which has to be an object.
 pub fn members_of<'a>(value: Element<'a>) -> Result<Members<'a>, NotationFault>
-    ensures object { IfOk result (λ members. TakesSame (object_of members) value.entry) }
+    ensures object { IfOk result (λ members. TakesSame (object_of_members members) value.entry) }
     ensures misfit { IfErr result (IsIn value.entry) }
     ensures read { AnswersSeen members_of (as_object (value_of value.entry)) result }
 {
@@ -33,7 +33,7 @@ pub fn members_of<'a>(value: Element<'a>) -> Result<Members<'a>, NotationFault>
 
 /// The elements of `value`, which has to be an array.
 pub fn elements_of<'a>(value: Element<'a>) -> Result<Elements<'a>, NotationFault>
-    ensures array { IfOk result (λ elements. TakesSame (array_of elements) value.entry) }
+    ensures array { IfOk result (λ elements. TakesSame (array_of_elements elements) value.entry) }
     ensures misfit { IfErr result (IsIn value.entry) }
     ensures read { AnswersSeen items_left (as_array (value_of value.entry)) result }
 {
@@ -50,8 +50,8 @@ pub fn text_of<'a>(value: Element<'a>) -> Result<&'a str, NotationFault>
 
 /// The member `name`, which has to be there.
 pub fn required<'a>(members: Members<'a>, name: &'static str) -> Result<Element<'a>, NotationFault>
-    ensures member { IfOk result (λ value. StandsIn value (object_of members.entry)) }
-    ensures misfit { IfErr result (IsIn (object_of members.entry)) }
+    ensures member { IfOk result (λ value. IsInside value (object_of_members members.entry)) }
+    ensures misfit { IfErr result (IsIn (object_of_members members.entry)) }
     ensures read { AnswersSeen value_of (last_named name.now (members_of members.entry)) result }
 {
     present(members, name, members.get(name))
@@ -64,7 +64,7 @@ pub fn present<'a>(
     found: Option<Element<'a>>,
 ) -> Result<Element<'a>, NotationFault>
     ensures member { IfOk result (λ value. found.entry ≡ Some value) }
-    ensures misfit { IfErr result (IsIn (object_of members.entry)) }
+    ensures misfit { IfErr result (IsIn (object_of_members members.entry)) }
     ensures read { AnswersSeen value_of (option_map value_of found.entry) result }
 {
     let element = members.number();
@@ -74,7 +74,7 @@ pub fn present<'a>(
 
 /// The member `name`, where it is there and isn't null.
 pub fn optional<'a>(members: Members<'a>, name: &str) -> Option<Element<'a>>
-    ensures member { IfSome result (λ value. StandsIn value (object_of members.entry)) }
+    ensures member { IfSome result (λ value. IsInside value (object_of_members members.entry)) }
     ensures value { option_map value_of result
         ≡ unless_null (last_named name.now (members_of members.entry)) }
 {
@@ -84,7 +84,7 @@ pub fn optional<'a>(members: Members<'a>, name: &str) -> Option<Element<'a>>
 /// The text of the member `name`.
 #[tactic(auto, using(crate::proofs::Reading::reading), unfolding(crate::specs::Partial::required))]
 pub fn text<'a>(members: Members<'a>, name: &'static str) -> Result<&'a str, NotationFault>
-    ensures misfit { IfErr result (IsIn (object_of members.entry)) }
+    ensures misfit { IfErr result (IsIn (object_of_members members.entry)) }
     ensures read { AnswersSeen (λ text. text.now)
         (required as_str name.now (members_of members.entry)) result }
 {
@@ -94,7 +94,7 @@ pub fn text<'a>(members: Members<'a>, name: &'static str) -> Result<&'a str, Not
 /// The member `name` as a truth value: false where it is missing.
 #[tactic(auto, unfolding(crate::specs::Partial::flag))]
 pub fn flag(members: Members<'_>, name: &str) -> Result<bool, NotationFault>
-    ensures misfit { IfErr result (IsIn (object_of members.entry)) }
+    ensures misfit { IfErr result (IsIn (object_of_members members.entry)) }
     ensures read { Answers (flag name.now (members_of members.entry)) result }
 {
     truth_or_false(members.get(name))
@@ -114,17 +114,17 @@ pub fn truth_or_false(found: Option<Element<'_>>) -> Result<bool, NotationFault>
 /// The member `range`: two offsets in bytes.
 #[tactic(auto, using(crate::proofs::Reading::reading), unfolding(crate::specs::Partial::required))]
 pub fn range(members: Members<'_>) -> Result<SourceRange, NotationFault>
-    ensures misfit { IfErr result (IsIn (object_of members.entry)) }
-    ensures read { Answers (required reads_range (codes "range") (members_of members.entry)) result }
+    ensures misfit { IfErr result (IsIn (object_of_members members.entry)) }
+    ensures read { Answers (required reads_source_range (codes "range") (members_of members.entry)) result }
 {
     range_of(required(members, "range")?)
 }
 
 /// Two offsets in bytes.
-#[tactic(auto, unfolding(crate::specs::Literal::reads_range))]
+#[tactic(auto, unfolding(crate::specs::Literal::reads_source_range))]
 pub fn range_of(value: Element<'_>) -> Result<SourceRange, NotationFault>
     ensures misfit { IfErr result (IsIn value.entry) }
-    ensures read { Answers (reads_range (value_of value.entry)) result }
+    ensures read { Answers (reads_source_range (value_of value.entry)) result }
 {
     match value.as_pair() {
         Some((start, end)) => Ok(SourceRange {

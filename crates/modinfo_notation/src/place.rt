@@ -2,15 +2,15 @@
 //! from.
 
 ghost use Rattle.std.specs.Prelude.{◌≡◌, List, Some, IfSome, option_map};
-ghost use Rattle.flat_json.specs.Tape.{StandsIn, array_of, count_of};
+ghost use Rattle.flat_json.specs.Tape.{IsInside, array_of_elements, count_of};
 ghost use Rattle.flat_json.specs.Value.{item_count};
 ghost use Rattle.flat_json.specs.View.{items_left, value_of};
 ghost use Rattle.flat_json.specs.declared.Element.{Element};
-ghost use Rattle.modinfo_notation.specs.Comments.{Entry, reads_entry};
+ghost use Rattle.modinfo_notation.specs.Comments.{FiledEntry, reads_entry};
 ghost use Rattle.modinfo_notation.specs.Document.{Stated, reads_document};
 ghost use Rattle.modinfo_notation.specs.Partial.{reads_items};
-ghost use Rattle.modinfo_notation.specs.Place.{IsCommentAt, IsReadAt, below, entries_of};
-ghost use Rattle.modinfo_notation.specs.Place.{entry_items, item_of};
+ghost use Rattle.modinfo_notation.specs.Place.{IsCommentAt, IsReadAt, below, side_entries};
+ghost use Rattle.modinfo_notation.specs.Place.{entry_items, member_item};
 
 use crate::comments::member_of;
 use deno_graph_source::tree::CommentSide;
@@ -20,7 +20,7 @@ use flat_json::{Element, Elements};
 /// whose value is `root`. The empty path leads to the program. `None` where the document has none
 /// there.
 pub fn node_at<'a>(root: Element<'a>, path: &[usize]) -> Option<Element<'a>>
-    ensures inside { IfSome result (λ found. StandsIn found root.entry) }
+    ensures inside { IfSome result (λ found. IsInside found root.entry) }
     ensures read { (stated : Stated) → reads_document (value_of root.entry) ≡ Some stated
         → IsReadAt stated.program path.now (option_map value_of result) }
 {
@@ -33,8 +33,8 @@ pub fn node_at<'a>(root: Element<'a>, path: &[usize]) -> Option<Element<'a>>
 
 /// The node that the child numbers of `path` lead to from a node.
 fn below<'a>(node: Element<'a>, path: &[usize]) -> Option<Element<'a>>
-    ensures inside { (root : Element) → StandsIn node.entry root
-        → IfSome result (λ found. StandsIn found root) }
+    ensures inside { (root : Element) → IsInside node.entry root
+        → IfSome result (λ found. IsInside found root) }
     ensures item { option_map value_of result ≡ below path.now (value_of node.entry) }
 {
     let mut found = node;
@@ -45,10 +45,10 @@ fn below<'a>(node: Element<'a>, path: &[usize]) -> Option<Element<'a>>
 }
 
 /// The element of this number in the array that is the member `name`.
-#[tactic(auto, unfolding(crate::specs::Place::item_of))]
+#[tactic(auto, unfolding(crate::specs::Place::member_item))]
 fn child<'a>(value: Element<'a>, name: &str, number: usize) -> Option<Element<'a>>
-    ensures inside { IfSome result (λ found. StandsIn found value.entry) }
-    ensures item { option_map value_of result ≡ item_of name.now number (value_of value.entry) }
+    ensures inside { IfSome result (λ found. IsInside found value.entry) }
+    ensures item { option_map value_of result ≡ member_item name.now number (value_of value.entry) }
 {
     value.members()?.get(name)?.elements()?.get(number)
 }
@@ -61,9 +61,9 @@ pub fn comment_at<'a>(
     position: usize,
     number: usize,
 ) -> Option<Element<'a>>
-    ensures inside { IfSome result (λ found. StandsIn found root.entry) }
+    ensures inside { IfSome result (λ found. IsInside found root.entry) }
     ensures read { (stated : Stated) → reads_document (value_of root.entry) ≡ Some stated
-        → IsCommentAt (entries_of stated.comments side) position number (option_map value_of result) }
+        → IsCommentAt (side_entries stated.comments side) position number (option_map value_of result) }
 {
     let entries = root.members()?.get(member_of(side))?.elements()?;
     comment_in(entries, position, number)
@@ -71,8 +71,8 @@ pub fn comment_at<'a>(
 
 /// The same among these entries.
 fn comment_in<'a>(entries: Elements<'a>, position: usize, number: usize) -> Option<Element<'a>>
-    ensures inside { IfSome result (λ found. StandsIn found (array_of entries.entry)) }
-    ensures read { (read : List Entry) → reads_items reads_entry (items_left entries.entry) ≡ Some read
+    ensures inside { IfSome result (λ found. IsInside found (array_of_elements entries.entry)) }
+    ensures read { (read : List FiledEntry) → reads_items reads_entry (items_left entries.entry) ≡ Some read
         → IsCommentAt read position number (option_map value_of result) }
 {
     let mut left = number;
@@ -91,7 +91,7 @@ fn comment_in<'a>(entries: Elements<'a>, position: usize, number: usize) -> Opti
 /// The comments of an entry, where it is filed at this position.
 #[tactic(auto, unfolding(crate::specs::Place::entry_items, crate::specs::Partial::required))]
 fn comments_at<'a>(entry: Element<'a>, position: usize) -> Option<Elements<'a>>
-    ensures inside { IfSome result (λ found. StandsIn (array_of found) entry.entry) }
+    ensures inside { IfSome result (λ found. IsInside (array_of_elements found) entry.entry) }
     ensures items { option_map items_left result ≡ entry_items position (value_of entry.entry) }
     ensures counted { IfSome result (λ found. count_of found ≡ item_count (items_left found)) }
 {

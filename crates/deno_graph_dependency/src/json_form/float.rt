@@ -2,14 +2,14 @@
 
 ghost use Rattle.std.specs.Prelude.{◌≡◌};
 ghost use Rattle.serde_json.specs.View.{view, items_view, members_view};
-ghost use Rattle.serde_json.specs.Written.{has_float as float_stands, items_have_float as float_in_items, members_have_float as float_in_members};
+ghost use Rattle.serde_json.specs.Written.{has_float as holds_float, items_have_float as float_in_items, members_have_float as float_in_members};
 
 use serde_json::{Map, Value};
 
 /// Whether a number that isn't held as a whole number is anywhere in the value.
 #[cycle(float)]
 pub fn has_float(value: &Value) -> bool
-    ensures { result ≡ float_stands (view value.now) }
+    ensures { result ≡ holds_float (view value.now) }
 {
     match value {
         Value::Number(number) => number.is_f64(),

@@ -1,6 +1,6 @@
 ghost use Rattle.std.specs.Prelude.{◌≡◌, [], false, Some, None, IfOk, IfErr, refl, string_bytes};
 ghost use Rattle.serde_json.specs.View.{view};
-ghost use Rattle.serde_json.specs.Written.{compact_text, has_float as float_stands};
+ghost use Rattle.serde_json.specs.Written.{compact_text, has_float as holds_float};
 ghost use Rattle.deno_graph_info.specs.InfoFault.{IsInfoFault};
 ghost use Rattle.deno_graph_info.specs.Json.ModuleInfo.{info_entries, json_of_info, reads_info, IsHeldInfo};
 
@@ -67,7 +67,7 @@ impl ModuleInfo {
     /// meaning here are passed over. `Float` where a number that isn't held as a whole number
     /// is anywhere in the value, and else `Shape` where it isn't of the form.
     pub fn from_value(alloc: Global, value: &Value) -> Result<ModuleInfo, InfoFault>
-        ensures ok { IfOk result (λ info. (float_stands (view value.now) ≡ false)
+        ensures ok { IfOk result (λ info. (holds_float (view value.now) ≡ false)
             × (reads_info (view value.now) ≡ Some info)) }
         ensures err { IfErr result (IsInfoFault (view value.now)) }
     {
@@ -83,7 +83,7 @@ impl ModuleInfo {
     pub fn to_value(&self, alloc: Global) -> Result<Value, AllocError>
         ensures form { IfOk result (λ value. view value ≡ json_of_info self.now) }
         ensures read_back { IfOk result (λ value. reads_info (view value) ≡ Some self.now) }
-        ensures no_float { IfOk result (λ value. float_stands (view value) ≡ false) }
+        ensures no_float { IfOk result (λ value. holds_float (view value) ≡ false) }
     {
         object_value(alloc, self)
     }

@@ -1,6 +1,6 @@
 //! The comments that version 1 keeps with a dependency.
 
-ghost use Rattle.deno_graph_info.specs.Comment.{reads_comment};
+ghost use Rattle.deno_graph_info.specs.Comment.{reads_stored_comment};
 
 use deno_graph_dependency::json_form::{FromJson, ObjectReader, ReadFault};
 use deno_graph_text::text::PositionRange;
@@ -18,9 +18,9 @@ pub struct Comment {
 }
 
 impl FromJson for Comment {
-    ghost reads = { reads_comment };
+    ghost reads = { reads_stored_comment };
 
-    #[tactic(auto, unfolding(crate::specs::Comment::reads_comment))]
+    #[tactic(auto, unfolding(crate::specs::Comment::reads_stored_comment))]
     fn from_json(alloc: Global, value: &Value) -> Result<Comment, ReadFault> {
         let object = ObjectReader::new(alloc, value)?;
         let text = object.read("text")?;

@@ -3,8 +3,8 @@ ghost use Rattle.std.specs.String.{string_bytes};
 ghost use Rattle.serde_json.specs.Data.{Items as DataItems, array, object};
 ghost use Rattle.serde_json.specs.Find.{as_array};
 ghost use Rattle.serde_json.specs.View.{view, items_view, members_view};
-ghost use Rattle.serde_json.specs.Written.{has_float as float_stands};
-ghost use Rattle.deno_graph_info.specs.Conversion.{AnyOverflows, AreConverted, DependencyOverflows, IsConverted, IsConvertedDependency, IsConvertFault, Overflows, comments_in, dependencies_in, with_types, without_member};
+ghost use Rattle.serde_json.specs.Written.{has_float as holds_float};
+ghost use Rattle.deno_graph_info.specs.Conversion.{AnyOverflows, AreConverted, DependencyOverflows, IsConverted, IsConvertedDependency, IsConvertFault, Overflows, comments_in, dependencies_in, with_types, without_value_at};
 ghost use Rattle.deno_graph_info.specs.ConvertFault.{IsColumnFault};
 
 use crate::conversion::comment::Comment;
@@ -29,7 +29,7 @@ use std::alloc::{AllocError, Global};
 /// `ColumnOverflow` where a column would be above the largest `usize`. On an error the value stays
 /// as it was.
 pub fn module_graph_1_to_2(alloc: Global, value: &mut Value) -> Result<(), ConvertFault>
-    ensures no_float { OnOk result (float_stands (view value.old) ≡ false) }
+    ensures no_float { OnOk result (holds_float (view value.old) ≡ false) }
     ensures ok { OnOk result (IsConverted (view value.old) (view value.new)) }
     ensures err { IfErr result (IsConvertFault (view value.old)) }
     ensures unchanged { OnErr result (value.new ≡ value.old) }
@@ -44,7 +44,7 @@ pub fn module_graph_1_to_2(alloc: Global, value: &mut Value) -> Result<(), Conve
 
 /// The same of a value that nobody else needs: nothing of it is copied.
 pub fn module_graph_1_into_2(alloc: Global, value: Value) -> Result<Value, ConvertFault>
-    ensures no_float { IfOk result (λ _. float_stands (view value) ≡ false) }
+    ensures no_float { IfOk result (λ _. holds_float (view value) ≡ false) }
     ensures ok { IfOk result (λ after. IsConverted (view value) (view after)) }
     ensures err { IfErr result (IsConvertFault (view value)) }
 {
@@ -190,7 +190,7 @@ fn replace_comments(
     types: Option<SpecifierWithRange>,
 ) -> Result<Value, AllocError>
     ensures { IfOk result (λ replaced. view replaced
-        ≡ without_member (codes "leadingComments") (with_types types (view dependency))) }
+        ≡ without_value_at (codes "leadingComments") (with_types types (view dependency))) }
 {
     match dependency {
         Value::Object(members) => {
@@ -208,7 +208,7 @@ fn replace_members(
     types: Option<SpecifierWithRange>,
 ) -> Result<Map<String, Value>, AllocError>
     ensures { IfOk result (λ replaced. object (members_view replaced.entries)
-        ≡ without_member (codes "leadingComments")
+        ≡ without_value_at (codes "leadingComments")
         (with_types types (object (members_view members.entries)))) }
 {
     let mut replaced = put_types(alloc, members, types)?;

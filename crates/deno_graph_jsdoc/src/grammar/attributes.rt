@@ -3,7 +3,7 @@
 ghost use Rattle.std.specs.Prelude.{◌≡◌, List, ◌∷◌, [], ◌++◌, option_and_then};
 ghost use Rattle.std.specs.Str.{chars};
 ghost use Rattle.deno_graph_jsdoc.specs.JsDocGrammar.{IsKey, IsAttribute, IsModeBlock, Attribute};
-ghost use Rattle.deno_graph_jsdoc.specs.JsDocGrammar.{mode_name, mode_of, Anything};
+ghost use Rattle.deno_graph_jsdoc.specs.JsDocGrammar.{resolution_mode_value, mode_of, Anything};
 ghost use Rattle.deno_graph_jsdoc.specs.JsDocKnown.{AreKnown};
 ghost use Rattle.deno_graph_jsdoc.specs.JsDocReading.{IsModeBlockEnd, Reads, EndOfIdent};
 ghost use Rattle.deno_graph_jsdoc.specs.JsDocReading.{rest_and_text, rest_and_mode};
@@ -63,7 +63,7 @@ fn mode_with(
     name: Option<&str>,
     mode: Option<TypeScriptTypesResolutionMode>,
 ) -> Option<TypeScriptTypesResolutionMode>
-    ensures { (before others : List Attribute) → text_of name.entry ≡ mode_name before
+    ensures { (before others : List Attribute) → text_of name.entry ≡ resolution_mode_value before
         → mode ≡ mode_of others → result ≡ mode_of (before ++ others) }
 {
     match name {
@@ -74,8 +74,8 @@ fn mode_with(
 
 /// The name of the mode behind an attribute, where `name` is the one before it.
 fn name_after<'a>(name: Option<&'a str>, key: &str, value: &'a str) -> Option<&'a str>
-    ensures { (before : List Attribute) → text_of name.entry ≡ mode_name before
-        → text_of result ≡ mode_name
+    ensures { (before : List Attribute) → text_of name.entry ≡ resolution_mode_value before
+        → text_of result ≡ resolution_mode_value
         (before ++ record { key = chars key.now; value = chars value.entry.now } ∷ []) }
 {
     match name {

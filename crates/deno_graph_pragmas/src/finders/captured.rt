@@ -2,9 +2,9 @@
 
 ghost use Rattle.std.specs.Prelude.{◌≡◌, ◌≤◌, List, [], ◌∷◌, None, IfSome, IsNone, length};
 ghost use Rattle.std.specs.Str.{chars};
-ghost use Rattle.deno_graph_pragmas.specs.Match.{part_of};
+ghost use Rattle.deno_graph_pragmas.specs.Match.{match_part_of};
 ghost use Rattle.deno_graph_pragmas.specs.Piece.{non_white_space, quote, unquoted};
-ghost use Rattle.deno_graph_pragmas.specs.Reading.{after_pieces, IsReadAt};
+ghost use Rattle.deno_graph_pragmas.specs.Reading.{after_pieces, IsCapturedAt};
 
 use crate::finders::matches::Match;
 use crate::finders::scan::{before_quote, before_white_space};
@@ -13,7 +13,7 @@ use crate::finders::scan::{before_quote, before_white_space};
 pub(super) fn capture_quoted<'a>(text: &str, rest: &'a str) -> Option<Match<'a>>
     requires { length rest.now ≤ length text.now }
     ensures found { IfSome result
-        (λ found. IsReadAt unquoted (quote ∷ []) text.now rest.now (part_of found)) }
+        (λ found. IsCapturedAt unquoted (quote ∷ []) text.now rest.now (match_part_of found)) }
     ensures none { IsNone result
         → after_pieces (unquoted ∷ quote ∷ []) (chars rest.now) ≡ None }
 {
@@ -25,7 +25,7 @@ pub(super) fn capture_quoted<'a>(text: &str, rest: &'a str) -> Option<Match<'a>>
 pub(super) fn capture_run<'a>(text: &str, rest: &'a str) -> Option<Match<'a>>
     requires { length rest.now ≤ length text.now }
     ensures found { IfSome result
-        (λ found. IsReadAt non_white_space [] text.now rest.now (part_of found)) }
+        (λ found. IsCapturedAt non_white_space [] text.now rest.now (match_part_of found)) }
     ensures none { IsNone result → after_pieces (non_white_space ∷ []) (chars rest.now) ≡ None }
 {
     let found = before_white_space(rest);

@@ -5,7 +5,7 @@ ghost use Rattle.std.specs.Prelude.{◌⊎◌, ℕ, List};
 ghost use Rattle.std.specs.List.{AllByRecursion};
 ghost use Rattle.deno_graph_pragmas.specs.Finders.{attribute, finder_patterns, quoted_pragma};
 ghost use Rattle.deno_graph_pragmas.specs.Split.{HasOnePart, HasSplit, IsCaptured, Pattern, TextPart};
-ghost use Rattle.deno_graph_pragmas.specs.Split.{StandsInQuotes, StartDetermines};
+ghost use Rattle.deno_graph_pragmas.specs.Split.{IsInQuotes, StartDetermines};
 
 /// A finder captures one part at most, and where its split begins determines the part.
 pub fn captures_are_unique()
@@ -22,7 +22,7 @@ pub fn each_text_has_a_part_or_no_split()
 /// What is captured between quotes has one directly before it and one directly behind it.
 pub fn quotes_stand_round(text: &str)
     ensures attributes { (name : List ℕ) (part : TextPart)
-        → IsCaptured (attribute name) text.now part → StandsInQuotes text.now part }
+        → IsCaptured (attribute name) text.now part → IsInQuotes text.now part }
     ensures pragmas { (name : List ℕ) (part : TextPart)
-        → IsCaptured (quoted_pragma name) text.now part → StandsInQuotes text.now part }
+        → IsCaptured (quoted_pragma name) text.now part → IsInQuotes text.now part }
 {}

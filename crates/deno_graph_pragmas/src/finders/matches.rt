@@ -1,5 +1,5 @@
 ghost use Rattle.std.specs.Prelude.{◌≡◌, ◌+◌, ◌-◌, ◌≤◌, length};
-ghost use Rattle.deno_graph_pragmas.specs.Match.{part_of, pragma_part_of};
+ghost use Rattle.deno_graph_pragmas.specs.Match.{match_part_of, pragma_part_of};
 
 use std::ops::Range;
 
@@ -16,9 +16,9 @@ impl<'a> Match<'a> {
     pub(super) fn at_start_of(rest: &str, input: &str, found: &'a str) -> Match<'a>
         requires rest { length rest.now ≤ length input.now }
         requires found { length found.now ≤ length rest.now }
-        ensures text { (part_of result).text ≡ found.now }
-        ensures start { (part_of result).start ≡ length input.now - length rest.now }
-        ensures end { (part_of result).end ≡ (part_of result).start + length found.now }
+        ensures text { (match_part_of result).text ≡ found.now }
+        ensures start { (match_part_of result).start ≡ length input.now - length rest.now }
+        ensures end { (match_part_of result).end ≡ (match_part_of result).start + length found.now }
     {
         let start = input.len() - rest.len();
         Match {
@@ -30,15 +30,15 @@ impl<'a> Match<'a> {
 
     /// The part itself.
     pub fn as_str(&self) -> &'a str
-        ensures { result.now ≡ (part_of self.now).text }
+        ensures { result.now ≡ (match_part_of self.now).text }
     {
         self.text
     }
 
     /// Where the part is in the text, in bytes from zero.
     pub fn range(&self) -> Range<usize>
-        ensures start { result.start ≡ (part_of self.now).start }
-        ensures end { result.end ≡ (part_of self.now).end }
+        ensures start { result.start ≡ (match_part_of self.now).start }
+        ensures end { result.end ≡ (match_part_of self.now).end }
     {
         self.start..self.end
     }
@@ -57,7 +57,7 @@ pub struct DenoTypesPragmaMatch<'a> {
 
 impl<'a> DenoTypesPragmaMatch<'a> {
     pub(super) fn new(found: Match<'a>, is_quoteless: bool) -> DenoTypesPragmaMatch<'a>
-        ensures part { pragma_part_of result ≡ part_of found.entry }
+        ensures part { pragma_part_of result ≡ match_part_of found.entry }
         ensures quoteless { result.is_quoteless ≡ is_quoteless }
     {
         DenoTypesPragmaMatch {

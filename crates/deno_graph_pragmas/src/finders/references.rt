@@ -6,7 +6,7 @@ ghost use Rattle.deno_graph_pragmas.specs.Finders.{attribute, path_reference_pat
 ghost use Rattle.deno_graph_pragmas.specs.Finders.{resolution_mode_pattern};
 ghost use Rattle.deno_graph_pragmas.specs.Finders.{triple_slash_reference_pattern};
 ghost use Rattle.deno_graph_pragmas.specs.Finders.{types_reference_pattern};
-ghost use Rattle.deno_graph_pragmas.specs.Match.{part_of, FindsFirstInQuotes};
+ghost use Rattle.deno_graph_pragmas.specs.Match.{match_part_of, FindsFirstInQuotes};
 ghost use Rattle.deno_graph_pragmas.specs.Reading.{after_pieces, attribute_front, chars_left};
 ghost use Rattle.deno_graph_pragmas.specs.Reading.{is_ascii, HasNoAttribute, IsAttributeAt};
 ghost use Rattle.deno_graph_pragmas.specs.Reading.{IsClosedInLine, IsFirstLine};
@@ -97,7 +97,7 @@ fn attribute_at<'a>(text: &str, rest: &'a str, name: &str) -> Option<Match<'a>>
     requires ascii { IsTrue (is_ascii name.now) }
     requires rest { length rest.now ≤ length text.now }
     ensures found { IfSome result
-        (λ found. IsAttributeAt name.now text.now rest.now (part_of found)) }
+        (λ found. IsAttributeAt name.now text.now rest.now (match_part_of found)) }
     ensures none { IsNone result → HasNoAttribute name.now (chars rest.now) }
 {
     let value = strip_attribute(rest, name)?;

@@ -9,7 +9,7 @@ ghost use Rattle.deno_graph_pragmas.specs.Match.{pragma_part_of, FindsFirst, Fin
 ghost use Rattle.deno_graph_pragmas.specs.Piece.{any_white_space};
 ghost use Rattle.deno_graph_pragmas.specs.Reading.{after_pieces, assignment, begins_above_star};
 ghost use Rattle.deno_graph_pragmas.specs.Reading.{chars_left, is_ascii};
-ghost use Rattle.deno_graph_pragmas.specs.Split.{HasSplit, IsCaptured, IsSliceOf, StandsInQuotes};
+ghost use Rattle.deno_graph_pragmas.specs.Split.{HasSplit, IsCaptured, IsSliceOf, IsInQuotes};
 
 use crate::finders::captured::{capture_quoted, capture_run};
 use crate::finders::matches::{DenoTypesPragmaMatch, Match};
@@ -45,7 +45,7 @@ pub fn find_deno_types(text: &str) -> Option<DenoTypesPragmaMatch<'_>>
         × ¬ HasSplit quoteless_deno_types_pattern text.now) }
     ensures slice { IfSome result (λ found. IsSliceOf text.now (pragma_part_of found)) }
     ensures quotes { IfSome result (λ found. found.is_quoteless ≡ false
-        → StandsInQuotes text.now (pragma_part_of found)) }
+        → IsInQuotes text.now (pragma_part_of found)) }
 {
     match find_quoted_pragma(text, "@deno-types") {
         Some(found) => Some(DenoTypesPragmaMatch::new(found, false)),

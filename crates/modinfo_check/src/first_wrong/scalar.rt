@@ -14,7 +14,9 @@ enum InString {
 /// The end of the string that begins with the quote at `start`.
 pub fn string_end(bytes: &[u8], start: usize) -> Result<usize, usize> {
     let mut place = InString::Plain;
-    for (at, byte) in bytes.iter().enumerate().skip(start.saturating_add(1)) {
+    let inside = start.saturating_add(1);
+    for (passed, byte) in bytes.get(inside..).unwrap_or(&[]).iter().enumerate() {
+        let at = inside.saturating_add(passed);
         place = match (place, *byte) {
             (InString::Plain, b'"') => return Ok(at.saturating_add(1)),
             (InString::Plain, b'\\') => InString::Escape,
@@ -50,7 +52,8 @@ enum InNumber {
 /// The end of the number that begins at `start`.
 pub fn number_end(bytes: &[u8], start: usize) -> Result<usize, usize> {
     let mut place = InNumber::Start;
-    for (at, byte) in bytes.iter().enumerate().skip(start) {
+    for (passed, byte) in bytes.get(start..).unwrap_or(&[]).iter().enumerate() {
+        let at = start.saturating_add(passed);
         place = match (place, *byte) {
             (InNumber::Start, b'-') => InNumber::Minus,
             (InNumber::Start | InNumber::Minus, b'0') => InNumber::Zero,

@@ -1,7 +1,7 @@
 use Rattle.std.proofs.Common.{sym, ap, subst, ◌∙◌, rules}
 use Rattle.std.proofs.lemmas.List.{take_all}
 use Rattle.std.proofs.lemmas.List.Elements.{All-more, All-same}
-use Rattle.deno_graph_pragmas.specs.Match.{part_of}
+use Rattle.deno_graph_pragmas.specs.Match.{match_part_of}
 use Rattle.deno_graph_ast.specs.Pragma.{HasPragma, specifier_of_part}
 use Rattle.deno_graph_ast.specs.FoundPragma.{head_pragma}
 use Rattle.deno_graph_ast.proofs.Named.{first_at, found_names, found_pragma}
@@ -11,7 +11,7 @@ pub returns-in-Some-clause-is : goal.returns-in-Some-clause-is
 returns-in-Some-clause-is c =
     let pragma = head_pragma c.args.pragma in
     let comment = c.comment-item.result in
-    let part = part_of c.in-Some.found in
+    let part = match_part_of c.in-Some.found in
     let found = c.in-Some.ensures.found in
     let specifier = c.in_ok-specifier.ensures.is in (
       comment,

@@ -1,6 +1,6 @@
 use Rattle.std.proofs.Common.{◌≡◌, subst, refl}
 use Rattle.deno_graph_pragmas.specs.Finders as finder
-use Rattle.deno_graph_pragmas.specs.Match.{Captures, IsQuotedIn, IsSliceIn, part_of}
+use Rattle.deno_graph_pragmas.specs.Match.{IsCapturedIn, IsQuotedIn, IsSliceIn, match_part_of}
 use Rattle.deno_graph_pragmas.specs.Split.{HasSplit}
 use Rattle.deno_graph_ast.specs.References.{StatesMode}
 use Rattle.deno_graph_ast.proofs.references.referred.Goals as goal
@@ -14,8 +14,9 @@ found_specifier-requires c = record {
 
 pub returns-in-Some-clause-is : goal.returns-in-Some-clause-is
 returns-in-Some-clause-is c = record {
-  part = part_of c.in-Some.found;
-  is_captured = subst (λ t. Captures finder.path_reference_pattern t c.in-Some.found) c.as_str-text.ensures
+  part = match_part_of c.in-Some.found;
+  is_captured =
+      subst (λ t. IsCapturedIn finder.path_reference_pattern t c.in-Some.found) c.as_str-text.ensures
       c.in-Some.ensures.found;
   is_specifier = c.in_ok-specifier.ensures.is;
 }
@@ -40,8 +41,8 @@ returns-in_ok-specifier-in-Some-find_types_reference-clause-is c =
     let no_path = c.in_default.ensures.none.0 refl in (
       (λ has. subst (λ t. ¬ HasSplit finder.path_reference_pattern t) text no_path has.split),
       record {
-        part = part_of found;
-        is_captured = subst (λ t. Captures finder.types_reference_pattern t found) text
+        part = match_part_of found;
+        is_captured = subst (λ t. IsCapturedIn finder.types_reference_pattern t found) text
             c.in-Some-find_types_reference.ensures.found;
         is_specifier = (c.in_ok-specifier-in-Some-find_types_reference).ensures.is;
       },

@@ -4,7 +4,7 @@ use Rattle.std.proofs.lemmas.List.{nil_from_length}
 use Rattle.std.proofs.lemmas.List.Elements.{All-cons, All-pop, All-same}
 use Rattle.deno_graph_source.specs.Source.{IsSpelled}
 use Rattle.deno_graph_pragmas.specs.Finders as finder
-use Rattle.deno_graph_pragmas.specs.Match.{Captures, IsSliceIn, part_of}
+use Rattle.deno_graph_pragmas.specs.Match.{IsCapturedIn, IsSliceIn, match_part_of}
 use Rattle.deno_graph_pragmas.specs.Split.{HasSplit}
 use Rattle.deno_graph_ast.specs.Pragma.{HasPragma, source_mapping_url_pragma}
 use Rattle.deno_graph_ast.proofs.Named.{no_blocks, whole_at_last}
@@ -23,7 +23,7 @@ pub returns-in-Some-find_source_mapping_url : goal.returns-in-Some-find_source_m
 returns-in-Some-find_source_mapping_url c =
     let comment = c.in-Some.comment.now in
     let found = c.in-Some-find_source_mapping_url.found in
-    let captured = subst (λ text. Captures finder.source_mapping_url_pattern text found) c.as_str.ensures
+    let captured = subst (λ text. IsCapturedIn finder.source_mapping_url_pattern text found) c.as_str.ensures
     c.in-Some-find_source_mapping_url.ensures.found in
     record {
       is = (
@@ -37,7 +37,7 @@ returns-in-Some-find_source_mapping_url c =
           has = record { kind = no_blocks comment; split = captured.split };
         },
         record {
-          part = part_of found;
+          part = match_part_of found;
           is_captured = captured;
           is_specifier = c.in_ok-specifier.ensures.is;
         },

@@ -1,7 +1,7 @@
 use Rattle.std.proofs.Common.{◌≡◌, inr, subst, refl}
 use Rattle.deno_graph_pragmas.specs.Finders as finder
-use Rattle.deno_graph_pragmas.specs.Match.{IsQuotedIn, IsSliceIn, part_of, pragma_part_of}
-use Rattle.deno_graph_pragmas.specs.Split.{HasSplit, IsCaptured, IsSliceOf, StandsInQuotes}
+use Rattle.deno_graph_pragmas.specs.Match.{IsQuotedIn, IsSliceIn, match_part_of, pragma_part_of}
+use Rattle.deno_graph_pragmas.specs.Split.{HasSplit, IsCaptured, IsSliceOf, IsInQuotes}
 use Rattle.deno_graph_ast.proofs.Named.{covers_as_written, deno_types_named, no_types_named, ts_types_named}
 use Rattle.deno_graph_ast.proofs.types.types_in.Goals as goal
 
@@ -14,7 +14,7 @@ found_specifier-requires c = record {
 
 pub returns-in-Some : goal.returns-in-Some
 returns-in-Some c =
-    let part = part_of c.in-Some.found in
+    let part = match_part_of c.in-Some.found in
     record {
       is = ts_types_named c.args.text_info.now c.args.comment.now part _
           (subst (λ t. IsCaptured finder.ts_types_pattern t part) c.as_str-text.ensures
@@ -30,7 +30,7 @@ specifier_with_range-requires-clause-slice c =
 
 pub specifier_with_range-requires-clause-quoted : goal.specifier_with_range-requires-clause-quoted
 specifier_with_range-requires-clause-quoted c = λ is.
-    subst (λ t. StandsInQuotes t (pragma_part_of c.in-Some-find_deno_types.found)) c.as_str-text.ensures
+    subst (λ t. IsInQuotes t (pragma_part_of c.in-Some-find_deno_types.found)) c.as_str-text.ensures
     (c.in-Some-find_deno_types.ensures.quotes is)
 
 pub returns-in_ok-specifier_with_range-in-Some-find_deno_types :

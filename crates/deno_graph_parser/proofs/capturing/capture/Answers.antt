@@ -1,7 +1,7 @@
 -- The store that was asked has a source for the options exactly where it had one before.
 use Rattle.std.proofs.Common.{◌∙◌, sym, subst, refl, IfSome}
 use Rattle.deno_graph_parser.specs.Captures.{state}
-use Rattle.deno_graph_parser.specs.Capturing.{HasText}
+use Rattle.deno_graph_parser.specs.Capturing.{MatchesInput}
 use Rattle.deno_graph_parser.specs.Parsing.{asked}
 use Rattle.deno_graph_parser.proofs.CaptureCases.{answered_from_store, answered_from_parser}
 use Rattle.deno_graph_parser.proofs.capturing.capture.Goals as goal
@@ -25,7 +25,7 @@ returns-in-None g c =
     (state c.args.parser.now (sources c.args.store.now))
     (state c.parse_anew.new.parser (sources c.parse_anew.new.store))
     (sources c.ask.new.store) c.parse_anew.result c.in_ok-ask.ensures.ok
-    (subst (λ found. IfSome found (λ source. ¬ HasText (asked options) source)) c.in_ok-ask.ensures.found
+    (subst (λ found. IfSome found (λ source. ¬ MatchesInput (asked options) source)) c.in_ok-ask.ensures.found
     c.in-None.ensures.miss)
     c.parse_anew.ensures.answer c.parse_anew.ensures.own c.parse_anew.ensures.kept
     c.parse_anew.ensures.err c.parse_anew.ensures.function c.parse_anew.ensures.counted

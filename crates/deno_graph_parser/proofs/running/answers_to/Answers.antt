@@ -1,7 +1,7 @@
 -- One command more has run, or the run ends at it.
 use Rattle.std.proofs.Common.{◌≡◌, ◌<◌, ◌+◌, ◌∷◌, ◌++◌, ◌∙◌, [], length, take, drop, inr, ap, sym, arith}
 use Rattle.std.proofs.lemmas.List.{take_more, drop_more, take-append-drop}
-use Rattle.deno_graph_parser.specs.CapturingModuleAnalyzer.{state_of}
+use Rattle.deno_graph_parser.specs.CapturingModuleAnalyzer.{analyzer_state}
 use Rattle.deno_graph_parser.specs.declared.command.Command.{Command}
 use Rattle.deno_graph_parser.proofs.WholeRuns.{runs_more, at_err}
 use Rattle.deno_graph_parser.proofs.running.answers_to.Goals as goal
@@ -40,7 +40,7 @@ returns-in_err-answer-clause-refused g c =
       after = drop (i + 1) commands;
       whole = whole;
       answers = c.loop-command.answers.items;
-      then = state_of g.S.ParsedSourceStore.sources c.loop-command.analyzer;
+      then = analyzer_state g.S.ParsedSourceStore.sources c.loop-command.analyzer;
       ran = c.loop-command.invariant.ran;
       refusal = c.in_err-answer.ensures.refused;
     }))

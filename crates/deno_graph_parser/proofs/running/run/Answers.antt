@@ -1,7 +1,7 @@
 -- What a whole run answers follows from what each command did.
 use Rattle.std.proofs.Common.{◌+◌, ◌≤◌, ℕ, List, [], Option, IfOk, OnOk, ap, subst, inl, inr}
 use Rattle.std.proofs.lemmas.Result.{IfOk-weaker}
-use Rattle.deno_graph_parser.specs.CapturingModuleAnalyzer.{parser_of, state_of}
+use Rattle.deno_graph_parser.specs.CapturingModuleAnalyzer.{parser_of, analyzer_state}
 use Rattle.deno_graph_parser.specs.Commands.{Unmarked, misses, AreAnswers}
 use Rattle.deno_graph_parser.proofs.WholeRuns.{
   by_result,
@@ -30,17 +30,19 @@ returns-clause-sound g c = λ sound.
     let P = g.P.EsParser in
     let sources = g.S.ParsedSourceStore.sources in
     ends_sound P.parses P.count P.is_sound P.may_answer c.args.commands.now (λ answers. answers.items)
-    c.answers_to.result (state_of sources c.args.analyzer.now) (state_of sources c.answers_to.new.analyzer)
-    c.answers_to.ensures.ran c.answers_to.ensures.refused (λ same. ap (state_of sources) same) sound
+    c.answers_to.result (analyzer_state sources c.args.analyzer.now)
+    (analyzer_state sources c.answers_to.new.analyzer)
+    c.answers_to.ensures.ran c.answers_to.ensures.refused (λ same. ap (analyzer_state sources) same) sound
 
 pub returns-clause-sound_from_empty : goal.returns-clause-sound_from_empty
 returns-clause-sound_from_empty g c = λ parser empty.
     let P = g.P.EsParser in
     let sources = g.S.ParsedSourceStore.sources in
     ends_sound P.parses P.count P.is_sound P.may_answer c.args.commands.now (λ answers. answers.items)
-    c.answers_to.result (state_of sources c.args.analyzer.now) (state_of sources c.answers_to.new.analyzer)
-    c.answers_to.ensures.ran c.answers_to.ensures.refused (λ same. ap (state_of sources) same)
-    (sound_empty P.parses P.is_sound (state_of sources c.args.analyzer.now) parser empty)
+    c.answers_to.result (analyzer_state sources c.args.analyzer.now)
+    (analyzer_state sources c.answers_to.new.analyzer)
+    c.answers_to.ensures.ran c.answers_to.ensures.refused (λ same. ap (analyzer_state sources) same)
+    (sound_empty P.parses P.is_sound (analyzer_state sources c.args.analyzer.now) parser empty)
 
 pub returns-clause-replies : goal.returns-clause-replies
 returns-clause-replies g c = λ sound.
@@ -64,7 +66,7 @@ pub returns-clause-from_empty : goal.returns-clause-from_empty
 returns-clause-from_empty g c = λ parser empty.
     let P = g.P.EsParser in
     let commands = c.args.commands.now in
-    let old = state_of g.S.ParsedSourceStore.sources c.args.analyzer.now in
+    let old = analyzer_state g.S.ParsedSourceStore.sources c.args.analyzer.now in
     let Replied : (List ℕ → Option Unmarked) → Type 0 = λ start. IfOk c.answers_to.result
     (λ answers. AreAnswers (P.parses old.parser) start [] commands answers.items) in
     subst Replied (seen_empty old.sources empty) (IfOk-weaker c.answers_to.result _ _
@@ -76,8 +78,8 @@ pub returns-clause-counted_from_empty : goal.returns-clause-counted_from_empty
 returns-clause-counted_from_empty g c = λ parser empty.
     let P = g.P.EsParser in
     let commands = c.args.commands.now in
-    let old = state_of g.S.ParsedSourceStore.sources c.args.analyzer.now in
-    let new = state_of g.S.ParsedSourceStore.sources c.answers_to.new.analyzer in
+    let old = analyzer_state g.S.ParsedSourceStore.sources c.args.analyzer.now in
+    let new = analyzer_state g.S.ParsedSourceStore.sources c.answers_to.new.analyzer in
     let Counted : (List ℕ → Option Unmarked) → Type 0 = λ start. OnOk c.answers_to.result
     (P.count new.parser ≤ P.count old.parser + misses (P.parses old.parser) start [] commands) in
     subst Counted (seen_empty old.sources empty) (IfOk-weaker c.answers_to.result _ _

@@ -1,6 +1,6 @@
 use Rattle.std.proofs.Common.{◌≡◌, ◌+◌, map, drop, arith, refl, sym, subst, ap, ◌∙◌}
 use Rattle.flat_json.specs.Flat.{plain}
-use Rattle.flat_json.specs.Tape.{nodes_of}
+use Rattle.flat_json.specs.Tape.{size_of}
 use Rattle.flat_json.specs.Value.{AreOfItems, item, items_in}
 use Rattle.flat_json.specs.View.{items_left, value_of}
 use Rattle.flat_json.proofs.Kept.{begins_item, none_found, items_behind, item_first}
@@ -23,12 +23,12 @@ invariant_of-self c =
     let nodes = old.array.nodes.now in
     let found = c.in_ok-element in
     let own = found.element in
-    let behind : old.at + nodes_of own ≡ found.end = omega (arith, found.ensures.end, found.ensures.nodes) in
+    let behind : old.at + size_of own ≡ found.end = omega (arith, found.ensures.end, found.ensures.nodes) in
     record {
       behind_bracket = omega (arith, found.ensures.end);
       of_items = subst (λ k. AreOfItems (map plain (drop k nodes))) behind
           (items_behind nodes own.nodes.now old.at
-          (nodes_of own) found.ensures.value.1 own.of_value old.of_items);
+          (size_of own) found.ensures.value.1 own.of_value old.of_items);
     }
 
 pub returns-clause-steps : goal.returns-clause-steps
@@ -38,7 +38,7 @@ returns-clause-steps c =
     let nodes = old.array.nodes.now in
     let found = c.in_ok-element in
     let own = found.element in
-    let behind : old.at + nodes_of own ≡ found.end = omega
+    let behind : old.at + size_of own ≡ found.end = omega
     (arith, found.ensures.end, found.ensures.nodes) in (
       (λ some. found.ensures.some.0 some, λ has. refl),
       (
@@ -53,6 +53,6 @@ returns-clause-steps c =
         (refl, refl),
         omega (arith, found.ensures.end),
       ),
-      item_first nodes own.nodes.now old.at (nodes_of own) found.ensures.value.1 own.of_value old.of_items
+      item_first nodes own.nodes.now old.at (size_of own) found.ensures.value.1 own.of_value old.of_items
           ∙ ap (λ k. item (value_of own) (items_in (map plain (drop k nodes)))) behind,
     )

@@ -2,11 +2,12 @@ use Rattle.std.proofs.Common.{◌≡◌, ◌+◌, ◌-◌, Some, map, drop, arit
 use Rattle.std.specs.List.{slice_get}
 use borrow.Author.Tests.{true-ltb}
 use Rattle.flat_json.specs.Flat.{plain}
-use Rattle.flat_json.specs.Tape.{HasMemberAt, number_of, nodes_of, object_of_entries, place_of_entries}
+use Rattle.flat_json.specs.Tape.{HasMemberAt, number_of, size_of, object_of_entries, place_of_entries}
 use Rattle.flat_json.specs.Value.{AreOfMembers, member, members_in}
 use Rattle.flat_json.specs.View.{members_left, value_of}
 use Rattle.flat_json.specs.declared.Node.TheVariants.{Key}
-use Rattle.flat_json.proofs.Kept.{node_at, got_at, none_named, no_member_found, value_behind_name, members_behind, member_first}
+use Rattle.flat_json.proofs.Kept.{node_at, got_at, none_named, no_member_found, value_behind_name}
+use Rattle.flat_json.proofs.Kept.{members_behind, member_first}
 use Rattle.flat_json.proofs.EntriesIterator.next.Goals as goal
 use Rattle.flat_json.proofs.EntriesIterator.next.Goals.{
   in_default-via-in-Some+in_default,
@@ -51,12 +52,12 @@ invariant_of-self c =
     ∙ ap Some key.field-0-is in
     let found = c.in_ok-value in
     let own = found.value in
-    let behind : old.at + 1 + nodes_of own ≡ found.end = omega
+    let behind : old.at + 1 + size_of own ≡ found.end = omega
     (arith, found.ensures.end, found.ensures.nodes) in
     record {
       of_members = subst (λ k. AreOfMembers (map plain (drop k nodes))) behind
           (members_behind nodes old.at key.name named own.nodes.now
-          (nodes_of own) found.ensures.value.1 own.of_value old.of_members);
+          (size_of own) found.ensures.value.1 own.of_value old.of_members);
     }
 
 pub returns-clause-steps : goal.returns-clause-steps
@@ -70,7 +71,7 @@ returns-clause-steps c =
     ∙ ap Some key.field-0-is in
     let found = c.in_ok-value in
     let own = found.value in
-    let behind : old.at + 1 + nodes_of own ≡ found.end = omega
+    let behind : old.at + 1 + size_of own ≡ found.end = omega
     (arith, found.ensures.end, found.ensures.nodes) in
     let before : number_of own - number_of old.object - 1 ≡ old.at = omega (arith, found.ensures.number) in (
       (λ some. ((key.name, named), found.ensures.some.0 some), λ has. refl),
@@ -89,6 +90,6 @@ returns-clause-steps c =
         omega (arith, found.ensures.end),
       ),
       member_first nodes old.at key.name named own.nodes.now
-          (nodes_of own) found.ensures.value.1 own.of_value old.of_members
+          (size_of own) found.ensures.value.1 own.of_value old.of_members
           ∙ ap (λ k. member key.name.now (value_of own) (members_in (map plain (drop k nodes)))) behind,
     )

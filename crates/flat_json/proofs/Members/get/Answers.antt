@@ -1,5 +1,6 @@
 use Rattle.std.proofs.Common.{◌≡◌, ◌+◌, ℕ, rules, refl, sym, ap, subst, Bor, List, option_map, ◌∙◌}
-use Rattle.flat_json.specs.Tape.{HasMemberAt, HasNameAt, IsValueAt, object_of, place_of_entries, nodes_of}
+use Rattle.flat_json.specs.Tape.{HasMemberAt, HasNameAt, IsValueAt, object_of_members, place_of_entries}
+use Rattle.flat_json.specs.Tape.{size_of}
 use Rattle.flat_json.specs.declared.Node.TheVariants.{Key}
 use Rattle.flat_json.specs.Value.{last_named, later_or}
 use Rattle.flat_json.specs.View.{value_of, members_left}
@@ -10,7 +11,7 @@ use Rattle.flat_json.proofs.Members.get.Goals as goal
 pub loop-key-preserved-then-eq : goal.loop-key-preserved-then-eq
 loop-key-preserved-then-eq c =
     let kept = c.loop-key.invariant in
-    let object = object_of c.args.self in
+    let object = object_of_members c.args.self in
     let from = place_of_entries c.loop-key.key-iterator in
     let next = place_of_entries c.next.new.self in
     let value = c.in-Some.value in
@@ -22,7 +23,7 @@ loop-key-preserved-then-eq c =
     let named : HasNameAt object c.args.name.now from =
     subst (λ text. HasNameAt object text from) same
     (subst (λ held. HasNameAt held c.in-Some.key.now from) kept.2 steps.1.2) in
-    let behind : next ≡ from + 1 + nodes_of value = steps.1.4 in (
+    let behind : next ≡ from + 1 + size_of value = steps.1.4 in (
       tt,
       tt,
       search rules,
@@ -40,7 +41,7 @@ loop-key-preserved-then-eq c =
 pub loop-key-preserved : goal.loop-key-preserved
 loop-key-preserved c =
     let kept = c.loop-key.invariant in
-    let object = object_of c.args.self in
+    let object = object_of_members c.args.self in
     let from = place_of_entries c.loop-key.key-iterator in
     let next = place_of_entries c.next.new.self in
     let value = c.in-Some.value in
@@ -55,7 +56,7 @@ loop-key-preserved c =
     λ found. let one : Key named.0 ≡ Key found.0 = cc (named.1, found.1) in let same : named.0
     ≡ found.0 = cc in
     differ (sym named.2 ∙ ap (λ (b : Bor (List ℕ)). b.now) same ∙ found.2) in
-    let behind : next ≡ from + 1 + nodes_of value = steps.1.4 in (
+    let behind : next ≡ from + 1 + size_of value = steps.1.4 in (
       tt,
       tt,
       search rules,
@@ -73,19 +74,19 @@ pub returns-clause-last : goal.returns-clause-last
 returns-clause-last c =
     let kept = c.loop-key.invariant in
     let from = place_of_entries c.loop-key.key-iterator in
-    let none : HasMemberAt (object_of c.args.self) from → ⊥ =
+    let none : HasMemberAt (object_of_members c.args.self) from → ⊥ =
     λ there. absurd (cc (c.in-None.ensures.steps.0.1
     (subst (λ held. HasMemberAt held from) (sym kept.2) there))) in
-    is_last (object_of c.args.self) c.args.name.now from none c.loop-key.found kept.6
+    is_last (object_of_members c.args.self) c.args.name.now from none c.loop-key.found kept.6
 
 pub returns-clause-none : goal.returns-clause-none
 returns-clause-none c =
     let kept = c.loop-key.invariant in
     let from = place_of_entries c.loop-key.key-iterator in
-    let none : HasMemberAt (object_of c.args.self) from → ⊥ =
+    let none : HasMemberAt (object_of_members c.args.self) from → ⊥ =
     λ there. absurd (cc (c.in-None.ensures.steps.0.1
     (subst (λ held. HasMemberAt held from) (sym kept.2) there))) in
-    is_nameless (object_of c.args.self) c.args.name.now from none c.loop-key.found kept.6
+    is_nameless (object_of_members c.args.self) c.args.name.now from none c.loop-key.found kept.6
 
 pub returns-clause-value : goal.returns-clause-value
 returns-clause-value c =

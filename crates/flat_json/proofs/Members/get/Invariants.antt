@@ -1,5 +1,6 @@
 use Rattle.std.specs.Prelude.{◌≡◌, IfSome, ℕ, option_map}
-use Rattle.flat_json.specs.Tape.{StandsIn, IsNamed, IsMember, object_of, object_of_entries, place_of_entries}
+use Rattle.flat_json.specs.Tape.{IsInside, IsNamed, IsMember, object_of_members, object_of_entries}
+use Rattle.flat_json.specs.Tape.{place_of_entries}
 use Rattle.flat_json.specs.Value.{last_named, later_or}
 use Rattle.flat_json.specs.View.{value_of, members_of, members_left}
 use Rattle.flat_json.proofs.Places.{LastPassed}
@@ -8,11 +9,11 @@ use Rattle.flat_json.proofs.Members.get.Given as goal
 abbrev pub invariant-loop-key : goal.invariant-loop-key
 invariant-loop-key l = (goal.iterator-loop-key).can_next l.key-iterator
     × (goal.iterator-loop-key).is_finite l.key-iterator
-    × (object_of_entries l.key-iterator ≡ object_of l.self)
-    × IfSome l.found (λ value. StandsIn value (object_of l.self))
-    × IfSome l.found (IsNamed (object_of l.self) l.fn.name)
-    × ((later : ℕ) → IsMember (object_of l.self) (place_of_entries l.key-iterator) later
-    → IsMember (object_of l.self) 1 later)
-    × LastPassed (object_of l.self) l.fn.name (place_of_entries l.key-iterator) l.found
+    × (object_of_entries l.key-iterator ≡ object_of_members l.self)
+    × IfSome l.found (λ value. IsInside value (object_of_members l.self))
+    × IfSome l.found (IsNamed (object_of_members l.self) l.fn.name)
+    × ((later : ℕ) → IsMember (object_of_members l.self) (place_of_entries l.key-iterator) later
+    → IsMember (object_of_members l.self) 1 later)
+    × LastPassed (object_of_members l.self) l.fn.name (place_of_entries l.key-iterator) l.found
     × (later_or (last_named l.fn.name (members_left l.key-iterator)) (option_map value_of l.found)
     ≡ last_named l.fn.name (members_of l.self))

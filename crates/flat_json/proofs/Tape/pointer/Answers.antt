@@ -1,7 +1,7 @@
 use Rattle.std.proofs.Common.{◌++◌, ◌∷◌, [], arith, sym, ap, ◌∙◌, append_assoc, append-nil}
 use Rattle.std.specs.Prelude.{flat_map}
 use Rattle.std.specs.String.{string_bytes}
-use Rattle.flat_json.specs.Pointer.{part_text, part_of}
+use Rattle.flat_json.specs.Pointer.{part_text, part_of_step}
 use Rattle.flat_json.proofs.Tape.pointer.Goals as goal
 
 pub loop-step-init : goal.loop-step-init
@@ -13,7 +13,7 @@ loop-step-init c = (
 pub loop-step-preserved : goal.loop-step-preserved
 loop-step-preserved c =
     let found = c.in-Some.ensures in
-    let part = part_of c.in-Some.step in
+    let part = part_of_step c.in-Some.step in
     let old = string_bytes c.loop-step.pointer in (
       λ first. absurd (omega (arith, found.node.0, found.inside.0, first)),
       λ parts path.

@@ -2,7 +2,7 @@ use Rattle.std.proofs.Common.{◌≡◌, [], ◌++◌, List}
 use Rattle.std.specs.Prelude.{flat_map}
 use Rattle.std.specs.String.{string_bytes}
 use Rattle.flat_json.specs.Pointer.{IsPath, Part, part_text}
-use Rattle.flat_json.specs.Tape.{nodes_of}
+use Rattle.flat_json.specs.Tape.{size_of}
 use Rattle.flat_json.proofs.Tape.pointer.Given as goal
 
 abbrev pub invariant-loop-step : goal.invariant-loop-step
@@ -12,4 +12,4 @@ invariant-loop-step l = (l.fn.number ≡ 0 → string_bytes l.pointer ≡ [])
     × (string_bytes l.pointer ++ flat_map part_text parts ≡ flat_map part_text all))
 
 abbrev pub decreases-loop-step : goal.decreases-loop-step
-decreases-loop-step l = nodes_of l.value
+decreases-loop-step l = size_of l.value

@@ -1,6 +1,6 @@
 use Rattle.std.proofs.Common.{◌≡◌, ◌+◌, ◌<◌, ◌^◌, rules, arith, refl, sym, subst}
 use Rattle.flat_json.specs.Tape.{HasMemberAt, HasNameAt, HasNode, HasValueAt, IsArray, IsObject}
-use Rattle.flat_json.specs.Tape.{IsValueAt, StandsIn, nodes_of, number_of, place_of, place_of_entries}
+use Rattle.flat_json.specs.Tape.{IsValueAt, IsInside, size_of, number_of, place_of, place_of_entries}
 use Rattle.flat_json.proofs.Steps.{ElementsMissed, element_missed, element_step, no_element_step}
 use Rattle.flat_json.proofs.Steps.{member_missed, no_member_step}
 use Rattle.flat_json.proofs.pointer.step_to.Goals as goal
@@ -31,7 +31,7 @@ loop-name-preserved c =
     let there : HasMemberAt value from = subst (λ held. HasMemberAt held from) kept.3 (steps.0.0 refl) in
     let is : IsValueAt value (from + 1) inner =
     subst (λ held. IsValueAt held (from + 1) inner) kept.3 steps.1.3 in
-    let behind : next ≡ from + 1 + nodes_of inner = steps.1.4 in
+    let behind : next ≡ from + 1 + size_of inner = steps.1.4 in
     let other : HasNode inner c.args.number → ⊥ = λ has. absurd (cc (c.if-has_node.ensures.1 has)) in (
       tt,
       tt,
@@ -62,7 +62,7 @@ returns-then-has_node-2-clause-step c =
     let is_array : IsArray value = c.in_ok-inner-items.ensures.some.0 refl in
     let there : HasValueAt value from = subst (λ held. HasValueAt held from) kept.3 (steps.0.0 refl) in
     let is : IsValueAt value from inner = subst (λ held. IsValueAt held from inner) kept.3 steps.1.2 in
-    let behind : next ≡ from + nodes_of inner = steps.1.3 in
+    let behind : next ≡ from + size_of inner = steps.1.3 in
     element_step value inner c.args.number from next is behind there c.loop-inner.index is_array kept.6
 
 pub loop-inner-preserved : goal.loop-inner-preserved
@@ -76,10 +76,10 @@ loop-inner-preserved c =
     let steps = c.in-Some-inner.ensures.steps in
     let there : HasValueAt value from = subst (λ held. HasValueAt held from) kept.3 (steps.0.0 refl) in
     let is : IsValueAt value from inner = subst (λ held. IsValueAt held from inner) kept.3 steps.1.2 in
-    let inside : StandsIn inner value = subst (StandsIn inner) kept.3 steps.1.0 in
-    let behind : next ≡ from + nodes_of inner = steps.1.3 in
-    let some : 0 < nodes_of inner = inner.has_node in
-    let few : number_of value + nodes_of value < 2 ^ 64 = value.number_fits in
+    let inside : IsInside inner value = subst (IsInside inner) kept.3 steps.1.0 in
+    let behind : next ≡ from + size_of inner = steps.1.3 in
+    let some : 0 < size_of inner = inner.has_node in
+    let few : number_of value + size_of value < 2 ^ 64 = value.number_fits in
     let more : c.saturating_add-index.result ≡ index + 1 =
     omega (arith, c.saturating_add-index.ensures, kept.4, kept.5, few) in
     let other : HasNode inner c.args.number → ⊥ = λ has. absurd (cc (c.if-has_node-2.ensures.1 has)) in (

@@ -1,5 +1,6 @@
 use Rattle.std.proofs.Common.{◌≡◌, ◌<◌, ◌≤◌}
-use Rattle.flat_json.specs.Tape.{TakesSame, array_of, nodes_of, object_of_entries, place_of, place_of_entries}
+use Rattle.flat_json.specs.Tape.{TakesSame, array_of_elements, size_of, object_of_entries, place_of}
+use Rattle.flat_json.specs.Tape.{place_of_entries}
 use Rattle.flat_json.proofs.Steps.{ElementsMissed, MembersMissed}
 use Rattle.flat_json.proofs.pointer.step_to.Given as goal
 
@@ -13,7 +14,7 @@ invariant-loop-name l = (goal.iterator-loop-name).can_next l.name-iterator
 abbrev pub invariant-loop-inner : goal.invariant-loop-inner
 invariant-loop-inner l = (goal.iterator-loop-inner).can_next l.inner-iterator
     × (goal.iterator-loop-inner).is_finite l.inner-iterator
-    × TakesSame (array_of l.inner-iterator) l.value
-    × (array_of l.inner-iterator ≡ l.value)
-    × (l.index < place_of l.inner-iterator) × (place_of l.inner-iterator ≤ nodes_of l.value)
+    × TakesSame (array_of_elements l.inner-iterator) l.value
+    × (array_of_elements l.inner-iterator ≡ l.value)
+    × (l.index < place_of l.inner-iterator) × (place_of l.inner-iterator ≤ size_of l.value)
     × ElementsMissed l.value l.number (place_of l.inner-iterator) l.index

@@ -1,7 +1,7 @@
 use Rattle.std.proofs.Common.{◌≡◌, arith, Some}
 use Rattle.flat_json.specs.View.{members_of}
 use Rattle.deno_graph_source.specs.declared.tree.fault_place.CommentSide.TheVariants.{Leading, Trailing}
-use Rattle.modinfo_notation.specs.Comments.{AreFiledOn, Sides, reads_side, reads_sides}
+use Rattle.modinfo_notation.specs.Comments.{AreAppendedOn, Sides, reads_side, reads_sides}
 use Rattle.modinfo_notation.proofs.Filed.{both_sides}
 use Rattle.modinfo_notation.proofs.Reading.{goes_on, reading_by, some_and, some_with}
 use Rattle.modinfo_notation.proofs.comments.read_comments.Goals as goal
@@ -14,7 +14,7 @@ pub returns-in_err-read_side-2-clause-read : goal.returns-in_err-read_side-2-cla
 unfolding reads_sides
 returns-in_err-read_side-2-clause-read c =
     let ms = members_of c.args.members in
-    let leading = some_with (AreFiledOn Leading c.new-comments.result c.read_side.new.comments)
+    let leading = some_with (AreAppendedOn Leading c.new-comments.result c.read_side.new.comments)
     (reads_side Leading ms) c.in_ok-read_side.ensures.read in
     let is = leading.1 in
     grind (arith, reading_by, is)
@@ -23,9 +23,9 @@ pub returns-clause-read : goal.returns-clause-read
 unfolding reads_sides
 returns-clause-read c =
     let ms = members_of c.args.members in
-    let leading = some_with (AreFiledOn Leading c.new-comments.result c.read_side.new.comments)
+    let leading = some_with (AreAppendedOn Leading c.new-comments.result c.read_side.new.comments)
     (reads_side Leading ms) c.in_ok-read_side.ensures.read in
-    let trailing = some_with (AreFiledOn Trailing c.read_side.new.comments c.read_side-2.new.comments)
+    let trailing = some_with (AreAppendedOn Trailing c.read_side.new.comments c.read_side-2.new.comments)
     (reads_side Trailing ms) c.in_ok-read_side-2.ensures.read in
     let leading_is = leading.1 in
     let trailing_is = trailing.1 in

@@ -1,7 +1,7 @@
 use Rattle.std.specs.Prelude.{◌≡◌, List}
-use Rattle.flat_json.specs.Tape.{TakesSame, array_of}
+use Rattle.flat_json.specs.Tape.{TakesSame, array_of_elements}
 use Rattle.flat_json.specs.View.{items_left}
-use Rattle.modinfo_notation.specs.Comments.{AreFiledOn, Entry, reads_entry}
+use Rattle.modinfo_notation.specs.Comments.{AreAppendedOn, FiledEntry, reads_entry}
 use Rattle.modinfo_notation.specs.Partial.{reads_items}
 use Rattle.modinfo_notation.proofs.Reading.{before}
 use Rattle.modinfo_notation.proofs.comments.read_entries.Given as goal
@@ -9,7 +9,7 @@ use Rattle.modinfo_notation.proofs.comments.read_entries.Given as goal
 abbrev pub invariant-loop-entry : goal.invariant-loop-entry
 invariant-loop-entry l = (goal.iterator-loop-entry).can_next l.entry-iterator
     × (goal.iterator-loop-entry).is_finite l.entry-iterator
-    × TakesSame (array_of l.entry-iterator) l.initial.entries
-    × ((filed : List Entry) × AreFiledOn l.fn.side l.fn.comments l.comments filed
+    × TakesSame (array_of_elements l.entry-iterator) l.initial.entries
+    × ((filed : List FiledEntry) × AreAppendedOn l.fn.side l.fn.comments l.comments filed
     × (before filed (reads_items reads_entry (items_left l.entry-iterator)) ≡ reads_items reads_entry
     (items_left l.initial.entry-iterator)))

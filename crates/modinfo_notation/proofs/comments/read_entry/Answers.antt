@@ -1,7 +1,7 @@
 use Rattle.std.proofs.Common.{◌≡◌, [], ◌∷◌, arith, Some, sym, subst}
 use Rattle.flat_json.specs.View.{items_left, value_of}
 use Rattle.modinfo_notation.specs.Answer.{AnswersBy}
-use Rattle.modinfo_notation.specs.Comments.{AreFiledOn, Entry, entry_with, reads_comment, reads_entry}
+use Rattle.modinfo_notation.specs.Comments.{AreAppendedOn, FiledEntry, entry_with, reads_comment, reads_entry}
 use Rattle.modinfo_notation.specs.Partial.{◌>>=◌, reads_items, reads_array, required}
 use Rattle.modinfo_notation.proofs.Reading.{array_items, goes_on, made_of, reading_by}
 use Rattle.modinfo_notation.proofs.comments.read_entry.Goals as goal
@@ -33,7 +33,9 @@ returns-clause-read c =
     let all : reads_array reads_comment (value_of c.in_ok-required-2.field-0) ≡ items = array_items
     reads_comment (value_of c.in_ok-required-2.field-0)
     (items_left c.in_ok-values.values) c.in_ok-values.ensures.read in
-    let is : reads_entry (value_of c.args.entry) ≡ (items >>= (λ read. Some (entry_with c.in_ok-pos.pos read))) = grind
+    let is : reads_entry (value_of c.args.entry) ≡
+    (items >>= (λ read. Some (entry_with c.in_ok-pos.pos read))) = grind
     (arith, goes_on, all) in
     rw is
-    (made_of _ (λ read. entry_with c.in_ok-pos.pos read) items c.file_comments.result c.file_comments.ensures.read)
+    (made_of _ (λ read. entry_with c.in_ok-pos.pos read) items c.file_comments.result
+    c.file_comments.ensures.read)

@@ -1,10 +1,10 @@
 use Rattle.flat_json.specs.declared.Element.{Element}
 use Rattle.std.specs.Prelude.{◌≡◌, drop}
-use Rattle.flat_json.specs.Tape.{StandsIn}
+use Rattle.flat_json.specs.Tape.{IsInside}
 use Rattle.flat_json.specs.View.{value_of}
 use Rattle.modinfo_notation.specs.Place.{below}
 use Rattle.modinfo_notation.proofs.place.below.Given as goal
 
 abbrev pub invariant-loop-number : goal.invariant-loop-number
-invariant-loop-number l = ((root : Element) → StandsIn l.fn.node root → StandsIn l.found root)
+invariant-loop-number l = ((root : Element) → IsInside l.fn.node root → IsInside l.found root)
     × (below (drop l.number-index l.fn.path) (value_of l.found) ≡ below l.fn.path (value_of l.fn.node))

@@ -1,6 +1,6 @@
 use Rattle.std.proofs.Common.{◌-◌, ◌<◌, ◌≤◌, slice_get, rules, refl, sym, ap, subst, ◌∙◌}
 use Rattle.flat_json.specs.View.{items_left, value_of}
-use Rattle.modinfo_notation.specs.Comments.{entries_at, reads_comment, reads_entry}
+use Rattle.modinfo_notation.specs.Comments.{comments_at, reads_comment, reads_entry}
 use Rattle.modinfo_notation.specs.Partial.{◌>>=◌, reads_items}
 use Rattle.modinfo_notation.proofs.FoundComments.{elsewhere, none_left, past, within}
 use Rattle.modinfo_notation.proofs.place.comment_in.Goals as goal
@@ -43,7 +43,7 @@ loop-entry-preserved-in-Some-comments_at c = (
       (subst (λ n. n ≤ c.loop-entry.left) count c.if-left-count.false) in (
         behind.0,
         behind.1,
-        kept.2 ∙ behind.2 ∙ ap (λ n. slice_get (entries_at c.args.position behind.0)
+        kept.2 ∙ behind.2 ∙ ap (λ n. slice_get (comments_at c.args.position behind.0)
             (c.loop-entry.left - n)) (sym count),
       ),
 )
@@ -64,5 +64,5 @@ loop-entry-preserved c = (
 pub returns-clause-read : goal.returns-clause-read
 returns-clause-read c = λ read is.
     let kept = c.loop-entry.invariant.3 read is in
-    sym (kept.2 ∙ ap (λ rest. slice_get (entries_at c.args.position rest) c.loop-entry.left)
+    sym (kept.2 ∙ ap (λ rest. slice_get (comments_at c.args.position rest) c.loop-entry.left)
     (sym (none_left (items_left c.loop-entry.entry-iterator) kept.0 c.in-None.ensures.steps.2 kept.1)))

@@ -5,7 +5,7 @@ use Rattle.deno_graph_jsdoc.specs.JsDocGrammar.{◌·◌, Is, IsSpace, IsGap, Is
 use Rattle.deno_graph_jsdoc.specs.JsDocReading.{IsDeclarationEnd}
 use Rattle.deno_graph_jsdoc.specs.JsDocImport.{EndsDeclaration, import_of, byte_count}
 use Rattle.deno_graph_jsdoc.proofs.Declarations.{no_clause, behind_clause}
-use Rattle.deno_graph_jsdoc.proofs.Imports.{States-within, byte_count_before, counted_from}
+use Rattle.deno_graph_jsdoc.proofs.Imports.{StatesImport-within, byte_count_before, counted_from}
 use Rattle.deno_graph_jsdoc.proofs.Known.{AreKnown-behind}
 use Rattle.deno_graph_jsdoc.proofs.grammar.declaration.behind_import.Goals as goal
 use Rattle.deno_graph_jsdoc.proofs.grammar.declaration.behind_import.Goals.{In_ok-from}
@@ -41,7 +41,8 @@ returns-clause-parsed c =
 
 pub returns-clause-within : goal.returns-clause-within
 returns-clause-within c =
-    States-within (IsGap · IsClause · IsSpace · Is (codes "from") · IsSpace) EndsDeclaration c.args.input.now
+    StatesImport-within (IsGap · IsClause · IsSpace · Is (codes "from") · IsSpace) EndsDeclaration
+    c.args.input.now
     _ _ c.utf8.input (returns-clause-parsed c).0
 
 pub source-requires : goal.source-requires

@@ -5,7 +5,7 @@ use Rattle.std.specs.Str.{IsUtf8, chars}
 use Rattle.deno_graph_jsdoc.specs.JsDocGrammar.{◌·◌, Is, IsSpace}
 use Rattle.deno_graph_jsdoc.specs.JsDocImport.{EndsDeclaration, byte_count}
 use Rattle.deno_graph_jsdoc.proofs.Imports.{no_head, no_quote, stated, ends_at, byte_count_before}
-use Rattle.deno_graph_jsdoc.proofs.Imports.{States-within}
+use Rattle.deno_graph_jsdoc.proofs.Imports.{StatesImport-within}
 use Rattle.deno_graph_jsdoc.proofs.Known.{AreKnown-behind, AreKnown-skipped}
 use Rattle.deno_graph_jsdoc.proofs.grammar.declaration.source.Goals as goal
 use Rattle.deno_graph_jsdoc.proofs.grammar.declaration.source.Goals.{In_ok-quoted}
@@ -45,7 +45,7 @@ returns-clause-parsed c =
 
 pub returns-clause-within : goal.returns-clause-within
 returns-clause-within c =
-    States-within (Is (codes "from") · IsSpace) EndsDeclaration c.args.input.now _ _ c.utf8.input
+    StatesImport-within (Is (codes "from") · IsSpace) EndsDeclaration c.args.input.now _ _ c.utf8.input
     (returns-clause-parsed c).0
 
 pub with_attributes-requires : goal.with_attributes-requires

@@ -8,7 +8,7 @@ use Rattle.deno_graph_jsdoc.specs.JsDocImport.{byte_count}
 use Rattle.deno_graph_jsdoc.specs.JsDocKnown.{AreSpaces}
 use Rattle.deno_graph_jsdoc.proofs.Arguments.{open_none, open_read, arguments_end}
 use Rattle.deno_graph_jsdoc.proofs.Imports.{no_head, no_quote, no_tail, stated, byte_count_before}
-use Rattle.deno_graph_jsdoc.proofs.Imports.{States-within}
+use Rattle.deno_graph_jsdoc.proofs.Imports.{StatesImport-within}
 use Rattle.deno_graph_jsdoc.proofs.Known.{AreKnown-behind, AreKnown-skipped, AreSpaces-behind}
 use Rattle.deno_graph_jsdoc.proofs.Known.{AreSpaces-skipped}
 use Rattle.deno_graph_jsdoc.proofs.Known.{AreSpaces-options}
@@ -72,7 +72,7 @@ returns-clause-parsed c =
 
 pub returns-clause-within : goal.returns-clause-within
 returns-clause-within c =
-    States-within (IsSpace · Is (codes "(") · IsSpace) EndsArguments c.args.input.now _ _ c.utf8.input
+    StatesImport-within (IsSpace · Is (codes "(") · IsSpace) EndsArguments c.args.input.now _ _ c.utf8.input
     (returns-clause-parsed c).0
 
 pub options-requires-clause-lists : goal.options-requires-clause-lists

@@ -4,7 +4,7 @@ use Rattle.std.specs.Str.{chars}
 use Rattle.deno_graph_jsdoc.specs.JsDocGrammar.{◌·◌, Is, IsSpace}
 use Rattle.deno_graph_jsdoc.specs.JsDocImport.{EndsDynamicImport, import_of}
 use Rattle.deno_graph_jsdoc.proofs.Arguments.{no_arguments, behind_arguments}
-use Rattle.deno_graph_jsdoc.proofs.Imports.{States-within}
+use Rattle.deno_graph_jsdoc.proofs.Imports.{StatesImport-within}
 use Rattle.deno_graph_jsdoc.proofs.grammar.dynamic.behind_import.Goals as goal
 
 pub returns-in_err-rest-clause-parsed : goal.returns-in_err-rest-clause-parsed
@@ -25,5 +25,6 @@ returns-clause-parsed c =
 
 pub returns-clause-within : goal.returns-clause-within
 returns-clause-within c =
-    States-within (IsSpace · Is (codes "(") · IsSpace) EndsDynamicImport c.args.input.now _ _ c.utf8.input
+    StatesImport-within (IsSpace · Is (codes "(") · IsSpace) EndsDynamicImport c.args.input.now _ _
+    c.utf8.input
     (returns-clause-parsed c).0

@@ -1,7 +1,7 @@
 -- The map changes at the bytes of the specifier's text alone.
 use Rattle.std.proofs.Common.{◌∙◌, sym}
 use Rattle.deno_graph_parser.specs.Parsing.{specifier_text}
-use Rattle.deno_graph_parser.specs.Sources.{source_at, without}
+use Rattle.deno_graph_parser.specs.Sources.{source_at, without_source}
 use Rattle.deno_graph_parser.proofs.KeptSources.{source_at-sources_of, without-sources_of}
 use Rattle.deno_graph_parser.proofs.default_parsed_source_store.DefaultParsedSourceStoreParsedSourceStore.remove_parsed_source.Goals as goal
 
@@ -15,4 +15,4 @@ pub returns-clause-ok : goal.returns-clause-ok
 unfolding specifier_text
 returns-clause-ok c =
     without-sources_of c.as_str.result.now c.self.inside.sources c.remove.new.self c.remove.ensures.updates
-    ∙ (λ i. without (c.self.view_is i) (c.as_str.ensures.value i))
+    ∙ (λ i. without_source (c.self.view_is i) (c.as_str.ensures.value i))

@@ -4,7 +4,7 @@ use Rattle.std.specs.Str.{chars}
 use Rattle.std.specs.Str.Iter.{chars_rest}
 use lib.Utf8.{encode}
 use Rattle.deno_graph_pragmas.specs.Finders.{attribute}
-use Rattle.deno_graph_pragmas.specs.Match.{part_of}
+use Rattle.deno_graph_pragmas.specs.Match.{match_part_of}
 use Rattle.deno_graph_pragmas.specs.Reading.{HasNoAttribute}
 use Rattle.deno_graph_pragmas.specs.Split.{IsCaptured}
 use Rattle.deno_graph_pragmas.proofs.Captured.{attribute_in_quotes, captured_slice}
@@ -25,7 +25,7 @@ attribute_at-requires-clause-rest c =
     subst (λ t. length t ≤ length c.args.text.now) (sym c.as_str.ensures) less
 
 captured : (c : goal.In-Some-attribute_at)
-    → IsCaptured (attribute c.args.name.now) c.args.text.now (part_of c.in-Some-attribute_at.found)
+    → IsCaptured (attribute c.args.name.now) c.args.text.now (match_part_of c.in-Some-attribute_at.found)
 captured c =
     let here = c.in-Some.ensures.steps.0 ∙ ap (λ t. encode c.in-Some.c ++ t) (sym c.as_str.ensures) in
     found_here c.args.name.now c.args.text.now _ _ c.in-Some.c _ c.utf8.text c.loop-c.invariant.passed here

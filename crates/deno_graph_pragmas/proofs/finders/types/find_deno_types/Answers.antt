@@ -1,6 +1,6 @@
 use Rattle.std.proofs.Common.{refl, sym, subst}
 use Rattle.deno_graph_pragmas.specs.Finders.{deno_types_pattern, quoteless_deno_types_pattern}
-use Rattle.deno_graph_pragmas.specs.Split.{IsCaptured, IsSliceOf, StandsInQuotes}
+use Rattle.deno_graph_pragmas.specs.Split.{IsCaptured, IsSliceOf, IsInQuotes}
 use Rattle.deno_graph_pragmas.proofs.finders.types.find_deno_types.Goals as goal
 
 pub returns-in-Some-clause-quoted : goal.returns-in-Some-clause-quoted
@@ -13,7 +13,7 @@ returns-in-Some-clause-slice c =
 
 pub returns-in-Some-clause-quotes : goal.returns-in-Some-clause-quotes
 returns-in-Some-clause-quotes c = λ _.
-    subst (StandsInQuotes c.args.text.now) (sym c.new.ensures.part) c.in-Some.ensures.quotes
+    subst (IsInQuotes c.args.text.now) (sym c.new.ensures.part) c.in-Some.ensures.quotes
 
 pub returns-in_ok-found-in-None-clause-quoteless : goal.returns-in_ok-found-in-None-clause-quoteless
 returns-in_ok-found-in-None-clause-quoteless c = λ _. (

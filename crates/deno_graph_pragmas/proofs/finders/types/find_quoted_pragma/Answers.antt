@@ -1,7 +1,7 @@
 use Rattle.std.proofs.Common.{◌≡◌, ◌==◌, [], ◌∷◌, false, true, length, refl, sym, ap, ◌∙◌}
 use Rattle.std.specs.Str.{chars}
 use Rattle.deno_graph_pragmas.specs.Finders.{quoted_pragma}
-use Rattle.deno_graph_pragmas.specs.Match.{part_of}
+use Rattle.deno_graph_pragmas.specs.Match.{match_part_of}
 use Rattle.deno_graph_pragmas.specs.Piece.{is_unquoted, quote}
 use Rattle.deno_graph_pragmas.specs.Split.{IsCaptured}
 use Rattle.deno_graph_pragmas.proofs.Captured.{captured_slice, pragma_in_quotes}
@@ -33,16 +33,16 @@ returns-in_err-found c =
 pub returns-then-is_empty : goal.returns-then-is_empty
 returns-then-is_empty c =
     let apart = quoted_pragma_apart c.args.name.now c.requires.start in
-    let empty : (length (part_of c.in_ok-found.found).text == 0) ≡ true =
+    let empty : (length (match_part_of c.in_ok-found.found).text == 0) ≡ true =
     ap (λ t. length t == 0) (sym c.as_str.ensures) ∙ sym c.if-is_empty.ensures in
     let none = empty_read is_unquoted (quote ∷ []) _ _ _ c.in_ok-found.ensures.found empty in
     finds_none_in_quotes (quoted_pragma c.args.name.now) _ _ refl
     (no_rest (quoted_pragma c.args.name.now) _ _ apart refl (sym c.in_ok-value.ensures.left) none)
 
 captured : (c : goal.Else-is_empty) → IsCaptured (quoted_pragma c.args.name.now) c.args.text.now
-    (part_of c.in_ok-found.found)
+    (match_part_of c.in_ok-found.found)
 captured c =
-    let nonempty : (length (part_of c.in_ok-found.found).text == 0) ≡ false =
+    let nonempty : (length (match_part_of c.in_ok-found.found).text == 0) ≡ false =
     ap (λ t. length t == 0) (sym c.as_str.ensures) ∙ sym c.if-is_empty.ensures in
     let read = read_nonempty is_unquoted (quote ∷ []) _ _ _ c.in_ok-found.ensures.found nonempty in
     IsCaptured-at_start (quoted_pragma c.args.name.now) _ _ _ c.utf8.text c.in_ok-value.ensures.utf8

@@ -1,14 +1,14 @@
 use Rattle.std.specs.Prelude.{◌≡◌, IfSome, option_map, codes}
 use Rattle.flat_json.specs.Value.{last_named, later_or}
 use Rattle.flat_json.specs.View.{value_of, members_of, members_left}
-use Rattle.flat_json.specs.Tape.{TakesSame, object_of, object_of_entries}
+use Rattle.flat_json.specs.Tape.{TakesSame, object_of_members, object_of_entries}
 use Rattle.modinfo_notation.specs.Misfit.{IsMemberOf}
 use Rattle.modinfo_notation.proofs.node.NodeMembers.find.Given as goal
 
 abbrev pub invariant-loop-name : goal.invariant-loop-name
 invariant-loop-name l = (goal.iterator-loop-name).can_next l.name-iterator
     × (goal.iterator-loop-name).is_finite l.name-iterator
-    × TakesSame (object_of_entries l.name-iterator) (object_of l.fn.members)
+    × TakesSame (object_of_entries l.name-iterator) (object_of_members l.fn.members)
     × IfSome l.range (IsMemberOf l.fn.members)
     × IfSome l.kind (IsMemberOf l.fn.members)
     × IfSome l.children (IsMemberOf l.fn.members)
