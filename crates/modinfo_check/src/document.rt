@@ -37,19 +37,15 @@ fn wrong_notation(
     match fault {
         NotationFault::NotInNotation(misfit) => {
             let expected = format!(in alloc; "{}", misfit.expected)?;
-            let mut wrong = Wrong::new(name, expected);
-            wrong.pointer = Some(tape.pointer(alloc, misfit.element)?);
-            Ok(wrong)
+            Ok(Wrong::of_value(name, tape.pointer(alloc, misfit.element)?, expected))
         }
         _ => Ok(Wrong::new(name, String::from_str(alloc, "a document")?)),
     }
 }
 
 fn check_parts(alloc: Global, tape: &Tape<'_>, document: &Document) -> Result<Report, AllocError> {
-    match Url::parse(alloc, document.specifier.as_str()) {
-        Ok(_) => {}
-        Err(ParseError::OutOfMemory | ParseError::Overflow) => return Err(AllocError),
-        Err(_) => return Ok(Report::Wrong(wrong_specifier(alloc)?)),
+    if !is_url(alloc, document.specifier.as_str())? {
+        return Ok(Report::Wrong(wrong_specifier(alloc)?));
     }
     match fault_place(alloc, document)? {
         Some(found) => {
@@ -60,6 +56,14 @@ fn check_parts(alloc: Global, tape: &Tape<'_>, document: &Document) -> Result<Re
     }
 }
 
+fn is_url(alloc: Global, specifier: &str) -> Result<bool, AllocError> {
+    match Url::parse(alloc, specifier) {
+        Ok(_) => Ok(true),
+        Err(ParseError::OutOfMemory | ParseError::Overflow) => Err(AllocError),
+        Err(_) => Ok(false),
+    }
+}
+
 fn fault_place(alloc: Global, document: &Document) -> Result<Option<SourceFaultPlace>, AllocError> {
     let text = document.source.as_str();
     source_fault_place(alloc, text, &document.program, &document.comments)
@@ -67,7 +71,6 @@ fn fault_place(alloc: Global, document: &Document) -> Result<Option<SourceFaultP
 
 fn wrong_specifier(alloc: Global) -> Result<Wrong, AllocError> {
     let name = format!(in alloc; "{}", NotationFault::Specifier)?;
-    let mut wrong = Wrong::new(name, String::from_str(alloc, "an absolute URL")?);
-    wrong.pointer = Some(String::from_str(alloc, "/specifier")?);
-    Ok(wrong)
+    let pointer = String::from_str(alloc, "/specifier")?;
+    Ok(Wrong::of_value(name, pointer, String::from_str(alloc, "an absolute URL")?))
 }

@@ -1,7 +1,7 @@
 use std::alloc::{AllocError, Global};
 
 /// A step from a JSON value to one in it.
-#[derive(Debug, Clone, Copy, PartialEq, Eq)]
+#[derive(Clone, Copy)]
 pub enum Step<'a> {
     Member(&'a str),
     Item(usize),
@@ -11,17 +11,17 @@ pub enum Step<'a> {
 pub fn pointer_of(alloc: Global, steps: &[Step<'_>]) -> Result<String, AllocError> {
     let mut pointer = String::new(alloc);
     for step in steps {
-        pointer.push('/')?;
         match step {
             Step::Member(name) => push_name(&mut pointer, name)?,
-            Step::Item(number) => pointer.push_str(format!(in alloc; "{number}")?.as_str())?,
+            Step::Item(number) => write!(pointer, "/{number}")?,
         }
     }
     Ok(pointer)
 }
 
-/// In a name `~` is written `~0`, and `/` is written `~1`.
+/// Pushes a step to a member. In its name `~` is written `~0`, and `/` is written `~1`.
 fn push_name(pointer: &mut String, name: &str) -> Result<(), AllocError> {
+    pointer.push('/')?;
     for character in name.chars() {
         match character {
             '~' => pointer.push_str("~0")?,

@@ -1,7 +1,7 @@
 use crate::text_place::TextPlace;
 use crate::warning::{Warning, Warnings};
+use deno_graph_dependency::json_form::TextWriter;
 use deno_graph_source::text::SourceRange;
-use serde_json::Value;
 use std::alloc::{AllocError, Global};
 
 /// What is wrong with a document.
@@ -33,6 +33,30 @@ impl Wrong {
             expected,
         }
     }
+
+    /// A fault of the value to which this JSON Pointer leads.
+    pub(crate) fn of_value(fault: String, pointer: String, expected: String) -> Wrong {
+        Wrong {
+            fault,
+            pointer: Some(pointer),
+            other: None,
+            range: None,
+            at: None,
+            expected,
+        }
+    }
+
+    /// A fault of a text, which is no JSON from there on.
+    pub(crate) fn of_text(fault: String, at: TextPlace, expected: String) -> Wrong {
+        Wrong {
+            fault,
+            pointer: None,
+            other: None,
+            range: None,
+            at: Some(at),
+            expected,
+        }
+    }
 }
 
 /// What a check has found.
@@ -55,72 +79,88 @@ impl Report {
 
     /// The report as one line of JSON, without a line feed.
     pub fn to_line(&self, alloc: Global) -> Result<String, AllocError> {
-        let mut line = String::new(alloc);
+        let mut line = TextWriter::new(alloc)?;
         match self {
-            Report::Valid(warnings) => push_warnings(alloc, &mut line, warnings)?,
-            Report::Wrong(wrong) => push_wrong(alloc, &mut line, wrong)?,
+            Report::Valid(warnings) => write_warnings(&mut line, warnings)?,
+            Report::Wrong(wrong) => write_wrong(&mut line, wrong)?,
         }
-        line.push('}')?;
-        Ok(line)
+        Ok(line.into_string())
     }
 }
 
-fn push_wrong(alloc: Global, line: &mut String, wrong: &Wrong) -> Result<(), AllocError> {
-    line.push_str("{\"fault\":")?;
-    push_text(alloc, line, wrong.fault.as_str())?;
+fn write_wrong(line: &mut TextWriter, wrong: &Wrong) -> Result<(), AllocError> {
+    line.begin_object()?;
+    write_member(line, "fault", wrong.fault.as_str())?;
+    write_where(line, wrong)?;
+    write_member(line, "expected", wrong.expected.as_str())?;
+    line.end_object()
+}
+
+/// Writes the members that say where a fault is.
+fn write_where(line: &mut TextWriter, wrong: &Wrong) -> Result<(), AllocError> {
     if let Some(pointer) = &wrong.pointer {
-        line.push_str(",\"pointer\":")?;
-        push_text(alloc, line, pointer.as_str())?;
+        write_member(line, "pointer", pointer.as_str())?;
     }
     if let Some(other) = &wrong.other {
-        line.push_str(",\"other\":")?;
-        push_text(alloc, line, other.as_str())?;
+        write_member(line, "other", other.as_str())?;
     }
     if let Some(range) = wrong.range {
-        let text = format!(in alloc; ",\"range\":[{},{}]", range.start, range.end)?;
-        line.push_str(text.as_str())?;
+        write_range(line, range)?;
     }
-    if let Some(at) = wrong.at {
-        let text = format!(in alloc;
-            ",\"at\":{{\"line\":{},\"column\":{},\"offset\":{}}}",
-            at.line, at.column, at.offset
-        )?;
-        line.push_str(text.as_str())?;
+    match wrong.at {
+        Some(at) => write_place(line, at),
+        None => Ok(()),
     }
-    line.push_str(",\"expected\":")?;
-    push_text(alloc, line, wrong.expected.as_str())
 }
 
-fn push_warnings(alloc: Global, line: &mut String, warnings: &Warnings) -> Result<(), AllocError> {
-    line.push_str("{\"valid\":true")?;
-    if warnings.is_empty() {
-        return Ok(());
+fn write_range(line: &mut TextWriter, range: SourceRange) -> Result<(), AllocError> {
+    line.key("range")?;
+    line.begin_array()?;
+    line.number(range.start)?;
+    line.number(range.end)?;
+    line.end_array()
+}
+
+fn write_place(line: &mut TextWriter, at: TextPlace) -> Result<(), AllocError> {
+    line.key("at")?;
+    line.begin_object()?;
+    write_count(line, "line", at.line)?;
+    write_count(line, "column", at.column)?;
+    write_count(line, "offset", at.offset)?;
+    line.end_object()
+}
+
+fn write_warnings(line: &mut TextWriter, warnings: &Warnings) -> Result<(), AllocError> {
+    line.begin_object()?;
+    line.key("valid")?;
+    line.boolean(true)?;
+    if !warnings.is_empty() {
+        line.key("warnings")?;
+        write_kept(line, warnings.kept.as_slice())?;
     }
-    line.push_str(",\"warnings\":[")?;
-    let mut before = "";
-    for warning in warnings.kept.as_slice() {
-        line.push_str(before)?;
-        push_warning(alloc, line, warning)?;
-        before = ",";
-    }
-    line.push(']')?;
     if warnings.more > 0 {
-        let text = format!(in alloc; ",\"more\":{}", warnings.more)?;
-        line.push_str(text.as_str())?;
+        write_count(line, "more", warnings.more)?;
     }
-    Ok(())
+    line.end_object()
 }
 
-fn push_warning(alloc: Global, line: &mut String, warning: &Warning) -> Result<(), AllocError> {
-    line.push_str("{\"pointer\":")?;
-    push_text(alloc, line, warning.pointer.as_str())?;
-    line.push_str(",\"says\":")?;
-    push_text(alloc, line, warning.says)?;
-    line.push('}')
+fn write_kept(line: &mut TextWriter, kept: &[Warning]) -> Result<(), AllocError> {
+    line.begin_array()?;
+    for warning in kept {
+        line.begin_object()?;
+        write_member(line, "pointer", warning.pointer.as_str())?;
+        write_member(line, "says", warning.says)?;
+        line.end_object()?;
+    }
+    line.end_array()
 }
 
-/// Adds a text as JSON has it.
-fn push_text(alloc: Global, line: &mut String, text: &str) -> Result<(), AllocError> {
-    let value = Value::String(String::from_str(alloc, text)?);
-    line.push_str(value.to_string(alloc)?.as_str())
+fn write_member(line: &mut TextWriter, name: &str, text: &str) -> Result<(), AllocError> {
+    line.key(name)?;
+    line.string(text)
+}
+
+fn write_count(line: &mut TextWriter, name: &str, count: usize) -> Result<(), AllocError> {
+    line.key(name)?;
+    line.number(count)
 }

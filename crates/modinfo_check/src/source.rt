@@ -1,6 +1,6 @@
 //! Faults of a source: which value of its document they are in, and what was expected there.
 
-use crate::place::{element_of, element_of_comment};
+use crate::place::{element_of, element_of_comment, member};
 use crate::report::Wrong;
 use deno_graph_source::text::SourceRange;
 use deno_graph_source::tree::{FaultPlace, NodePart, ShapeRule, SourceFault, SourceFaultPlace};
@@ -16,16 +16,22 @@ pub fn wrong_source(
 ) -> Result<Wrong, AllocError> {
     let root = tape.root();
     let value = element_of(root, found);
-    let other = match &found.place {
+    Ok(Wrong {
+        fault: format!(in alloc; "{}", found.fault)?,
+        pointer: pointer_of(alloc, tape, value)?,
+        other: pointer_of(alloc, tape, other_element(root, &found.place))?,
+        range: range_of(value),
+        at: None,
+        expected: expected(alloc, found, length)?,
+    })
+}
+
+/// The comment with which another shares a byte.
+fn other_element<'a>(root: Element<'a>, place: &FaultPlace) -> Option<Element<'a>> {
+    match place {
         FaultPlace::Comments(first, _) => element_of_comment(root, *first),
         _ => None,
-    };
-    let name = format!(in alloc; "{}", found.fault)?;
-    let mut wrong = Wrong::new(name, expected(alloc, found, length)?);
-    wrong.pointer = pointer_of(alloc, tape, value)?;
-    wrong.other = pointer_of(alloc, tape, other)?;
-    wrong.range = value.and_then(|value| range_of(value));
-    Ok(wrong)
+    }
 }
 
 fn pointer_of(
@@ -40,12 +46,9 @@ fn pointer_of(
 }
 
 /// The range that a value is, or that it has.
-fn range_of(value: Element<'_>) -> Option<SourceRange> {
-    let range = match value.members() {
-        Some(members) => members.get("range")?,
-        None => value,
-    };
-    let (start, end) = range.as_pair()?;
+fn range_of(value: Option<Element<'_>>) -> Option<SourceRange> {
+    let value = value?;
+    let (start, end) = member(value, "range").unwrap_or(value).as_pair()?;
     Some(SourceRange {
         start: start as usize,
         end: end as usize,

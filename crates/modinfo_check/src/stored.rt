@@ -8,7 +8,7 @@ use crate::warning::Warnings;
 use deno_graph_info::analysis::{ConvertFault, InfoFault, ModuleInfo, module_graph_1_to_2};
 use deno_graph_source::values::Text;
 use serde_json::{Map, Value};
-use std::alloc::{AllocError, AllocFailed, Global};
+use std::alloc::{AllocError, Global};
 
 /// What is wrong with stored information: the fault, and why the value that the search has come to
 /// can't be read.
@@ -27,20 +27,18 @@ impl From<FormFault> for Misread {
     }
 }
 
-impl<T: Drop> From<AllocFailed<T>> for Misread {
-    fn from(_refused: AllocFailed<T>) -> Misread {
-        Misread::from(FormFault::OutOfMemory)
-    }
-}
-
 /// Checks a document of `reach`, a root and the information of many modules: `Wrong` exactly where
 /// `reach` has a fault, and of the same name. The only error is that memory was refused.
 pub fn check_modules(alloc: Global, text: &str) -> Result<Report, AllocError> {
-    let Some(value) = read_json(alloc, text)? else {
-        return Ok(Report::Wrong(wrong_json(alloc, text)?));
-    };
+    match read_json(alloc, text)? {
+        Some(value) => report_modules(alloc, &value),
+        None => Ok(Report::Wrong(wrong_json(alloc, text)?)),
+    }
+}
+
+fn report_modules(alloc: Global, value: &Value) -> Result<Report, AllocError> {
     let mut search = Search::new(alloc);
-    match find_in_document(&mut search, &value) {
+    match find_in_document(&mut search, value) {
         Ok(()) => Ok(Report::Valid(Warnings::new(alloc))),
         Err(Misread { fault, why }) => {
             let name = format!(in alloc; "{fault}")?;
@@ -49,18 +47,29 @@ pub fn check_modules(alloc: Global, text: &str) -> Result<Report, AllocError> {
     }
 }
 
-// `modules` is looked for before `root`, and both before any information is read.
+/// Looks for the first value that can't be read.
 fn find_in_document<'a>(search: &mut Search<'a>, value: &'a Value) -> Result<(), Misread> {
-    let document = members_of(value)?;
-    let modules = object_at(search, document, "modules")?;
-    search.required::<Text>(document, "root")?;
-    search.steps.push(Step::Member("modules"))?;
+    let modules = find_modules(search, value)?;
+    search.enter(Step::Member("modules"))?;
     for (key, module) in modules.iter() {
-        search.steps.push(Step::Member(key.as_str()))?;
+        search.enter(Step::Member(key.as_str()))?;
         find_in_module(search, module)?;
         search.steps.pop();
     }
     Ok(())
+}
+
+/// The modules of a document, which has a root.
+///
+/// `modules` is looked for before `root`, and both before any information is read.
+fn find_modules<'a>(
+    search: &mut Search<'a>,
+    value: &'a Value,
+) -> Result<&'a Map<String, Value>, FormFault> {
+    let document = members_of(value)?;
+    let modules = object_at(search, document, "modules")?;
+    search.required::<Text>(document, "root")?;
+    Ok(modules)
 }
 
 /// The object that is the member of this name.
@@ -72,7 +81,7 @@ fn object_at<'a>(
     let Some(value) = document.get(name) else {
         return Err(FormFault::Missing(name));
     };
-    search.steps.push(Step::Member(name))?;
+    search.enter(Step::Member(name))?;
     let members = members_of(value)?;
     search.steps.pop();
     Ok(members)
@@ -107,13 +116,17 @@ fn convert_fault(alloc: Global, value: &mut Value) -> Option<ConvertFault> {
 /// Checks a document of `convert`, the stored information of one module: `Wrong` exactly where
 /// `convert` has a fault, and of the same name. The only error is that memory was refused.
 pub fn check_stored(alloc: Global, text: &str) -> Result<Report, AllocError> {
-    let Some(mut value) = read_json(alloc, text)? else {
-        return Ok(Report::Wrong(wrong_json(alloc, text)?));
-    };
-    match convert_fault(alloc, &mut value) {
+    match read_json(alloc, text)? {
+        Some(mut value) => report_stored(alloc, &mut value),
+        None => Ok(Report::Wrong(wrong_json(alloc, text)?)),
+    }
+}
+
+fn report_stored(alloc: Global, value: &mut Value) -> Result<Report, AllocError> {
+    match convert_fault(alloc, value) {
         None => Ok(Report::Valid(Warnings::new(alloc))),
         Some(ConvertFault::OutOfMemory) => Err(AllocError),
-        Some(fault) => Ok(Report::Wrong(wrong_stored(alloc, &value, fault)?)),
+        Some(fault) => Ok(Report::Wrong(wrong_stored(alloc, value, fault)?)),
     }
 }
 
@@ -135,51 +148,59 @@ fn wrong_stored(alloc: Global, value: &Value, fault: ConvertFault) -> Result<Wro
 
 /// Looks for the first dependency whose types would end beyond the largest column.
 fn find_overflow<'a>(search: &mut Search<'a>, value: &'a Value) -> Result<(), FormFault> {
-    let Some(dependencies) = value.get("dependencies").and_then(|value| value.as_array()) else {
+    let Some(dependencies) = array_at(value, "dependencies") else {
         return Ok(());
     };
     for (number, dependency) in dependencies.iter().enumerate() {
-        if overflows(search, dependency)? {
-            push_column(search, number, dependency)?;
+        if overflows(search.alloc, dependency)? {
+            enter_column(search, number, dependency)?;
             return Err(FormFault::Expected("a column from which the types end below 2^64"));
         }
     }
     Ok(())
 }
 
-/// The way to the column of the last comment of a dependency.
-fn push_column(
+/// Goes to the column of the last comment of a dependency.
+fn enter_column(
     search: &mut Search<'_>,
     number: usize,
     dependency: &Value,
-) -> Result<(), FormFault> {
-    let comments = dependency.get("leadingComments");
-    let count = comments
-        .and_then(|value| value.as_array())
-        .map_or(0, |comments| comments.len());
-    search.steps.push(Step::Member("dependencies"))?;
-    search.steps.push(Step::Item(number))?;
-    search.steps.push(Step::Member("leadingComments"))?;
-    search.steps.push(Step::Item(count.saturating_sub(1)))?;
-    search.steps.push(Step::Member("range"))?;
-    search.steps.push(Step::Item(0))?;
-    search.steps.push(Step::Item(1))?;
-    Ok(())
+) -> Result<(), AllocError> {
+    let count = array_at(dependency, "leadingComments").map_or(0, |comments| comments.len());
+    search.steps.extend_from_slice(&[
+        Step::Member("dependencies"),
+        Step::Item(number),
+        Step::Member("leadingComments"),
+        Step::Item(count.saturating_sub(1)),
+        Step::Member("range"),
+        Step::Item(0),
+        Step::Item(1),
+    ])
+}
+
+/// The array that is the member of this name.
+fn array_at<'a>(value: &'a Value, name: &str) -> Option<&'a Vec<Value>> {
+    value.get(name)?.as_array()
 }
 
 /// Whether a dependency, as the only one of a module, has that fault.
-fn overflows(search: &Search<'_>, dependency: &Value) -> Result<bool, FormFault> {
-    let alloc = search.alloc;
-    let mut dependencies = Vec::new(alloc);
-    dependencies.push(dependency.clone()?)?;
-    let mut module = Map::new(alloc);
-    let name = String::from_str(alloc, "dependencies")?;
-    drop(module.insert(name, Value::Array(dependencies))?);
-    match convert_fault(alloc, &mut Value::Object(module)) {
+fn overflows(alloc: Global, dependency: &Value) -> Result<bool, FormFault> {
+    let mut module = module_with(alloc, dependency)?;
+    match convert_fault(alloc, &mut module) {
         None => Ok(false),
         Some(ConvertFault::OutOfMemory) => Err(FormFault::OutOfMemory),
         Some(_) => Ok(true),
     }
+}
+
+/// The information of a module that has this dependency alone.
+fn module_with(alloc: Global, dependency: &Value) -> Result<Value, FormFault> {
+    let mut dependencies = Vec::new(alloc);
+    dependencies.push(dependency.clone()?)?;
+    let name = String::from_str(alloc, "dependencies")?;
+    let mut module = Map::new(alloc);
+    drop(module.insert(name, Value::Array(dependencies))?);
+    Ok(Value::Object(module))
 }
 
 fn wrong_form(
@@ -188,12 +209,15 @@ fn wrong_form(
     search: &Search<'_>,
     why: FormFault,
 ) -> Result<Wrong, AllocError> {
-    let expected = match why {
-        FormFault::Expected(expected) => String::from_str(alloc, expected)?,
-        FormFault::Missing(name) => format!(in alloc; "a member `{name}`")?,
-        FormFault::OutOfMemory => return Err(AllocError),
-    };
-    let mut wrong = Wrong::new(fault, expected);
-    wrong.pointer = Some(pointer_of(alloc, search.steps.as_slice())?);
-    Ok(wrong)
+    let expected = expected_form(alloc, why)?;
+    let pointer = pointer_of(alloc, search.steps.as_slice())?;
+    Ok(Wrong::of_value(fault, pointer, expected))
+}
+
+fn expected_form(alloc: Global, why: FormFault) -> Result<String, AllocError> {
+    match why {
+        FormFault::Expected(expected) => String::from_str(alloc, expected),
+        FormFault::Missing(name) => format!(in alloc; "a member `{name}`"),
+        FormFault::OutOfMemory => Err(AllocError),
+    }
 }

@@ -34,17 +34,15 @@ pub fn wrong_text(alloc: Global, text: &str, offset: usize) -> Result<Wrong, All
     let offset = first_wrong(alloc, text)?.unwrap_or(offset);
     let fault = format!(in alloc; "{}", NotationFault::Json { offset })?;
     let expected = String::from_str(alloc, "one JSON value, at most 127 deep")?;
-    let mut wrong = Wrong::new(fault, expected);
-    wrong.at = Some(TextPlace::new(text, offset));
-    Ok(wrong)
+    Ok(Wrong::of_text(fault, TextPlace::new(text, offset), expected))
 }
 
 /// The report on bytes that are no text: so many of them are UTF-8.
 pub fn report_bytes(alloc: Global, bytes: &[u8], valid: usize) -> Result<Report, AllocError> {
     let before = bytes.get(..valid).unwrap_or(&[]);
     let text = basic::from_utf8(before).unwrap_or("");
+    let at = TextPlace::new(text, text.len());
     let fault = String::from_str(alloc, "Input")?;
-    let mut wrong = Wrong::new(fault, String::from_str(alloc, "UTF-8")?);
-    wrong.at = Some(TextPlace::new(text, text.len()));
-    Ok(Report::Wrong(wrong))
+    let expected = String::from_str(alloc, "UTF-8")?;
+    Ok(Report::Wrong(Wrong::of_text(fault, at, expected)))
 }

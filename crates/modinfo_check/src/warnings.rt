@@ -1,9 +1,6 @@
 //! What in a valid document may not be what its author meant.
 
-ghost use Rattle.std.specs.Prelude.{IfSome};
-ghost use Rattle.flat_json.specs.Tape.{IsInside};
-
-use crate::place::literal_of;
+use crate::place::{elements, literal_of, member};
 use crate::warning::Warnings;
 use deno_graph_source::tree::MediaType;
 use flat_json::{Element, Elements, Tape};
@@ -45,20 +42,29 @@ pub fn find_warnings(
         is_code: document.media_type != MediaType::Json && document.media_type != MediaType::Other,
         found: Warnings::new(alloc),
     };
-    let root = tape.root();
-    search.members(root, Role::Document)?;
-    search.entries(elements(root, "leading"))?;
-    search.entries(elements(root, "trailing"))?;
-    if let Some(program) = member(root, "program") {
-        search.members(program, Role::Program)?;
-        if let Some(body) = member(program, "body") {
-            search.nodes(body, range_of(program))?;
-        }
-    }
+    search.document(tape.root())?;
     Ok(search.found)
 }
 
 impl Search<'_> {
+    fn document(&mut self, root: Element<'_>) -> Result<(), AllocError> {
+        self.members(root, Role::Document)?;
+        self.entries(elements(root, "leading"))?;
+        self.entries(elements(root, "trailing"))?;
+        match member(root, "program") {
+            Some(program) => self.program(program),
+            None => Ok(()),
+        }
+    }
+
+    fn program(&mut self, program: Element<'_>) -> Result<(), AllocError> {
+        self.members(program, Role::Program)?;
+        match member(program, "body") {
+            Some(body) => self.nodes(body, range_of(program)),
+            None => Ok(()),
+        }
+    }
+
     fn warn(&mut self, value: Element<'_>, says: &'static str) -> Result<(), AllocError> {
         self.found.add(self.alloc, self.tape, value, says)
     }
@@ -177,16 +183,6 @@ fn is_quoted(text: &str) -> bool {
         [first, .., last] => first == last && (*first == b'"' || *first == b'\''),
         _ => false,
     }
-}
-
-fn member<'a>(value: Element<'a>, name: &str) -> Option<Element<'a>>
-    ensures { IfSome result (λ found. IsInside found value.entry) }
-{
-    value.members()?.get(name)
-}
-
-fn elements<'a>(value: Element<'a>, name: &str) -> Option<Elements<'a>> {
-    member(value, name)?.elements()
 }
 
 /// The member `range` of a value: two offsets in bytes.

@@ -35,50 +35,44 @@ pub fn string_end(bytes: &[u8], start: usize) -> Result<usize, usize> {
     Err(bytes.len())
 }
 
-/// Where a number is.
-#[derive(Clone, Copy)]
-enum InNumber {
-    Start,
-    Minus,
-    Zero,
-    Whole,
-    Point,
-    Fraction,
-    Letter,
-    Sign,
-    Exponent,
-}
-
 /// The end of the number that begins at `start`.
 pub fn number_end(bytes: &[u8], start: usize) -> Result<usize, usize> {
-    let mut place = InNumber::Start;
-    for (passed, byte) in bytes.get(start..).unwrap_or(&[]).iter().enumerate() {
-        let at = start.saturating_add(passed);
-        place = match (place, *byte) {
-            (InNumber::Start, b'-') => InNumber::Minus,
-            (InNumber::Start | InNumber::Minus, b'0') => InNumber::Zero,
-            (InNumber::Start | InNumber::Minus, b'1'..=b'9') => InNumber::Whole,
-            (InNumber::Whole, b'0'..=b'9') => InNumber::Whole,
-            (InNumber::Zero | InNumber::Whole, b'.') => InNumber::Point,
-            (InNumber::Point | InNumber::Fraction, b'0'..=b'9') => InNumber::Fraction,
-            (InNumber::Zero | InNumber::Whole | InNumber::Fraction, b'e' | b'E') => {
-                InNumber::Letter
-            }
-            (InNumber::Letter, b'+' | b'-') => InNumber::Sign,
-            (InNumber::Letter | InNumber::Sign | InNumber::Exponent, b'0'..=b'9') => {
-                InNumber::Exponent
-            }
-            _ => return end_of_number(place, at),
-        };
+    let whole = behind_one_of(bytes, start, b"-");
+    let point = match bytes.get(whole) {
+        Some(b'0') => whole.saturating_add(1),
+        _ => digits_end(bytes, whole)?,
+    };
+    let exponent = match bytes.get(point) {
+        Some(b'.') => digits_end(bytes, point.saturating_add(1))?,
+        _ => point,
+    };
+    match bytes.get(exponent) {
+        Some(b'e' | b'E') => {
+            let digits = behind_one_of(bytes, exponent.saturating_add(1), b"+-");
+            digits_end(bytes, digits)
+        }
+        _ => Ok(exponent),
     }
-    end_of_number(place, bytes.len())
 }
 
-/// A number may end behind a digit.
-fn end_of_number(place: InNumber, at: usize) -> Result<usize, usize> {
-    match place {
-        InNumber::Zero | InNumber::Whole | InNumber::Fraction | InNumber::Exponent => Ok(at),
-        _ => Err(at),
+/// The end of the digits from `start` on, of which there has to be one.
+fn digits_end(bytes: &[u8], start: usize) -> Result<usize, usize> {
+    let rest = bytes.get(start..).unwrap_or(&[]);
+    let digits = rest
+        .iter()
+        .position(|byte| !byte.is_ascii_digit())
+        .unwrap_or(rest.len());
+    if digits == 0 {
+        return Err(start);
+    }
+    Ok(start.saturating_add(digits))
+}
+
+/// The place behind the byte at `at`, where that is one of these, else `at`.
+fn behind_one_of(bytes: &[u8], at: usize, these: &[u8]) -> usize {
+    match bytes.get(at) {
+        Some(byte) if these.contains(byte) => at.saturating_add(1),
+        _ => at,
     }
 }
 

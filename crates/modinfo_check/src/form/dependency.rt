@@ -1,6 +1,5 @@
 use crate::form::fault::FormFault;
 use crate::form::search::{Form, Search, members_of};
-use crate::pointer::Step;
 use deno_graph_info::analysis::{
     DependencyDescriptor, DynamicArgument, DynamicDependencyKind, DynamicTemplatePart,
     ImportAttribute, ImportAttributes, SpecifierWithRange, StaticDependencyKind,
@@ -36,20 +35,13 @@ pub fn find_in_specifier<'a>(
     search.required::<PositionRange>(object, "range")
 }
 
-/// The error for a member whose name decides which form the object has.
-pub fn wrong_type<'a>(search: &mut Search<'a>, expected: &'static str) -> Result<(), FormFault> {
-    search.steps.push(Step::Member("type"))?;
-    Err(FormFault::Expected(expected))
-}
-
 impl Form for DependencyDescriptor {
     fn find<'a>(search: &mut Search<'a>, value: &'a Value) -> Result<(), FormFault> {
         let object = members_of(value)?;
-        search.required::<Text>(object, "type")?;
-        match object.get("type").and_then(|name| name.as_str()) {
-            Some("static") => find_in_static(search, object),
-            Some("dynamic") => find_in_dynamic(search, object),
-            _ => wrong_type(search, "static or dynamic"),
+        match search.type_name(object)? {
+            "static" => find_in_static(search, object),
+            "dynamic" => find_in_dynamic(search, object),
+            _ => search.wrong_type("static or dynamic"),
         }
     }
 }
@@ -101,11 +93,10 @@ impl Form for DynamicArgument {
 impl Form for DynamicTemplatePart {
     fn find<'a>(search: &mut Search<'a>, value: &'a Value) -> Result<(), FormFault> {
         let object = members_of(value)?;
-        search.required::<Text>(object, "type")?;
-        match object.get("type").and_then(|name| name.as_str()) {
-            Some("string") => search.required::<Text>(object, "value"),
-            Some("expr") => Ok(()),
-            _ => wrong_type(search, "string or expr"),
+        match search.type_name(object)? {
+            "string" => search.required::<Text>(object, "value"),
+            "expr" => Ok(()),
+            _ => search.wrong_type("string or expr"),
         }
     }
 }

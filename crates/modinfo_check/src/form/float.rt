@@ -21,7 +21,7 @@ pub fn find_float<'a>(search: &mut Search<'a>, value: &'a Value) -> Result<(), F
 fn find_in_items<'a>(search: &mut Search<'a>, items: &'a Vec<Value>) -> Result<(), FormFault> {
     let mut number = 0usize;
     for item in items {
-        search.steps.push(Step::Item(number))?;
+        search.enter(Step::Item(number))?;
         find_float(search, item)?;
         search.steps.pop();
         number = number.saturating_add(1);
@@ -35,7 +35,7 @@ fn find_in_members<'a>(
     members: &'a Map<String, Value>,
 ) -> Result<(), FormFault> {
     for (name, value) in members.iter() {
-        search.steps.push(Step::Member(name.as_str()))?;
+        search.enter(Step::Member(name.as_str()))?;
         find_float(search, value)?;
         search.steps.pop();
     }

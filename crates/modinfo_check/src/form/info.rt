@@ -1,11 +1,11 @@
-use crate::form::dependency::{find_in_specifier, wrong_type};
+use crate::form::dependency::find_in_specifier;
 use crate::form::fault::FormFault;
 use crate::form::search::{Form, Search, members_of};
 use deno_graph_info::analysis::{
     DependencyDescriptor, JsDocImportInfo, ModuleInfo, SpecifierWithRange, TypeScriptReference,
     TypeScriptTypesResolutionMode,
 };
-use deno_graph_source::values::{Items, Text};
+use deno_graph_source::values::Items;
 use serde_json::Value;
 
 impl Form for ModuleInfo {
@@ -25,14 +25,11 @@ impl Form for ModuleInfo {
 impl Form for TypeScriptReference {
     fn find<'a>(search: &mut Search<'a>, value: &'a Value) -> Result<(), FormFault> {
         let object = members_of(value)?;
-        search.required::<Text>(object, "type")?;
-        match object.get("type").and_then(|name| name.as_str()) {
-            Some("path") => find_in_specifier(search, object),
-            Some("types") => {
-                find_in_specifier(search, object)?;
-                search.member::<Option<TypeScriptTypesResolutionMode>>(object, "resolutionMode")
-            }
-            _ => wrong_type(search, "path or types"),
+        match search.type_name(object)? {
+            "path" => find_in_specifier(search, object),
+            // It has the members of a JSDoc import.
+            "types" => JsDocImportInfo::find(search, value),
+            _ => search.wrong_type("path or types"),
         }
     }
 }

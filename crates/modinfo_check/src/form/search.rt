@@ -28,9 +28,15 @@ impl<'a> Search<'a> {
         }
     }
 
+    /// Goes a step down.
+    pub fn enter(&mut self, step: Step<'a>) -> Result<(), FormFault> {
+        self.steps.push(step)?;
+        Ok(())
+    }
+
     /// Looks at a value below the one that is looked at.
     pub fn below<T: Form>(&mut self, step: Step<'a>, value: &'a Value) -> Result<(), FormFault> {
-        self.steps.push(step)?;
+        self.enter(step)?;
         T::find(self, value)?;
         self.steps.pop();
         Ok(())
@@ -58,6 +64,21 @@ impl<'a> Search<'a> {
             return Err(FormFault::Missing(name));
         }
         self.member::<T>(object, name)
+    }
+
+    /// Looks at the member `type`, and gives the name that it is.
+    pub fn type_name(&mut self, object: &'a Map<String, Value>) -> Result<&'a str, FormFault> {
+        self.required::<Text>(object, "type")?;
+        match object.get("type") {
+            Some(Value::String(name)) => Ok(name.as_str()),
+            _ => Err(FormFault::Missing("type")),
+        }
+    }
+
+    /// The error where the member `type` is none of the names that decide what form the object has.
+    pub fn wrong_type(&mut self, expected: &'static str) -> Result<(), FormFault> {
+        self.enter(Step::Member("type"))?;
+        Err(FormFault::Expected(expected))
     }
 
     /// Looks at a value that has none inside, or none that matters.
