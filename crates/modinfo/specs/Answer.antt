@@ -9,9 +9,10 @@ use Rattle.deno_graph_info.specs.Json.ModuleInfo.{json_of_info}
 use Rattle.deno_graph_info.specs.declared.analysis.module_info.ModuleInfo.{ModuleInfo}
 use Rattle.deno_graph_ast.specs.ModuleInfo.{HasExactRanges, IsModuleInfo}
 use Rattle.deno_graph_ast.specs.SpelledDependencies.{SpellDependencies}
-use Rattle.modinfo_notation.specs.Document.{IsDocumentOf, IsNoDocument, IsSourceOf, IsNoSource}
+use Rattle.modinfo_notation.specs.Document.{HasNotationFault, IsDocumentOf, IsSourceOf}
 use Rattle.modinfo_notation.specs.declared.document.Document.{Document}
 use Rattle.modinfo_notation.specs.declared.fault.NotationFault.{NotationFault}
+use Rattle.modinfo_check.specs.Report.{StatesConvertible, StatesNoConvertible, StatesNoSource, StatesSource}
 use Rattle.modinfo.specs.declared.fault.Fault.{Fault}
 use Rattle.modinfo.specs.declared.fault.Fault.TheVariants.{Input, OutOfMemory}
 use Rattle.modinfo.specs.declared.subcommand.Subcommand.{Subcommand}
@@ -36,11 +37,6 @@ abbrev pub IsInfoText : List ℕ → List ℕ → Type 0
 IsInfoText document text = (module_ : ParsedModule) × IsModuleOf document module_
     × (info : ModuleInfo) × IsInfoOfModule module_ info
     × (text ≡ compact_text (json_of_info info))
-
--- the notation's fault in a text: of the text itself, or of the document that it states
-abbrev pub HasNotationFault : List ℕ → NotationFault → Type 0
-HasNotationFault text fault = IsNoDocument text fault
-    ⊎ ((document : Document) × IsDocumentOf text document × IsNoSource document fault)
 
 -- why a text states no module: it isn't UTF-8, or has a fault of the notation; or memory was refused
 abbrev pub IsNoModule : List ℕ → Fault → Type 0
@@ -68,6 +64,18 @@ IsAnswerText Reach document text = Unit {0}
 abbrev pub IsAnswerLine : Subcommand → List ℕ → List ℕ → Type 0
 IsAnswerLine subcommand document line = (text : List ℕ) × IsAnswerText subcommand document text
     × (line ≡ text ++ codes "\n")
+
+-- the bytes are a document of the subcommand, and have no fault
+abbrev pub IsValidDocument : Subcommand → List ℕ → Type 0
+IsValidDocument Analyze document = StatesSource document
+IsValidDocument Convert document = StatesConvertible document
+IsValidDocument Reach document = Unit {0}
+
+-- the bytes are no text, or one with a fault
+abbrev pub IsFaultyDocument : Subcommand → List ℕ → Type 0
+IsFaultyDocument Analyze document = (¬ IsUtf8 document) ⊎ StatesNoSource document
+IsFaultyDocument Convert document = (¬ IsUtf8 document) ⊎ StatesNoConvertible document
+IsFaultyDocument Reach document = Unit {0}
 
 -- the word by which a subcommand is asked for
 abbrev pub name_of : Subcommand → List ℕ

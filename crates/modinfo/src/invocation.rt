@@ -1,6 +1,6 @@
 //! The words behind the program's name, and what is printed about them.
 
-ghost use Rattle.std.specs.Prelude.{◌≡◌, [], ◌∷◌, map, Some};
+ghost use Rattle.std.specs.Prelude.{◌≡◌, [], ◌∷◌, codes, false, map, Some};
 ghost use Rattle.modinfo.specs.Answer.{name_of};
 
 use crate::subcommand::Subcommand;
@@ -74,8 +74,10 @@ pub enum Invocation {
 impl Invocation {
     /// What the words ask for, if they ask for anything.
     pub fn from_words(words: &[&str]) -> Option<Invocation>
-        ensures { (subcommand : Subcommand) → map (λ word. word.now) words.now ≡ name_of subcommand ∷ []
+        ensures answer { (subcommand : Subcommand) → map (λ word. word.now) words.now ≡ name_of subcommand ∷ []
             → result ≡ Some (Invocation.Document (Task.Answer subcommand)) }
+        ensures check { map (λ word. word.now) words.now ≡ codes "check" ∷ []
+            → result ≡ Some (Invocation.Document (Task.Check Subcommand.Analyze false)) }
     {
         match words {
             [word] if *word == "--help" => Some(Invocation::Help),
@@ -95,7 +97,9 @@ impl Invocation {
 
     /// What the words behind `check` ask for: a subcommand, or else that is `analyze`, and then
     /// `--lines` and `--strict` in any order.
-    fn from_check(words: &[&str]) -> Option<Invocation> {
+    fn from_check(words: &[&str]) -> Option<Invocation>
+        ensures { words.now ≡ [] → result ≡ Some (Invocation.Document (Task.Check Subcommand.Analyze false)) }
+    {
         let (subcommand, flags) = match words {
             [name, flags @ ..] if !name.starts_with("--") => (Subcommand::from_name(name)?, flags),
             _ => (Subcommand::Analyze, words),

@@ -1,6 +1,7 @@
-ghost use Rattle.std.specs.Prelude.{◌≡◌, [], ◌∷◌, ℕ, List, IfSome, OnOk, map};
+ghost use Rattle.std.specs.Prelude.{◌≡◌, [], ◌∷◌, ℕ, Bool, codes, List, IfSome, Ok, OnOk, map, true};
 ghost use Rattle.std.specs.Io.KnownBytes.{Appends};
-ghost use Rattle.modinfo.specs.Answer.{IsAnswerLine, name_of};
+ghost use Rattle.modinfo_check.specs.Report.{StatesSource};
+ghost use Rattle.modinfo.specs.Answer.{IsAnswerLine, IsValidDocument, name_of};
 
 use crate::fault::Fault;
 use crate::input::read_to_end;
@@ -27,10 +28,13 @@ pub fn serve<R: Read, W: Write, E: Write>(
     output: &mut W,
     errors: &mut E,
 ) -> u8
-    ensures { (subcommand : Subcommand) → map (λ word. word.now) words.now ≡ name_of subcommand ∷ []
+    ensures answer { (subcommand : Subcommand) → map (λ word. word.now) words.now ≡ name_of subcommand ∷ []
         → result ≡ 0 → (document : List ℕ) × IfSome (R.remaining input.old) (λ left. document ≡ left)
         × (line : List ℕ) × IsAnswerLine subcommand document line
         × Appends (W.contents output.old) (W.contents output.new) line }
+    ensures check { map (λ word. word.now) words.now ≡ codes "check" ∷ [] → result ≡ 0
+        → (document : List ℕ) × IfSome (R.remaining input.old) (λ left. document ≡ left)
+        × StatesSource document }
 {
     let Some(invocation) = Invocation::from_words(words) else {
         let _ = writeln!(errors, "{USAGE}");
@@ -56,10 +60,14 @@ fn answer<R: Read, W: Write>(
     input: &mut R,
     output: &mut W,
 ) -> Result<bool, Fault>
-    ensures { (subcommand : Subcommand) → invocation ≡ Invocation.Document (Task.Answer subcommand)
+    ensures answer { (subcommand : Subcommand) → invocation ≡ Invocation.Document (Task.Answer subcommand)
         → OnOk result ((document : List ℕ) × IfSome (R.remaining input.old) (λ left. document ≡ left)
         × (line : List ℕ) × IsAnswerLine subcommand document line
         × Appends (W.contents output.old) (W.contents output.new) line) }
+    ensures check { (subcommand : Subcommand) → (is_strict : Bool)
+        → invocation ≡ Invocation.Document (Task.Check subcommand is_strict) → result ≡ Ok true
+        → (document : List ℕ) × IfSome (R.remaining input.old) (λ left. document ≡ left)
+        × IsValidDocument subcommand document }
 {
     match invocation {
         Invocation::Help => print(output, HELP)?,
@@ -76,10 +84,14 @@ fn answer_document<R: Read, W: Write>(
     input: &mut R,
     output: &mut W,
 ) -> Result<bool, Fault>
-    ensures { (subcommand : Subcommand) → task ≡ Task.Answer subcommand
+    ensures answer { (subcommand : Subcommand) → task ≡ Task.Answer subcommand
         → OnOk result ((document : List ℕ) × IfSome (R.remaining input.old) (λ left. document ≡ left)
         × (line : List ℕ) × IsAnswerLine subcommand document line
         × Appends (W.contents output.old) (W.contents output.new) line) }
+    ensures check { (subcommand : Subcommand) → (is_strict : Bool) → task ≡ Task.Check subcommand is_strict
+        → result ≡ Ok true
+        → (document : List ℕ) × IfSome (R.remaining input.old) (λ left. document ≡ left)
+        × IsValidDocument subcommand document }
 {
     let document = read_to_end(alloc, input)?;
     let Printed {

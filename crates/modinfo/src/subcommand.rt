@@ -4,7 +4,9 @@ ghost use Rattle.std.specs.Prelude.{◌≡◌, ◌≢◌, ℕ, IfErr, IfOk, IfSo
 ghost use Rattle.std.specs.String.{string_bytes};
 ghost use Rattle.serde_json.specs.View.{view};
 ghost use Rattle.deno_graph_source.specs.ParsedSource.{ParsedModule};
+ghost use Rattle.modinfo_check.specs.Report.{MatchReport};
 ghost use Rattle.modinfo.specs.Answer.{IsAnswerLine, IsAnswerText, IsConversionOf, IsInfoOfModule, IsInfoText, IsModuleOf, IsNoModule, name_of};
+ghost use Rattle.modinfo.specs.Answer.{IsFaultyDocument, IsValidDocument};
 
 use crate::fault::Fault;
 use crate::input::{parse_json, parse_source, read_to_end};
@@ -70,7 +72,10 @@ impl Subcommand {
 
 impl Subcommand {
     /// The report on a document of this subcommand. The only error is that memory was refused.
-    pub fn check(self, alloc: Global, document: &[u8]) -> Result<Report, AllocError> {
+    pub fn check(self, alloc: Global, document: &[u8]) -> Result<Report, AllocError>
+        ensures { IfOk result (MatchReport (IsValidDocument self document.now)
+            (IsFaultyDocument self document.now)) }
+    {
         let text = match compat::from_utf8(document) {
             Ok(text) => text,
             Err(error) => return report_bytes(alloc, document, error.valid_up_to()),

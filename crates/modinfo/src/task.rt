@@ -1,6 +1,6 @@
-ghost use Rattle.std.specs.Prelude.{◌≡◌, IfOk, IsTrue};
+ghost use Rattle.std.specs.Prelude.{◌≡◌, Bool, IfOk, IsTrue};
 ghost use Rattle.std.specs.String.{string_bytes};
-ghost use Rattle.modinfo.specs.Answer.{IsAnswerText};
+ghost use Rattle.modinfo.specs.Answer.{IsAnswerText, IsValidDocument};
 
 use crate::fault::Fault;
 use crate::subcommand::Subcommand;
@@ -31,9 +31,11 @@ pub struct Printed {
 impl Task {
     /// What is printed about a document.
     pub fn print(self, alloc: Global, document: Vec<u8>) -> Result<Printed, Fault>
-        ensures { (subcommand : Subcommand) → self ≡ Task.Answer subcommand
+        ensures answer { (subcommand : Subcommand) → self ≡ Task.Answer subcommand
             → IfOk result (λ printed. IsTrue printed.is_passed
             × IsAnswerText subcommand document.items (string_bytes printed.line)) }
+        ensures check { (subcommand : Subcommand) → (is_strict : Bool) → self ≡ Task.Check subcommand is_strict
+            → IfOk result (λ printed. IsTrue printed.is_passed → IsValidDocument subcommand document.items) }
     {
         match self {
             Task::Answer(subcommand) => Ok(Printed {

@@ -1,3 +1,14 @@
+//! Documents of `analyze`.
+
+ghost use Rattle.std.specs.Prelude.{◌≡◌, ℕ, IfOk, IfSome, IsNone, List, None, Ok};
+ghost use Rattle.std.specs.Rc.{rc_str_bytes};
+ghost use Rattle.flat_json.specs.View.{IsValueOf, tape_value};
+ghost use Rattle.url.specs.Parts.{Parts};
+ghost use Rattle.url.specs.Parser.{parse_url};
+ghost use Rattle.deno_graph_source.specs.Source.{HasFault, IsValid};
+ghost use Rattle.modinfo_notation.specs.Document.{IsDocumentOf};
+ghost use Rattle.modinfo_check.specs.Report.{ReportsOn};
+
 use crate::report::{Report, Wrong};
 use crate::source::wrong_source;
 use crate::syntax::wrong_text;
@@ -7,11 +18,12 @@ use flat_json::{Tape, TapeFault};
 use json::Scratch;
 use modinfo_notation::{Document, NotationFault, read_document};
 use std::alloc::{AllocError, Global};
-use url::{ParseError, Url};
 
 /// Checks a document of `analyze`: `Wrong` exactly where `analyze` has a fault, and of the same
 /// name. The only error is that memory was refused.
-pub fn check_document(alloc: Global, text: &str) -> Result<Report, AllocError> {
+pub fn check_document(alloc: Global, text: &str) -> Result<Report, AllocError>
+    ensures { IfOk result (ReportsOn text.now) }
+{
     let mut scratch = Scratch::new(alloc);
     match Tape::read(alloc, text, &mut scratch) {
         Ok(tape) => check_tape(alloc, &tape),
@@ -20,7 +32,9 @@ pub fn check_document(alloc: Global, text: &str) -> Result<Report, AllocError> {
     }
 }
 
-fn check_tape(alloc: Global, tape: &Tape<'_>) -> Result<Report, AllocError> {
+fn check_tape(alloc: Global, tape: &Tape<'_>) -> Result<Report, AllocError>
+    ensures { (text : List ℕ) → IsValueOf text (tape_value tape.now) → IfOk result (ReportsOn text) }
+{
     match read_document(alloc, tape.root()) {
         Ok(document) => check_parts(alloc, tape, &document),
         Err(NotationFault::OutOfMemory) => Err(AllocError),
@@ -43,10 +57,26 @@ fn wrong_notation(
     }
 }
 
-fn check_parts(alloc: Global, tape: &Tape<'_>, document: &Document) -> Result<Report, AllocError> {
-    if !is_url(alloc, document.specifier.as_str())? {
-        return Ok(Report::Wrong(wrong_specifier(alloc)?));
+fn check_parts(alloc: Global, tape: &Tape<'_>, document: &Document) -> Result<Report, AllocError>
+    ensures { (text : List ℕ) → IsDocumentOf text document.now → IfOk result (ReportsOn text) }
+{
+    match document.url(alloc) {
+        Ok(_) => check_source(alloc, tape, document),
+        Err(NotationFault::OutOfMemory) => Err(AllocError),
+        Err(fault) => Ok(Report::Wrong(wrong_specifier(alloc, &fault)?)),
     }
+}
+
+fn wrong_specifier(alloc: Global, fault: &NotationFault) -> Result<Wrong, AllocError> {
+    let name = format!(in alloc; "{fault}")?;
+    let pointer = String::from_str(alloc, "/specifier")?;
+    Ok(Wrong::of_value(name, pointer, String::from_str(alloc, "an absolute URL")?))
+}
+
+fn check_source(alloc: Global, tape: &Tape<'_>, document: &Document) -> Result<Report, AllocError>
+    ensures { (text : List ℕ) → IsDocumentOf text document.now
+        → (url : Parts) → parse_url None document.now.specifier ≡ Ok url → IfOk result (ReportsOn text) }
+{
     match fault_place(alloc, document)? {
         Some(found) => {
             let length = document.source.len();
@@ -56,21 +86,12 @@ fn check_parts(alloc: Global, tape: &Tape<'_>, document: &Document) -> Result<Re
     }
 }
 
-fn is_url(alloc: Global, specifier: &str) -> Result<bool, AllocError> {
-    match Url::parse(alloc, specifier) {
-        Ok(_) => Ok(true),
-        Err(ParseError::OutOfMemory | ParseError::Overflow) => Err(AllocError),
-        Err(_) => Ok(false),
-    }
-}
-
-fn fault_place(alloc: Global, document: &Document) -> Result<Option<SourceFaultPlace>, AllocError> {
+fn fault_place(alloc: Global, document: &Document) -> Result<Option<SourceFaultPlace>, AllocError>
+    ensures valid { IfOk result (λ found. IsNone found
+        → IsValid (rc_str_bytes document.now.source) document.now.program document.now.comments) }
+    ensures fault { IfOk result (λ found. IfSome found (λ found.
+        HasFault (rc_str_bytes document.now.source) document.now.program document.now.comments found.fault)) }
+{
     let text = document.source.as_str();
     source_fault_place(alloc, text, &document.program, &document.comments)
-}
-
-fn wrong_specifier(alloc: Global) -> Result<Wrong, AllocError> {
-    let name = format!(in alloc; "{}", NotationFault::Specifier)?;
-    let pointer = String::from_str(alloc, "/specifier")?;
-    Ok(Wrong::of_value(name, pointer, String::from_str(alloc, "an absolute URL")?))
 }

@@ -1,3 +1,6 @@
+ghost use Rattle.std.specs.Prelude.{◌↔◌, IsTrue};
+ghost use Rattle.modinfo_check.specs.Report.{Passes};
+
 use crate::text_place::TextPlace;
 use crate::warning::{Warning, Warnings};
 use deno_graph_dependency::json_form::TextWriter;
@@ -70,7 +73,9 @@ pub enum Report {
 
 impl Report {
     /// Whether the document is valid and, where warnings count, has none.
-    pub fn passes(&self, is_strict: bool) -> bool {
+    pub fn passes(&self, is_strict: bool) -> bool
+        ensures { IsTrue result ↔ Passes is_strict self.now }
+    {
         match self {
             Report::Valid(warnings) => !is_strict || warnings.is_empty(),
             Report::Wrong(_) => false,

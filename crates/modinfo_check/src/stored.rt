@@ -1,5 +1,10 @@
 //! Documents of `convert` and `reach`: stored information.
 
+ghost use Rattle.std.specs.Prelude.{IfOk, MatchOption};
+ghost use Rattle.serde_json.specs.View.{view};
+ghost use Rattle.deno_graph_info.specs.Conversion.{IsConvertFault};
+ghost use Rattle.modinfo_check.specs.Report.{CanBeConverted, ReportsOnStored, ReportsOnValue};
+
 use crate::form::{Form, FormFault, Search, find_float, members_of};
 use crate::pointer::{Step, pointer_of};
 use crate::report::{Report, Wrong};
@@ -109,20 +114,26 @@ fn info_fault(alloc: Global, module: &Value) -> Option<InfoFault> {
 }
 
 /// Why stored information can't be converted, if it can't.
-fn convert_fault(alloc: Global, value: &mut Value) -> Option<ConvertFault> {
+fn convert_fault(alloc: Global, value: &mut Value) -> Option<ConvertFault>
+    ensures { MatchOption result (CanBeConverted (view value.old)) (IsConvertFault (view value.old)) }
+{
     module_graph_1_to_2(alloc, value).err()
 }
 
 /// Checks a document of `convert`, the stored information of one module: `Wrong` exactly where
 /// `convert` has a fault, and of the same name. The only error is that memory was refused.
-pub fn check_stored(alloc: Global, text: &str) -> Result<Report, AllocError> {
+pub fn check_stored(alloc: Global, text: &str) -> Result<Report, AllocError>
+    ensures { IfOk result (ReportsOnStored text.now) }
+{
     match read_json(alloc, text)? {
         Some(mut value) => report_stored(alloc, &mut value),
         None => Ok(Report::Wrong(wrong_json(alloc, text)?)),
     }
 }
 
-fn report_stored(alloc: Global, value: &mut Value) -> Result<Report, AllocError> {
+fn report_stored(alloc: Global, value: &mut Value) -> Result<Report, AllocError>
+    ensures { IfOk result (ReportsOnValue (view value.old)) }
+{
     match convert_fault(alloc, value) {
         None => Ok(Report::Valid(Warnings::new(alloc))),
         Some(ConvertFault::OutOfMemory) => Err(AllocError),

@@ -1,5 +1,10 @@
 //! Documents that are no JSON, or no text.
 
+ghost use Rattle.std.specs.Prelude.{◌≡◌, IfOk, option_map, ⊤};
+ghost use Rattle.serde_json.specs.Read.{read as read_text};
+ghost use Rattle.serde_json.specs.View.{view};
+ghost use Rattle.modinfo_check.specs.Report.{MatchReport};
+
 use crate::first_wrong::first_wrong;
 use crate::report::{Report, Wrong};
 use crate::text_place::TextPlace;
@@ -11,7 +16,9 @@ use simdutf8::basic;
 use std::alloc::{AllocError, Global};
 
 /// The JSON value that the text is, if it is one.
-pub fn read_json(alloc: Global, text: &str) -> Result<Option<Value>, AllocError> {
+pub fn read_json(alloc: Global, text: &str) -> Result<Option<Value>, AllocError>
+    ensures { IfOk result (λ value. read_text text.now ≡ option_map view value) }
+{
     match Value::from_str(alloc, text) {
         Ok(value) => Ok(Some(value)),
         Err(error) if error.is_memory() => Err(AllocError),
@@ -38,7 +45,9 @@ pub fn wrong_text(alloc: Global, text: &str, offset: usize) -> Result<Wrong, All
 }
 
 /// The report on bytes that are no text: so many of them are UTF-8.
-pub fn report_bytes(alloc: Global, bytes: &[u8], valid: usize) -> Result<Report, AllocError> {
+pub fn report_bytes(alloc: Global, bytes: &[u8], valid: usize) -> Result<Report, AllocError>
+    ensures { IfOk result (MatchReport ⊥ ⊤) }
+{
     let before = bytes.get(..valid).unwrap_or(&[]);
     let text = basic::from_utf8(before).unwrap_or("");
     let at = TextPlace::new(text, text.len());

@@ -1,3 +1,5 @@
+ghost use Rattle.std.specs.Prelude.{◌≡◌, ◌↔◌, [], IsTrue};
+
 use flat_json::{Element, Tape};
 use std::alloc::{AllocError, Global};
 
@@ -32,7 +34,9 @@ impl Warnings {
     }
 
     /// Whether there are none.
-    pub fn is_empty(&self) -> bool {
+    pub fn is_empty(&self) -> bool
+        ensures { IsTrue result ↔ (self.now.kept.items ≡ []) }
+    {
         self.kept.is_empty()
     }
 

@@ -4,3 +4,4 @@ pub mod Filed
 pub mod Documents
 pub mod Places
 pub mod FoundComments
+pub mod Urls

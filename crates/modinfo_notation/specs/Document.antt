@@ -1,5 +1,5 @@
 -- A document: what it states, and the text that it is read from.
-use Rattle.std.specs.Prelude.{◌≡◌, List, codes, ℕ, Option, Some, None, Ok, Err, false, IsSomeAnd}
+use Rattle.std.specs.Prelude.{◌≡◌, ◌⊎◌, List, codes, ℕ, Option, Some, None, Ok, Err, false, IsSomeAnd}
 use Rattle.std.specs.Rc.{rc_str_bytes}
 use Rattle.flat_json.specs.Flat.{IsRefused}
 use Rattle.flat_json.specs.Value.{Value, Members, as_object, as_str}
@@ -100,3 +100,8 @@ IsNoSource document (Source fault) = HasFault
 IsNoSource document OutOfMemory = Unit {0}
 IsNoSource document (Json _) = ⊥
 IsNoSource document (NotInNotation _) = ⊥
+
+-- the notation's fault in a text: of the text itself, or of the document that it states
+abbrev pub HasNotationFault : List ℕ → NotationFault → Type 0
+HasNotationFault text fault = IsNoDocument text fault
+    ⊎ ((document : Document) × IsDocumentOf text document × IsNoSource document fault)

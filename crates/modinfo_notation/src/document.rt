@@ -1,6 +1,7 @@
 //! Documents: modules as a parser hands them over.
 
-ghost use Rattle.std.specs.Prelude.{IfErr, MatchResult};
+ghost use Rattle.std.specs.Prelude.{◌≡◌, IfErr, MatchResult, None, Ok};
+ghost use Rattle.url.specs.Parser.{parse_url};
 ghost use Rattle.flat_json.specs.Tape.{object_of_members};
 ghost use Rattle.flat_json.specs.View.{members_of, value_of};
 ghost use Rattle.modinfo_notation.specs.Answer.{AnswersBy};
@@ -75,6 +76,14 @@ pub fn parse_document(alloc: Global, text: &str) -> Result<Document, NotationFau
 }
 
 impl Document {
+    /// The URL that the specifier spells. `Specifier` where it is none.
+    pub fn url(&self, alloc: Global) -> Result<Url, NotationFault>
+        ensures { MatchResult result (λ url. parse_url None self.now.specifier ≡ Ok url)
+            (IsNoSource self.now) }
+    {
+        Ok(Url::parse(alloc, self.specifier.as_str())?)
+    }
+
     /// The source, without scope analysis. `Specifier` where the specifier is no URL, and else a
     /// fault of the source where the tree or the comments don't fit it.
     pub fn into_source(self, alloc: Global) -> Result<ParsedSource, NotationFault>

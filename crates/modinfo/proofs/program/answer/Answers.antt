@@ -12,6 +12,12 @@ document_task other Version = other
 document_task other (Lines _) = other
 
 -- the task that was matched is the subcommand's
-pub returns-in-Document : goal.returns-in-Document
-returns-in-Document g c subcommand is =
-    c.answer_document.ensures subcommand (ap (document_task c.in-Document.task) (sym c.in-Document.is ∙ is))
+pub returns-in-Document-clause-answer : goal.returns-in-Document-clause-answer
+returns-in-Document-clause-answer g c subcommand is =
+    c.answer_document.ensures.answer subcommand
+    (ap (document_task c.in-Document.task) (sym c.in-Document.is ∙ is))
+
+pub returns-in-Document-clause-check : goal.returns-in-Document-clause-check
+returns-in-Document-clause-check g c subcommand is_strict is =
+    c.answer_document.ensures.check subcommand is_strict
+    (ap (document_task c.in-Document.task) (sym c.in-Document.is ∙ is))

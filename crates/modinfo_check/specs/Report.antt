@@ -1,0 +1,70 @@
+-- What a report says of a text.
+use Rattle.std.specs.Prelude.{◌≡◌, ◌≢◌, ◌⊎◌, ℕ, Bool, List, [], None, Some, Ok, true, false}
+use Rattle.std.specs.Rc.{rc_str_bytes}
+use Rattle.serde_json.specs.Data.{Data}
+use Rattle.serde_json.specs.Read.{read as read_text}
+use Rattle.serde_json.specs.Written.{has_float}
+use Rattle.url.specs.Parts.{Parts}
+use Rattle.url.specs.Parser.{parse_url}
+use Rattle.deno_graph_source.specs.Source.{IsValid}
+use Rattle.deno_graph_info.specs.Conversion.{IsConverted, IsConvertFault}
+use Rattle.deno_graph_info.specs.declared.conversion.fault.ConvertFault.{ConvertFault}
+use Rattle.deno_graph_info.specs.declared.conversion.fault.ConvertFault.TheVariants as convert
+use Rattle.modinfo_notation.specs.Document.{HasNotationFault, IsDocumentOf}
+use Rattle.modinfo_notation.specs.declared.document.Document.{Document}
+use Rattle.modinfo_notation.specs.declared.fault.NotationFault.{NotationFault}
+use Rattle.modinfo_notation.specs.declared.fault.NotationFault.TheVariants.{OutOfMemory}
+use Rattle.modinfo_check.specs.declared.report.Report.{Report}
+use Rattle.modinfo_check.specs.declared.report.Report.TheVariants.{Valid, Wrong}
+
+-- the one of a document that is reported as valid, the other of one that is reported as wrong
+abbrev pub MatchReport : Type 0 → Type 0 → Report → Type 0
+MatchReport IsRight IsWrong (Valid warnings) = IsRight
+MatchReport IsRight IsWrong (Wrong wrong) = IsWrong
+
+-- the report says that the document is valid and, where warnings count, has none
+abbrev pub Passes : Bool → Report → Type 0
+Passes is_strict (Valid warnings) = is_strict ≡ true → warnings.kept.items ≡ []
+Passes is_strict (Wrong wrong) = ⊥
+
+-- The text states a valid source: a document whose specifier is a URL, and whose tree and comments fit its
+-- source.
+pub record StatesSource (text : List ℕ) : Type 0 where
+  pub document : Document
+  pub is_stated : IsDocumentOf text document
+  pub has_url : (url : Parts) × (parse_url None document.specifier ≡ Ok url)
+  pub is_valid : IsValid (rc_str_bytes document.source) document.program document.comments
+
+-- the text has a fault of the notation, other than that memory was refused
+abbrev pub StatesNoSource : List ℕ → Type 0
+StatesNoSource text = (fault : NotationFault) × (fault ≢ OutOfMemory) × HasNotationFault text fault
+
+-- a document of `analyze` is valid only where it states a valid source, and wrong only where it has a fault
+abbrev pub ReportsOn : List ℕ → Report → Type 0
+ReportsOn text = MatchReport (StatesSource text) (StatesNoSource text)
+
+-- the value has no float, and is converted to another
+abbrev pub CanBeConverted : Data → Type 0
+CanBeConverted before = (has_float before ≡ false) × ((after : Data) × IsConverted before after)
+
+-- the value has a fault of the conversion, other than that memory was refused
+abbrev pub CannotBeConverted : Data → Type 0
+CannotBeConverted before = (fault : ConvertFault) × (fault ≢ convert.OutOfMemory)
+    × IsConvertFault before fault
+
+-- the same of the value of stored information
+abbrev pub ReportsOnValue : Data → Report → Type 0
+ReportsOnValue before = MatchReport (CanBeConverted before) (CannotBeConverted before)
+
+-- the text is JSON that can be converted
+abbrev pub StatesConvertible : List ℕ → Type 0
+StatesConvertible text = (before : Data) × (read_text text ≡ Some before) × CanBeConverted before
+
+-- the text is no JSON, or JSON that can't be converted
+abbrev pub StatesNoConvertible : List ℕ → Type 0
+StatesNoConvertible text = (read_text text ≡ None)
+    ⊎ ((before : Data) × (read_text text ≡ Some before) × CannotBeConverted before)
+
+-- the same of a document of `convert`
+abbrev pub ReportsOnStored : List ℕ → Report → Type 0
+ReportsOnStored text = MatchReport (StatesConvertible text) (StatesNoConvertible text)
