@@ -25,21 +25,29 @@ use std::rc::{Rc, RcStr};
 use url::Url;
 
 pub fn run<R: AllocGlobal + Print>(rt: &R, words: &[&str]) -> Result<()> {
-    let alloc = rt.alloc();
+    let commands = commands_from(rt.alloc(), words)?;
+    if words.get(5).is_none() {
+        print_answers(rt, &commands)?;
+    }
+    Ok(())
+}
+
+fn commands_from(alloc: Global, words: &[&str]) -> Result<Vec<Command>> {
     let analyzes = *words.first().context("parse or analyze?")? == "analyze";
     let turns = number(words, 1)?;
     let texts = texts_of(alloc, number(words, 2)?, number(words, 4)?)?;
     let specifiers = specifiers_of(alloc, number(words, 3)?)?;
-    let commands = commands_of(alloc, analyzes, turns, &texts, &specifiers)?;
-    if words.get(5).is_some() {
-        return Ok(());
-    }
+    Ok(commands_of(alloc, analyzes, turns, &texts, &specifiers)?)
+}
+
+fn print_answers<R: AllocGlobal + Print>(rt: &R, commands: &[Command]) -> Result<()> {
+    let alloc = rt.alloc();
     let parsed = Rc::new(alloc, Cell::new(0))?;
     let parser = LineParser {
         parsed: parsed.clone()?,
     };
     let mut analyzer = CapturingModuleAnalyzer::new(parser, DefaultParsedSourceStore::new(alloc));
-    let answers = ast::run(alloc, &mut analyzer, &commands)?;
+    let answers = ast::run(alloc, &mut analyzer, commands)?;
     println!(rt; "{} answers, {} parsed", answers.len(), parsed.get())?;
     Ok(())
 }
@@ -140,13 +148,19 @@ fn command(analyzes: bool, specifier: &Url, text: &RcStr) -> Result<Command, All
 fn texts_of(alloc: Global, count: usize, lines: usize) -> Result<Vec<RcStr>, AllocError> {
     let mut texts = Vec::new(alloc);
     for number in 0..count {
-        let mut text = String::new(alloc);
-        for line in 0..lines {
-            text.push_str(format!(in alloc; "./modules/{number:03}/{line:05}.ts\n")?.as_str())?;
-        }
+        let text = text_of(alloc, number, lines)?;
         texts.push(RcStr::from_str(alloc, text.as_str())?)?;
     }
     Ok(texts)
+}
+
+fn text_of(alloc: Global, number: usize, lines: usize) -> Result<String, AllocError> {
+    let mut text = String::new(alloc);
+    for line in 0..lines {
+        let line = format!(in alloc; "./modules/{number:03}/{line:05}.ts\n")?;
+        text.push_str(line.as_str())?;
+    }
+    Ok(text)
 }
 
 fn specifiers_of(alloc: Global, count: usize) -> Result<Vec<Url>> {

@@ -40,9 +40,12 @@ pub fn run<R: AllocGlobal + Print>(rt: &R, words: &[&str]) -> Result<()> {
     if mode == "source" {
         return Ok(());
     }
-    let info = module_info(alloc, &source)?;
-    println!(rt; "{} dependencies", info.dependencies.len())?;
+    println!(rt; "{} dependencies", dependency_count(alloc, &source)?)?;
     Ok(())
+}
+
+fn dependency_count(alloc: Global, source: &ParsedSource) -> Result<usize, AllocError> {
+    Ok(module_info(alloc, source)?.dependencies.len())
 }
 
 /// The line, so many times.

@@ -32,9 +32,11 @@ impl ParsedSourceStore for CountingStore {
         specifier: Url,
         source: ParsedSource,
     ) -> Result<Option<ParsedSource>, AllocError> {
-        let former = self.store.set_parsed_source(alloc, specifier, source)?;
-        self.kept.set(self.kept.get().saturating_add(1));
-        Ok(former)
+        let former = self.store.set_parsed_source(alloc, specifier, source);
+        if former.is_ok() {
+            self.kept.set(self.kept.get().saturating_add(1));
+        }
+        former
     }
 
     fn get_parsed_source(
@@ -148,22 +150,31 @@ fn analyze_second(
     tested: &mut Tested,
     expected: &ModuleInfo,
 ) -> Result<Outcome, Fault> {
-    let found = tested.ask(alloc)?;
+    let outcome = ask_for_second(alloc, tested, expected);
     check(
         tested.has_last(alloc)?,
         "the source isn't the one that was kept last",
     )?;
-    outcome(found, expected, tested.is_parsed())
+    outcome
+}
+
+fn ask_for_second(
+    alloc: Global,
+    tested: &mut Tested,
+    expected: &ModuleInfo,
+) -> Result<Outcome, Fault> {
+    let found = tested.ask(alloc)?;
+    outcome(&found, expected, tested.is_parsed())
 }
 
 fn outcome(
-    found: Result<ModuleInfo, AnalyzeError>,
+    found: &Result<ModuleInfo, AnalyzeError>,
     expected: &ModuleInfo,
     is_parsed: bool,
 ) -> Result<Outcome, Fault> {
     match found {
         Ok(info) => {
-            check(is_parsed && info == *expected, "the information is another")?;
+            check(is_parsed && info == expected, "the information is another")?;
             Ok(Outcome::Answered)
         }
         Err(AnalyzeError::OutOfMemory) if is_parsed => Ok(Outcome::Refused),

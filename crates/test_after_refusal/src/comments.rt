@@ -40,12 +40,7 @@ const POSITIONS: usize = 18;
 /// A refused filing leaves every look-up as it was, and is answered when it is tried again.
 pub fn file_all(alloc: Global) -> Result<Outcome, Fault> {
     let mut comments = Comments::new(alloc);
-    let mut outcome = Outcome::Answered;
-    for (side, pos) in FILINGS {
-        if file_one(alloc, &mut comments, side, pos)? == Outcome::Refused {
-            outcome = Outcome::Refused;
-        }
-    }
+    let outcome = file_each(alloc, &mut comments)?;
     check(
         count(alloc, &comments)? == FILINGS.len(),
         "a comment is missing",
@@ -53,7 +48,16 @@ pub fn file_all(alloc: Global) -> Result<Outcome, Fault> {
     Ok(outcome)
 }
 
-/// Files a comment, again where that was refused.
+fn file_each(alloc: Global, comments: &mut Comments) -> Result<Outcome, Fault> {
+    let mut outcome = Outcome::Answered;
+    for (side, pos) in &FILINGS {
+        if file_one(alloc, comments, *side, *pos)? == Outcome::Refused {
+            outcome = Outcome::Refused;
+        }
+    }
+    Ok(outcome)
+}
+
 fn file_one(
     alloc: Global,
     comments: &mut Comments,
@@ -61,18 +65,29 @@ fn file_one(
     pos: usize,
 ) -> Result<Outcome, Fault> {
     let before = comments.try_clone(alloc)?;
-    let comment = comment(alloc, pos)?;
-    let mut outcome = Outcome::Answered;
-    if file(comments, side, pos, comment).is_err() {
-        outcome = Outcome::Refused;
-        check_unchanged(alloc, comments, &before)?;
-        file(comments, side, pos, self::comment(alloc, pos)?)?;
-    }
+    let outcome = file_behind(alloc, comments, &before, side, pos)?;
     check(
         is_filed(comments, &before, side, pos),
         "a comment isn't where it was filed",
     )?;
     Ok(outcome)
+}
+
+/// Files a comment behind those from before, again where that was refused.
+fn file_behind(
+    alloc: Global,
+    comments: &mut Comments,
+    before: &Comments,
+    side: Side,
+    pos: usize,
+) -> Result<Outcome, Fault> {
+    let comment = comment(alloc, pos)?;
+    if file(comments, side, pos, comment).is_ok() {
+        return Ok(Outcome::Answered);
+    }
+    check_unchanged(alloc, comments, before)?;
+    file(comments, side, pos, self::comment(alloc, pos)?)?;
+    Ok(Outcome::Refused)
 }
 
 fn check_unchanged(alloc: Global, comments: &Comments, before: &Comments) -> Result<(), Fault> {

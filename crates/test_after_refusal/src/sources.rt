@@ -27,20 +27,31 @@ pub fn source(alloc: Global, specifier: &str, text: &str) -> Result<ParsedSource
 
 /// A source under `U` that is one comment of JSDoc: an import behind hundreds of braces.
 pub fn braces(alloc: Global) -> Result<ParsedSource, Fault> {
+    let text = text_of_braces(alloc)?;
+    let source = format!(in alloc; "/*{text}*/")?;
+    let comments = comments_of(alloc, text.as_str(), source.len())?;
+    source_of(alloc, U, source.as_str(), Items::new(alloc), comments)
+}
+
+fn text_of_braces(alloc: Global) -> Result<String, AllocError> {
     let mut text = String::from_str(alloc, "*")?;
     for _ in 0..300 {
         text.push('{')?;
     }
     text.push_str(" import('a') }")?;
-    let source = format!(in alloc; "/*{text}*/")?;
+    Ok(text)
+}
+
+/// The comment that a source of this length is.
+fn comments_of(alloc: Global, text: &str, end: usize) -> Result<Comments, AllocError> {
     let comment = DependencyComment {
         kind: CommentKind::Block,
-        range: SourceRange::new(0, source.len()),
-        text: Text::from_str(alloc, text.as_str())?,
+        range: SourceRange::new(0, end),
+        text: Text::from_str(alloc, text)?,
     };
     let mut comments = Comments::new(alloc);
     comments.add_leading(0, comment)?;
-    source_of(alloc, U, source.as_str(), Items::new(alloc), comments)
+    Ok(comments)
 }
 
 /// The information on a source. Its contract is left behind here, since a caller's proof needs none.
@@ -74,7 +85,7 @@ fn source_of(
 /// A parser of the texts `a` and `b`, which counts its calls.
 pub fn parser(alloc: Global, calls: &Rc<Cell<u64>>) -> Result<TableParser, Fault> {
     let mut sources = Vec::new(alloc);
-    for (specifier, text) in [(U, "a"), (U, "b"), (V, "a"), (V, "b")] {
+    for (specifier, text) in &[(U, "a"), (U, "b"), (V, "a"), (V, "b")] {
         sources.push(source(alloc, specifier, text)?)?;
     }
     Ok(TableParser::new(sources, calls.clone()?))

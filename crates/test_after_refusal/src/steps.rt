@@ -25,12 +25,16 @@ type Given<'a> = (Option<&'a Node>, u64);
 /// each step after it gives what it would have given.
 pub fn through_a_deep_tree(alloc: Global) -> Result<Outcome, Fault> {
     let program = program(deep(alloc)?);
-    let expected = all_given(alloc, &program)?;
+    step_through(alloc, &program)
+}
+
+fn step_through(alloc: Global, program: &Program) -> Result<Outcome, Fault> {
+    let expected = all_given(alloc, program)?;
     check(
         expected.iter().filter(|(node, _)| node.is_some()).count() == 3,
         "a dependency is missing",
     )?;
-    take_steps(&mut Walk::new(alloc, &program), &expected)
+    take_steps(&mut Walk::new(alloc, program), &expected)
 }
 
 fn take_steps<'a>(walk: &mut Walk<'a>, expected: &[Given<'a>]) -> Result<Outcome, Fault> {
@@ -59,8 +63,12 @@ fn take_steps<'a>(walk: &mut Walk<'a>, expected: &[Given<'a>]) -> Result<Outcome
 /// The first step enters one node, however many there are.
 pub fn into_a_wide_tree(alloc: Global) -> Result<Outcome, Fault> {
     let program = program(wide(alloc)?);
+    step_into(alloc, &program)
+}
+
+fn step_into(alloc: Global, program: &Program) -> Result<Outcome, Fault> {
     let first = program.body.first();
-    let mut walk = Walk::new(alloc, &program);
+    let mut walk = Walk::new(alloc, program);
     let (given, outcome) = match walk.step() {
         Ok(given) => (given, Outcome::Answered),
         Err(_) => (walk.step()?, Outcome::Refused),

@@ -35,18 +35,20 @@ impl Tested {
     }
 
     fn keep_first(&mut self, alloc: Global) -> Result<(), Fault> {
-        let specifier = self.u.clone()?;
-        drop(self.set(alloc, specifier, source(alloc, U, "a")?)?);
+        drop(self.set(alloc, U, "a")??);
         Ok(())
     }
 
+    /// What the store answers when it is handed the source of this text.
     fn set(
         &mut self,
         alloc: Global,
-        specifier: Url,
-        source: ParsedSource,
-    ) -> Result<Option<ParsedSource>, AllocError> {
-        self.store.set_parsed_source(alloc, specifier, source)
+        specifier: &str,
+        text: &str,
+    ) -> Result<Result<Option<ParsedSource>, AllocError>, Fault> {
+        let source = source(alloc, specifier, text)?;
+        let specifier = Url::parse(alloc, specifier)?;
+        Ok(self.store.set_parsed_source(alloc, specifier, source))
     }
 
     /// Parses `b` under `U` by a parser that keeps its answer in the store.
@@ -95,8 +97,7 @@ pub fn set_another(alloc: Global) -> Result<Outcome, Fault> {
 }
 
 fn set_beside(alloc: Global, tested: &mut Tested, second: &ParsedSource) -> Result<Outcome, Fault> {
-    let (specifier, handed_in) = (tested.v.clone()?, source(alloc, V, "b")?);
-    let outcome = outcome_of_set(tested.set(alloc, specifier, handed_in), None)?;
+    let outcome = outcome_of_set(tested.set(alloc, V, "b")?, None)?;
     let kept = (outcome == Outcome::Answered).then_some(second);
     check(
         tested.holds(alloc, &tested.first, kept)?,
@@ -117,8 +118,7 @@ fn set_in_place(
     tested: &mut Tested,
     second: &ParsedSource,
 ) -> Result<Outcome, Fault> {
-    let (specifier, handed_in) = (tested.u.clone()?, source(alloc, U, "b")?);
-    let set = tested.set(alloc, specifier, handed_in);
+    let set = tested.set(alloc, U, "b")?;
     let outcome = outcome_of_set(set, Some(&tested.first))?;
     let kept = if outcome == Outcome::Answered {
         second

@@ -5,10 +5,11 @@ use deno_graph_info::analysis::{
     JsDocImportInfo, SpecifierWithRange, TypeScriptTypesResolutionMode,
 };
 use deno_graph_source::text::{Position, PositionRange};
-use deno_graph_source::tree::MediaType;
+use deno_graph_source::tree::{MediaType, ParsedSource};
 use deno_graph_source::values::Text;
 use modinfo::parse_document;
 use std::alloc::{AllocError, Global};
+use std::process::Abort;
 use std::test::Fail;
 
 /// Two comments, filed from the last to the first, one of them twice; the second has a mode.
@@ -41,36 +42,78 @@ fn specifier(
     })
 }
 
+/// An import of JSDoc, of a specifier in one line.
+fn import(
+    alloc: Global,
+    text: &str,
+    line: usize,
+    start: usize,
+    end: usize,
+    resolution_mode: Option<TypeScriptTypesResolutionMode>,
+) -> Result<JsDocImportInfo, AllocError> {
+    Ok(JsDocImportInfo {
+        specifier: specifier(alloc, text, line, start, end)?,
+        resolution_mode,
+    })
+}
+
 #[test]
 fn imports_by_ascending_start(rt: HostRuntime) -> Result<(), Fail> {
-    let alloc = rt.alloc();
-    let source = parse_document(alloc, JSDOC)?.into_source(alloc)?;
+    let source = parse_document(rt.alloc(), JSDOC)?.into_source(rt.alloc())?;
     assert_eq!(rt; source.media_type(), MediaType::JavaScript);
+    assert_imports(&rt, rt.alloc(), &source)
+}
+
+fn assert_imports(rt: &impl Abort, alloc: Global, source: &ParsedSource) -> Result<(), Fail> {
+    let mode = Some(TypeScriptTypesResolutionMode::Require);
     let expected = [
-        JsDocImportInfo {
-            specifier: specifier(alloc, "a", 0, 12, 15)?,
-            resolution_mode: None,
-        },
-        JsDocImportInfo {
-            specifier: specifier(alloc, "b", 1, 19, 22)?,
-            resolution_mode: Some(TypeScriptTypesResolutionMode::Require),
-        },
+        import(alloc, "a", 0, 12, 15, None)?,
+        import(alloc, "b", 1, 19, 22, mode)?,
     ];
-    assert!(rt; imports_of(alloc, &source)?.as_slice() == expected.as_slice());
-    let typed = parse_document(alloc, TYPES)?.into_source(alloc)?;
-    assert!(rt; imports_of(alloc, &typed)?.is_empty());
+    assert!(rt; imports_of(alloc, source)?.as_slice() == expected.as_slice());
     Ok(())
 }
 
 #[test]
+fn no_imports_of_a_typed_source(rt: HostRuntime) -> Result<(), Fail> {
+    let typed = parse_document(rt.alloc(), TYPES)?.into_source(rt.alloc())?;
+    assert!(rt; imports_of(rt.alloc(), &typed)?.is_empty());
+    Ok(())
+}
+
+/// A position, and the types before it: a text, its line, and the characters between which it is.
+type Row = (usize, Option<(&'static str, usize, usize, usize)>);
+
+const ROWS: [Row; 4] = [
+    (34, Some(("c", 1, 13, 16))),
+    (40, Some(("a", 0, 15, 16))),
+    (46, None),
+    (0, None),
+];
+
+#[test]
 fn types_of_the_last_comment(rt: HostRuntime) -> Result<(), Fail> {
-    let alloc = rt.alloc();
-    let source = parse_document(alloc, TYPES)?.into_source(alloc)?;
-    let quoted = specifier(alloc, "c", 1, 13, 16)?;
-    assert!(rt; types_at(alloc, &source, 34)? == Some(quoted));
-    let unquoted = specifier(alloc, "a", 0, 15, 16)?;
-    assert!(rt; types_at(alloc, &source, 40)? == Some(unquoted));
-    assert!(rt; types_at(alloc, &source, 46)?.is_none());
-    assert!(rt; types_at(alloc, &source, 0)?.is_none());
+    let source = parse_document(rt.alloc(), TYPES)?.into_source(rt.alloc())?;
+    for row in &ROWS {
+        assert_types(&rt, rt.alloc(), &source, row)?;
+    }
+    Ok(())
+}
+
+fn assert_types(
+    rt: &impl Abort,
+    alloc: Global,
+    source: &ParsedSource,
+    row: &Row,
+) -> Result<(), Fail> {
+    let (pos, expected) = row;
+    let found = types_at(alloc, source, *pos)?;
+    match expected {
+        Some((text, line, start, end)) => {
+            let expected = specifier(alloc, text, *line, *start, *end)?;
+            assert!(rt; found == Some(expected), "{pos}");
+        }
+        None => assert!(rt; found.is_none(), "{pos}"),
+    }
     Ok(())
 }

@@ -11,6 +11,7 @@ use deno_graph_source::values::TryClone;
 use modinfo::notation::NotationFault;
 use modinfo::parse_document;
 use std::alloc::{AllocError, Global};
+use std::process::Abort;
 use std::test::Fail;
 
 /// An import of a type with an attribute behind a comment, and a call of `require`.
@@ -25,15 +26,24 @@ fn source(alloc: Global) -> Result<ParsedSource, NotationFault> {
 
 #[test]
 fn dependencies_by_their_parts(rt: HostRuntime) -> Result<(), Fail> {
-    let info = module_info(rt.alloc(), &source(rt.alloc())?)?;
+    let source = source(rt.alloc())?;
+    let info = info_of(rt.alloc(), &source)?;
+    assert_parts(&rt, rt.alloc(), &info)
+}
+
+/// The information on a source. Its contract is left behind here, since a caller's proof needs none.
+fn info_of(alloc: Global, source: &ParsedSource) -> Result<ModuleInfo, AllocError> {
+    module_info(alloc, source)
+}
+
+fn assert_parts(rt: &impl Abort, alloc: Global, info: &ModuleInfo) -> Result<(), Fail> {
     assert!(rt; info.dependencies.first().is_some_and(is_the_import));
     assert!(rt; info.dependencies.last().is_some_and(is_the_call));
     for dependency in info.dependencies.iter() {
-        assert!(rt; is_made_again(rt.alloc(), dependency)?);
+        assert!(rt; is_made_again(alloc, dependency)?);
     }
-    let copy = info.try_clone(rt.alloc())?;
-    assert!(rt; copy == info);
-    assert!(rt; copy != ModuleInfo::new(rt.alloc()));
+    assert!(rt; info.try_clone(alloc)? == *info);
+    assert!(rt; *info != ModuleInfo::new(alloc));
     Ok(())
 }
 
@@ -73,7 +83,15 @@ fn is_made_again(alloc: Global, dependency: &DependencyDescriptor) -> Result<boo
 #[test]
 fn borrowed_dependencies_by_their_parts(rt: HostRuntime) -> Result<(), Fail> {
     let source = source(rt.alloc())?;
-    let found = analyze_program_dependencies(rt.alloc(), source.program(), source.comments())?;
+    assert_borrowed_parts(&rt, rt.alloc(), &source)
+}
+
+fn assert_borrowed_parts(
+    rt: &impl Abort,
+    alloc: Global,
+    source: &ParsedSource,
+) -> Result<(), Fail> {
+    let found = analyze_program_dependencies(alloc, source.program(), source.comments())?;
     let leading = source.comments().get_leading(5).unwrap_or(&[]);
     assert_eq!(rt; leading.len(), 1);
     assert!(rt;
@@ -83,7 +101,7 @@ fn borrowed_dependencies_by_their_parts(rt: HostRuntime) -> Result<(), Fail> {
     );
     assert!(rt; found.last().is_some_and(is_the_borrowed_call));
     for dependency in found.iter() {
-        assert!(rt; dependency.try_clone(rt.alloc())? == *dependency);
+        assert!(rt; dependency.try_clone(alloc)? == *dependency);
     }
     Ok(())
 }

@@ -18,10 +18,11 @@ use crate::trees::{calls, nested, operands, types};
 use anyhow::{Context, Result, bail};
 use deno_graph_analysis::ast::module_info;
 use deno_graph_analysis::jsdoc::scan;
+use deno_graph_info::analysis::ModuleInfo;
 use deno_graph_source::text::SourceRange;
 use deno_graph_source::tree::{Comments, MediaType, Node, ParsedSource, Program};
 use deno_graph_source::values::Items;
-use std::alloc::Global;
+use std::alloc::{AllocError, Global};
 use std::env;
 use std::rc::RcStr;
 use url::Url;
@@ -52,14 +53,23 @@ fn main(rt: HostRuntime) -> Result<()> {
 }
 
 fn print_found<R: AllocGlobal + Print>(rt: &R, name: &str, count: usize) -> Result<()> {
-    let source = source(rt.alloc(), name, count)?;
-    let info = module_info(rt.alloc(), &source)?;
-    let text = found(rt.alloc(), &info)?;
+    let text = found_in(rt.alloc(), name, count)?;
     println!(rt; "{name} {count}: {text}")?;
     if name == "braces" {
         print_starts(rt, count)?;
     }
     Ok(())
+}
+
+fn found_in(alloc: Global, name: &str, count: usize) -> Result<String> {
+    let source = source(alloc, name, count)?;
+    let info = info_of(alloc, &source)?;
+    Ok(found(alloc, &info)?)
+}
+
+/// The information on a source. Its contract is left behind here, since a caller's proof needs none.
+fn info_of(alloc: Global, source: &ParsedSource) -> Result<ModuleInfo, AllocError> {
+    module_info(alloc, source)
 }
 
 /// How often the parsers of JSDoc imports are started in a comment of braces, and where they find one.

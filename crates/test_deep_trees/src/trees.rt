@@ -10,28 +10,29 @@ const NOWHERE: SourceRange = SourceRange { start: 0, end: 0 };
 
 /// A call of `import` with a string, under so many other nodes.
 pub fn nested(alloc: Global, count: usize) -> Result<Items<Node>, AllocError> {
-    let mut node = import(alloc, string(alloc, "a")?)?;
+    let argument = one(alloc, string(alloc, "a")?)?;
+    let mut body = one(alloc, import(alloc, argument)?)?;
     for _ in 0..count {
-        node = node_of(Kind::Other, one(alloc, node)?);
+        body = one(alloc, node_of(Kind::Other, body))?;
     }
-    one(alloc, node)
+    Ok(body)
 }
 
 /// So many calls of `require` inside one another, with a string in the innermost.
 pub fn calls(alloc: Global, count: usize) -> Result<Items<Node>, AllocError> {
-    let mut argument = string(alloc, "a")?;
+    let mut argument = one(alloc, string(alloc, "a")?)?;
     for _ in 0..count {
-        argument = require(alloc, argument)?;
+        argument = one(alloc, require(alloc, argument)?)?;
     }
-    one(alloc, argument)
+    Ok(argument)
 }
 
 /// A call of `import` with a string, plus `x` so often.
 pub fn operands(alloc: Global, count: usize) -> Result<Items<Node>, AllocError> {
-    let mut sum = string(alloc, "a")?;
+    let mut sum = one(alloc, string(alloc, "a")?)?;
     for _ in 0..count {
-        let operands = two(alloc, sum, name(alloc, "x")?)?;
-        sum = node_of(Kind::Binary(BinaryOp::Add), operands);
+        sum.push(name(alloc, "x")?)?;
+        sum = one(alloc, node_of(Kind::Binary(BinaryOp::Add), sum))?;
     }
     one(alloc, import(alloc, sum)?)
 }
@@ -53,22 +54,20 @@ pub fn types(alloc: Global, count: usize) -> Result<Items<Node>, AllocError> {
     Ok(body)
 }
 
-fn import(alloc: Global, argument: Node) -> Result<Node, AllocError> {
+/// A call with the one argument of the list.
+fn import(alloc: Global, argument: Items<Node>) -> Result<Node, AllocError> {
     let callee = Callee::Import(ImportPhase::Evaluation);
-    let kind = Kind::Call {
-        callee,
-        args: one(alloc, ARGUMENT)?,
-    };
-    Ok(node_of(kind, one(alloc, argument)?))
+    let args = one(alloc, ARGUMENT)?;
+    Ok(node_of(Kind::Call { callee, args }, argument))
 }
 
-fn require(alloc: Global, argument: Node) -> Result<Node, AllocError> {
-    let kind = Kind::Call {
-        callee: Callee::Expr,
-        args: one(alloc, ARGUMENT)?,
-    };
-    let children = two(alloc, name(alloc, "require")?, argument)?;
-    Ok(node_of(kind, children))
+/// The same of `require`.
+fn require(alloc: Global, argument: Items<Node>) -> Result<Node, AllocError> {
+    let callee = Callee::Expr;
+    let args = one(alloc, ARGUMENT)?;
+    let mut children = argument.into_vec();
+    children.insert(0, name(alloc, "require")?)?;
+    Ok(node_of(Kind::Call { callee, args }, Items::from_vec(children)))
 }
 
 const ARGUMENT: Arg = Arg {
@@ -97,12 +96,5 @@ fn node_of(kind: Kind, children: Items<Node>) -> Node {
 fn one<T: Drop>(alloc: Global, item: T) -> Result<Items<T>, AllocError> {
     let mut items = Items::with_capacity(alloc, 1)?;
     items.push(item)?;
-    Ok(items)
-}
-
-fn two(alloc: Global, first: Node, second: Node) -> Result<Items<Node>, AllocError> {
-    let mut items = Items::with_capacity(alloc, 2)?;
-    items.push(first)?;
-    items.push(second)?;
     Ok(items)
 }

@@ -1,4 +1,4 @@
-use crate::sources::{U, options, parsed, parser};
+use crate::sources::{U, parse, parsed, parser};
 use deno_graph_parser::{
     CapturingModuleAnalyzer, DefaultParsedSourceStore, EsParser, ParsedSourceStore,
 };
@@ -33,56 +33,54 @@ fn assert_source(
     Ok(())
 }
 
-/// Each call of a store once, which is empty before and after, the answers compared.
+/// A call of a store, on the source of this text or on what there is under `U`.
+#[derive(Clone, Copy)]
+enum Call {
+    Set(&'static str),
+    Get,
+    GetScopeAnalysis,
+    Remove,
+}
+
+/// Each call of a store, which is empty before and after, and what it answers.
+const CALLS: [(Call, Expected); 9] = [
+    (Call::Get, None),
+    (Call::GetScopeAnalysis, None),
+    (Call::Set("a"), None),
+    (Call::Set("b"), Some(("a", false))),
+    (Call::Get, Some(("b", false))),
+    (Call::GetScopeAnalysis, Some(("b", true))),
+    (Call::Get, Some(("b", true))),
+    (Call::Remove, Some(("b", true))),
+    (Call::Remove, None),
+];
+
+fn answer<S: ParsedSourceStore>(
+    alloc: Global,
+    store: &mut S,
+    call: Call,
+) -> Result<Option<ParsedSource>, Fail> {
+    let u = Url::parse(alloc, U)?;
+    Ok(match call {
+        Call::Set(text) => {
+            let source = parsed(alloc, text)?;
+            store.set_parsed_source(alloc, u, source)?
+        }
+        Call::Get => store.get_parsed_source(alloc, &u)?,
+        Call::GetScopeAnalysis => store.get_scope_analysis_parsed_source(alloc, &u)?,
+        Call::Remove => store.remove_parsed_source(alloc, &u)?,
+    })
+}
+
 fn assert_store<S: ParsedSourceStore>(
     rt: &impl Abort,
     alloc: Global,
     store: &mut S,
 ) -> Result<(), Fail> {
-    let u = Url::parse(alloc, U)?;
-    assert_source(rt, alloc, store.get_parsed_source(alloc, &u)?, None)?;
-    assert_source(
-        rt,
-        alloc,
-        store.get_scope_analysis_parsed_source(alloc, &u)?,
-        None,
-    )?;
-    assert_set(rt, alloc, store, "a", None)?;
-    assert_set(rt, alloc, store, "b", Some(("a", false)))?;
-    assert_source(
-        rt,
-        alloc,
-        store.get_parsed_source(alloc, &u)?,
-        Some(("b", false)),
-    )?;
-    let marked = store.get_scope_analysis_parsed_source(alloc, &u)?;
-    assert_source(rt, alloc, marked, Some(("b", true)))?;
-    assert_source(
-        rt,
-        alloc,
-        store.get_parsed_source(alloc, &u)?,
-        Some(("b", true)),
-    )?;
-    assert_source(
-        rt,
-        alloc,
-        store.remove_parsed_source(alloc, &u)?,
-        Some(("b", true)),
-    )?;
-    assert_source(rt, alloc, store.remove_parsed_source(alloc, &u)?, None)
-}
-
-/// Keeps the source of a text under `U`.
-fn assert_set<S: ParsedSourceStore>(
-    rt: &impl Abort,
-    alloc: Global,
-    store: &mut S,
-    text: &str,
-    former: Expected,
-) -> Result<(), Fail> {
-    let (specifier, source) = (Url::parse(alloc, U)?, parsed(alloc, text)?);
-    let found = store.set_parsed_source(alloc, specifier, source)?;
-    assert_source(rt, alloc, found, former)
+    for (call, expected) in &CALLS {
+        assert_source(rt, alloc, answer(alloc, store, *call)?, *expected)?;
+    }
+    Ok(())
 }
 
 #[test]
@@ -106,15 +104,20 @@ fn stores_answer_each_call(rt: HostRuntime) -> Result<(), Fail> {
 fn an_analyzer_of_boxes_parses_once(rt: HostRuntime) -> Result<(), Fail> {
     let alloc = rt.alloc();
     let calls = Rc::new(alloc, Cell::new(0))?;
-    let u = Url::parse(alloc, U)?;
-    let a = parsed(alloc, "a")?;
     let table: Box<dyn EsParser> = Box::new(alloc, parser(alloc, &calls)?)?;
     let store: Box<dyn ParsedSourceStore> = Box::new(alloc, DefaultParsedSourceStore::new(alloc))?;
     let mut analyzer = CapturingModuleAnalyzer::new(table, store);
     for _ in 0..2 {
-        let answer = analyzer.parse_program(alloc, options(alloc, &u, "a", false)?);
-        assert!(rt; answer.is_ok_and(|source| source == a));
+        assert_parsed(&rt, alloc, &mut analyzer)?;
         assert_eq!(rt; calls.get(), 1);
     }
+    Ok(())
+}
+
+/// The text `a` is parsed.
+fn assert_parsed<P: EsParser>(rt: &impl Abort, alloc: Global, parser: &mut P) -> Result<(), Fail> {
+    let answer = parse(alloc, parser, "a", false)?;
+    let expected = parsed(alloc, "a")?;
+    assert!(rt; answer.is_ok_and(|source| source == expected));
     Ok(())
 }

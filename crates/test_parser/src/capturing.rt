@@ -1,4 +1,4 @@
-use crate::sources::{U, options, parsed, parser};
+use crate::sources::{U, parse, parsed, parser};
 use deno_graph_parser::{
     CapturingEsParser, CapturingModuleAnalyzer, DefaultParsedSourceStore, EsParser, ModuleAnalyzer,
     ParseError, ParsedSourceStore, ParserModuleAnalyzer,
@@ -27,13 +27,26 @@ fn parse_with_scopes(
     let calls = Rc::new(alloc, Cell::new(0))?;
     let mut table = parser(alloc, &calls)?;
     let mut store = store_of_a(alloc)?;
-    let specifier = Url::parse(alloc, U)?;
-    let asked = options(alloc, &specifier, text, true)?;
-    let answer = CapturingEsParser::new(&mut table, &mut store).parse_program(alloc, asked);
-    let marked = parsed(alloc, "a")?.into_with_scope_analysis();
-    assert!(rt; store.get_parsed_source(alloc, &specifier)?.as_ref() == Some(&marked));
+    let answer = parse(
+        alloc,
+        &mut CapturingEsParser::new(&mut table, &mut store),
+        text,
+        true,
+    )?;
+    assert_marked(rt, alloc, &store)?;
     assert_eq!(rt; calls.get(), u64::from(text != "a"));
     Ok(answer)
+}
+
+fn assert_marked(
+    rt: &impl Abort,
+    alloc: Global,
+    store: &DefaultParsedSourceStore,
+) -> Result<(), Fail> {
+    let specifier = Url::parse(alloc, U)?;
+    let marked = parsed(alloc, "a")?.into_with_scope_analysis();
+    assert!(rt; store.get_parsed_source(alloc, &specifier)?.as_ref() == Some(&marked));
+    Ok(())
 }
 
 #[test]
@@ -67,11 +80,9 @@ fn assert_module<A: ModuleAnalyzer>(
 fn an_analyzer_keeps_what_its_capturing_parser_did(rt: HostRuntime) -> Result<(), Fail> {
     let alloc = rt.alloc();
     let calls = Rc::new(alloc, Cell::new(0))?;
-    let u = Url::parse(alloc, U)?;
     let store = DefaultParsedSourceStore::new(alloc);
     let mut analyzer = CapturingModuleAnalyzer::new(parser(alloc, &calls)?, store);
-    let asked = options(alloc, &u, "a", false)?;
-    drop(analyzer.as_capturing_parser().parse_program(alloc, asked)?);
+    assert!(rt; parse(alloc, &mut analyzer.as_capturing_parser(), "a", false)?.is_ok());
     assert_module(&rt, alloc, &mut analyzer)?;
     assert_eq!(rt; calls.get(), 1);
     Ok(())

@@ -7,6 +7,7 @@ use deno_graph_source::tree::MediaType;
 use deno_graph_source::values::Items;
 use std::alloc::{AllocError, Global};
 use std::cell::Cell;
+use std::process::Abort;
 use std::rc::Rc;
 use std::test::Fail;
 use url::Url;
@@ -52,71 +53,96 @@ fn empty(alloc: Global) -> DefaultParsedSourceStore {
     DefaultParsedSourceStore::new(alloc)
 }
 
-#[test]
-fn runs_from_an_empty_store(rt: HostRuntime) -> Result<(), Fail> {
-    let alloc = rt.alloc();
-    let rows = [
-        analyze(U, "a"),
-        analyze(U, "a"),
-        analyze(U, "b"),
-        Row::Remove(U),
-        analyze(U, "b"),
-    ];
-    let (answers, calls) = answers(alloc, empty(alloc), &rows)?;
-    assert_eq!(rt; letters(alloc, &answers)?.as_str(), "aabrb");
-    assert_eq!(rt; calls, 3);
-    if let [_, _, _, Answer::Removed(Some(source)), _] = answers.as_slice() {
-        assert!(rt; *source == parsed(alloc, "b")?);
-    } else {
-        assert!(rt; false);
-    }
+/// The commands have these answers, each in a letter, and the parser is called so often.
+fn assert_letters(
+    rt: &impl Abort,
+    alloc: Global,
+    store: DefaultParsedSourceStore,
+    rows: &[Row],
+    expected: (&str, u64),
+) -> Result<(), Fail> {
+    let (answers, calls) = answers(alloc, store, rows)?;
+    let letters = letters(alloc, &answers)?;
+    assert_eq!(rt; (letters.as_str(), calls), expected);
     Ok(())
 }
+
+const FROM_AN_EMPTY_STORE: [Row; 5] = [
+    Row::Analyze(U, "a", MediaType::JavaScript),
+    Row::Analyze(U, "a", MediaType::JavaScript),
+    Row::Analyze(U, "b", MediaType::JavaScript),
+    Row::Remove(U),
+    Row::Analyze(U, "b", MediaType::JavaScript),
+];
+
+#[test]
+fn runs_from_an_empty_store(rt: HostRuntime) -> Result<(), Fail> {
+    let store = empty(rt.alloc());
+    assert_letters(&rt, rt.alloc(), store, &FROM_AN_EMPTY_STORE, ("aabrb", 3))
+}
+
+#[test]
+fn the_source_that_was_parsed_last_is_taken_away(rt: HostRuntime) -> Result<(), Fail> {
+    let (answers, _) = answers(rt.alloc(), empty(rt.alloc()), &FROM_AN_EMPTY_STORE)?;
+    assert_removed(&rt, rt.alloc(), answers.get(3))
+}
+
+/// The answer is the source of `b`.
+fn assert_removed(rt: &impl Abort, alloc: Global, answer: Option<&Answer>) -> Result<(), Fail> {
+    let Some(Answer::Removed(Some(source))) = answer else {
+        assert!(rt; false);
+        return Ok(());
+    };
+    assert!(rt; *source == parsed(alloc, "b")?);
+    Ok(())
+}
+
+const W: &str = "file:///w.js";
+
+const OF_ONE_TEXT: [Row; 8] = [
+    Row::Analyze(U, "a", MediaType::JavaScript),
+    Row::Analyze(V, "a", MediaType::JavaScript),
+    Row::Analyze(V, "a", MediaType::TypeScript),
+    Row::Analyze(V, "x", MediaType::JavaScript),
+    Row::Analyze(V, "a", MediaType::TypeScript),
+    Row::Analyze(W, "a", MediaType::JavaScript),
+    Row::Analyze(U, "a", MediaType::TypeScript),
+    Row::Remove(W),
+];
 
 /// A text that is known under one specifier and media type is parsed anew under others, and refused
 /// where it isn't known. A diagnostic stops nothing and is not kept.
 #[test]
 fn one_text_has_several_sources(rt: HostRuntime) -> Result<(), Fail> {
-    const W: &str = "file:///w.js";
-    let alloc = rt.alloc();
-    let rows = [
-        analyze(U, "a"),
-        analyze(V, "a"),
-        Row::Analyze(V, "a", MediaType::TypeScript),
-        analyze(V, "x"),
-        Row::Analyze(V, "a", MediaType::TypeScript),
-        analyze(W, "a"),
-        Row::Analyze(U, "a", MediaType::TypeScript),
-        Row::Remove(W),
-    ];
-    let (answers, calls) = answers(alloc, empty(alloc), &rows)?;
-    assert_eq!(rt; letters(alloc, &answers)?.as_str(), "avtdtddn");
-    assert_eq!(rt; calls, 6);
-    Ok(())
+    let store = empty(rt.alloc());
+    assert_letters(&rt, rt.alloc(), store, &OF_ONE_TEXT, ("avtdtddn", 6))
 }
 
 #[test]
 fn a_run_parses_with_scopes_or_without(rt: HostRuntime) -> Result<(), Fail> {
-    let alloc = rt.alloc();
     let rows = [
         Row::Parse(U, "a", false),
         Row::Parse(U, "x", true),
         Row::Parse(U, "a", false),
     ];
-    let (answers, calls) = answers(alloc, empty(alloc), &rows)?;
+    let (answers, calls) = answers(rt.alloc(), empty(rt.alloc()), &rows)?;
     assert_eq!(rt; calls, 2);
-    let a = parsed(alloc, "a")?;
-    let marked = parsed(alloc, "a")?.into_with_scope_analysis();
-    if let [
+    assert_parsed(&rt, rt.alloc(), answers.as_slice())
+}
+
+/// The answers are the source of `a`, a diagnostic, and the source with its mark.
+fn assert_parsed(rt: &impl Abort, alloc: Global, answers: &[Answer]) -> Result<(), Fail> {
+    let [
         Answer::Parsed(Ok(first)),
         Answer::Parsed(Err(_)),
         Answer::Parsed(Ok(last)),
-    ] = answers.as_slice()
-    {
-        assert!(rt; *first == a && *last == marked);
-    } else {
+    ] = answers
+    else {
         assert!(rt; false);
-    }
+        return Ok(());
+    };
+    assert!(rt; *first == parsed(alloc, "a")?);
+    assert!(rt; *last == parsed(alloc, "a")?.into_with_scope_analysis());
     Ok(())
 }
 
@@ -132,10 +158,7 @@ fn store_of_the_callers_own(alloc: Global) -> Result<DefaultParsedSourceStore, F
 fn a_source_of_the_callers_own_is_answered_until_the_text_changes(
     rt: HostRuntime,
 ) -> Result<(), Fail> {
-    let alloc = rt.alloc();
     let rows = [analyze(U, "a"), analyze(U, "b"), analyze(U, "a")];
-    let (answers, calls) = answers(alloc, store_of_the_callers_own(alloc)?, &rows)?;
-    assert_eq!(rt; letters(alloc, &answers)?.as_str(), "sba");
-    assert_eq!(rt; calls, 2);
-    Ok(())
+    let store = store_of_the_callers_own(rt.alloc())?;
+    assert_letters(&rt, rt.alloc(), store, &rows, ("sba", 2))
 }

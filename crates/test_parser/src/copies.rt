@@ -1,10 +1,11 @@
 //! Copies of commands, answers and errors.
 
 use crate::sources::{Row, U, analyze, commands, parsed};
-use deno_graph_parser::{AnalyzeError, Answer, ParseDiagnostic, ParseError};
+use deno_graph_parser::{AnalyzeError, Answer, Command, ParseDiagnostic, ParseError};
 use deno_graph_source::text::Position;
 use deno_graph_source::values::{Text, TryClone};
 use std::alloc::{AllocError, Global};
+use std::process::Abort;
 use std::test::Fail;
 
 #[test]
@@ -16,18 +17,28 @@ fn commands_are_copied(rt: HostRuntime) -> Result<(), Fail> {
         Row::Remove(U),
     ];
     let commands = commands(rt.alloc(), &rows)?;
-    for (i, command) in commands.iter().enumerate() {
+    for (number, command) in commands.iter().enumerate() {
         let copy = command.clone()?;
-        for (j, other) in commands.iter().enumerate() {
-            assert_eq!(rt; copy == *other, i == j);
-        }
+        assert_only(&rt, &copy, number, &commands);
     }
     Ok(())
 }
 
-/// Whether a copy is there, and equal.
-fn is_copied<T: TryClone + PartialEq + Drop>(alloc: Global, value: &T) -> Result<bool, AllocError> {
-    Ok(value.try_clone(alloc)? == *value)
+/// The command is equal to the one with this number, and to no other.
+fn assert_only(rt: &impl Abort, command: &Command, number: usize, commands: &[Command]) {
+    for (other_number, other) in commands.iter().enumerate() {
+        assert_eq!(rt; command == other, number == other_number);
+    }
+}
+
+/// A copy is there, and equal.
+fn assert_copied<T: TryClone + PartialEq + Drop>(
+    rt: &impl Abort,
+    alloc: Global,
+    value: T,
+) -> Result<(), Fail> {
+    assert!(rt; value.try_clone(alloc)? == value);
+    Ok(())
 }
 
 fn diagnostic(alloc: Global) -> Result<ParseDiagnostic, AllocError> {
@@ -40,25 +51,18 @@ fn diagnostic(alloc: Global) -> Result<ParseDiagnostic, AllocError> {
 #[test]
 fn answers_are_copied(rt: HostRuntime) -> Result<(), Fail> {
     let alloc = rt.alloc();
-    let mut answers = Vec::new(alloc);
-    answers.push(Answer::Parsed(Err(diagnostic(alloc)?)))?;
-    answers.push(Answer::Parsed(Ok(parsed(alloc, "a")?)))?;
-    answers.push(Answer::Analyzed(Err(diagnostic(alloc)?)))?;
-    answers.push(Answer::Removed(Some(parsed(alloc, "a")?)))?;
-    answers.push(Answer::Removed(None))?;
-    for answer in &answers {
-        assert!(rt; is_copied(alloc, answer)?);
-    }
-    Ok(())
+    assert_copied(&rt, alloc, Answer::Parsed(Err(diagnostic(alloc)?)))?;
+    assert_copied(&rt, alloc, Answer::Parsed(Ok(parsed(alloc, "a")?)))?;
+    assert_copied(&rt, alloc, Answer::Analyzed(Err(diagnostic(alloc)?)))?;
+    assert_copied(&rt, alloc, Answer::Removed(Some(parsed(alloc, "a")?)))?;
+    assert_copied(&rt, alloc, Answer::Removed(None))
 }
 
 #[test]
 fn errors_are_copied(rt: HostRuntime) -> Result<(), Fail> {
     let alloc = rt.alloc();
-    let diagnostic = diagnostic(alloc)?;
-    assert!(rt; is_copied(alloc, &diagnostic)?);
-    let error = ParseError::Diagnostic(diagnostic);
-    assert!(rt; is_copied(alloc, &error)?);
-    assert!(rt; is_copied(alloc, &AnalyzeError::from(error))?);
-    Ok(())
+    assert_copied(&rt, alloc, diagnostic(alloc)?)?;
+    let error = ParseError::Diagnostic(diagnostic(alloc)?);
+    assert_copied(&rt, alloc, AnalyzeError::from(error))?;
+    assert_copied(&rt, alloc, ParseError::Diagnostic(diagnostic(alloc)?))
 }

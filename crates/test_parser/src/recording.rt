@@ -1,6 +1,6 @@
 //! A parser that keeps the option of scopes, and who hands it on.
 
-use crate::sources::{U, options, parsed, parser};
+use crate::sources::{U, parse, parsed, parser};
 use deno_graph_parser::{
     CapturingModuleAnalyzer, DefaultParsedSourceStore, EsParser, ModuleAnalyzer, ParseError,
     ParseOptions, ParserModuleAnalyzer,
@@ -47,15 +47,28 @@ fn a_boxed_parser_is_handed_the_option_of_scopes(rt: HostRuntime) -> Result<(), 
         last: last.clone()?,
     };
     let mut boxed: Box<dyn EsParser> = Box::new(alloc, recording)?;
-    let specifier = Url::parse(alloc, U)?;
     for scope_analysis in [true, false] {
-        let answer = boxed.parse_program(alloc, options(alloc, &specifier, "a", scope_analysis)?);
+        assert_parsed(&rt, alloc, &mut boxed, scope_analysis)?;
         assert_eq!(rt; last.get(), Some(scope_analysis));
-        assert!(rt; answer.is_ok_and(|source| source.has_scope_analysis() == scope_analysis));
     }
-    let marked = parsed(alloc, "a")?.into_with_scope_analysis();
-    let answer = boxed.parse_program(alloc, options(alloc, &specifier, "a", true)?);
-    assert!(rt; answer.is_ok_and(|source| source == marked));
+    Ok(())
+}
+
+/// The source of `a` is answered, with the mark of scopes where those are asked for.
+fn assert_parsed<P: EsParser>(
+    rt: &impl Abort,
+    alloc: Global,
+    parser: &mut P,
+    scope_analysis: bool,
+) -> Result<(), Fail> {
+    let answer = parse(alloc, parser, "a", scope_analysis)?;
+    let expected = parsed(alloc, "a")?;
+    let expected = if scope_analysis {
+        expected.into_with_scope_analysis()
+    } else {
+        expected
+    };
+    assert!(rt; answer.is_ok_and(|source| source == expected));
     Ok(())
 }
 

@@ -1,7 +1,7 @@
 //! Calls in which the parser or the store is refused memory once.
 
 use crate::failing::{RefusedParser, RefusedStore};
-use crate::sources::{U, analyze, commands, options, parsed, parser};
+use crate::sources::{U, analyze, commands, parse, parsed, parser};
 use deno_graph_parser::{
     AnalyzeError, CapturingModuleAnalyzer, DefaultParsedSourceStore, EsParser, ModuleAnalyzer,
     ParseError, ParsedSourceStore, run,
@@ -38,16 +38,15 @@ fn is_refused<P: EsParser, S: ParsedSourceStore>(
     text: &'static str,
 ) -> Result<bool, Fail> {
     match call {
-        Call::CapturingParser => parse(alloc, &mut analyzer.as_capturing_parser(), text),
-        Call::ParseProgram => parse(alloc, analyzer, text),
+        Call::CapturingParser => is_parse_refused(alloc, &mut analyzer.as_capturing_parser(), text),
+        Call::ParseProgram => is_parse_refused(alloc, analyzer, text),
         Call::AnalyzeSync => analyze_sync(alloc, analyzer, text),
         Call::Run => run_two(alloc, analyzer, text),
     }
 }
 
-fn parse<P: EsParser>(alloc: Global, parser: &mut P, text: &str) -> Result<bool, Fail> {
-    let specifier = Url::parse(alloc, U)?;
-    let answer = parser.parse_program(alloc, options(alloc, &specifier, text, false)?);
+fn is_parse_refused<P: EsParser>(alloc: Global, parser: &mut P, text: &str) -> Result<bool, Fail> {
+    let answer = parse(alloc, parser, text, false)?;
     Ok(matches!(answer, Err(ParseError::OutOfMemory)))
 }
 
@@ -78,27 +77,25 @@ fn assert_refused_once<P: EsParser, S: ParsedSourceStore>(
     analyzer: &mut CapturingModuleAnalyzer<P, S>,
     call: Call,
 ) -> Result<(), Fail> {
-    let specifier = Url::parse(alloc, U)?;
-    for (text, refused, kept) in [("a", false, "a"), ("b", true, "a"), ("b", false, "b")] {
-        assert_eq!(rt;
-            is_refused(alloc, analyzer, call, text)?,
-            refused,
-            "{call:?} of {text}"
-        );
-        let expected = parsed(alloc, kept)?;
-        let found = analyzer.get_parsed_source(alloc, &specifier)?;
-        assert!(rt;
-            found.is_some_and(|source| source == expected),
-            "{call:?} of {text}"
-        );
+    for (text, refused, kept) in &[("a", false, "a"), ("b", true, "a"), ("b", false, "b")] {
+        let found = is_refused(alloc, analyzer, call, text)?;
+        assert_eq!(rt; found, *refused, "{call:?} of {text}");
+        assert!(rt; is_kept(alloc, analyzer, kept)?, "{call:?} of {text}");
     }
     Ok(())
+}
+
+/// Whether the source of this text is kept under `U`.
+fn is_kept<S: ParsedSourceStore>(alloc: Global, store: &S, text: &str) -> Result<bool, Fail> {
+    let found = store.get_parsed_source(alloc, &Url::parse(alloc, U)?)?;
+    let expected = parsed(alloc, text)?;
+    Ok(found.is_some_and(|source| source == expected))
 }
 
 #[test]
 fn a_parser_that_is_refused_once(rt: HostRuntime) -> Result<(), Fail> {
     let alloc = rt.alloc();
-    for call in CALLS {
+    for call in &CALLS {
         let calls = Rc::new(alloc, Cell::new(0))?;
         let table = RefusedParser {
             parser: parser(alloc, &calls)?,
@@ -106,7 +103,7 @@ fn a_parser_that_is_refused_once(rt: HostRuntime) -> Result<(), Fail> {
         };
         let store = DefaultParsedSourceStore::new(alloc);
         let mut analyzer = CapturingModuleAnalyzer::new(table, store);
-        assert_refused_once(&rt, alloc, &mut analyzer, call)?;
+        assert_refused_once(&rt, alloc, &mut analyzer, *call)?;
         assert_eq!(rt; calls.get(), 2);
     }
     Ok(())
@@ -115,14 +112,14 @@ fn a_parser_that_is_refused_once(rt: HostRuntime) -> Result<(), Fail> {
 #[test]
 fn a_store_that_refuses_once(rt: HostRuntime) -> Result<(), Fail> {
     let alloc = rt.alloc();
-    for call in CALLS {
+    for call in &CALLS {
         let calls = Rc::new(alloc, Cell::new(0))?;
         let store = RefusedStore {
             store: DefaultParsedSourceStore::new(alloc),
             sets: 0,
         };
         let mut analyzer = CapturingModuleAnalyzer::new(parser(alloc, &calls)?, store);
-        assert_refused_once(&rt, alloc, &mut analyzer, call)?;
+        assert_refused_once(&rt, alloc, &mut analyzer, *call)?;
         assert_eq!(rt; calls.get(), 3);
     }
     Ok(())

@@ -1,7 +1,7 @@
 //! The sources of the tests, each an import of another module: `a` and `b` under one specifier, and
 //! `a` under another as JavaScript and as TypeScript. The parser of the tests knows no more.
 
-use deno_graph_parser::{Command, ParseOptions};
+use deno_graph_parser::{Command, EsParser, ParseError, ParseOptions};
 use deno_graph_source::text::{JsString, SourceRange};
 use deno_graph_source::tree::{
     Comments, ImportPhase, Kind, MediaType, Node, ParsedSource, Program, StrLit,
@@ -55,25 +55,50 @@ fn import(alloc: Global, text: &str, imported: &str) -> Result<Items<Node>, Allo
     Items::from_item(alloc, Node::new(alloc, range, kind))
 }
 
+/// A module that imports another.
+fn importing(
+    alloc: Global,
+    specifier: &str,
+    text: &str,
+    media_type: MediaType,
+    imported: &str,
+) -> Result<ParsedSource, Fail> {
+    let body = import(alloc, text, imported)?;
+    source_with(alloc, specifier, text, media_type, body)
+}
+
 /// What the parser of the tests has for a text under `U`: an import of what it says.
 pub fn parsed(alloc: Global, text: &str) -> Result<ParsedSource, Fail> {
-    let body = import(alloc, text, text)?;
-    source_with(alloc, U, text, MediaType::JavaScript, body)
+    importing(alloc, U, text, MediaType::JavaScript, text)
 }
 
 /// A parser of the four sources that counts in `calls`.
 pub fn parser(alloc: Global, calls: &Rc<Cell<u64>>) -> Result<TableParser, Fail> {
     let mut sources = Vec::new(alloc);
-    sources.push(parsed(alloc, "a")?)?;
-    sources.push(parsed(alloc, "b")?)?;
-    for (media_type, imported) in [(MediaType::JavaScript, "v"), (MediaType::TypeScript, "t")] {
-        let body = import(alloc, "a", imported)?;
-        sources.push(source_with(alloc, V, "a", media_type, body)?)?;
+    for (specifier, text, media_type, imported) in [
+        (U, "a", MediaType::JavaScript, "a"),
+        (U, "b", MediaType::JavaScript, "b"),
+        (V, "a", MediaType::JavaScript, "v"),
+        (V, "a", MediaType::TypeScript, "t"),
+    ] {
+        sources.push(importing(alloc, specifier, text, media_type, imported)?)?;
     }
     Ok(TableParser::new(sources, calls.clone()?))
 }
 
-pub fn options<'a>(
+/// What the parser answers on a text under `U`.
+pub fn parse<P: EsParser>(
+    alloc: Global,
+    parser: &mut P,
+    text: &str,
+    scope_analysis: bool,
+) -> Result<Result<ParsedSource, ParseError>, Fail> {
+    let specifier = Url::parse(alloc, U)?;
+    let options = options(alloc, &specifier, text, scope_analysis)?;
+    Ok(parser.parse_program(alloc, options))
+}
+
+fn options<'a>(
     alloc: Global,
     specifier: &'a Url,
     text: &str,

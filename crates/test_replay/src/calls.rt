@@ -39,6 +39,7 @@ pub fn of_json(
     match name {
         "js_string" => texts::js_string(alloc, text),
         "source_fault" => modules::fault(alloc, text),
+        "source_fault_place" => modules::fault_place(alloc, text),
         name => of_value(alloc, name, words, text),
     }
 }

@@ -24,21 +24,27 @@ pub fn row_files<R>(rt: &R) -> Result<Vec<RowFile>, RowFault>
 where
     R: Files + AllocGlobal + Clone + Drop,
 {
-    let mut names = Vec::new(rt.alloc());
-    for entry in fs::read_dir(rt, ".")? {
-        let entry = entry?;
-        let name = entry.file_name();
-        if name.ends_with(".rows") {
-            names.push(String::from_str(rt.alloc(), name)?)?;
-        }
-    }
-    names.sort_unstable();
-    let mut files = Vec::with_capacity(rt.alloc(), names.len())?;
-    for name in names {
+    let mut files = Vec::new(rt.alloc());
+    for name in row_names(rt)? {
         let text = fs::read_to_string(rt, name.as_str())?;
         files.push(RowFile { name, text })?;
     }
     Ok(files)
+}
+
+fn row_names<R>(rt: &R) -> Result<Vec<String>, RowFault>
+where
+    R: Files + AllocGlobal + Clone + Drop,
+{
+    let mut names = Vec::new(rt.alloc());
+    for entry in fs::read_dir(rt, ".")? {
+        let entry = entry?;
+        if entry.file_name().ends_with(".rows") {
+            names.push(String::from_str(rt.alloc(), entry.file_name())?)?;
+        }
+    }
+    names.sort_unstable();
+    Ok(names)
 }
 
 impl RowFile {

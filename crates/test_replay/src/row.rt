@@ -36,12 +36,12 @@ impl<'a> Row<'a> {
         match word {
             "call" => self.read_call(rest),
             "input" => self.read_input(rest),
-            "input-from" => self.read_bytes(fs::read(rt, rest)?.as_slice()),
-            "bytes" => self.read_bytes(bytes_of(rt.alloc(), rest)?.as_slice()),
+            "input-from" => self.read_input_from(rt, rest),
+            "bytes" => self.read_hexadecimal(rt.alloc(), rest),
             "status" => self.read_status(rest),
             "output" | "errors" | "answer" => self.read_answer(word, rest),
-            "output-from" => self.read_lines("output", fs::read_to_string(rt, rest)?.as_str()),
-            "answer-from" => self.read_lines("answer", fs::read_to_string(rt, rest)?.as_str()),
+            "output-from" => self.read_lines_from(rt, "output", rest),
+            "answer-from" => self.read_lines_from(rt, "answer", rest),
             _ => Err(RowFault::Row("a line of it begins with no word of a row")),
         }
     }
@@ -79,7 +79,24 @@ impl<'a> Row<'a> {
         Ok(self.input.extend_from_slice(bytes)?)
     }
 
-    fn read_lines(&mut self, word: &str, text: &str) -> Result<(), RowFault> {
+    fn read_input_from<R>(&mut self, rt: &R, name: &str) -> Result<(), RowFault>
+    where
+        R: Files + AllocGlobal,
+    {
+        let bytes = fs::read(rt, name)?;
+        self.read_bytes(bytes.as_slice())
+    }
+
+    fn read_hexadecimal(&mut self, alloc: Global, text: &str) -> Result<(), RowFault> {
+        let bytes = bytes_of(alloc, text)?;
+        self.read_bytes(bytes.as_slice())
+    }
+
+    fn read_lines_from<R>(&mut self, rt: &R, word: &str, name: &str) -> Result<(), RowFault>
+    where
+        R: Files + AllocGlobal,
+    {
+        let text = fs::read_to_string(rt, name)?;
         for line in text.lines() {
             self.read_answer(word, line)?;
         }

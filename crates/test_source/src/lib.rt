@@ -5,7 +5,7 @@
 #[cfg(test)]
 mod comments;
 #[cfg(test)]
-mod fault_places;
+mod copied;
 #[cfg(test)]
 mod texts;
 #[cfg(test)]

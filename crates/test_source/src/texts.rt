@@ -1,5 +1,7 @@
+use crate::copied::is_copied;
 use deno_graph_source::text::{JsString, Position, SourceTextInfo};
 use deno_graph_source::values::TryClone;
+use std::alloc::{AllocError, Global};
 use std::process::Abort;
 use std::rc::RcStr;
 use std::test::Fail;
@@ -53,10 +55,14 @@ fn positions_are_right_all_along_long_texts(rt: HostRuntime) -> Result<(), Fail>
 #[test]
 fn strings_are_equal_by_their_units(rt: HostRuntime) -> Result<(), Fail> {
     let alloc = rt.alloc();
-    let pair = JsString::from_units(alloc, &[0xD83D, 0xDE00])?;
-    assert!(rt; pair == JsString::from_str(alloc, "\u{1f600}")?);
-    let lone = JsString::from_units(alloc, &[0xD83D])?;
-    assert!(rt; lone != JsString::from_str(alloc, "\u{fffd}")?);
-    assert!(rt; lone.try_clone(alloc)? == lone);
+    assert!(rt; has_units_of(alloc, &[0xD83D, 0xDE00], "\u{1f600}")?);
+    assert!(rt; !has_units_of(alloc, &[0xD83D], "\u{fffd}")?);
+    assert!(rt; is_copied(alloc, &JsString::from_units(alloc, &[0xD83D])?)?);
     Ok(())
+}
+
+/// Whether the string of these units is that of the text.
+fn has_units_of(alloc: Global, units: &[u16], text: &str) -> Result<bool, AllocError> {
+    let string = JsString::from_units(alloc, units)?;
+    Ok(string == JsString::from_str(alloc, text)?)
 }

@@ -1,12 +1,14 @@
 //! Trees that are written by hand.
 
+use crate::copied::is_copied;
 use deno_graph_source::text::{JsString, SourceRange};
 use deno_graph_source::tree::{
     CommentKind, Comments, DependencyComment, ImportPhase, Kind, MediaType, Node, ParsedSource,
     Program, SourceFault, StrLit, source_fault,
 };
-use deno_graph_source::values::{Items, Text, TryClone};
+use deno_graph_source::values::{Items, Text};
 use std::alloc::{AllocError, Global};
+use std::process::Abort;
 use std::rc::RcStr;
 use std::test::Fail;
 use url::Url;
@@ -53,7 +55,11 @@ fn parsed(alloc: Global) -> Result<ParsedSource, Fail> {
 
 #[test]
 fn a_parsed_source_keeps_what_it_got(rt: HostRuntime) -> Result<(), Fail> {
-    let source = parsed(rt.alloc())?;
+    assert_parts(&rt, &parsed(rt.alloc())?);
+    Ok(())
+}
+
+fn assert_parts(rt: &impl Abort, source: &ParsedSource) {
     assert_eq!(rt; source.specifier().as_str(), "file:///b.ts");
     assert_eq!(rt; source.media_type(), MediaType::TypeScript);
     assert_eq!(rt; source.text().as_str(), SOURCE);
@@ -61,7 +67,6 @@ fn a_parsed_source_keeps_what_it_got(rt: HostRuntime) -> Result<(), Fail> {
     assert_eq!(rt; source.program().body.len(), 1);
     assert!(rt; source.comments().get_leading(0).is_none());
     assert!(rt; source.has_scope_analysis());
-    Ok(())
 }
 
 #[test]
@@ -72,26 +77,33 @@ fn a_parsed_source_is_copied(rt: HostRuntime) -> Result<(), Fail> {
     Ok(())
 }
 
-/// Whether a copy is equal.
-fn is_copied<T: TryClone + PartialEq + Drop>(alloc: Global, value: &T) -> Result<bool, AllocError> {
-    Ok(value.try_clone(alloc)? == *value)
+/// The fault of the import's program over a text, with this range for its specifier.
+fn fault_of_import(
+    alloc: Global,
+    text: &str,
+    literal: SourceRange,
+    comments: &Comments,
+) -> Result<Option<SourceFault>, AllocError> {
+    let program = side_effect_import(alloc, literal)?;
+    source_fault(alloc, text, &program, comments)
 }
 
 #[test]
 fn a_range_past_what_a_document_can_say(rt: HostRuntime) -> Result<(), Fail> {
-    let alloc = rt.alloc();
-    let program = side_effect_import(alloc, range(7, usize::MAX))?;
-    let found = source_fault(alloc, SOURCE, &program, &Comments::new(alloc))?;
+    let comments = Comments::new(rt.alloc());
+    let found = fault_of_import(rt.alloc(), SOURCE, range(7, usize::MAX), &comments)?;
     assert_eq!(rt; found, Some(SourceFault::RangeOutside));
     Ok(())
 }
 
 #[test]
 fn comments_past_the_end_of_the_source(rt: HostRuntime) -> Result<(), Fail> {
-    let alloc = rt.alloc();
-    let comments = many_filings(alloc)?;
-    let program = side_effect_import(alloc, range(7, 15))?;
-    let found = source_fault(alloc, "/*a*/ /*      */", &program, &comments)?;
+    let comments = many_filings(rt.alloc())?;
+    assert_without_fault(&rt, rt.alloc(), &comments)
+}
+
+fn assert_without_fault(rt: &impl Abort, alloc: Global, comments: &Comments) -> Result<(), Fail> {
+    let found = fault_of_import(alloc, "/*a*/ /*      */", range(7, 15), comments)?;
     assert_eq!(rt; found, None);
     assert_eq!(rt; comments.iter_unstable(alloc)?.len(), 2000);
     Ok(())

@@ -103,8 +103,8 @@ pub fn take_apart(alloc: Global, made: Made) -> Result<(), Fault> {
     check(is_static_none(), "From of a dynamic dependency")
 }
 
-fn is_another(new: ModuleInfo, info: ModuleInfo) -> bool {
-    new != info
+fn is_another<T: PartialEq + Drop>(value: T, other: T) -> bool {
+    value != other
 }
 
 fn is_static_none() -> bool {

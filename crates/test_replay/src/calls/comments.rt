@@ -11,20 +11,38 @@ pub fn listed(alloc: Global, source: &ParsedSource) -> Result<String, RowFault> 
     let comments = source.comments();
     let mut answer = String::new(alloc);
     for pos in 0..=source.text().as_str().len() {
-        for comment in comments.get_leading(pos).unwrap_or(&[]) {
-            push_comment(alloc, &mut answer, "leading", pos, comment)?;
-        }
-        for comment in comments.get_trailing(pos).unwrap_or(&[]) {
-            push_comment(alloc, &mut answer, "trailing", pos, comment)?;
-        }
+        push_comments(
+            alloc,
+            &mut answer,
+            "leading",
+            pos,
+            comments.get_leading(pos),
+        )?;
+        push_comments(
+            alloc,
+            &mut answer,
+            "trailing",
+            pos,
+            comments.get_trailing(pos),
+        )?;
     }
     let count = comments.iter_unstable(alloc)?.len();
-    push_line(
-        &mut answer,
-        "answer",
-        format!(in alloc; "{count} comments")?.as_str(),
-    )?;
+    let line = format!(in alloc; "{count} comments")?;
+    push_line(&mut answer, "answer", line.as_str())?;
     Ok(answer)
+}
+
+fn push_comments(
+    alloc: Global,
+    answer: &mut String,
+    side: &str,
+    pos: usize,
+    comments: Option<&[DependencyComment]>,
+) -> Result<(), RowFault> {
+    for comment in comments.unwrap_or(&[]) {
+        push_comment(alloc, answer, side, pos, comment)?;
+    }
+    Ok(())
 }
 
 fn push_comment(

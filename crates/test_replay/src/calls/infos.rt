@@ -6,7 +6,7 @@ use deno_graph_info::analysis::{
     ConvertFault, InfoFault, ModuleInfo, module_graph_1_into_2, module_graph_1_to_2,
 };
 use deno_graph_info::reach::reach;
-use serde_json::Value;
+use serde_json::{Map, Value};
 use std::alloc::{AllocError, Global};
 use std::collections::BTreeMap;
 
@@ -31,10 +31,14 @@ fn convert_by_value(alloc: Global, value: Value) -> Result<Value, ConvertFault> 
 /// What `from_value` reads, written again.
 pub fn read(alloc: Global, value: &Value) -> Result<String, RowFault> {
     match from_value(alloc, value) {
-        Ok(info) => valued(alloc, &to_value(alloc, &info)?),
+        Ok(info) => written(alloc, &info),
         Err(InfoFault::OutOfMemory) => Err(RowFault::OutOfMemory),
         Err(fault) => named(alloc, format!(in alloc; "{fault}")?.as_str()),
     }
+}
+
+fn written(alloc: Global, info: &ModuleInfo) -> Result<String, RowFault> {
+    valued(alloc, &to_value(alloc, info)?)
 }
 
 /// What `module_graph_1_to_2` makes of a value. Where it refuses, the value has to be unchanged, and
@@ -62,14 +66,35 @@ pub fn reached(alloc: Global, words: &[&str], value: &Value) -> Result<String, R
     let ([root], Some(members)) = (words, value.as_object()) else {
         return Err(RowFault::Row("it names no root or has no object"));
     };
+    let modules = modules_of(alloc, members)?;
+    let keys = reach_from(alloc, &modules, root)?;
+    valued(alloc, &array_of(alloc, keys)?)
+}
+
+fn modules_of(
+    alloc: Global,
+    members: &Map<String, Value>,
+) -> Result<BTreeMap<String, ModuleInfo>, RowFault> {
     let mut modules = BTreeMap::new(alloc);
     for (key, info) in members.iter() {
-        let info = from_value(alloc, info)?;
-        drop(modules.insert(key.clone()?, info)?);
+        let key = key.clone()?;
+        drop(modules.insert(key, from_value(alloc, info)?)?);
     }
-    let mut keys = Vec::new(alloc);
-    for key in reach(alloc, &modules, root)? {
-        keys.push(Value::String(key))?;
+    Ok(modules)
+}
+
+fn reach_from(
+    alloc: Global,
+    modules: &BTreeMap<String, ModuleInfo>,
+    root: &str,
+) -> Result<Vec<String>, AllocError> {
+    reach(alloc, modules, root)
+}
+
+fn array_of(alloc: Global, keys: Vec<String>) -> Result<Value, AllocError> {
+    let mut array = Vec::with_capacity(alloc, keys.len())?;
+    for key in keys {
+        array.push(Value::String(key))?;
     }
-    valued(alloc, &Value::Array(keys))
+    Ok(Value::Array(array))
 }

@@ -7,7 +7,10 @@ use deno_graph_analysis::ast::{module_info, module_info_from_program};
 use deno_graph_analysis::dep::{DependencyDescriptor, analyze_program_dependencies};
 use deno_graph_info::analysis::{self, ModuleInfo};
 use deno_graph_source::text::{PositionRange, SourceRange, SourceTextInfo};
-use deno_graph_source::tree::{ParsedSource, source_fault};
+use deno_graph_source::tree::{
+    Comments, FaultPlace, ParsedSource, Program, SourceFault, SourceFaultPlace, source_fault,
+    source_fault_place,
+};
 use deno_graph_source::values::TryClone;
 use modinfo::parse_document;
 use std::alloc::{AllocError, Global};
@@ -15,14 +18,58 @@ use std::alloc::{AllocError, Global};
 /// What `source_fault` finds in a document.
 pub fn fault(alloc: Global, text: &str) -> Result<String, RowFault> {
     let document = parse_document(alloc, text)?;
-    match source_fault(
-        alloc,
-        document.source.as_str(),
-        &document.program,
-        &document.comments,
-    )? {
+    let (program, comments) = (&document.program, &document.comments);
+    fault_in(alloc, document.source.as_str(), program, comments)
+}
+
+fn fault_in(
+    alloc: Global,
+    text: &str,
+    program: &Program,
+    comments: &Comments,
+) -> Result<String, RowFault> {
+    match source_fault(alloc, text, program, comments)? {
         None => named(alloc, "null"),
         Some(fault) => named(alloc, format!(in alloc; "{fault}")?.as_str()),
+    }
+}
+
+/// What `source_fault_place` finds in a document, if `source_fault` finds the same fault and a copy
+/// is equal.
+pub fn fault_place(alloc: Global, text: &str) -> Result<String, RowFault> {
+    let document = parse_document(alloc, text)?;
+    let (program, comments) = (&document.program, &document.comments);
+    fault_place_in(alloc, document.source.as_str(), program, comments)
+}
+
+fn fault_place_in(
+    alloc: Global,
+    text: &str,
+    program: &Program,
+    comments: &Comments,
+) -> Result<String, RowFault> {
+    let fault = source_fault(alloc, text, program, comments)?;
+    match source_fault_place(alloc, text, program, comments)? {
+        None => named(alloc, if fault.is_none() { "null" } else { "no place" }),
+        Some(found) => named(alloc, place_line(alloc, fault, &found)?.as_str()),
+    }
+}
+
+fn place_line(
+    alloc: Global,
+    fault: Option<SourceFault>,
+    found: &SourceFaultPlace,
+) -> Result<String, AllocError> {
+    if fault != Some(found.fault) || !is_copied(alloc, found)? {
+        return String::from_str(alloc, "another fault, or another copy");
+    }
+    let SourceFaultPlace { fault, place } = found;
+    match place {
+        FaultPlace::Node { path, part } => format!(in alloc;
+            "{fault} {:?} {part:?}",
+            path.as_slice()
+        ),
+        place => format!(in alloc; "{fault} {place:?}"),
     }
 }
 
@@ -54,8 +101,16 @@ fn info_of_parts(alloc: Global, source: &ParsedSource) -> Result<ModuleInfo, All
 /// What `module_info` finds, if every other way to it leads there too.
 pub fn every_way(alloc: Global, source: &ParsedSource) -> Result<String, RowFault> {
     let info = info_of(alloc, source)?;
-    if by_copies(alloc, source, &info)? && by_dependencies(alloc, source, &info)? {
-        valued(alloc, &to_value(alloc, &info)?)
+    every_way_to(alloc, source, &info)
+}
+
+fn every_way_to(
+    alloc: Global,
+    source: &ParsedSource,
+    info: &ModuleInfo,
+) -> Result<String, RowFault> {
+    if by_copies(alloc, source, info)? && by_dependencies(alloc, source, info)? {
+        valued(alloc, &to_value(alloc, info)?)
     } else {
         named(alloc, "other ways lead elsewhere")
     }

@@ -39,13 +39,22 @@ pub fn of_positions(
     };
     let info = SourceTextInfo::new(alloc, RcStr::from_str(alloc, text)?)?;
     let numbers = numbers_of(alloc, words)?;
-    match numbers.as_slice() {
-        [pos] => of_offset(alloc, name, &info, *pos),
-        [first, second] => of_two(alloc, name, &info, *first, *second),
+    of_numbers(alloc, name, &info, numbers.as_slice())
+}
+
+fn of_numbers(
+    alloc: Global,
+    name: &str,
+    info: &SourceTextInfo,
+    numbers: &[usize],
+) -> Result<String, RowFault> {
+    match numbers {
+        [pos] => of_offset(alloc, name, info, *pos),
+        [first, second] => of_two(alloc, name, info, *first, *second),
         [line, character, end_line, end_character] => {
             let start = position(*line, *character);
             let end = position(*end_line, *end_character);
-            of_position_range(alloc, name, &info, PositionRange { start, end })
+            of_position_range(alloc, name, info, PositionRange { start, end })
         }
         _ => Err(RowFault::Row("its call isn't known")),
     }
