@@ -3,35 +3,29 @@
 use crate::fault::Fault;
 use crate::outcome::{Outcome, check};
 use deno_graph_source::text::SourceRange;
-use deno_graph_source::tree::{CommentKind, Comments, DependencyComment};
+use deno_graph_source::tree::{CommentKind, CommentSide, Comments, DependencyComment};
 use deno_graph_source::values::{Text, TryClone};
 use std::alloc::{AllocError, Global};
 
-#[derive(Clone, Copy)]
-enum Side {
-    Leading,
-    Trailing,
-}
-
 /// Where one comment after another is filed: at new positions before, behind and between the others,
 /// and again and again at one.
-const FILINGS: [(Side, usize); 16] = [
-    (Side::Leading, 8),
-    (Side::Leading, 8),
-    (Side::Trailing, 8),
-    (Side::Leading, 4),
-    (Side::Leading, 12),
-    (Side::Leading, 8),
-    (Side::Leading, 0),
-    (Side::Leading, 6),
-    (Side::Leading, 8),
-    (Side::Leading, 8),
-    (Side::Trailing, 2),
-    (Side::Leading, 16),
-    (Side::Leading, 8),
-    (Side::Trailing, 8),
-    (Side::Leading, 8),
-    (Side::Leading, 8),
+const FILINGS: [(CommentSide, usize); 16] = [
+    (CommentSide::Leading, 8),
+    (CommentSide::Leading, 8),
+    (CommentSide::Trailing, 8),
+    (CommentSide::Leading, 4),
+    (CommentSide::Leading, 12),
+    (CommentSide::Leading, 8),
+    (CommentSide::Leading, 0),
+    (CommentSide::Leading, 6),
+    (CommentSide::Leading, 8),
+    (CommentSide::Leading, 8),
+    (CommentSide::Trailing, 2),
+    (CommentSide::Leading, 16),
+    (CommentSide::Leading, 8),
+    (CommentSide::Trailing, 8),
+    (CommentSide::Leading, 8),
+    (CommentSide::Leading, 8),
 ];
 
 /// Positions up to one behind the last of them.
@@ -61,7 +55,7 @@ fn file_each(alloc: Global, comments: &mut Comments) -> Result<Outcome, Fault> {
 fn file_one(
     alloc: Global,
     comments: &mut Comments,
-    side: Side,
+    side: CommentSide,
     pos: usize,
 ) -> Result<Outcome, Fault> {
     let before = comments.try_clone(alloc)?;
@@ -78,7 +72,7 @@ fn file_behind(
     alloc: Global,
     comments: &mut Comments,
     before: &Comments,
-    side: Side,
+    side: CommentSide,
     pos: usize,
 ) -> Result<Outcome, Fault> {
     let comment = comment(alloc, pos)?;
@@ -115,13 +109,13 @@ fn comment(alloc: Global, start: usize) -> Result<DependencyComment, AllocError>
 
 fn file(
     comments: &mut Comments,
-    side: Side,
+    side: CommentSide,
     pos: usize,
     comment: DependencyComment,
 ) -> Result<(), AllocError> {
     match side {
-        Side::Leading => comments.add_leading(pos, comment),
-        Side::Trailing => comments.add_trailing(pos, comment),
+        CommentSide::Leading => comments.add_leading(pos, comment),
+        CommentSide::Trailing => comments.add_trailing(pos, comment),
     }
 }
 
@@ -137,10 +131,10 @@ fn look_ups_agree(comments: &Comments, before: &Comments) -> bool {
 }
 
 /// Whether there is one comment more than before where one was filed.
-fn is_filed(comments: &Comments, before: &Comments, side: Side, pos: usize) -> bool {
+fn is_filed(comments: &Comments, before: &Comments, side: CommentSide, pos: usize) -> bool {
     let (now, then) = match side {
-        Side::Leading => (comments.get_leading(pos), before.get_leading(pos)),
-        Side::Trailing => (comments.get_trailing(pos), before.get_trailing(pos)),
+        CommentSide::Leading => (comments.get_leading(pos), before.get_leading(pos)),
+        CommentSide::Trailing => (comments.get_trailing(pos), before.get_trailing(pos)),
     };
     let (now, then) = (now.unwrap_or(&[]), then.unwrap_or(&[]));
     now.len() > then.len() && now.starts_with(then)

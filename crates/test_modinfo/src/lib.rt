@@ -1,12 +1,23 @@
-//! Tests of the program for what has no text: readers and writers that fail at each of their calls,
-//! and faults by the errors that they come from. What has a text is a row of `crates/test_replay`.
+//! Tests of the analysis and of the program for what has no text: dependencies by their parts, what
+//! comments state by the calls on parts of a source, a walk step by step, readers and writers that
+//! fail at each of their calls, and faults by the errors that they come from. What has a text is a row
+//! of `crates/test_replay`. A test that is refused memory is stopped.
 #![tactic(auto)]
 
+#[cfg(test)]
+mod comments;
+#[cfg(test)]
+mod descriptors;
+#[cfg(test)]
+mod documents;
 #[cfg(test)]
 mod faults;
 #[cfg(test)]
 mod lines;
 #[cfg(test)]
 mod members;
+pub mod parts;
+#[cfg(test)]
+mod steps;
 #[cfg(test)]
 mod streams;

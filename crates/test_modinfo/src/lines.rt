@@ -4,7 +4,6 @@ use std::alloc::Global;
 use std::cell::Cell;
 use std::io::{Error, ErrorKind, Read, Result, Write};
 use std::rc::Rc;
-use std::test::Fail;
 
 /// A document, a text that is none, an empty line, and a last line without a line feed.
 const INPUT: &str =
@@ -84,9 +83,7 @@ fn serve_lines<R: Read + Drop>(alloc: Global, mut input: R) -> (u8, Vec<u8>, Vec
 }
 
 #[test]
-fn lines_that_are_cut_anywhere_are_answered_alike(
-    rt: HostRuntime,
-) -> std::result::Result<(), Fail> {
+fn lines_that_are_cut_anywhere_are_answered_alike(rt: HostRuntime) {
     let bytes = INPUT.as_bytes();
     for cut in 0..=bytes.len() {
         let (first, second) = bytes.split_at(cut);
@@ -100,13 +97,10 @@ fn lines_that_are_cut_anywhere_are_answered_alike(
         assert_eq!(rt; output.as_slice(), PRINTED.as_bytes());
         assert!(rt; errors.is_empty());
     }
-    Ok(())
 }
 
 #[test]
-fn a_read_that_fails_ends_behind_the_answers_before_it(
-    rt: HostRuntime,
-) -> std::result::Result<(), Fail> {
+fn a_read_that_fails_ends_behind_the_answers_before_it(rt: HostRuntime) {
     let bytes = INPUT.as_bytes();
     for cut in 0..=bytes.len() {
         let (first, second) = bytes.split_at(cut);
@@ -125,21 +119,20 @@ fn a_read_that_fails_ends_behind_the_answers_before_it(
         );
         assert_eq!(rt; errors.as_slice(), b"modinfo: Input\n".as_slice());
     }
-    Ok(())
 }
 
 #[test]
-fn a_partner_that_waits_for_each_answer_gets_it(rt: HostRuntime) -> std::result::Result<(), Fail> {
-    let answered = Rc::new(rt.alloc(), Cell::new(0))?;
+fn a_partner_that_waits_for_each_answer_gets_it(rt: HostRuntime) {
+    let answered = Rc::new(rt.alloc(), Cell::new(0)).expect(&rt, "memory");
     let lines = ["{}\n", "[]\n", "\n"];
     let mut input = Partner {
         lines: &lines,
         given: 0,
-        answered: answered.clone()?,
+        answered: answered.clone().expect(&rt, "a count that fits"),
     };
     let mut output = Answered {
         written: 0,
-        answered: answered.clone()?,
+        answered: answered.clone().expect(&rt, "a count that fits"),
     };
     let mut errors = Vec::new(rt.alloc());
     let words = ["analyze", "--lines"];
@@ -147,5 +140,4 @@ fn a_partner_that_waits_for_each_answer_gets_it(rt: HostRuntime) -> std::result:
     assert_eq!(rt; status, 0);
     assert_eq!(rt; answered.get(), 3);
     assert!(rt; errors.is_empty());
-    Ok(())
 }

@@ -6,9 +6,7 @@ use flat_json::{Element, Tape};
 use json::Scratch;
 use modinfo::notation::kind::KINDS;
 use modinfo::notation::{Role, comment_at, known_members, node_at, parse_document};
-use std::alloc::{AllocError, Global};
 use std::process::Abort;
-use std::test::Fail;
 
 /// A document of which each object has every member that is read of it, so that it would be read
 /// as something else without that member. Only the nodes in `children` have none themselves, and a
@@ -50,47 +48,42 @@ const DOCUMENT: &str = r#"{
 const BEHIND_NAME: &str = "\":";
 
 #[test]
-fn each_member_is_read(rt: HostRuntime) -> Result<(), Fail> {
-    let alloc = rt.alloc();
-    let read = read_of(alloc, DOCUMENT)?;
+fn each_member_is_read(rt: HostRuntime) {
+    let read = read_of(&rt, DOCUMENT);
     assert!(rt; read.is_some());
     for number in 1..DOCUMENT.split(BEHIND_NAME).count() {
-        let text = with_renamed(alloc, number)?;
-        assert!(rt;
-            read_of(alloc, text.as_str())? != read,
-            "the member {number}"
-        );
+        let found = read_of(&rt, with_renamed(&rt, number).as_str());
+        assert!(rt; found != read, "the member {number}");
     }
-    Ok(())
 }
 
 /// The document, with another name of its member of this number, from 1 on.
-fn with_renamed(alloc: Global, number: usize) -> Result<String, AllocError> {
-    let mut text = String::new(alloc);
+fn with_renamed(rt: &(impl AllocGlobal + Abort), number: usize) -> String {
+    let mut text = String::new(rt.alloc());
     for (place, part) in DOCUMENT.split(BEHIND_NAME).enumerate() {
         if place == number {
-            text.push('_')?;
+            text.push('_').expect(rt, "memory");
         }
         if place > 0 {
-            text.push_str(BEHIND_NAME)?;
+            text.push_str(BEHIND_NAME).expect(rt, "memory");
         }
-        text.push_str(part)?;
+        text.push_str(part).expect(rt, "memory");
     }
-    Ok(text)
+    text
 }
 
 /// What is read of a text, if it is a document.
-fn read_of(alloc: Global, text: &str) -> Result<Option<String>, AllocError> {
-    match parse_document(alloc, text) {
-        Ok(document) => Ok(Some(format!(in alloc; "{document:?}")?)),
-        Err(_) => Ok(None),
+fn read_of(rt: &(impl AllocGlobal + Abort), text: &str) -> Option<String> {
+    match parse_document(rt.alloc(), text) {
+        Ok(document) => Some(format!(in rt.alloc(); "{document:?}").expect(rt, "memory")),
+        Err(_) => None,
     }
 }
 
 #[test]
-fn each_member_is_known(rt: HostRuntime) -> Result<(), Fail> {
+fn each_member_is_known(rt: HostRuntime) {
     let mut scratch = Scratch::new(rt.alloc());
-    let tape = Tape::read(rt.alloc(), DOCUMENT, &mut scratch)?;
+    let tape = Tape::read(rt.alloc(), DOCUMENT, &mut scratch).expect(&rt, "it is JSON");
     let root = tape.root();
     let kinds = KINDS.split(", ").count();
     assert_members(&rt, Role::Document, Some(root));
@@ -113,7 +106,6 @@ fn each_member_is_known(rt: HostRuntime) -> Result<(), Fail> {
         assert_node(&rt, node_at(root, &[number]));
     }
     assert!(rt; node_at(root, &[kinds + 1]).is_none());
-    Ok(())
 }
 
 /// A node of the body, and what it has beside its children.

@@ -1,7 +1,6 @@
 //! Readers and writers that fail, at each of their calls in turn.
 
 use std::io::{Error, ErrorKind, Read, Result, Write};
-use std::test::Fail;
 
 const DOCUMENT: &str =
     r#"{"mediaType":"TypeScript","program":{"body":[{"kind":"ImportDecl","range":[0,16],"src":{"range":[7,15],"value":"./b.ts"}}],"range":[0,16]},"source":"import \"./b.ts\";","specifier":"file:///b.ts"}"#;
@@ -64,7 +63,7 @@ impl Write for FailingWriter {
 }
 
 #[test]
-fn a_failed_read_gives_nothing(rt: HostRuntime) -> std::result::Result<(), Fail> {
+fn a_failed_read_gives_nothing(rt: HostRuntime) {
     let bytes = DOCUMENT.as_bytes();
     for reads_before in 0..=bytes.len() {
         for kind in [ErrorKind::UnexpectedEof, ErrorKind::Interrupted] {
@@ -94,11 +93,10 @@ fn a_failed_read_gives_nothing(rt: HostRuntime) -> std::result::Result<(), Fail>
             }
         }
     }
-    Ok(())
 }
 
 #[test]
-fn a_failed_write_leaves_a_beginning(rt: HostRuntime) -> std::result::Result<(), Fail> {
+fn a_failed_write_leaves_a_beginning(rt: HostRuntime) {
     let whole = PRINTED.as_bytes();
     for room in 0..=whole.len() {
         let mut output = FailingWriter {
@@ -119,11 +117,10 @@ fn a_failed_write_leaves_a_beginning(rt: HostRuntime) -> std::result::Result<(),
         assert_eq!(rt; output.kept.len(), room);
         assert_eq!(rt; errors.as_slice(), b"modinfo: Output\n".as_slice());
     }
-    Ok(())
 }
 
 #[test]
-fn a_failed_write_to_errors_is_passed_over(rt: HostRuntime) -> std::result::Result<(), Fail> {
+fn a_failed_write_to_errors_is_passed_over(rt: HostRuntime) {
     for (words, status) in [(["analyze"], 1), (["parse"], 2)] {
         for room in 0..10 {
             let mut errors = FailingWriter {
@@ -137,5 +134,4 @@ fn a_failed_write_to_errors_is_passed_over(rt: HostRuntime) -> std::result::Resu
             assert!(rt; output.is_empty());
         }
     }
-    Ok(())
 }

@@ -1,36 +1,25 @@
-use crate::sources::{U, parse, parsed, parser};
+use crate::sources::{U, counter, parse, parsed, parser, url};
 use deno_graph_parser::{
     CapturingModuleAnalyzer, DefaultParsedSourceStore, EsParser, ParsedSourceStore,
 };
 use deno_graph_source::tree::ParsedSource;
-use std::alloc::Global;
-use std::cell::Cell;
 use std::process::Abort;
-use std::rc::Rc;
-use std::test::Fail;
-use url::Url;
 
 /// The text of a source, and whether it has the mark of scopes.
 type Expected = Option<(&'static str, bool)>;
 
-fn assert_source(
-    rt: &impl Abort,
-    alloc: Global,
-    found: Option<ParsedSource>,
-    expected: Expected,
-) -> Result<(), Fail> {
+fn assert_source(rt: &(impl AllocGlobal + Abort), found: Option<ParsedSource>, expected: Expected) {
     let Some((text, is_marked)) = expected else {
         assert!(rt; found.is_none());
-        return Ok(());
+        return;
     };
-    let source = parsed(alloc, text)?;
+    let source = parsed(rt, text);
     let source = if is_marked {
         source.into_with_scope_analysis()
     } else {
         source
     };
     assert!(rt; found.is_some_and(|found| found == source));
-    Ok(())
 }
 
 /// A call of a store, on the source of this text or on what there is under `U`.
@@ -56,68 +45,53 @@ const CALLS: [(Call, Expected); 9] = [
 ];
 
 fn answer<S: ParsedSourceStore>(
-    alloc: Global,
+    rt: &(impl AllocGlobal + Abort),
     store: &mut S,
     call: Call,
-) -> Result<Option<ParsedSource>, Fail> {
-    let u = Url::parse(alloc, U)?;
-    Ok(match call {
-        Call::Set(text) => {
-            let source = parsed(alloc, text)?;
-            store.set_parsed_source(alloc, u, source)?
-        }
-        Call::Get => store.get_parsed_source(alloc, &u)?,
-        Call::GetScopeAnalysis => store.get_scope_analysis_parsed_source(alloc, &u)?,
-        Call::Remove => store.remove_parsed_source(alloc, &u)?,
-    })
+) -> Option<ParsedSource> {
+    let u = url(rt, U);
+    let answer = match call {
+        Call::Set(text) => store.set_parsed_source(rt.alloc(), u, parsed(rt, text)),
+        Call::Get => store.get_parsed_source(rt.alloc(), &u),
+        Call::GetScopeAnalysis => store.get_scope_analysis_parsed_source(rt.alloc(), &u),
+        Call::Remove => store.remove_parsed_source(rt.alloc(), &u),
+    };
+    answer.expect(rt, "memory")
 }
 
-fn assert_store<S: ParsedSourceStore>(
-    rt: &impl Abort,
-    alloc: Global,
-    store: &mut S,
-) -> Result<(), Fail> {
+fn assert_store<S: ParsedSourceStore>(rt: &(impl AllocGlobal + Abort), store: &mut S) {
     for (call, expected) in &CALLS {
-        assert_source(rt, alloc, answer(alloc, store, *call)?, *expected)?;
+        assert_source(rt, answer(rt, store, *call), *expected);
     }
-    Ok(())
 }
 
 #[test]
-fn stores_answer_each_call(rt: HostRuntime) -> Result<(), Fail> {
-    let alloc = rt.alloc();
-    let calls = Rc::new(alloc, Cell::new(0))?;
-    assert_store(&rt, alloc, &mut DefaultParsedSourceStore::new(alloc))?;
-    let mut boxed: Box<dyn ParsedSourceStore> = Box::new(
-        alloc,
-        DefaultParsedSourceStore::new(alloc),
-    )?;
-    assert_store(&rt, alloc, &mut boxed)?;
-    let mut analyzer = CapturingModuleAnalyzer::new(
-        parser(alloc, &calls)?,
-        DefaultParsedSourceStore::new(alloc),
-    );
-    assert_store(&rt, alloc, &mut analyzer)
+fn stores_answer_each_call(rt: HostRuntime) {
+    assert_store(&rt, &mut DefaultParsedSourceStore::new(rt.alloc()));
+    assert_store(&rt, &mut boxed_store(&rt));
+    let store = DefaultParsedSourceStore::new(rt.alloc());
+    let mut analyzer = CapturingModuleAnalyzer::new(parser(&rt, &counter(&rt)), store);
+    assert_store(&rt, &mut analyzer);
+}
+
+fn boxed_store(rt: &(impl AllocGlobal + Abort)) -> Box<dyn ParsedSourceStore> {
+    Box::new(rt.alloc(), DefaultParsedSourceStore::new(rt.alloc())).expect(rt, "memory")
 }
 
 #[test]
-fn an_analyzer_of_boxes_parses_once(rt: HostRuntime) -> Result<(), Fail> {
-    let alloc = rt.alloc();
-    let calls = Rc::new(alloc, Cell::new(0))?;
-    let table: Box<dyn EsParser> = Box::new(alloc, parser(alloc, &calls)?)?;
-    let store: Box<dyn ParsedSourceStore> = Box::new(alloc, DefaultParsedSourceStore::new(alloc))?;
-    let mut analyzer = CapturingModuleAnalyzer::new(table, store);
+fn an_analyzer_of_boxes_parses_once(rt: HostRuntime) {
+    let calls = counter(&rt);
+    let table: Box<dyn EsParser> = Box::new(rt.alloc(), parser(&rt, &calls)).expect(&rt, "memory");
+    let mut analyzer = CapturingModuleAnalyzer::new(table, boxed_store(&rt));
     for _ in 0..2 {
-        assert_parsed(&rt, alloc, &mut analyzer)?;
+        assert_parsed(&rt, &mut analyzer);
         assert_eq!(rt; calls.get(), 1);
     }
-    Ok(())
 }
 
 /// The text `a` is parsed.
-fn assert_parsed<P: EsParser>(rt: &impl Abort, alloc: Global, parser: &mut P) -> Result<(), Fail> {
-    let answer = parse(alloc, parser, "a", false)?;
-    let expected = parsed(alloc, "a")?;
+fn assert_parsed<P: EsParser>(rt: &(impl AllocGlobal + Abort), parser: &mut P) {
+    let answer = parse(rt, parser, "a", false);
+    let expected = parsed(rt, "a");
     assert!(rt; answer.is_ok_and(|source| source == expected));
-    Ok(())
 }

@@ -4,65 +4,63 @@ use crate::sources::{Row, U, analyze, commands, parsed};
 use deno_graph_parser::{AnalyzeError, Answer, Command, ParseDiagnostic, ParseError};
 use deno_graph_source::text::Position;
 use deno_graph_source::values::{Text, TryClone};
-use std::alloc::{AllocError, Global};
 use std::process::Abort;
-use std::test::Fail;
 
 #[test]
-fn commands_are_copied(rt: HostRuntime) -> Result<(), Fail> {
+fn commands_are_copied(rt: HostRuntime) {
     let rows = [
         analyze(U, "a"),
         Row::Parse(U, "a", true),
         Row::Parse(U, "a", false),
         Row::Remove(U),
     ];
-    let commands = commands(rt.alloc(), &rows)?;
+    let commands = commands(&rt, &rows);
     for (number, command) in commands.iter().enumerate() {
-        let copy = command.clone()?;
+        let copy = command.clone().expect(&rt, "memory");
         assert_only(&rt, &copy, number, &commands);
     }
-    Ok(())
 }
 
 /// The command is equal to the one with this number, and to no other.
-fn assert_only(rt: &impl Abort, command: &Command, number: usize, commands: &[Command]) {
+fn assert_only(
+    rt: &(impl AllocGlobal + Abort),
+    command: &Command,
+    number: usize,
+    commands: &[Command],
+) {
     for (other_number, other) in commands.iter().enumerate() {
         assert_eq!(rt; command == other, number == other_number);
     }
 }
 
 /// A copy is there, and equal.
-fn assert_copied<T: TryClone + PartialEq + Drop>(
-    rt: &impl Abort,
-    alloc: Global,
-    value: T,
-) -> Result<(), Fail> {
-    assert!(rt; value.try_clone(alloc)? == value);
-    Ok(())
+fn assert_copied<T: TryClone + PartialEq + Drop>(rt: &(impl AllocGlobal + Abort), value: T) {
+    let copy = value.try_clone(rt.alloc()).expect(rt, "memory");
+    assert!(rt; copy == value);
 }
 
-fn diagnostic(alloc: Global) -> Result<ParseDiagnostic, AllocError> {
-    Ok(ParseDiagnostic {
-        message: Text::from_str(alloc, "unknown text")?,
+fn diagnostic(rt: &(impl AllocGlobal + Abort)) -> ParseDiagnostic {
+    ParseDiagnostic {
+        message: Text::from_str(rt.alloc(), "unknown text").expect(rt, "memory"),
         position: Position::new(1, 2),
-    })
+    }
 }
 
 #[test]
-fn answers_are_copied(rt: HostRuntime) -> Result<(), Fail> {
-    let alloc = rt.alloc();
-    assert_copied(&rt, alloc, Answer::Parsed(Err(diagnostic(alloc)?)))?;
-    assert_copied(&rt, alloc, Answer::Parsed(Ok(parsed(alloc, "a")?)))?;
-    assert_copied(&rt, alloc, Answer::Analyzed(Err(diagnostic(alloc)?)))?;
-    assert_copied(&rt, alloc, Answer::Removed(Some(parsed(alloc, "a")?)))?;
-    assert_copied(&rt, alloc, Answer::Removed(None))
+fn answers_are_copied(rt: HostRuntime) {
+    assert_copied(&rt, Answer::Parsed(Err(diagnostic(&rt))));
+    assert_copied(&rt, Answer::Parsed(Ok(parsed(&rt, "a"))));
+    assert_copied(&rt, Answer::Analyzed(Err(diagnostic(&rt))));
+    assert_copied(&rt, Answer::Removed(Some(parsed(&rt, "a"))));
+    assert_copied(&rt, Answer::Removed(None));
 }
 
 #[test]
-fn errors_are_copied(rt: HostRuntime) -> Result<(), Fail> {
-    let alloc = rt.alloc();
-    assert_copied(&rt, alloc, diagnostic(alloc)?)?;
-    let error = ParseError::Diagnostic(diagnostic(alloc)?);
-    assert_copied(&rt, alloc, AnalyzeError::from(error))?;
-    assert_copied(&rt, alloc, ParseError::Diagnostic(diagnostic(alloc)?))
+fn errors_are_copied(rt: HostRuntime) {
+    assert_copied(&rt, diagnostic(&rt));
+    assert_copied(
+        &rt,
+        AnalyzeError::from(ParseError::Diagnostic(diagnostic(&rt))),
+    );
+    assert_copied(&rt, ParseError::Diagnostic(diagnostic(&rt)));
 }

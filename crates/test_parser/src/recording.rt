@@ -1,17 +1,16 @@
 //! A parser that keeps the option of scopes, and who hands it on.
 
-use crate::sources::{U, parse, parsed, parser};
+use crate::sources::{U, counter, parse, parsed, parser, shared, url};
 use deno_graph_parser::{
     CapturingModuleAnalyzer, DefaultParsedSourceStore, EsParser, ModuleAnalyzer, ParseError,
     ParseOptions, ParserModuleAnalyzer,
 };
 use deno_graph_source::tree::{MediaType, ParsedSource};
+use example_table_parser::TableParser;
 use std::alloc::Global;
 use std::cell::Cell;
 use std::process::Abort;
-use std::rc::{Rc, RcStr};
-use std::test::Fail;
-use url::Url;
+use std::rc::Rc;
 
 /// A parser that keeps the option of scopes that it was handed last.
 #[derive(Drop)]
@@ -37,69 +36,68 @@ impl<P: EsParser> EsParser for RecordingParser<P> {
     }
 }
 
+/// One over the parser of the tests.
+fn recording(
+    rt: &(impl AllocGlobal + Abort),
+    last: &Rc<Cell<Option<bool>>>,
+) -> RecordingParser<TableParser> {
+    RecordingParser {
+        parser: parser(rt, &counter(rt)),
+        last: last.clone().expect(rt, "a count that fits"),
+    }
+}
+
+fn nothing_recorded(rt: &(impl AllocGlobal + Abort)) -> Rc<Cell<Option<bool>>> {
+    Rc::new(rt.alloc(), Cell::new(None)).expect(rt, "memory")
+}
+
 #[test]
-fn a_boxed_parser_is_handed_the_option_of_scopes(rt: HostRuntime) -> Result<(), Fail> {
-    let alloc = rt.alloc();
-    let last = Rc::new(alloc, Cell::new(None))?;
-    let calls = Rc::new(alloc, Cell::new(0))?;
-    let recording = RecordingParser {
-        parser: parser(alloc, &calls)?,
-        last: last.clone()?,
-    };
-    let mut boxed: Box<dyn EsParser> = Box::new(alloc, recording)?;
+fn a_boxed_parser_is_handed_the_option_of_scopes(rt: HostRuntime) {
+    let last = nothing_recorded(&rt);
+    let parser = Box::new(rt.alloc(), recording(&rt, &last)).expect(&rt, "memory");
+    let mut boxed: Box<dyn EsParser> = parser;
     for scope_analysis in [true, false] {
-        assert_parsed(&rt, alloc, &mut boxed, scope_analysis)?;
+        assert_parsed(&rt, &mut boxed, scope_analysis);
         assert_eq!(rt; last.get(), Some(scope_analysis));
     }
-    Ok(())
 }
 
 /// The source of `a` is answered, with the mark of scopes where those are asked for.
 fn assert_parsed<P: EsParser>(
-    rt: &impl Abort,
-    alloc: Global,
+    rt: &(impl AllocGlobal + Abort),
     parser: &mut P,
     scope_analysis: bool,
-) -> Result<(), Fail> {
-    let answer = parse(alloc, parser, "a", scope_analysis)?;
-    let expected = parsed(alloc, "a")?;
+) {
+    let answer = parse(rt, parser, "a", scope_analysis);
+    let expected = parsed(rt, "a");
     let expected = if scope_analysis {
         expected.into_with_scope_analysis()
     } else {
         expected
     };
     assert!(rt; answer.is_ok_and(|source| source == expected));
-    Ok(())
 }
 
 /// The analyzer asks its parser for no scopes.
 fn assert_no_scopes<A: ModuleAnalyzer>(
-    rt: &impl Abort,
-    alloc: Global,
+    rt: &(impl AllocGlobal + Abort),
     analyzer: &mut A,
     last: &Cell<Option<bool>>,
-) -> Result<(), Fail> {
-    let specifier = Url::parse(alloc, U)?;
-    let source = RcStr::from_str(alloc, "a")?;
+) {
+    let (specifier, source) = (url(rt, U), shared(rt, "a"));
     last.set(None);
-    let info = analyzer.analyze_sync(alloc, &specifier, source, MediaType::JavaScript);
+    let info = analyzer.analyze_sync(rt.alloc(), &specifier, source, MediaType::JavaScript);
     assert!(rt; info.is_ok_and(|info| !info.is_script));
     assert_eq!(rt; last.get(), Some(false));
-    Ok(())
 }
 
 #[test]
-fn analyzers_ask_for_no_scopes(rt: HostRuntime) -> Result<(), Fail> {
-    let alloc = rt.alloc();
-    let last = Rc::new(alloc, Cell::new(None))?;
-    let calls = Rc::new(alloc, Cell::new(0))?;
-    let mut recording = RecordingParser {
-        parser: parser(alloc, &calls)?,
-        last: last.clone()?,
-    };
+fn analyzers_ask_for_no_scopes(rt: HostRuntime) {
+    let last = nothing_recorded(&rt);
+    let mut recording = recording(&rt, &last);
     let mut plain = ParserModuleAnalyzer::new(&mut recording);
-    assert_no_scopes(&rt, alloc, &mut plain, &last)?;
-    let store = DefaultParsedSourceStore::new(alloc);
+    assert_no_scopes(&rt, &mut plain, &last);
+    let store = DefaultParsedSourceStore::new(rt.alloc());
     let mut capturing = CapturingModuleAnalyzer::new(recording, store);
-    assert_no_scopes(&rt, alloc, &mut capturing, &last)
+    assert_no_scopes(&rt, &mut capturing, &last);
 }

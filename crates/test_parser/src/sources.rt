@@ -1,5 +1,6 @@
 //! The sources of the tests, each an import of another module: `a` and `b` under one specifier, and
 //! `a` under another as JavaScript and as TypeScript. The parser of the tests knows no more.
+//! Memory is ample here, so a test that is refused some is stopped.
 
 use deno_graph_parser::{Command, EsParser, ParseError, ParseOptions};
 use deno_graph_source::text::{JsString, SourceRange};
@@ -8,10 +9,9 @@ use deno_graph_source::tree::{
 };
 use deno_graph_source::values::Items;
 use example_table_parser::TableParser;
-use std::alloc::{AllocError, Global};
 use std::cell::Cell;
+use std::process::Abort;
 use std::rc::{Rc, RcStr};
-use std::test::Fail;
 use url::Url;
 
 pub const U: &str = "file:///u.js";
@@ -20,96 +20,103 @@ pub const V: &str = "file:///v.js";
 
 /// A module with these items.
 pub fn source_with(
-    alloc: Global,
+    rt: &(impl AllocGlobal + Abort),
     specifier: &str,
     text: &str,
     media_type: MediaType,
     body: Items<Node>,
-) -> Result<ParsedSource, Fail> {
+) -> ParsedSource {
     let program = Program {
         range: SourceRange::new(0, text.len()),
         body,
         has_shebang: false,
     };
-    Ok(ParsedSource::new(
-        alloc,
-        Url::parse(alloc, specifier)?,
-        RcStr::from_str(alloc, text)?,
+    ParsedSource::new(
+        rt.alloc(),
+        url(rt, specifier),
+        shared(rt, text),
         media_type,
         program,
-        Comments::new(alloc),
+        Comments::new(rt.alloc()),
         false,
-    )?)
+    )
+    .expect(rt, "the source is valid")
+}
+
+pub fn url(rt: &(impl AllocGlobal + Abort), specifier: &str) -> Url {
+    Url::parse(rt.alloc(), specifier).expect(rt, "it is a URL")
+}
+
+pub fn shared(rt: &(impl AllocGlobal + Abort), text: &str) -> RcStr {
+    RcStr::from_str(rt.alloc(), text).expect(rt, "memory")
+}
+
+/// A number that counts the calls of a parser.
+pub fn counter(rt: &(impl AllocGlobal + Abort)) -> Rc<Cell<u64>> {
+    Rc::new(rt.alloc(), Cell::new(0)).expect(rt, "memory")
 }
 
 /// An import of a module, so no script.
-fn import(alloc: Global, text: &str, imported: &str) -> Result<Items<Node>, AllocError> {
+fn import(rt: &(impl AllocGlobal + Abort), text: &str, imported: &str) -> Items<Node> {
     let range = SourceRange::new(0, text.len());
+    let value = JsString::from_str(rt.alloc(), imported).expect(rt, "memory");
     let kind = Kind::ImportDecl {
         type_only: false,
         phase: ImportPhase::Evaluation,
-        src: StrLit::new(JsString::from_str(alloc, imported)?, range),
+        src: StrLit::new(value, range),
         has_specifiers: false,
         has_with: false,
     };
-    Items::from_item(alloc, Node::new(alloc, range, kind))
+    Items::from_item(rt.alloc(), Node::new(rt.alloc(), range, kind)).expect(rt, "memory")
 }
 
 /// A module that imports another.
 fn importing(
-    alloc: Global,
+    rt: &(impl AllocGlobal + Abort),
     specifier: &str,
     text: &str,
     media_type: MediaType,
     imported: &str,
-) -> Result<ParsedSource, Fail> {
-    let body = import(alloc, text, imported)?;
-    source_with(alloc, specifier, text, media_type, body)
+) -> ParsedSource {
+    let body = import(rt, text, imported);
+    source_with(rt, specifier, text, media_type, body)
 }
 
 /// What the parser of the tests has for a text under `U`: an import of what it says.
-pub fn parsed(alloc: Global, text: &str) -> Result<ParsedSource, Fail> {
-    importing(alloc, U, text, MediaType::JavaScript, text)
+pub fn parsed(rt: &(impl AllocGlobal + Abort), text: &str) -> ParsedSource {
+    importing(rt, U, text, MediaType::JavaScript, text)
 }
 
 /// A parser of the four sources that counts in `calls`.
-pub fn parser(alloc: Global, calls: &Rc<Cell<u64>>) -> Result<TableParser, Fail> {
-    let mut sources = Vec::new(alloc);
+pub fn parser(rt: &(impl AllocGlobal + Abort), calls: &Rc<Cell<u64>>) -> TableParser {
+    let mut sources = Vec::new(rt.alloc());
     for (specifier, text, media_type, imported) in [
         (U, "a", MediaType::JavaScript, "a"),
         (U, "b", MediaType::JavaScript, "b"),
         (V, "a", MediaType::JavaScript, "v"),
         (V, "a", MediaType::TypeScript, "t"),
     ] {
-        sources.push(importing(alloc, specifier, text, media_type, imported)?)?;
+        let source = importing(rt, specifier, text, media_type, imported);
+        sources.push(source).expect(rt, "memory");
     }
-    Ok(TableParser::new(sources, calls.clone()?))
+    TableParser::new(sources, calls.clone().expect(rt, "a count that fits"))
 }
 
 /// What the parser answers on a text under `U`.
 pub fn parse<P: EsParser>(
-    alloc: Global,
+    rt: &(impl AllocGlobal + Abort),
     parser: &mut P,
     text: &str,
     scope_analysis: bool,
-) -> Result<Result<ParsedSource, ParseError>, Fail> {
-    let specifier = Url::parse(alloc, U)?;
-    let options = options(alloc, &specifier, text, scope_analysis)?;
-    Ok(parser.parse_program(alloc, options))
-}
-
-fn options<'a>(
-    alloc: Global,
-    specifier: &'a Url,
-    text: &str,
-    scope_analysis: bool,
-) -> Result<ParseOptions<'a>, Fail> {
-    Ok(ParseOptions {
-        specifier,
-        source: RcStr::from_str(alloc, text)?,
+) -> Result<ParsedSource, ParseError> {
+    let specifier = url(rt, U);
+    let options = ParseOptions {
+        specifier: &specifier,
+        source: shared(rt, text),
         media_type: MediaType::JavaScript,
         scope_analysis,
-    })
+    };
+    parser.parse_program(rt.alloc(), options)
 }
 
 /// A command as data: on a specifier, and on a text where it has one.
@@ -127,30 +134,30 @@ pub fn analyze(specifier: &'static str, text: &'static str) -> Row {
 }
 
 impl Row {
-    pub fn command(self, alloc: Global) -> Result<Command, Fail> {
-        Ok(match self {
+    pub fn command(self, rt: &(impl AllocGlobal + Abort)) -> Command {
+        match self {
             Row::Analyze(specifier, text, media_type) => Command::Analyze {
-                specifier: Url::parse(alloc, specifier)?,
-                source: RcStr::from_str(alloc, text)?,
+                specifier: url(rt, specifier),
+                source: shared(rt, text),
                 media_type,
             },
             Row::Parse(specifier, text, scope_analysis) => Command::Parse {
-                specifier: Url::parse(alloc, specifier)?,
-                source: RcStr::from_str(alloc, text)?,
+                specifier: url(rt, specifier),
+                source: shared(rt, text),
                 media_type: MediaType::JavaScript,
                 scope_analysis,
             },
             Row::Remove(specifier) => Command::Remove {
-                specifier: Url::parse(alloc, specifier)?,
+                specifier: url(rt, specifier),
             },
-        })
+        }
     }
 }
 
-pub fn commands(alloc: Global, rows: &[Row]) -> Result<Vec<Command>, Fail> {
-    let mut commands = Vec::with_capacity(alloc, rows.len())?;
+pub fn commands(rt: &(impl AllocGlobal + Abort), rows: &[Row]) -> Vec<Command> {
+    let mut commands = Vec::new(rt.alloc());
     for row in rows {
-        commands.push(row.command(alloc)?)?;
+        commands.push(row.command(rt)).expect(rt, "memory");
     }
-    Ok(commands)
+    commands
 }

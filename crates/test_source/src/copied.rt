@@ -1,10 +1,10 @@
 use deno_graph_source::values::TryClone;
-use std::alloc::{AllocError, Global};
+use std::process::Abort;
 
 /// Whether a copy is equal.
 pub fn is_copied<T: TryClone + PartialEq + Drop>(
-    alloc: Global,
+    rt: &(impl AllocGlobal + Abort),
     value: &T,
-) -> Result<bool, AllocError> {
-    Ok(value.try_clone(alloc)? == *value)
+) -> bool {
+    value.try_clone(rt.alloc()).expect(rt, "memory") == *value
 }

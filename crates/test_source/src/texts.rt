@@ -1,10 +1,8 @@
 use crate::copied::is_copied;
 use deno_graph_source::text::{JsString, Position, SourceTextInfo};
 use deno_graph_source::values::TryClone;
-use std::alloc::{AllocError, Global};
 use std::process::Abort;
 use std::rc::RcStr;
-use std::test::Fail;
 
 /// The boundary has this position, and the position gives it back.
 fn assert_position(rt: &impl Abort, info: &SourceTextInfo, pos: usize, expected: Position) {
@@ -36,33 +34,38 @@ fn assert_positions_along(rt: &impl Abort, info: &SourceTextInfo) {
 }
 
 #[test]
-fn positions_are_right_all_along_long_texts(rt: HostRuntime) -> Result<(), Fail> {
+fn positions_are_right_all_along_long_texts(rt: HostRuntime) {
     for (part, count) in [
         ("ab", 700),
         ("aé€😀", 200),
         ("é\n\nabcdefghijklmnopqrstuvwxyz€\n", 60),
     ] {
-        let text = part.repeat(rt.alloc(), count)?;
-        let info = SourceTextInfo::new(rt.alloc(), RcStr::from_str(rt.alloc(), text.as_str())?)?;
+        let info = repeated(&rt, part, count);
         assert_positions_along(&rt, &info);
-        let copy = info.try_clone(rt.alloc())?;
+        let copy = info.try_clone(rt.alloc()).expect(&rt, "memory");
         assert!(rt; copy == info);
         assert!(rt; RcStr::ptr_eq(copy.rc_text(), info.rc_text()));
     }
-    Ok(())
+}
+
+fn repeated(rt: &(impl AllocGlobal + Abort), part: &str, count: usize) -> SourceTextInfo {
+    let text = part.repeat(rt.alloc(), count).expect(rt, "memory");
+    let text = RcStr::from_str(rt.alloc(), text.as_str()).expect(rt, "memory");
+    SourceTextInfo::new(rt.alloc(), text).expect(rt, "memory")
 }
 
 #[test]
-fn strings_are_equal_by_their_units(rt: HostRuntime) -> Result<(), Fail> {
-    let alloc = rt.alloc();
-    assert!(rt; has_units_of(alloc, &[0xD83D, 0xDE00], "\u{1f600}")?);
-    assert!(rt; !has_units_of(alloc, &[0xD83D], "\u{fffd}")?);
-    assert!(rt; is_copied(alloc, &JsString::from_units(alloc, &[0xD83D])?)?);
-    Ok(())
+fn strings_are_equal_by_their_units(rt: HostRuntime) {
+    assert!(rt; has_units_of(&rt, &[0xD83D, 0xDE00], "\u{1f600}"));
+    assert!(rt; !has_units_of(&rt, &[0xD83D], "\u{fffd}"));
+    assert!(rt; is_copied(&rt, &of_units(&rt, &[0xD83D])));
+}
+
+fn of_units(rt: &(impl AllocGlobal + Abort), units: &[u16]) -> JsString {
+    JsString::from_units(rt.alloc(), units).expect(rt, "memory")
 }
 
 /// Whether the string of these units is that of the text.
-fn has_units_of(alloc: Global, units: &[u16], text: &str) -> Result<bool, AllocError> {
-    let string = JsString::from_units(alloc, units)?;
-    Ok(string == JsString::from_str(alloc, text)?)
+fn has_units_of(rt: &(impl AllocGlobal + Abort), units: &[u16], text: &str) -> bool {
+    of_units(rt, units) == JsString::from_str(rt.alloc(), text).expect(rt, "memory")
 }

@@ -7,10 +7,8 @@ use deno_graph_source::tree::{
     Program, SourceFault, StrLit, source_fault,
 };
 use deno_graph_source::values::{Items, Text};
-use std::alloc::{AllocError, Global};
 use std::process::Abort;
 use std::rc::RcStr;
-use std::test::Fail;
 use url::Url;
 
 const SOURCE: &str = "import \"./b.ts\";";
@@ -20,13 +18,12 @@ fn range(start: usize, end: usize) -> SourceRange {
 }
 
 /// The program of `SOURCE`, with this range for the specifier.
-fn side_effect_import(alloc: Global, literal: SourceRange) -> Result<Program, AllocError> {
+fn side_effect_import(rt: &(impl AllocGlobal + Abort), literal: SourceRange) -> Program {
     let src = StrLit {
-        value: JsString::from_str(alloc, "./b.ts")?,
+        value: JsString::from_str(rt.alloc(), "./b.ts").expect(rt, "memory"),
         range: literal,
     };
-    let mut body = Items::with_capacity(alloc, 1)?;
-    body.push(Node {
+    let import = Node {
         range: range(0, 16),
         kind: Kind::ImportDecl {
             type_only: false,
@@ -35,28 +32,31 @@ fn side_effect_import(alloc: Global, literal: SourceRange) -> Result<Program, Al
             has_specifiers: false,
             has_with: false,
         },
-        children: Items::new(alloc),
-    })?;
-    Ok(Program {
+        children: Items::new(rt.alloc()),
+    };
+    Program {
         range: range(0, 16),
-        body,
+        body: Items::from_item(rt.alloc(), import).expect(rt, "memory"),
         has_shebang: false,
-    })
+    }
 }
 
-fn parsed(alloc: Global) -> Result<ParsedSource, Fail> {
-    let specifier = Url::parse(alloc, "file:///b.ts")?;
-    let text = RcStr::from_str(alloc, SOURCE)?;
-    let program = side_effect_import(alloc, range(7, 15))?;
-    let comments = Comments::new(alloc);
-    let media_type = MediaType::TypeScript;
-    Ok(ParsedSource::new(alloc, specifier, text, media_type, program, comments, true)?)
+fn parsed(rt: &(impl AllocGlobal + Abort)) -> ParsedSource {
+    ParsedSource::new(
+        rt.alloc(),
+        Url::parse(rt.alloc(), "file:///b.ts").expect(rt, "it is a URL"),
+        RcStr::from_str(rt.alloc(), SOURCE).expect(rt, "memory"),
+        MediaType::TypeScript,
+        side_effect_import(rt, range(7, 15)),
+        Comments::new(rt.alloc()),
+        true,
+    )
+    .expect(rt, "the source is valid")
 }
 
 #[test]
-fn a_parsed_source_keeps_what_it_got(rt: HostRuntime) -> Result<(), Fail> {
-    assert_parts(&rt, &parsed(rt.alloc())?);
-    Ok(())
+fn a_parsed_source_keeps_what_it_got(rt: HostRuntime) {
+    assert_parts(&rt, &parsed(&rt));
 }
 
 fn assert_parts(rt: &impl Abort, source: &ParsedSource) {
@@ -70,60 +70,56 @@ fn assert_parts(rt: &impl Abort, source: &ParsedSource) {
 }
 
 #[test]
-fn a_parsed_source_is_copied(rt: HostRuntime) -> Result<(), Fail> {
-    let source = parsed(rt.alloc())?;
-    assert!(rt; is_copied(rt.alloc(), source.program())?);
-    assert!(rt; is_copied(rt.alloc(), &source)?);
-    Ok(())
+fn a_parsed_source_is_copied(rt: HostRuntime) {
+    let source = parsed(&rt);
+    assert!(rt; is_copied(&rt, source.program()));
+    assert!(rt; is_copied(&rt, &source));
 }
 
 /// The fault of the import's program over a text, with this range for its specifier.
 fn fault_of_import(
-    alloc: Global,
+    rt: &(impl AllocGlobal + Abort),
     text: &str,
     literal: SourceRange,
     comments: &Comments,
-) -> Result<Option<SourceFault>, AllocError> {
-    let program = side_effect_import(alloc, literal)?;
-    source_fault(alloc, text, &program, comments)
+) -> Option<SourceFault> {
+    let program = side_effect_import(rt, literal);
+    source_fault(rt.alloc(), text, &program, comments).expect(rt, "memory")
 }
 
 #[test]
-fn a_range_past_what_a_document_can_say(rt: HostRuntime) -> Result<(), Fail> {
+fn a_range_past_what_a_document_can_say(rt: HostRuntime) {
     let comments = Comments::new(rt.alloc());
-    let found = fault_of_import(rt.alloc(), SOURCE, range(7, usize::MAX), &comments)?;
+    let found = fault_of_import(&rt, SOURCE, range(7, usize::MAX), &comments);
     assert_eq!(rt; found, Some(SourceFault::RangeOutside));
-    Ok(())
 }
 
 #[test]
-fn comments_past_the_end_of_the_source(rt: HostRuntime) -> Result<(), Fail> {
-    let comments = many_filings(rt.alloc())?;
-    assert_without_fault(&rt, rt.alloc(), &comments)
-}
-
-fn assert_without_fault(rt: &impl Abort, alloc: Global, comments: &Comments) -> Result<(), Fail> {
-    let found = fault_of_import(alloc, "/*a*/ /*      */", range(7, 15), comments)?;
+fn comments_past_the_end_of_the_source(rt: HostRuntime) {
+    let comments = many_filings(&rt);
+    let found = fault_of_import(&rt, "/*a*/ /*      */", range(7, 15), &comments);
     assert_eq!(rt; found, None);
-    assert_eq!(rt; comments.iter_unstable(alloc)?.len(), 2000);
-    Ok(())
+    let all = comments.iter_unstable(rt.alloc()).expect(&rt, "memory");
+    assert_eq!(rt; all.len(), 2000);
 }
 
 /// One comment, filed again and again on both sides, past the end of the source too.
-fn many_filings(alloc: Global) -> Result<Comments, AllocError> {
-    let mut comments = Comments::new(alloc);
+fn many_filings(rt: &(impl AllocGlobal + Abort)) -> Comments {
+    let mut comments = Comments::new(rt.alloc());
     for _ in 0..1000 {
-        comments.add_leading(usize::MAX, comment(alloc)?)?;
-        comments.add_trailing(0, comment(alloc)?)?;
+        comments
+            .add_leading(usize::MAX, comment(rt))
+            .expect(rt, "memory");
+        comments.add_trailing(0, comment(rt)).expect(rt, "memory");
     }
-    Ok(comments)
+    comments
 }
 
 /// The comment at the start of `/*a*/`.
-fn comment(alloc: Global) -> Result<DependencyComment, AllocError> {
-    Ok(DependencyComment {
+fn comment(rt: &(impl AllocGlobal + Abort)) -> DependencyComment {
+    DependencyComment {
         kind: CommentKind::Block,
         range: range(0, 5),
-        text: Text::from_str(alloc, "a")?,
-    })
+        text: Text::from_str(rt.alloc(), "a").expect(rt, "memory"),
+    }
 }

@@ -2,25 +2,26 @@
 
 use crate::copied::is_copied;
 use deno_graph_source::values::{Items, Text, TextMap, TryClone};
-use std::alloc::{AllocError, Global};
 use std::process::Abort;
-use std::test::Fail;
 
-fn items(alloc: Global) -> Result<Items<Text>, AllocError> {
-    let mut items = Items::new(alloc);
-    for text in ["a", "b", "c"] {
-        items.push(Text::from_str(alloc, text)?)?;
+fn text(rt: &(impl AllocGlobal + Abort), text: &str) -> Text {
+    Text::from_str(rt.alloc(), text).expect(rt, "memory")
+}
+
+fn items(rt: &(impl AllocGlobal + Abort)) -> Items<Text> {
+    let mut items = Items::new(rt.alloc());
+    for item in ["a", "b", "c"] {
+        items.push(text(rt, item)).expect(rt, "memory");
     }
-    Ok(items)
+    items
 }
 
 #[test]
-fn lists_of_three(rt: HostRuntime) -> Result<(), Fail> {
-    let items = items(rt.alloc())?;
+fn lists_of_three(rt: HostRuntime) {
+    let items = items(&rt);
     assert_three(&rt, &items);
-    assert!(rt; is_copied(rt.alloc(), &items)?);
+    assert!(rt; is_copied(&rt, &items));
     assert_three(&rt, &Items::from_vec(items.into_vec()));
-    Ok(())
 }
 
 fn assert_three(rt: &impl Abort, items: &Items<Text>) {
@@ -34,85 +35,76 @@ fn assert_three(rt: &impl Abort, items: &Items<Text>) {
 }
 
 #[test]
-fn lists_of_none_and_one(rt: HostRuntime) -> Result<(), Fail> {
-    let none = Items::with_capacity(rt.alloc(), 3)?;
-    let one = Items::from_item(rt.alloc(), Text::from_str(rt.alloc(), "a")?)?;
-    assert_none_and_one(&rt, rt.alloc(), &none, &one);
-    Ok(())
-}
-
-fn assert_none_and_one(rt: &impl Abort, alloc: Global, none: &Items<Text>, one: &Items<Text>) {
-    assert!(rt; none.is_empty() && *none == Items::new(alloc));
+fn lists_of_none_and_one(rt: HostRuntime) {
+    let none = Items::with_capacity(rt.alloc(), 3).expect(&rt, "memory");
+    assert!(rt; none.is_empty() && none == Items::new(rt.alloc()));
+    let one = Items::from_item(rt.alloc(), text(&rt, "a")).expect(&rt, "memory");
     assert!(rt; none != one);
     assert_eq!(rt; one.as_slice().len(), 1);
     assert_eq!(rt; one.first().map(Text::as_str), Some("a"));
 }
 
 #[test]
-fn texts(rt: HostRuntime) -> Result<(), Fail> {
-    let alloc = rt.alloc();
-    assert!(rt; Text::new(alloc).is_empty());
-    let text = Text::from_str(alloc, "größe")?;
+fn texts(rt: HostRuntime) {
+    let none = Text::new(rt.alloc());
+    assert!(rt; none.is_empty());
+    let text = text(&rt, "größe");
     assert_eq!(rt; text.len(), 7);
     assert_eq!(rt; text.as_str(), "größe");
-    let copy = text.try_clone(alloc)?;
-    assert!(rt; copy == text);
-    assert!(rt; copy != Text::new(alloc));
-    let again = Text::from_string(copy.into_string());
-    assert!(rt; again == text);
-    Ok(())
+    assert!(rt; is_copied(&rt, &text));
+    assert!(rt; text != none);
+    let again = Text::from_string(text.into_string());
+    assert_eq!(rt; again.as_str(), "größe");
 }
 
 /// The value that was there before.
 fn insert(
-    alloc: Global,
+    rt: &(impl AllocGlobal + Abort),
     map: &mut TextMap<Text>,
     key: &str,
     value: &str,
-) -> Result<Option<Text>, AllocError> {
-    let key = Text::from_str(alloc, key)?;
-    map.insert(key, Text::from_str(alloc, value)?)
+) -> Option<Text> {
+    map.insert(text(rt, key), text(rt, value))
+        .expect(rt, "memory")
 }
 
 /// A map of two keys, one of them inserted twice.
-fn map(alloc: Global) -> Result<TextMap<Text>, AllocError> {
-    let mut map = TextMap::new(alloc);
+fn map(rt: &(impl AllocGlobal + Abort)) -> TextMap<Text> {
+    let mut map = TextMap::new(rt.alloc());
     for (key, value) in [("b", "1"), ("a", "2"), ("b", "3")] {
-        drop(insert(alloc, &mut map, key, value)?);
+        drop(insert(rt, &mut map, key, value));
     }
-    Ok(map)
+    map
 }
 
 #[test]
-fn maps_from_texts(rt: HostRuntime) -> Result<(), Fail> {
-    let map = map(rt.alloc())?;
+fn maps_of_two(rt: HostRuntime) {
+    let map = map(&rt);
+    assert_two(&rt, &map);
+    assert!(rt; is_copied(&rt, &map));
+    assert_two(&rt, &TextMap::from_map(map.into_map()));
+}
+
+fn assert_two(rt: &impl Abort, map: &TextMap<Text>) {
     assert!(rt; !map.is_empty());
     assert_eq!(rt; map.len(), 2);
+    assert_eq!(rt; map.get("a").map(Text::as_str), Some("2"));
     assert_eq!(rt; map.get("b").map(Text::as_str), Some("3"));
     assert_eq!(rt; map.get("c").map(Text::as_str), None);
     assert_eq!(rt; map.iter().next().map(|(key, _)| key), Some("a"));
-    Ok(())
 }
 
 #[test]
-fn a_value_of_a_map_is_replaced(rt: HostRuntime) -> Result<(), Fail> {
-    let alloc = rt.alloc();
-    let mut map = map(alloc)?;
-    let replaced = insert(alloc, &mut map, "a", "4")?;
+fn maps_of_none(rt: HostRuntime) {
+    let none: TextMap<Text> = TextMap::new(rt.alloc());
+    assert!(rt; none.is_empty());
+    assert!(rt; map(&rt) != none);
+}
+
+#[test]
+fn a_value_of_a_map_is_replaced(rt: HostRuntime) {
+    let mut map = map(&rt);
+    let replaced = insert(&rt, &mut map, "a", "4");
     assert_eq!(rt; replaced.as_ref().map(Text::as_str), Some("2"));
     assert_eq!(rt; map.get("a").map(Text::as_str), Some("4"));
-    Ok(())
-}
-
-#[test]
-fn maps_are_made_and_copied(rt: HostRuntime) -> Result<(), Fail> {
-    let map = map(rt.alloc())?;
-    assert!(rt; is_copied(rt.alloc(), &map)?);
-    let none: TextMap<Text> = TextMap::new(rt.alloc());
-    assert!(rt; none.is_empty() && map != none);
-    assert_eq!(rt;
-        TextMap::from_map(map.into_map()).get("a").map(Text::as_str),
-        Some("2")
-    );
-    Ok(())
 }

@@ -1,5 +1,6 @@
 //! The descriptors of dependencies, by their parts.
 
+use crate::documents::source_of;
 use deno_graph_analysis::ast::module_info;
 use deno_graph_analysis::dep::{self, analyze_program_dependencies};
 use deno_graph_info::analysis::{
@@ -8,27 +9,28 @@ use deno_graph_info::analysis::{
 };
 use deno_graph_source::tree::{DependencyComment, ParsedSource};
 use deno_graph_source::values::TryClone;
-use modinfo::notation::NotationFault;
-use modinfo::parse_document;
 use std::alloc::{AllocError, Global};
 use std::process::Abort;
-use std::test::Fail;
 
 /// An import of a type with an attribute behind a comment, and a call of `require`.
 const DOCUMENT: &str = r#"{"mediaType":"TypeScript","program":{"body":[
-    {"kind":"ImportDecl","range":[5,55],"typeOnly":true,"hasSpecifiers":true,"hasWith":true,"src":{"value":"a","range":[28,31]},"children":[{"kind":"Object","range":[37,54],"children":[{"kind":"KeyValue","range":[39,52],"key":{"ident":"type"},"children":[{"kind":"Str","range":[45,52],"value":"bytes"}]}]}]},
-    {"kind":"Call","range":[56,68],"callee":"expr","args":[{"range":[64,67]}],"children":[{"kind":"Ident","range":[56,63],"value":"require"},{"kind":"Str","range":[64,67],"value":"b"}]}
-],"range":[0,69]},"leading":[{"pos":5,"comments":[{"kind":"block","range":[0,4],"text":""}]}],"source":"/**/ import type { T } from \"a\" with { type: \"bytes\" }; require(\"b\");","specifier":"file:///a.ts"}"#;
-
-fn source(alloc: Global) -> Result<ParsedSource, NotationFault> {
-    parse_document(alloc, DOCUMENT)?.into_source(alloc)
-}
+    {"kind":"ImportDecl","range":[5,55],"typeOnly":true,"hasSpecifiers":true,"hasWith":true,
+        "src":{"value":"a","range":[28,31]},"children":[
+        {"kind":"Object","range":[37,54],"children":[
+            {"kind":"KeyValue","range":[39,52],"key":{"ident":"type"},"children":[
+                {"kind":"Str","range":[45,52],"value":"bytes"}]}]}]},
+    {"kind":"Call","range":[56,68],"callee":"expr","args":[{"range":[64,67]}],"children":[
+        {"kind":"Ident","range":[56,63],"value":"require"},
+        {"kind":"Str","range":[64,67],"value":"b"}]}
+],"range":[0,69]},"leading":[{"pos":5,"comments":[{"kind":"block","range":[0,4],"text":""}]}],
+"source":"/**/ import type { T } from \"a\" with { type: \"bytes\" }; require(\"b\");",
+"specifier":"file:///a.ts"}"#;
 
 #[test]
-fn dependencies_by_their_parts(rt: HostRuntime) -> Result<(), Fail> {
-    let source = source(rt.alloc())?;
-    let info = info_of(rt.alloc(), &source)?;
-    assert_parts(&rt, rt.alloc(), &info)
+fn dependencies_by_their_parts(rt: HostRuntime) {
+    let source = source_of(&rt, DOCUMENT);
+    let info = info_of(rt.alloc(), &source).expect(&rt, "memory");
+    assert_parts(&rt, &info);
 }
 
 /// The information on a source. Its contract is left behind here, since a caller's proof needs none.
@@ -36,15 +38,16 @@ fn info_of(alloc: Global, source: &ParsedSource) -> Result<ModuleInfo, AllocErro
     module_info(alloc, source)
 }
 
-fn assert_parts(rt: &impl Abort, alloc: Global, info: &ModuleInfo) -> Result<(), Fail> {
+fn assert_parts(rt: &(impl AllocGlobal + Abort), info: &ModuleInfo) {
     assert!(rt; info.dependencies.first().is_some_and(is_the_import));
     assert!(rt; info.dependencies.last().is_some_and(is_the_call));
     for dependency in info.dependencies.iter() {
-        assert!(rt; is_made_again(alloc, dependency)?);
+        let again = made_again(rt.alloc(), dependency).expect(rt, "memory");
+        assert!(rt; again == *dependency);
     }
-    assert!(rt; info.try_clone(alloc)? == *info);
-    assert!(rt; *info != ModuleInfo::new(alloc));
-    Ok(())
+    let copy = info.try_clone(rt.alloc()).expect(rt, "memory");
+    assert!(rt; copy == *info);
+    assert!(rt; *info != ModuleInfo::new(rt.alloc()));
 }
 
 fn is_the_import(dependency: &DependencyDescriptor) -> bool {
@@ -71,27 +74,26 @@ fn is_the_call(dependency: &DependencyDescriptor) -> bool {
         && DynamicArgument::default().is_expr()
 }
 
-/// Whether a copy of the descriptor inside makes the same dependency.
-fn is_made_again(alloc: Global, dependency: &DependencyDescriptor) -> Result<bool, AllocError> {
-    let again = match dependency {
-        DependencyDescriptor::Static(found) => DependencyDescriptor::from(found.try_clone(alloc)?),
-        DependencyDescriptor::Dynamic(found) => DependencyDescriptor::from(found.try_clone(alloc)?),
-    };
-    Ok(again == *dependency)
+/// The dependency that a copy of the descriptor inside makes.
+fn made_again(
+    alloc: Global,
+    dependency: &DependencyDescriptor,
+) -> Result<DependencyDescriptor, AllocError> {
+    match dependency {
+        DependencyDescriptor::Static(found) => Ok(found.try_clone(alloc)?.into()),
+        DependencyDescriptor::Dynamic(found) => Ok(found.try_clone(alloc)?.into()),
+    }
 }
 
 #[test]
-fn borrowed_dependencies_by_their_parts(rt: HostRuntime) -> Result<(), Fail> {
-    let source = source(rt.alloc())?;
-    assert_borrowed_parts(&rt, rt.alloc(), &source)
+fn borrowed_dependencies_by_their_parts(rt: HostRuntime) {
+    let source = source_of(&rt, DOCUMENT);
+    assert_borrowed_parts(&rt, &source);
 }
 
-fn assert_borrowed_parts(
-    rt: &impl Abort,
-    alloc: Global,
-    source: &ParsedSource,
-) -> Result<(), Fail> {
-    let found = analyze_program_dependencies(alloc, source.program(), source.comments())?;
+fn assert_borrowed_parts(rt: &(impl AllocGlobal + Abort), source: &ParsedSource) {
+    let found = analyze_program_dependencies(rt.alloc(), source.program(), source.comments());
+    let found = found.expect(rt, "memory");
     let leading = source.comments().get_leading(5).unwrap_or(&[]);
     assert_eq!(rt; leading.len(), 1);
     assert!(rt;
@@ -101,9 +103,9 @@ fn assert_borrowed_parts(
     );
     assert!(rt; found.last().is_some_and(is_the_borrowed_call));
     for dependency in found.iter() {
-        assert!(rt; dependency.try_clone(alloc)? == *dependency);
+        let copy = dependency.try_clone(rt.alloc()).expect(rt, "memory");
+        assert!(rt; copy == *dependency);
     }
-    Ok(())
 }
 
 fn is_the_borrowed_import(

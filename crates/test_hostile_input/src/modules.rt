@@ -1,21 +1,9 @@
-//! Builds modules that are deeper, wider or longer than documents are, and analyzes them.
-//!
-//!     test_deep_trees                      one of each
-//!     test_deep_trees NAME COUNT           one: nested, calls, operands, types, braces or filings
-//!     test_deep_trees NAME COUNT build     builds it, and no more
-//!
-//! It prints what is known of the dependencies, equal ones in a row once with their number, and what
-//! JSDoc imports there are.
-#![tactic(auto)]
-
-mod comments;
-mod found;
-mod trees;
+//! Modules that are deeper, wider or longer than documents are, made in code and analyzed.
 
 use crate::comments::{braces, filed};
 use crate::found::found;
 use crate::trees::{calls, nested, operands, types};
-use anyhow::{Context, Result, bail};
+use anyhow::{Result, bail};
 use deno_graph_analysis::ast::module_info;
 use deno_graph_analysis::jsdoc::scan;
 use deno_graph_info::analysis::ModuleInfo;
@@ -23,36 +11,12 @@ use deno_graph_source::text::SourceRange;
 use deno_graph_source::tree::{Comments, MediaType, Node, ParsedSource, Program};
 use deno_graph_source::values::Items;
 use std::alloc::{AllocError, Global};
-use std::env;
 use std::rc::RcStr;
 use url::Url;
 
-const MODULES: [(&str, usize); 6] = [
-    ("nested", 2000),
-    ("calls", 2000),
-    ("operands", 2000),
-    ("types", 2000),
-    ("filings", 1000),
-    ("braces", 1_000_000),
-];
-
-fn main(rt: HostRuntime) -> Result<()> {
-    let words: Vec<String> = env::args(&rt)?.skip(1).collect(rt.alloc())?;
-    let Some(name) = words.get(0) else {
-        for (name, count) in MODULES {
-            print_found(&rt, name, count)?;
-        }
-        return Ok(());
-    };
-    let count = words.get(1).context("how many?")?.parse::<usize>()?;
-    if words.get(2).is_some() {
-        drop(source(rt.alloc(), name.as_str(), count)?);
-        return Ok(());
-    }
-    print_found(&rt, name.as_str(), count)
-}
-
-fn print_found<R: AllocGlobal + Print>(rt: &R, name: &str, count: usize) -> Result<()> {
+/// Prints what is known of the dependencies of a module, equal ones in a row once with their number,
+/// and what JSDoc imports there are.
+pub fn print_found<R: AllocGlobal + Print>(rt: &R, name: &str, count: usize) -> Result<()> {
     let text = found_in(rt.alloc(), name, count)?;
     println!(rt; "{name} {count}: {text}")?;
     if name == "braces" {
@@ -85,7 +49,8 @@ fn print_starts<R: AllocGlobal + Print>(rt: &R, count: usize) -> Result<()> {
     Ok(())
 }
 
-fn source(alloc: Global, name: &str, count: usize) -> Result<ParsedSource> {
+/// The module of this name, of so many nodes, braces or comments.
+pub fn source(alloc: Global, name: &str, count: usize) -> Result<ParsedSource> {
     match name {
         "braces" => {
             let text = braces(alloc, count)?;

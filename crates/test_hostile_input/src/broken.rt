@@ -1,0 +1,45 @@
+//! Documents broken by seed, each analyzed by the program: it has to print a result with status 0, or
+//! nothing but a fault that has a name with status 1. Then one run is handed all of them, one a line,
+//! and has to answer each alike.
+
+use crate::breaking::broken_by;
+use crate::lines::{Documents, printed};
+use crate::outcome::{OUTCOMES, Outcome};
+use anyhow::{Result, bail};
+use std::alloc::Global;
+use std::fs::{self, Files};
+
+/// Prints how often each outcome comes, which is the same on each run. The whole documents, one a line,
+/// are in `documents.txt`. One that is answered otherwise is named by its seed.
+pub fn print_outcomes<R: Files + AllocGlobal + Print>(rt: &R, count: usize) -> Result<()> {
+    let text = fs::read_to_string(rt, "documents.txt")?;
+    let whole: Vec<&str> = text.lines().collect(rt.alloc())?;
+    let counts = counts(rt.alloc(), whole.as_slice(), count as u64)?;
+    for (name, times) in OUTCOMES.iter().zip(counts.iter()) {
+        println!(rt; "broken {count}: {times} x {name}")?;
+    }
+    println!(rt; "broken {count}: in one run, one a line, the same")?;
+    Ok(())
+}
+
+/// How often each outcome comes.
+fn counts(alloc: Global, whole: &[&str], count: u64) -> Result<[u64; OUTCOMES.len()]> {
+    let mut counts = [0u64; OUTCOMES.len()];
+    let mut lines = Vec::new(alloc);
+    for seed in 0..count {
+        let document = broken_by(alloc, seed, whole)?;
+        let Some(outcome) = Outcome::of(alloc, document.as_slice())? else {
+            bail!("the document of seed {seed} is answered by no named fault");
+        };
+        if let Some(times) = counts.get_mut(outcome.at()) {
+            *times = times.saturating_add(1);
+        }
+        if !document.contains(&b'\n') {
+            outcome.push_line(&mut lines)?;
+        }
+    }
+    if printed(alloc, Documents::new(alloc, whole, count)) != Some(lines) {
+        bail!("in one run a document is answered otherwise");
+    }
+    Ok(counts)
+}

@@ -1,0 +1,58 @@
+//! What no one should send, and what has to be answered all the same: documents broken by seed, and
+//! modules made in code that are deeper, wider or longer than documents are.
+//!
+//!     test_hostile_input                      all of it
+//!     test_hostile_input broken COUNT         so many broken documents
+//!     test_hostile_input NAME COUNT           one module: nested, calls, operands, types, braces or filings
+//!     test_hostile_input NAME COUNT build     builds it, and no more
+//!
+//! Status 1 where a document is answered by no outcome that has a name, or a module can't be made.
+#![tactic(auto)]
+
+mod breaking;
+mod broken;
+mod comments;
+mod found;
+mod lines;
+mod modules;
+mod outcome;
+mod trees;
+
+use crate::broken::print_outcomes;
+use crate::modules::{print_found, source};
+use anyhow::{Context, Result};
+use std::env;
+use std::fs::Files;
+
+const CASES: [(&str, usize); 7] = [
+    ("broken", 100_000),
+    ("nested", 2000),
+    ("calls", 2000),
+    ("operands", 2000),
+    ("types", 2000),
+    ("filings", 1000),
+    ("braces", 1_000_000),
+];
+
+fn main(rt: HostRuntime) -> Result<()> {
+    let words: Vec<String> = env::args(&rt)?.skip(1).collect(rt.alloc())?;
+    let Some(name) = words.get(0) else {
+        for (name, count) in CASES {
+            run(&rt, name, count)?;
+        }
+        return Ok(());
+    };
+    let count = words.get(1).context("how many?")?.parse::<usize>()?;
+    if words.get(2).is_some() {
+        drop(source(rt.alloc(), name.as_str(), count)?);
+        return Ok(());
+    }
+    run(&rt, name.as_str(), count)
+}
+
+fn run<R: Files + AllocGlobal + Print>(rt: &R, name: &str, count: usize) -> Result<()> {
+    if name == "broken" {
+        return print_outcomes(rt, count);
+    }
+    print_found(rt, name, count)
+}
