@@ -9,12 +9,12 @@ use anyhow::{Result, bail};
 use std::alloc::Global;
 use std::fs::{self, Files};
 
-/// Prints how often each outcome comes, which is the same on each run. The whole documents, one a line,
-/// are in `documents.txt`. One that is answered otherwise is named by its seed.
+/// Prints how often each outcome comes, which is the same on each run. The documents that are broken are
+/// in `documents.txt`, one a line. A broken one without a named outcome is told by its seed.
 pub fn print_outcomes<R: Files + AllocGlobal + Print>(rt: &R, count: usize) -> Result<()> {
     let text = fs::read_to_string(rt, "documents.txt")?;
     let whole: Vec<&str> = text.lines().collect(rt.alloc())?;
-    let counts = counts(rt.alloc(), whole.as_slice(), count as u64)?;
+    let counts = compared(rt.alloc(), whole.as_slice(), count as u64)?;
     for (name, times) in OUTCOMES.iter().zip(counts.iter()) {
         println!(rt; "broken {count}: {times} x {name}")?;
     }
@@ -22,8 +22,8 @@ pub fn print_outcomes<R: Files + AllocGlobal + Print>(rt: &R, count: usize) -> R
     Ok(())
 }
 
-/// How often each outcome comes.
-fn counts(alloc: Global, whole: &[&str], count: u64) -> Result<[u64; OUTCOMES.len()]> {
+/// How often each outcome comes, where one run over all of them has the same.
+fn compared(alloc: Global, whole: &[&str], count: u64) -> Result<[u64; OUTCOMES.len()]> {
     let mut counts = [0u64; OUTCOMES.len()];
     let mut lines = Vec::new(alloc);
     for seed in 0..count {

@@ -1,12 +1,13 @@
-//! What no one should send, and what has to be answered all the same: documents broken by seed, and
+//! Input that no one should make, and that is answered all the same: documents broken by seed, and
 //! modules made in code that are deeper, wider or longer than documents are.
 //!
 //!     test_hostile_input                      all of it
 //!     test_hostile_input broken COUNT         so many broken documents
 //!     test_hostile_input NAME COUNT           one module: nested, calls, operands, types, braces or filings
-//!     test_hostile_input NAME COUNT build     builds it, and no more
+//!     test_hostile_input NAME COUNT build     builds the module, and no more
 //!
-//! Status 1 where a document is answered by no outcome that has a name, or a module can't be made.
+//! Status 1 where a document has no outcome that is named, or another one among all of them, and where
+//! a module can't be made.
 #![tactic(auto)]
 
 mod breaking;

@@ -22,12 +22,7 @@ fn commands_are_copied(rt: HostRuntime) {
 }
 
 /// The command is equal to the one with this number, and to no other.
-fn assert_only(
-    rt: &(impl AllocGlobal + Abort),
-    command: &Command,
-    number: usize,
-    commands: &[Command],
-) {
+fn assert_only(rt: &impl Abort, command: &Command, number: usize, commands: &[Command]) {
     for (other_number, other) in commands.iter().enumerate() {
         assert_eq!(rt; command == other, number == other_number);
     }

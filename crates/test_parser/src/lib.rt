@@ -1,5 +1,6 @@
 //! Tests of parsers, stores and capturing analyzers: rows of commands, and each call with ample
-//! memory. What is there after a refusal is looked at by `crates/test_after_refusal`.
+//! memory. A test stops where it is refused memory itself; in `refusals` a parser or a store says that
+//! it is. What is there after a refusal is looked at by `crates/test_after_refusal`.
 #![tactic(auto)]
 
 #[cfg(test)]

@@ -36,7 +36,7 @@ impl<P: EsParser> EsParser for RecordingParser<P> {
     }
 }
 
-/// One over the parser of the tests.
+/// A recording parser over that of the tests.
 fn recording(
     rt: &(impl AllocGlobal + Abort),
     last: &Rc<Cell<Option<bool>>>,
@@ -54,8 +54,8 @@ fn nothing_recorded(rt: &(impl AllocGlobal + Abort)) -> Rc<Cell<Option<bool>>> {
 #[test]
 fn a_boxed_parser_is_handed_the_option_of_scopes(rt: HostRuntime) {
     let last = nothing_recorded(&rt);
-    let parser = Box::new(rt.alloc(), recording(&rt, &last)).expect(&rt, "memory");
-    let mut boxed: Box<dyn EsParser> = parser;
+    let recording = Box::new(rt.alloc(), recording(&rt, &last)).expect(&rt, "memory");
+    let mut boxed: Box<dyn EsParser> = recording;
     for scope_analysis in [true, false] {
         assert_parsed(&rt, &mut boxed, scope_analysis);
         assert_eq!(rt; last.get(), Some(scope_analysis));

@@ -1,6 +1,5 @@
 //! The sources of the tests, each an import of another module: `a` and `b` under one specifier, and
 //! `a` under another as JavaScript and as TypeScript. The parser of the tests knows no more.
-//! Memory is ample here, so a test that is refused some is stopped.
 
 use deno_graph_parser::{Command, EsParser, ParseError, ParseOptions};
 use deno_graph_source::text::{JsString, SourceRange};

@@ -1,6 +1,6 @@
 //! Tests of `deno_graph_source` for what has no text: each public call with ample memory, its answer
 //! compared, and positions all along long texts. What has a text is a row of `crates/test_replay`.
-//! A test that is refused memory is stopped.
+//! A test stops where it is refused memory.
 #![tactic(auto)]
 
 #[cfg(test)]

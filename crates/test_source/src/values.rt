@@ -1,7 +1,7 @@
 //! The lists, texts and maps of values, each call once.
 
 use crate::copied::is_copied;
-use deno_graph_source::values::{Items, Text, TextMap, TryClone};
+use deno_graph_source::values::{Items, Text, TextMap};
 use std::process::Abort;
 
 fn text(rt: &(impl AllocGlobal + Abort), text: &str) -> Text {
