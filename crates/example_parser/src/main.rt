@@ -1,36 +1,15 @@
-//! A parser, a store and an analyzer of one's own, and what they answer. docs/PARSERS.md shows them.
+//! Two ways from a module to what it depends on: `by_hand`, where its tree is made in code, and
+//! `by_parser`, where a parser makes it of the text. docs/PARSERS.md explains both.
 #![tactic(auto)]
 
-mod analyzer;
-mod parser;
-mod store;
+mod by_hand;
+mod by_parser;
+mod tree;
 
-use crate::analyzer::WithoutJson;
-use crate::parser::ImportParser;
-use crate::store::CountingStore;
 use anyhow::Result;
-use deno_graph_analysis::ast::{
-    AnalyzeError, CapturingModuleAnalyzer, DefaultParsedSourceStore, ModuleAnalyzer,
-};
-use deno_graph_source::tree::MediaType;
-use std::rc::RcStr;
-use url::Url;
 
 fn main(rt: HostRuntime) -> Result<()> {
-    let alloc = rt.alloc();
-    let store = CountingStore::new(DefaultParsedSourceStore::new(alloc));
-    let mut analyzer = WithoutJson::new(CapturingModuleAnalyzer::new(ImportParser, store));
-    let specifier = Url::parse(alloc, "file:///a.ts")?;
-    for text in ["import \"./b.ts\";", "import \"./b.ts\";", "import ./b.ts;"] {
-        let source = RcStr::from_str(alloc, text)?;
-        match analyzer.analyze_sync(alloc, &specifier, source, MediaType::TypeScript) {
-            Ok(info) => println!(rt; "{}", info.to_value(alloc)?.to_string(alloc)?)?,
-            Err(AnalyzeError::Parse(diagnostic)) => println!(rt;
-                "{}",
-                diagnostic.message.as_str()
-            )?,
-            Err(AnalyzeError::OutOfMemory) => println!(rt; "no memory")?,
-        }
-    }
-    Ok(())
+    let answer = by_hand::answer(rt.alloc())?;
+    println!(rt; "{answer}")?;
+    by_parser::print_answers(&rt)
 }

@@ -12,7 +12,7 @@ use Rattle.deno_graph_ast.specs.SpelledDependencies.{SpellDependencies}
 use Rattle.modinfo_notation.specs.Document.{HasNotationFault, IsDocumentOf, IsSourceOf}
 use Rattle.modinfo_notation.specs.declared.document.Document.{Document}
 use Rattle.modinfo_notation.specs.declared.fault.NotationFault.{NotationFault}
-use Rattle.modinfo_check.specs.Report.{StatesConvertible, StatesNoConvertible, StatesNoSource, StatesSource}
+use Rattle.modinfo.specs.Check.{StatesConvertible, StatesNoConvertible, StatesNoSource, StatesSource}
 use Rattle.modinfo.specs.declared.fault.Fault.{Fault}
 use Rattle.modinfo.specs.declared.fault.Fault.TheVariants.{Input, OutOfMemory}
 use Rattle.modinfo.specs.declared.subcommand.Subcommand.{Subcommand}

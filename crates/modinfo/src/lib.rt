@@ -2,6 +2,7 @@
 //! found as JSON.
 #![tactic(auto)]
 
+pub mod check;
 pub mod fault;
 mod input;
 mod invocation;
@@ -11,7 +12,6 @@ pub mod subcommand;
 mod task;
 
 pub use fault::Fault;
-pub use modinfo_check as check;
 pub use modinfo_notation as notation;
 pub use modinfo_notation::parse_document;
 pub use program::serve;

@@ -1,6 +1,6 @@
 ghost use Rattle.std.specs.Prelude.{◌≡◌, [], ◌∷◌, ℕ, Bool, codes, List, IfSome, Ok, OnOk, map, true};
 ghost use Rattle.std.specs.Io.KnownBytes.{Appends};
-ghost use Rattle.modinfo_check.specs.Report.{StatesSource};
+ghost use Rattle.modinfo.specs.Check.{StatesSource};
 ghost use Rattle.modinfo.specs.Answer.{IsAnswerLine, IsValidDocument, name_of};
 
 use crate::fault::Fault;

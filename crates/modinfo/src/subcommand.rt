@@ -4,16 +4,16 @@ ghost use Rattle.std.specs.Prelude.{◌≡◌, ◌≢◌, ℕ, IfErr, IfOk, IfSo
 ghost use Rattle.std.specs.String.{string_bytes};
 ghost use Rattle.serde_json.specs.View.{view};
 ghost use Rattle.deno_graph_source.specs.ParsedSource.{ParsedModule};
-ghost use Rattle.modinfo_check.specs.Report.{MatchReport};
+ghost use Rattle.modinfo_report.specs.Report.{MatchReport};
 ghost use Rattle.modinfo.specs.Answer.{IsAnswerLine, IsAnswerText, IsConversionOf, IsInfoOfModule, IsInfoText, IsModuleOf, IsNoModule, name_of};
 ghost use Rattle.modinfo.specs.Answer.{IsFaultyDocument, IsValidDocument};
 
+use crate::check::{Report, check_document, check_modules, check_stored, report_bytes};
 use crate::fault::Fault;
 use crate::input::{parse_json, parse_source, read_to_end};
 use deno_graph_ast::module_info;
 use deno_graph_info::analysis::{InfoFault, ModuleInfo, module_graph_1_into_2};
 use deno_graph_info::reach::reach;
-use modinfo_check::{Report, check_document, check_modules, check_stored, report_bytes};
 use serde_json::{Map, Value};
 use simdutf8::compat;
 use std::alloc::{AllocError, Global};

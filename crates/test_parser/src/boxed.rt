@@ -1,5 +1,5 @@
 use crate::sources::{U, counter, parse, parsed, parser, url};
-use deno_graph_parser::{
+use deno_graph_analysis::ast::{
     CapturingModuleAnalyzer, DefaultParsedSourceStore, EsParser, ParsedSourceStore,
 };
 use deno_graph_source::tree::ParsedSource;

@@ -1,5 +1,5 @@
 use crate::sources::{U, counter, parse, parsed, parser, shared, url};
-use deno_graph_parser::{
+use deno_graph_analysis::ast::{
     CapturingEsParser, CapturingModuleAnalyzer, DefaultParsedSourceStore, EsParser, ModuleAnalyzer,
     ParseError, ParsedSourceStore, ParserModuleAnalyzer,
 };

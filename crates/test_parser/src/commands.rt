@@ -1,8 +1,8 @@
 use crate::sources::{Row, U, V, analyze, commands, counter, parsed, parser, source_with, url};
-use deno_graph_info::analysis::{DependencyDescriptor, ModuleInfo};
-use deno_graph_parser::{
+use deno_graph_analysis::ast::{
     Answer, CapturingModuleAnalyzer, DefaultParsedSourceStore, ParsedSourceStore, run,
 };
+use deno_graph_info::analysis::{DependencyDescriptor, ModuleInfo};
 use deno_graph_source::tree::MediaType;
 use deno_graph_source::values::Items;
 use std::process::Abort;

@@ -1,7 +1,7 @@
 //! Copies of commands, answers and errors.
 
 use crate::sources::{Row, U, analyze, commands, parsed};
-use deno_graph_parser::{AnalyzeError, Answer, Command, ParseDiagnostic, ParseError};
+use deno_graph_analysis::ast::{AnalyzeError, Answer, Command, ParseDiagnostic, ParseError};
 use deno_graph_source::text::Position;
 use deno_graph_source::values::{Text, TryClone};
 use std::process::Abort;

@@ -1,6 +1,6 @@
 //! A parser and a store that are refused memory once.
 
-use deno_graph_parser::{EsParser, ParseError, ParseOptions, ParsedSourceStore};
+use deno_graph_analysis::ast::{EsParser, ParseError, ParseOptions, ParsedSourceStore};
 use deno_graph_source::tree::ParsedSource;
 use std::alloc::{AllocError, Global};
 use url::Url;

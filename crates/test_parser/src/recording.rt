@@ -1,7 +1,7 @@
 //! A parser that keeps the option of scopes, and who hands it on.
 
 use crate::sources::{U, counter, parse, parsed, parser, shared, url};
-use deno_graph_parser::{
+use deno_graph_analysis::ast::{
     CapturingModuleAnalyzer, DefaultParsedSourceStore, EsParser, ModuleAnalyzer, ParseError,
     ParseOptions, ParserModuleAnalyzer,
 };

@@ -2,7 +2,7 @@
 
 use crate::failing::{RefusedParser, RefusedStore};
 use crate::sources::{U, analyze, commands, counter, parse, parsed, parser, shared, url};
-use deno_graph_parser::{
+use deno_graph_analysis::ast::{
     AnalyzeError, CapturingModuleAnalyzer, DefaultParsedSourceStore, EsParser, ModuleAnalyzer,
     ParseError, ParsedSourceStore, run,
 };

@@ -1,7 +1,7 @@
 //! The sources of the tests, each an import of another module: `a` and `b` under one specifier, and
 //! `a` under another as JavaScript and as TypeScript. The parser of the tests knows no more.
 
-use deno_graph_parser::{Command, EsParser, ParseError, ParseOptions};
+use deno_graph_analysis::ast::{Command, EsParser, ParseError, ParseOptions};
 use deno_graph_source::text::{JsString, SourceRange};
 use deno_graph_source::tree::{
     Comments, ImportPhase, Kind, MediaType, Node, ParsedSource, Program, StrLit,

@@ -1,0 +1,75 @@
+//! Documents of `analyze`.
+
+ghost use Rattle.std.specs.Prelude.{◌≡◌, ℕ, IfOk, IfSome, IsNone, List, None, Ok};
+ghost use Rattle.std.specs.Rc.{rc_str_bytes};
+ghost use Rattle.flat_json.specs.View.{IsValueOf, tape_value};
+ghost use Rattle.url.specs.Parts.{Parts};
+ghost use Rattle.url.specs.Parser.{parse_url};
+ghost use Rattle.deno_graph_source.specs.Source.{HasFault, IsValid};
+ghost use Rattle.modinfo_notation.specs.Document.{IsDocumentOf};
+ghost use Rattle.modinfo.specs.Check.{ReportsOn};
+
+use deno_graph_source::tree::{SourceFaultPlace, source_fault_place};
+use flat_json::{Tape, TapeFault};
+use json::Scratch;
+use modinfo_notation::{Document, NotationFault, read_document};
+use modinfo_report::{
+    Report, find_warnings, wrong_notation, wrong_source, wrong_specifier, wrong_text,
+};
+use std::alloc::{AllocError, Global};
+
+/// Checks a document of `analyze`: `Wrong` exactly where `analyze` has a fault, and of the same
+/// name. The only error is that memory was refused.
+pub fn check_document(alloc: Global, text: &str) -> Result<Report, AllocError>
+    ensures { IfOk result (ReportsOn text.now) }
+{
+    let mut scratch = Scratch::new(alloc);
+    match Tape::read(alloc, text, &mut scratch) {
+        Ok(tape) => check_tape(alloc, &tape),
+        Err(TapeFault::Json { offset }) => Ok(Report::Wrong(wrong_text(alloc, text, offset)?)),
+        Err(TapeFault::OutOfMemory) => Err(AllocError),
+    }
+}
+
+fn check_tape(alloc: Global, tape: &Tape<'_>) -> Result<Report, AllocError>
+    ensures { (text : List ℕ) → IsValueOf text (tape_value tape.now) → IfOk result (ReportsOn text) }
+{
+    match read_document(alloc, tape.root()) {
+        Ok(document) => check_parts(alloc, tape, &document),
+        Err(NotationFault::OutOfMemory) => Err(AllocError),
+        Err(fault) => Ok(Report::Wrong(wrong_notation(alloc, tape, &fault)?)),
+    }
+}
+
+fn check_parts(alloc: Global, tape: &Tape<'_>, document: &Document) -> Result<Report, AllocError>
+    ensures { (text : List ℕ) → IsDocumentOf text document.now → IfOk result (ReportsOn text) }
+{
+    match document.url(alloc) {
+        Ok(_) => check_source(alloc, tape, document),
+        Err(NotationFault::OutOfMemory) => Err(AllocError),
+        Err(fault) => Ok(Report::Wrong(wrong_specifier(alloc, &fault)?)),
+    }
+}
+
+fn check_source(alloc: Global, tape: &Tape<'_>, document: &Document) -> Result<Report, AllocError>
+    ensures { (text : List ℕ) → IsDocumentOf text document.now
+        → (url : Parts) → parse_url None document.now.specifier ≡ Ok url → IfOk result (ReportsOn text) }
+{
+    match fault_place(alloc, document)? {
+        Some(found) => {
+            let length = document.source.len();
+            Ok(Report::Wrong(wrong_source(alloc, tape, length, &found)?))
+        }
+        None => Ok(Report::Valid(find_warnings(alloc, tape, document)?)),
+    }
+}
+
+fn fault_place(alloc: Global, document: &Document) -> Result<Option<SourceFaultPlace>, AllocError>
+    ensures valid { IfOk result (λ found. IsNone found
+        → IsValid (rc_str_bytes document.now.source) document.now.program document.now.comments) }
+    ensures fault { IfOk result (λ found. IfSome found (λ found.
+        HasFault (rc_str_bytes document.now.source) document.now.program document.now.comments found.fault)) }
+{
+    let text = document.source.as_str();
+    source_fault_place(alloc, text, &document.program, &document.comments)
+}

@@ -1,0 +1,28 @@
+-- What a report says.
+use Rattle.std.specs.Prelude.{◌≡◌, ◌≢◌, Bool, [], true, false}
+use Rattle.serde_json.specs.Data.{Data}
+use Rattle.serde_json.specs.Written.{has_float}
+use Rattle.deno_graph_info.specs.Conversion.{IsConverted, IsConvertFault}
+use Rattle.deno_graph_info.specs.declared.conversion.fault.ConvertFault.{ConvertFault}
+use Rattle.deno_graph_info.specs.declared.conversion.fault.ConvertFault.TheVariants as convert
+use Rattle.modinfo_report.specs.declared.report.Report.{Report}
+use Rattle.modinfo_report.specs.declared.report.Report.TheVariants.{Valid, Wrong}
+
+-- the one of a document that is reported as valid, the other of one that is reported as wrong
+abbrev pub MatchReport : Type 0 → Type 0 → Report → Type 0
+MatchReport IsRight IsWrong (Valid warnings) = IsRight
+MatchReport IsRight IsWrong (Wrong wrong) = IsWrong
+
+-- the report says that the document is valid and, where warnings count, has none
+abbrev pub Passes : Bool → Report → Type 0
+Passes is_strict (Valid warnings) = is_strict ≡ true → warnings.kept.items ≡ []
+Passes is_strict (Wrong wrong) = ⊥
+
+-- the value has no float, and is converted to another
+abbrev pub CanBeConverted : Data → Type 0
+CanBeConverted before = (has_float before ≡ false) × ((after : Data) × IsConverted before after)
+
+-- the value has a fault of the conversion, other than that memory was refused
+abbrev pub CannotBeConverted : Data → Type 0
+CannotBeConverted before = (fault : ConvertFault) × (fault ≢ convert.OutOfMemory)
+    × IsConvertFault before fault

@@ -1,0 +1,44 @@
+//! Documents that are no JSON, or no text.
+
+ghost use Rattle.std.specs.Prelude.{IfOk, ⊤};
+ghost use Rattle.modinfo_report.specs.Report.{MatchReport};
+
+use crate::first_wrong::first_wrong;
+use crate::report::{Report, Wrong};
+use crate::text_place::TextPlace;
+use flat_json::{Tape, TapeFault};
+use json::Scratch;
+use modinfo_notation::NotationFault;
+use simdutf8::basic;
+use std::alloc::{AllocError, Global};
+
+/// The fault of a text that is no JSON. The only error is that memory was refused.
+pub fn wrong_json(alloc: Global, text: &str) -> Result<Wrong, AllocError> {
+    let mut scratch = Scratch::new(alloc);
+    match Tape::read(alloc, text, &mut scratch) {
+        Err(TapeFault::Json { offset }) => wrong_text(alloc, text, offset),
+        _ => Err(AllocError),
+    }
+}
+
+/// The fault of a text that is no JSON or, from the token behind `offset` bytes on, isn't read, since
+/// that is a number or a string that isn't taken. The only error is that memory was refused.
+pub fn wrong_text(alloc: Global, text: &str, offset: usize) -> Result<Wrong, AllocError> {
+    let offset = first_wrong(alloc, text)?.unwrap_or(offset);
+    let fault = format!(in alloc; "{}", NotationFault::Json { offset })?;
+    let expected = String::from_str(alloc, "one JSON value, at most 127 deep")?;
+    Ok(Wrong::of_text(fault, TextPlace::new(text, offset), expected))
+}
+
+/// The report on bytes that are no text: so many of them are UTF-8. The only error is that memory
+/// was refused.
+pub fn report_bytes(alloc: Global, bytes: &[u8], valid: usize) -> Result<Report, AllocError>
+    ensures { IfOk result (MatchReport ⊥ ⊤) }
+{
+    let before = bytes.get(..valid).unwrap_or(&[]);
+    let text = basic::from_utf8(before).unwrap_or("");
+    let at = TextPlace::new(text, text.len());
+    let fault = String::from_str(alloc, "Input")?;
+    let expected = String::from_str(alloc, "UTF-8")?;
+    Ok(Report::Wrong(Wrong::of_text(fault, at, expected)))
+}
