@@ -71,7 +71,6 @@ type Analyzer = CapturingModuleAnalyzer<TableParser, CountingStore>;
 #[derive(Drop)]
 struct Tested {
     analyzer: Analyzer,
-    specifier: Url,
     kept: Rc<Cell<u64>>,
     first: ParsedSource,
     second: ParsedSource,
@@ -80,28 +79,27 @@ struct Tested {
 impl Tested {
     fn new(alloc: Global) -> Result<Tested, Fault> {
         let kept = Rc::new(alloc, Cell::new(0))?;
-        let (first, second) = (source(alloc, U, "a")?, braces(alloc)?);
-        let mut tested = Tested {
-            specifier: Url::parse(alloc, U)?,
+        let first = source(alloc, U, "a")?;
+        let second = braces(alloc)?;
+        Ok(Tested {
             analyzer: analyzer(alloc, &second, &kept)?,
             kept,
             first,
             second,
-        };
-        tested.keep_first(alloc)?;
-        Ok(tested)
+        })
     }
 
     fn keep_first(&mut self, alloc: Global) -> Result<(), Fault> {
-        let (specifier, first) = (self.specifier.clone()?, self.first.try_clone(alloc)?);
+        let specifier = self.first.specifier().clone()?;
+        let first = self.first.try_clone(alloc)?;
         drop(self.analyzer.set_parsed_source(alloc, specifier, first)?);
         Ok(())
     }
 
     /// Asks for the information on the second source's text.
-    fn ask(&mut self, alloc: Global) -> Result<Result<ModuleInfo, AnalyzeError>, Fault> {
+    fn ask(&mut self, alloc: Global) -> Result<Result<ModuleInfo, AnalyzeError>, AllocError> {
         let text = self.second.text().clone()?;
-        let specifier = &self.specifier;
+        let specifier = self.second.specifier();
         Ok(
             self.analyzer
                 .analyze_sync(alloc, specifier, text, MediaType::JavaScript),
@@ -114,8 +112,10 @@ impl Tested {
     }
 
     /// Whether the source is there that was kept last. Takes no memory.
-    fn has_last(&self, alloc: Global) -> Result<bool, Fault> {
-        let there = self.analyzer.get_parsed_source(alloc, &self.specifier)?;
+    fn has_last(&self, alloc: Global) -> Result<bool, AllocError> {
+        let there = self
+            .analyzer
+            .get_parsed_source(alloc, self.second.specifier())?;
         let last = if self.is_parsed() {
             &self.second
         } else {
@@ -141,11 +141,16 @@ fn analyzer(alloc: Global, source: &ParsedSource, kept: &Rc<Cell<u64>>) -> Resul
 /// which `stores::parse` is, has no outcome.
 pub fn analyze(alloc: Global) -> Result<Outcome, Fault> {
     let mut tested = Tested::new(alloc)?;
-    let expected = info_of(alloc, &tested.second)?;
-    analyze_second(alloc, &mut tested, &expected)
+    analyze_second(alloc, &mut tested)
 }
 
-fn analyze_second(
+fn analyze_second(alloc: Global, tested: &mut Tested) -> Result<Outcome, Fault> {
+    tested.keep_first(alloc)?;
+    let expected = info_of(alloc, &tested.second)?;
+    ask_and_look(alloc, tested, &expected)
+}
+
+fn ask_and_look(
     alloc: Global,
     tested: &mut Tested,
     expected: &ModuleInfo,
@@ -174,8 +179,7 @@ fn outcome(
 ) -> Result<Outcome, Fault> {
     match found {
         Ok(info) => {
-            check(is_parsed && info == expected, "the information is another")?;
-            Ok(Outcome::Answered)
+            Outcome::Answered.provided(is_parsed && info == expected, "the information is another")
         }
         Err(AnalyzeError::OutOfMemory) if is_parsed => Ok(Outcome::Refused),
         Err(AnalyzeError::OutOfMemory) => Err(Fault::OutOfMemory),

@@ -34,12 +34,7 @@ const POSITIONS: usize = 18;
 /// A refused filing leaves every look-up as it was, and is answered when it is tried again.
 pub fn file_all(alloc: Global) -> Result<Outcome, Fault> {
     let mut comments = Comments::new(alloc);
-    let outcome = file_each(alloc, &mut comments)?;
-    check(
-        count(alloc, &comments)? == FILINGS.len(),
-        "a comment is missing",
-    )?;
-    Ok(outcome)
+    file_each(alloc, &mut comments)
 }
 
 fn file_each(alloc: Global, comments: &mut Comments) -> Result<Outcome, Fault> {
@@ -49,7 +44,10 @@ fn file_each(alloc: Global, comments: &mut Comments) -> Result<Outcome, Fault> {
             outcome = Outcome::Refused;
         }
     }
-    Ok(outcome)
+    outcome.provided(
+        count(alloc, comments)? == FILINGS.len(),
+        "a comment is missing",
+    )
 }
 
 fn file_one(
@@ -59,12 +57,20 @@ fn file_one(
     pos: usize,
 ) -> Result<Outcome, Fault> {
     let before = comments.try_clone(alloc)?;
-    let outcome = file_behind(alloc, comments, &before, side, pos)?;
-    check(
-        is_filed(comments, &before, side, pos),
+    file_over(alloc, comments, &before, side, pos)
+}
+
+fn file_over(
+    alloc: Global,
+    comments: &mut Comments,
+    before: &Comments,
+    side: CommentSide,
+    pos: usize,
+) -> Result<Outcome, Fault> {
+    file_behind(alloc, comments, before, side, pos)?.provided(
+        is_filed(comments, before, side, pos),
         "a comment isn't where it was filed",
-    )?;
-    Ok(outcome)
+    )
 }
 
 /// Files a comment behind those from before, again where that was refused.

@@ -1,7 +1,7 @@
 //! The conversion of a module's stored information.
 
 use crate::fault::Fault;
-use crate::outcome::{Outcome, check};
+use crate::outcome::Outcome;
 use deno_graph_info::analysis::{ConvertFault, module_graph_1_to_2};
 use serde_json::Value;
 use std::alloc::Global;
@@ -17,14 +17,19 @@ pub fn convert(alloc: Global) -> Result<Outcome, Fault> {
     let stored = Value::from_str(alloc, STORED)?;
     let converted = Value::from_str(alloc, CONVERTED)?;
     let mut value = stored.clone()?;
-    match module_graph_1_to_2(alloc, &mut value) {
-        Ok(()) => {
-            check(value == converted, "the value isn't converted")?;
-            Ok(Outcome::Answered)
-        }
+    convert_copy(alloc, &mut value, &stored, &converted)
+}
+
+fn convert_copy(
+    alloc: Global,
+    value: &mut Value,
+    stored: &Value,
+    converted: &Value,
+) -> Result<Outcome, Fault> {
+    match module_graph_1_to_2(alloc, value) {
+        Ok(()) => Outcome::Answered.provided(*value == *converted, "the value isn't converted"),
         Err(ConvertFault::OutOfMemory) => {
-            check(value == stored, "a refused conversion changed the value")?;
-            Ok(Outcome::Refused)
+            Outcome::Refused.provided(*value == *stored, "a refused conversion changed the value")
         }
         Err(_) => Err(Fault::State("the value isn't read")),
     }

@@ -1,19 +1,23 @@
 //! Copies of values that hold memory.
 
 use crate::fault::Fault;
-use crate::outcome::{Outcome, check};
+use crate::outcome::Outcome;
 use crate::without_memory::made::Made;
 use deno_graph_source::values::TryClone;
-use std::alloc::Global;
+use std::alloc::{AllocError, Global};
 
 /// Each value is as it was, and each copy that there is equals it.
 pub fn copy_all(alloc: Global) -> Result<Outcome, Fault> {
     let made = Made::new(alloc)?;
-    let twin = Made::new(alloc)?;
-    copy_parts(alloc, &made, &twin)
+    copy_made(alloc, &made)
 }
 
-/// Apart from `copy_all`, which owns both, so that no `?` here drops them.
+fn copy_made(alloc: Global, made: &Made) -> Result<Outcome, Fault> {
+    let twin = Made::new(alloc)?;
+    copy_parts(alloc, made, &twin)
+}
+
+/// Apart from what owns the values, so that no `?` here drops them.
 fn copy_parts(alloc: Global, made: &Made, twin: &Made) -> Result<Outcome, Fault> {
     let outcomes = [
         copy(alloc, made.source.program(), twin.source.program())?,
@@ -35,12 +39,16 @@ fn copy<T: TryClone + PartialEq + Drop>(
     twin: &T,
 ) -> Result<Outcome, Fault> {
     let copied = value.try_clone(alloc);
-    check(value == twin, "a copied value is another")?;
+    let outcome = outcome_of(copied, twin)?;
+    outcome.provided(value == twin, "a copied value is another")
+}
+
+fn outcome_of<T: PartialEq + Drop>(
+    copied: Result<T, AllocError>,
+    twin: &T,
+) -> Result<Outcome, Fault> {
     match copied {
-        Ok(copy) => {
-            check(copy == *twin, "a copy is another value")?;
-            Ok(Outcome::Answered)
-        }
+        Ok(copy) => Outcome::Answered.provided(copy == *twin, "a copy is another value"),
         Err(_) => Ok(Outcome::Refused),
     }
 }

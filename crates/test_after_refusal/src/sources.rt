@@ -18,19 +18,28 @@ pub const U: &str = "file:///u.js";
 
 pub const V: &str = "file:///v.js";
 
+pub fn url(alloc: Global, specifier: &str) -> Result<Url, Fault> {
+    Ok(Url::parse(alloc, specifier)?)
+}
+
 /// The source of a text, which is an export.
 pub fn source(alloc: Global, specifier: &str, text: &str) -> Result<ParsedSource, Fault> {
-    let node = Node::new(alloc, SourceRange::new(0, text.len()), Kind::ExportOther);
-    let body = Items::from_item(alloc, node)?;
-    source_of(alloc, specifier, text, body, Comments::new(alloc))
+    let specifier = url(alloc, specifier)?;
+    let shared = RcStr::from_str(alloc, text)?;
+    let range = SourceRange::new(0, text.len());
+    let program = Program {
+        range,
+        body: Items::from_item(alloc, Node::new(alloc, range, Kind::ExportOther))?,
+        has_shebang: false,
+    };
+    source_of(alloc, specifier, shared, program, Comments::new(alloc))
 }
 
 /// A source under `U` that is one comment of JSDoc: an import behind hundreds of braces.
 pub fn braces(alloc: Global) -> Result<ParsedSource, Fault> {
     let text = text_of_braces(alloc)?;
     let source = format!(in alloc; "/*{text}*/")?;
-    let comments = comments_of(alloc, text.as_str(), source.len())?;
-    source_of(alloc, U, source.as_str(), Items::new(alloc), comments)
+    source_of_comment(alloc, source.as_str(), text.as_str())
 }
 
 fn text_of_braces(alloc: Global) -> Result<String, AllocError> {
@@ -42,11 +51,24 @@ fn text_of_braces(alloc: Global) -> Result<String, AllocError> {
     Ok(text)
 }
 
-/// The comment that a source of this length is.
-fn comments_of(alloc: Global, text: &str, end: usize) -> Result<Comments, AllocError> {
+/// The source that is one comment of this text.
+fn source_of_comment(alloc: Global, source: &str, text: &str) -> Result<ParsedSource, Fault> {
+    let specifier = url(alloc, U)?;
+    let shared = RcStr::from_str(alloc, source)?;
+    let range = SourceRange::new(0, source.len());
+    let comments = comments_of(alloc, text, range)?;
+    let program = Program {
+        range,
+        body: Items::new(alloc),
+        has_shebang: false,
+    };
+    source_of(alloc, specifier, shared, program, comments)
+}
+
+fn comments_of(alloc: Global, text: &str, range: SourceRange) -> Result<Comments, AllocError> {
     let comment = DependencyComment {
         kind: CommentKind::Block,
-        range: SourceRange::new(0, end),
+        range,
         text: Text::from_str(alloc, text)?,
     };
     let mut comments = Comments::new(alloc);
@@ -54,32 +76,26 @@ fn comments_of(alloc: Global, text: &str, end: usize) -> Result<Comments, AllocE
     Ok(comments)
 }
 
+fn source_of(
+    alloc: Global,
+    specifier: Url,
+    text: RcStr,
+    program: Program,
+    comments: Comments,
+) -> Result<ParsedSource, Fault> {
+    let media_type = MediaType::JavaScript;
+    Ok(ParsedSource::new(alloc, specifier, text, media_type, program, comments, false)?)
+}
+
 /// The information on a source. Its contract is left behind here, since a caller's proof needs none.
 pub fn info_of(alloc: Global, source: &ParsedSource) -> Result<ModuleInfo, AllocError> {
     module_info(alloc, source)
 }
 
-fn source_of(
-    alloc: Global,
-    specifier: &str,
-    text: &str,
-    body: Items<Node>,
-    comments: Comments,
-) -> Result<ParsedSource, Fault> {
-    let program = Program {
-        range: SourceRange::new(0, text.len()),
-        body,
-        has_shebang: false,
-    };
-    Ok(ParsedSource::new(
-        alloc,
-        Url::parse(alloc, specifier)?,
-        RcStr::from_str(alloc, text)?,
-        MediaType::JavaScript,
-        program,
-        comments,
-        false,
-    )?)
+/// A parser of the texts `a` and `b`.
+pub fn table(alloc: Global) -> Result<TableParser, Fault> {
+    let calls = Rc::new(alloc, Cell::new(0))?;
+    parser(alloc, &calls)
 }
 
 /// A parser of the texts `a` and `b`, which counts its calls.
@@ -96,7 +112,7 @@ pub fn options<'a>(
     specifier: &'a Url,
     text: &str,
     scope_analysis: bool,
-) -> Result<ParseOptions<'a>, Fault> {
+) -> Result<ParseOptions<'a>, AllocError> {
     Ok(ParseOptions {
         specifier,
         source: RcStr::from_str(alloc, text)?,

@@ -29,7 +29,7 @@ pub fn through_a_deep_tree(alloc: Global) -> Result<Outcome, Fault> {
 }
 
 fn step_through(alloc: Global, program: &Program) -> Result<Outcome, Fault> {
-    let expected = all_given(alloc, program)?;
+    let expected = all_given(alloc, &mut Walk::new(alloc, program))?;
     check(
         expected.iter().filter(|(node, _)| node.is_some()).count() == 3,
         "a dependency is missing",
@@ -45,9 +45,7 @@ fn take_steps<'a>(walk: &mut Walk<'a>, expected: &[Given<'a>]) -> Result<Outcome
             Ok(given) => given,
             Err(_) => {
                 outcome = Outcome::Refused;
-                let is_between = entered_before <= walk.entered() && walk.entered() <= *entered;
-                check(is_between, "a refused step entered what it doesn't give")?;
-                walk.step()?
+                step_again(walk, entered_before, *entered)?
             }
         };
         check(given == *node, "a step gives another node")?;
@@ -60,15 +58,21 @@ fn take_steps<'a>(walk: &mut Walk<'a>, expected: &[Given<'a>]) -> Result<Outcome
     Ok(outcome)
 }
 
+/// The step after a refused one, which entered at most what it doesn't give.
+fn step_again<'a>(walk: &mut Walk<'a>, before: u64, after: u64) -> Result<Option<&'a Node>, Fault> {
+    let is_between = before <= walk.entered() && walk.entered() <= after;
+    check(is_between, "a refused step entered what it doesn't give")?;
+    Ok(walk.step()?)
+}
+
 /// The first step enters one node, however many there are.
 pub fn into_a_wide_tree(alloc: Global) -> Result<Outcome, Fault> {
     let program = program(wide(alloc)?);
-    step_into(alloc, &program)
+    let mut walk = Walk::new(alloc, &program);
+    step_into(&mut walk, program.body.first())
 }
 
-fn step_into(alloc: Global, program: &Program) -> Result<Outcome, Fault> {
-    let first = program.body.first();
-    let mut walk = Walk::new(alloc, program);
+fn step_into(walk: &mut Walk<'_>, first: Option<&Node>) -> Result<Outcome, Fault> {
     let (given, outcome) = match walk.step() {
         Ok(given) => (given, Outcome::Answered),
         Err(_) => (walk.step()?, Outcome::Refused),
@@ -77,15 +81,13 @@ fn step_into(alloc: Global, program: &Program) -> Result<Outcome, Fault> {
         given.is_some() && given == first,
         "the first step gives another node",
     )?;
-    check(
+    outcome.provided(
         walk.entered() == 1,
         "the first step enters another number of nodes",
-    )?;
-    Ok(outcome)
+    )
 }
 
-fn all_given<'a>(alloc: Global, program: &'a Program) -> Result<Vec<Given<'a>>, AllocError> {
-    let mut walk = Walk::new(alloc, program);
+fn all_given<'a>(alloc: Global, walk: &mut Walk<'a>) -> Result<Vec<Given<'a>>, AllocError> {
     let mut all = Vec::with_capacity(alloc, STEPS)?;
     for _ in 0..STEPS {
         let node = walk.step()?;
@@ -119,9 +121,14 @@ fn import_types(alloc: Global) -> Result<Node, AllocError> {
 /// The node under many that are no dependencies.
 fn under_many(alloc: Global, mut node: Node) -> Result<Node, AllocError> {
     for _ in 0..DEPTH {
-        node = Node::with_children(NOWHERE, Kind::Other, Items::from_item(alloc, node)?);
+        node = under_one(alloc, node)?;
     }
     Ok(node)
+}
+
+fn under_one(alloc: Global, node: Node) -> Result<Node, AllocError> {
+    let children = Items::from_item(alloc, node)?;
+    Ok(Node::with_children(NOWHERE, Kind::Other, children))
 }
 
 /// Import types of an empty text.

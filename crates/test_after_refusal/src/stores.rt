@@ -1,37 +1,37 @@
 //! Stores, and the parser that keeps its answers in one.
 
 use crate::fault::Fault;
-use crate::outcome::{Outcome, check};
-use crate::sources::{U, V, options, parser, source};
+use crate::outcome::Outcome;
+use crate::sources::{U, V, options, source, table, url};
 use deno_graph_analysis::ast::{
     CapturingEsParser, DefaultParsedSourceStore, EsParser, ParseError, ParsedSourceStore,
 };
 use deno_graph_source::tree::ParsedSource;
 use example_table_parser::TableParser;
 use std::alloc::{AllocError, Global};
-use std::cell::Cell;
-use std::rc::Rc;
 use url::Url;
 
-/// A store with the source of `a` under `U` and nothing under `V`, and that source.
+/// A store, which gets the source of `a` under `U` and has nothing under `V`; that source, and the one
+/// that comes second; and a parser.
 #[derive(Drop)]
 struct Tested {
-    store: DefaultParsedSourceStore,
-    u: Url,
     v: Url,
     first: ParsedSource,
+    second: ParsedSource,
+    table: TableParser,
+    store: DefaultParsedSourceStore,
 }
 
 impl Tested {
-    fn new(alloc: Global) -> Result<Tested, Fault> {
-        let mut tested = Tested {
-            store: DefaultParsedSourceStore::new(alloc),
-            u: Url::parse(alloc, U)?,
-            v: Url::parse(alloc, V)?,
+    /// The second source is that of `b`, under this specifier.
+    fn new(alloc: Global, specifier: &str) -> Result<Tested, Fault> {
+        Ok(Tested {
+            v: url(alloc, V)?,
             first: source(alloc, U, "a")?,
-        };
-        tested.keep_first(alloc)?;
-        Ok(tested)
+            second: source(alloc, specifier, "b")?,
+            table: table(alloc)?,
+            store: DefaultParsedSourceStore::new(alloc),
+        })
     }
 
     fn keep_first(&mut self, alloc: Global) -> Result<(), Fault> {
@@ -46,20 +46,20 @@ impl Tested {
         specifier: &str,
         text: &str,
     ) -> Result<Result<Option<ParsedSource>, AllocError>, Fault> {
+        let key = url(alloc, specifier)?;
         let source = source(alloc, specifier, text)?;
-        let specifier = Url::parse(alloc, specifier)?;
-        Ok(self.store.set_parsed_source(alloc, specifier, source))
+        Ok(self.store.set_parsed_source(alloc, key, source))
     }
 
     /// Parses `b` under `U` by a parser that keeps its answer in the store.
     fn parse(
         &mut self,
         alloc: Global,
-        table: &mut TableParser,
         scope_analysis: bool,
-    ) -> Result<Result<ParsedSource, ParseError>, Fault> {
-        let asked = options(alloc, &self.u, "b", scope_analysis)?;
-        Ok(CapturingEsParser::new(table, &mut self.store).parse_program(alloc, asked))
+    ) -> Result<Result<ParsedSource, ParseError>, AllocError> {
+        let asked = options(alloc, self.first.specifier(), "b", scope_analysis)?;
+        let mut parser = CapturingEsParser::new(&mut self.table, &mut self.store);
+        Ok(parser.parse_program(alloc, asked))
     }
 
     /// Whether the store has these sources under `U` and `V`. Takes no memory.
@@ -68,10 +68,30 @@ impl Tested {
         alloc: Global,
         under_u: &ParsedSource,
         under_v: Option<&ParsedSource>,
-    ) -> Result<bool, Fault> {
-        let first = self.store.get_parsed_source(alloc, &self.u)?;
-        let second = self.store.get_parsed_source(alloc, &self.v)?;
-        Ok(first.as_ref() == Some(under_u) && second.as_ref() == under_v)
+    ) -> Result<bool, AllocError> {
+        Ok(
+            self.has(alloc, self.first.specifier(), Some(under_u))?
+                && self.has(alloc, &self.v, under_v)?,
+        )
+    }
+
+    fn has(
+        &self,
+        alloc: Global,
+        specifier: &Url,
+        source: Option<&ParsedSource>,
+    ) -> Result<bool, AllocError> {
+        let found = self.store.get_parsed_source(alloc, specifier)?;
+        Ok(found.as_ref() == source)
+    }
+
+    /// The second source, where it was kept in the place of the first, and else the first.
+    fn kept(&self, outcome: Outcome) -> &ParsedSource {
+        if outcome == Outcome::Answered {
+            &self.second
+        } else {
+            &self.first
+        }
     }
 }
 
@@ -82,8 +102,7 @@ fn outcome_of_set(
 ) -> Result<Outcome, Fault> {
     match set {
         Ok(former) => {
-            check(former.as_ref() == before, "another source was there")?;
-            Ok(Outcome::Answered)
+            Outcome::Answered.provided(former.as_ref() == before, "another source was there")
         }
         Err(_) => Ok(Outcome::Refused),
     }
@@ -91,49 +110,34 @@ fn outcome_of_set(
 
 /// A second source is there beside the first, or the first alone.
 pub fn set_another(alloc: Global) -> Result<Outcome, Fault> {
-    let mut tested = Tested::new(alloc)?;
-    let second = source(alloc, V, "b")?;
-    set_beside(alloc, &mut tested, &second)
+    let mut tested = Tested::new(alloc, V)?;
+    set_beside(alloc, &mut tested)
 }
 
-fn set_beside(alloc: Global, tested: &mut Tested, second: &ParsedSource) -> Result<Outcome, Fault> {
+fn set_beside(alloc: Global, tested: &mut Tested) -> Result<Outcome, Fault> {
+    tested.keep_first(alloc)?;
     let outcome = outcome_of_set(tested.set(alloc, V, "b")?, None)?;
-    let kept = (outcome == Outcome::Answered).then_some(second);
-    check(
+    let kept = (outcome == Outcome::Answered).then_some(&tested.second);
+    outcome.provided(
         tested.holds(alloc, &tested.first, kept)?,
         "the first source is another, or the second",
-    )?;
-    Ok(outcome)
+    )
 }
 
 /// A source is replaced by another, or still there.
 pub fn set_again(alloc: Global) -> Result<Outcome, Fault> {
-    let mut tested = Tested::new(alloc)?;
-    let second = source(alloc, U, "b")?;
-    set_in_place(alloc, &mut tested, &second)
+    let mut tested = Tested::new(alloc, U)?;
+    set_in_place(alloc, &mut tested)
 }
 
-fn set_in_place(
-    alloc: Global,
-    tested: &mut Tested,
-    second: &ParsedSource,
-) -> Result<Outcome, Fault> {
+fn set_in_place(alloc: Global, tested: &mut Tested) -> Result<Outcome, Fault> {
+    tested.keep_first(alloc)?;
     let set = tested.set(alloc, U, "b")?;
     let outcome = outcome_of_set(set, Some(&tested.first))?;
-    let kept = if outcome == Outcome::Answered {
-        second
-    } else {
-        &tested.first
-    };
-    check(
-        tested.holds(alloc, kept, None)?,
+    outcome.provided(
+        tested.holds(alloc, tested.kept(outcome), None)?,
         "the source was lost, or another is there",
-    )?;
-    Ok(outcome)
-}
-
-fn table(alloc: Global) -> Result<TableParser, Fault> {
-    parser(alloc, &Rc::new(alloc, Cell::new(0))?)
+    )
 }
 
 /// How a parse of `b` ended, which answers this source.
@@ -143,8 +147,7 @@ fn outcome_of_parse(
 ) -> Result<Outcome, Fault> {
     match answer {
         Ok(answer) => {
-            check(answer == *expected, "the parser's answer is another")?;
-            Ok(Outcome::Answered)
+            Outcome::Answered.provided(answer == *expected, "the parser's answer is another")
         }
         Err(ParseError::OutOfMemory) => Ok(Outcome::Refused),
         Err(ParseError::Diagnostic(_)) => Err(Fault::State("a text is not parsed")),
@@ -153,50 +156,47 @@ fn outcome_of_parse(
 
 /// The parser's answer is there, or the source from before.
 pub fn parse(alloc: Global) -> Result<Outcome, Fault> {
-    let mut tested = Tested::new(alloc)?;
-    let mut table = table(alloc)?;
-    let second = source(alloc, U, "b")?;
-    parse_second(alloc, &mut tested, &mut table, &second)
+    let mut tested = Tested::new(alloc, U)?;
+    parse_second(alloc, &mut tested)
 }
 
-fn parse_second(
-    alloc: Global,
-    tested: &mut Tested,
-    table: &mut TableParser,
-    second: &ParsedSource,
-) -> Result<Outcome, Fault> {
-    let outcome = outcome_of_parse(tested.parse(alloc, table, false)?, second)?;
-    let kept = if outcome == Outcome::Answered {
-        second
-    } else {
-        &tested.first
-    };
-    check(tested.holds(alloc, kept, None)?, "the source was lost")?;
-    Ok(outcome)
+fn parse_second(alloc: Global, tested: &mut Tested) -> Result<Outcome, Fault> {
+    tested.keep_first(alloc)?;
+    let outcome = outcome_of_parse(tested.parse(alloc, false)?, &tested.second)?;
+    outcome.provided(
+        tested.holds(alloc, tested.kept(outcome), None)?,
+        "the source was lost",
+    )
 }
 
 /// The same with the option of scopes: the source from before may have its mark set then.
 pub fn parse_with_scopes(alloc: Global) -> Result<Outcome, Fault> {
-    let mut tested = Tested::new(alloc)?;
-    let mut table = table(alloc)?;
     let marked_first = source(alloc, U, "a")?.into_with_scope_analysis();
-    let second = source(alloc, U, "b")?.into_with_scope_analysis();
-    parse_marked(alloc, &mut tested, &mut table, &marked_first, &second)
+    let marked_second = source(alloc, U, "b")?.into_with_scope_analysis();
+    parse_beside(alloc, &marked_first, &marked_second)
+}
+
+fn parse_beside(
+    alloc: Global,
+    marked_first: &ParsedSource,
+    marked_second: &ParsedSource,
+) -> Result<Outcome, Fault> {
+    let mut tested = Tested::new(alloc, U)?;
+    parse_marked(alloc, &mut tested, marked_first, marked_second)
 }
 
 fn parse_marked(
     alloc: Global,
     tested: &mut Tested,
-    table: &mut TableParser,
     marked_first: &ParsedSource,
-    second: &ParsedSource,
+    marked_second: &ParsedSource,
 ) -> Result<Outcome, Fault> {
-    let outcome = outcome_of_parse(tested.parse(alloc, table, true)?, second)?;
+    tested.keep_first(alloc)?;
+    let outcome = outcome_of_parse(tested.parse(alloc, true)?, marked_second)?;
     let is_kept = if outcome == Outcome::Answered {
-        tested.holds(alloc, second, None)?
+        tested.holds(alloc, marked_second, None)?
     } else {
         tested.holds(alloc, &tested.first, None)? || tested.holds(alloc, marked_first, None)?
     };
-    check(is_kept, "the source was lost")?;
-    Ok(outcome)
+    outcome.provided(is_kept, "the source was lost")
 }

@@ -13,14 +13,20 @@ use std::alloc::Global;
 pub fn call_all(alloc: Global) -> Result<Outcome, Fault> {
     let made = Made::new(alloc)?;
     let was_refused = is_refused(alloc);
-    texts::read()?;
-    values::look_up(alloc, &made)?;
-    values::take_apart(alloc, made)?;
+    let read = read_and_look_up(alloc, &made);
+    let taken_apart = values::take_apart(alloc, made);
+    read?;
+    taken_apart?;
     if was_refused && is_refused(alloc) {
         Ok(Outcome::AnsweredWithoutMemory)
     } else {
         Ok(Outcome::Answered)
     }
+}
+
+fn read_and_look_up(alloc: Global, made: &Made) -> Result<(), Fault> {
+    texts::read()?;
+    values::look_up(alloc, made)
 }
 
 /// Whether a request for memory is refused now.

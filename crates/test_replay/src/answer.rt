@@ -1,8 +1,9 @@
 //! Answers as texts, in the lines that state them in a row.
 
 use crate::row_fault::RowFault;
-use serde_json::Value;
+use serde_json::{Value, json};
 use std::alloc::{AllocError, Global};
+use std::ops::Range;
 
 /// Adds a line for each line of `text`, with the word before it. Where the last one isn't ended by a
 /// line feed the word is `unended`.
@@ -34,4 +35,10 @@ pub fn named(alloc: Global, name: &str) -> Result<String, RowFault> {
 /// The answer that is this value, as compact JSON.
 pub fn valued(alloc: Global, value: &Value) -> Result<String, RowFault> {
     named(alloc, value.to_string(alloc)?.as_str())
+}
+
+/// A range as JSON: where it begins, and where it ends.
+pub fn range_value(alloc: Global, range: &Range<usize>) -> Result<Value, AllocError> {
+    let (start, end) = (range.start, range.end);
+    json!(in alloc; [start, end])
 }

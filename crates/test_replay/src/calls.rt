@@ -51,7 +51,18 @@ pub fn text_of(input: &[u8]) -> Result<&str, RowFault> {
 
 /// What a call on a JSON value answers.
 fn of_value(alloc: Global, name: &str, words: &[&str], text: &str) -> Result<String, RowFault> {
-    let value = &Value::from_str(alloc, text)?;
+    let value = Value::from_str(alloc, text)?;
+    of_parsed(alloc, name, words, text, &value)
+}
+
+/// What a call on a JSON value answers, which is of this text.
+fn of_parsed(
+    alloc: Global,
+    name: &str,
+    words: &[&str],
+    text: &str,
+    value: &Value,
+) -> Result<String, RowFault> {
     match name {
         "parse_jsdoc_import_decl" | "parse_jsdoc_dynamic_import" | "scan" => {
             jsdoc::of_text(alloc, name, value)
@@ -67,11 +78,13 @@ fn of_value(alloc: Global, name: &str, words: &[&str], text: &str) -> Result<Str
         | "from_source_range"
         | "as_source_range"
         | "range_text" => { texts::of_positions(alloc, name, words, value) }
-        name => {
-            let source = parse_document(alloc, text)?.into_source(alloc)?;
-            of_source(alloc, name, &source)
-        }
+        name => of_document(alloc, name, text),
     }
+}
+
+fn of_document(alloc: Global, name: &str, text: &str) -> Result<String, RowFault> {
+    let source = parse_document(alloc, text)?.into_source(alloc)?;
+    of_source(alloc, name, &source)
 }
 
 /// What a call on the source of a document answers.

@@ -6,14 +6,14 @@ use std::fs;
 use std::rt::Files;
 
 /// A file of rows.
-#[derive(Debug, Drop)]
+#[derive(Drop)]
 pub struct RowFile {
     pub name: String,
     text: String,
 }
 
 /// A row as it is in its file: its name, and the lines below it, each a word and the rest.
-#[derive(Debug, Drop)]
+#[derive(Drop)]
 pub struct Block<'a> {
     pub name: &'a str,
     pub lines: Vec<(&'a str, &'a str)>,
@@ -38,13 +38,17 @@ where
 {
     let mut names = Vec::new(rt.alloc());
     for entry in fs::read_dir(rt, ".")? {
-        let entry = entry?;
-        if entry.file_name().ends_with(".rows") {
-            names.push(String::from_str(rt.alloc(), entry.file_name())?)?;
-        }
+        push_name(rt.alloc(), &mut names, entry?.file_name())?;
     }
     names.sort_unstable();
     Ok(names)
+}
+
+fn push_name(alloc: Global, names: &mut Vec<String>, name: &str) -> Result<(), RowFault> {
+    if name.ends_with(".rows") {
+        names.push(String::from_str(alloc, name)?)?;
+    }
+    Ok(())
 }
 
 impl RowFile {

@@ -6,7 +6,7 @@ use std::fs;
 use std::rt::Files;
 
 /// A row: what is called, on what, and what it has to answer, in lines.
-#[derive(Debug, Drop)]
+#[derive(Drop)]
 pub struct Row<'a> {
     pub words: Vec<&'a str>,
     pub input: Vec<u8>,

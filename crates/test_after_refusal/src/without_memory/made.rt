@@ -1,5 +1,5 @@
 use crate::fault::Fault;
-use crate::sources::{U, info_of, parser};
+use crate::sources::{U, info_of, table, url};
 use deno_graph_info::analysis::ModuleInfo;
 use deno_graph_source::text::{JsString, SourceRange};
 use deno_graph_source::tree::{
@@ -9,9 +9,7 @@ use deno_graph_source::tree::{
 use deno_graph_source::values::{Items, Text};
 use example_table_parser::TableParser;
 use std::alloc::{AllocError, Global};
-use std::cell::Cell;
-use std::rc::{Rc, RcStr};
-use url::Url;
+use std::rc::RcStr;
 
 pub const TEXT: &str = "// é\nimport \"a\";";
 
@@ -28,13 +26,14 @@ pub struct Made {
 
 impl Made {
     pub fn new(alloc: Global) -> Result<Made, Fault> {
+        let surrogate = JsString::from_units(alloc, &[0xd800])?;
+        let parser = table(alloc)?;
         let source = source(alloc)?;
-        let info = info_of(alloc, &source)?;
         Ok(Made {
+            info: info_of(alloc, &source)?,
             source,
-            info,
-            surrogate: JsString::from_units(alloc, &[0xd800])?,
-            parser: parser(alloc, &Rc::new(alloc, Cell::new(0))?)?,
+            surrogate,
+            parser,
         })
     }
 }
@@ -42,7 +41,7 @@ impl Made {
 fn source(alloc: Global) -> Result<ParsedSource, Fault> {
     Ok(ParsedSource::new(
         alloc,
-        Url::parse(alloc, U)?,
+        url(alloc, U)?,
         RcStr::from_str(alloc, TEXT)?,
         MediaType::TypeScript,
         program(alloc)?,

@@ -1,7 +1,7 @@
 //! Calls on texts: the finders, the parsers of JSDoc imports, the names of modes.
 
 use crate::fault::Fault;
-use crate::outcome::check;
+use crate::outcome::check_each;
 use deno_graph_analysis::jsdoc::{parse_jsdoc_dynamic_import, parse_jsdoc_import_decl};
 use deno_graph_info::analysis::{
     Match, TypeScriptTypesResolutionMode, find_deno_types, find_jsx_import_source,
@@ -14,10 +14,12 @@ use deno_graph_source::tree::{MediaType, ResolutionMode};
 const REFERENCE: &str = "/ <reference path='a' types='b' resolution-mode='import' />";
 
 pub fn read() -> Result<(), Fault> {
-    check(references_are_found(), "references")?;
-    check(pragmas_are_found(), "pragmas")?;
-    check(imports_are_parsed(), "imports of JSDoc")?;
-    check(modes_are_named(), "modes")
+    check_each(&[
+        (references_are_found(), "references"),
+        (pragmas_are_found(), "pragmas"),
+        (imports_are_parsed(), "imports of JSDoc"),
+        (modes_are_named(), "modes"),
+    ])
 }
 
 /// Whether this text was found, from this byte on.

@@ -1,7 +1,7 @@
 //! Positions, strings, look-ups, parts of values, and what is made of nothing.
 
 use crate::fault::Fault;
-use crate::outcome::check;
+use crate::outcome::check_each;
 use crate::without_memory::made::{Made, TEXT};
 use deno_graph_analysis::ast::{
     CapturingEsParser, CapturingModuleAnalyzer, DefaultParsedSourceStore, ParserModuleAnalyzer,
@@ -12,31 +12,34 @@ use deno_graph_info::analysis::{
     ImportAttributes, ModuleInfo,
 };
 use deno_graph_source::text::{JsString, Position, PositionRange, SourceRange, SourceTextInfo};
-use deno_graph_source::tree::{Comments, MediaType, ParsedSource};
+use deno_graph_source::tree::{Comments, MediaType, ParsedSource, Program};
 use deno_graph_source::values::TryClone;
 use example_table_parser::TableParser;
-use std::alloc::Global;
+use std::alloc::{AllocError, Global};
 
 pub fn look_up(alloc: Global, made: &Made) -> Result<(), Fault> {
-    check(
-        positions_are_found(made.source.text_info_lazy()),
-        "positions",
-    )?;
-    check(is_surrogate(&made.surrogate), "strings")?;
-    check(parts_are_found(&made.source), "parts of a source")?;
-    check(
-        made.source.try_clone(alloc)? == made.source,
-        "a copy of a source",
-    )?;
-    check(is_import(made.info.dependencies.first()), "dependencies")?;
-    check(
-        Walk::new(alloc, made.source.program()).entered() == 0,
-        "Walk::new",
-    )?;
-    check(
-        Comments::new(alloc) != *made.source.comments(),
-        "Comments::new",
-    )
+    let source = &made.source;
+    check_each(&[
+        (positions_are_found(source.text_info_lazy()), "positions"),
+        (is_surrogate(&made.surrogate), "strings"),
+        (parts_are_found(source), "parts of a source"),
+        (is_copied(alloc, source)?, "a copy of a source"),
+        (is_import(made.info.dependencies.first()), "dependencies"),
+        (is_at_start(alloc, source.program()), "Walk::new"),
+        (has_comments(alloc, source.comments()), "Comments::new"),
+    ])
+}
+
+fn is_copied(alloc: Global, source: &ParsedSource) -> Result<bool, AllocError> {
+    Ok(source.try_clone(alloc)? == *source)
+}
+
+fn is_at_start(alloc: Global, program: &Program) -> bool {
+    Walk::new(alloc, program).entered() == 0
+}
+
+fn has_comments(alloc: Global, comments: &Comments) -> bool {
+    Comments::new(alloc) != *comments
 }
 
 fn positions_are_found(info: &SourceTextInfo) -> bool {
@@ -98,9 +101,11 @@ pub fn take_apart(alloc: Global, made: Made) -> Result<(), Fault> {
     let is_marked = source.into_with_scope_analysis().has_scope_analysis();
     let is_new_another = is_another(ModuleInfo::new(alloc), info);
     make_of_parser(alloc, parser);
-    check(is_marked, "into_with_scope_analysis")?;
-    check(is_new_another, "ModuleInfo::new")?;
-    check(is_static_none(), "From of a dynamic dependency")
+    check_each(&[
+        (is_marked, "into_with_scope_analysis"),
+        (is_new_another, "ModuleInfo::new"),
+        (is_static_none(), "From of a dynamic dependency"),
+    ])
 }
 
 fn is_another<T: PartialEq + Drop>(value: T, other: T) -> bool {

@@ -1,6 +1,6 @@
 //! The finders of pragmas.
 
-use crate::answer::{named, valued};
+use crate::answer::{named, range_value, valued};
 use crate::row_fault::RowFault;
 use deno_graph_info::analysis::{
     Match, find_deno_types, find_jsx_import_source, find_jsx_import_source_types,
@@ -29,11 +29,11 @@ pub fn find(alloc: Global, name: &str, value: &Value) -> Result<String, RowFault
         "find_deno_types" => match find_deno_types(text) {
             None => named(alloc, "null"),
             Some(found) => {
-                let (start, end) = (found.range.start, found.range.end);
+                let range = range_value(alloc, &found.range)?;
                 let (quoteless, text) = (found.is_quoteless, found.text);
                 valued(
                     alloc,
-                    &json!(in alloc; { "quoteless": quoteless, "range": [start, end], "text": text })?,
+                    &json!(in alloc; { "quoteless": quoteless, "range": range, "text": text })?,
                 )
             }
         },
@@ -53,12 +53,9 @@ fn matched(alloc: Global, found: Option<Match<'_>>) -> Result<String, RowFault> 
     match found {
         None => named(alloc, "null"),
         Some(found) => {
-            let (range, text) = (found.range(), found.as_str());
-            let (start, end) = (range.start, range.end);
-            valued(
-                alloc,
-                &json!(in alloc; { "range": [start, end], "text": text })?,
-            )
+            let range = range_value(alloc, &found.range())?;
+            let text = found.as_str();
+            valued(alloc, &json!(in alloc; { "range": range, "text": text })?)
         }
     }
 }

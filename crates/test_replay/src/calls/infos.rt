@@ -50,12 +50,21 @@ pub fn converted(alloc: Global, value: &Value) -> Result<String, RowFault> {
         Err(_) => None,
     };
     let mut again = value.clone()?;
-    match convert(alloc, &mut again) {
+    converted_in_place(alloc, value, &mut again, by_value.as_ref())
+}
+
+fn converted_in_place(
+    alloc: Global,
+    value: &Value,
+    again: &mut Value,
+    by_value: Option<&Value>,
+) -> Result<String, RowFault> {
+    match convert(alloc, again) {
         Ok(()) => match by_value {
-            Some(after) if after == again => valued(alloc, &after),
+            Some(after) if *after == *again => valued(alloc, after),
             _ => named(alloc, "another by value"),
         },
-        Err(_) if again != *value => named(alloc, "refused, and changed"),
+        Err(_) if *again != *value => named(alloc, "refused, and changed"),
         Err(ConvertFault::OutOfMemory) => Err(RowFault::OutOfMemory),
         Err(fault) => named(alloc, format!(in alloc; "{fault}")?.as_str()),
     }

@@ -1,6 +1,6 @@
 //! Imports in JSDoc comments.
 
-use crate::answer::{named, valued};
+use crate::answer::{named, range_value, valued};
 use crate::row_fault::RowFault;
 use deno_graph_analysis::jsdoc::{
     JsDocImport, NoParse, parse_jsdoc_dynamic_import, parse_jsdoc_import_decl, scan,
@@ -28,11 +28,12 @@ fn parsed(
     match found {
         Err(NoParse) => named(alloc, "NoParse"),
         Ok((rest, import)) => {
-            let (start, end) = (import.specifier_range.start, import.specifier_range.end);
-            let (mode, specifier) = (mode_value(alloc, &import)?, import.specifier);
+            let mode = mode_value(alloc, &import)?;
+            let range = range_value(alloc, &import.specifier_range)?;
+            let specifier = import.specifier;
             valued(
                 alloc,
-                &json!(in alloc; { "mode": mode, "range": [start, end], "rest": rest, "specifier": specifier })?,
+                &json!(in alloc; { "mode": mode, "range": range, "rest": rest, "specifier": specifier })?,
             )
         }
     }
@@ -42,11 +43,7 @@ fn scanned(alloc: Global, text: &str) -> Result<String, RowFault> {
     let found = scan(alloc, text)?;
     let mut imports = Vec::new(alloc);
     for import in found.imports.iter() {
-        let (start, end) = (import.specifier_range.start, import.specifier_range.end);
-        let (mode, specifier) = (mode_value(alloc, import)?, import.specifier);
-        imports.push(
-            json!(in alloc; { "mode": mode, "range": [start, end], "specifier": specifier })?,
-        )?;
+        imports.push(import_value(alloc, import)?)?;
     }
     let (decl_starts, dynamic_starts) = (found.decl_starts, found.dynamic_starts);
     let imports = Value::Array(imports);
@@ -54,6 +51,13 @@ fn scanned(alloc: Global, text: &str) -> Result<String, RowFault> {
         alloc,
         &json!(in alloc; { "declStarts": decl_starts, "dynamicStarts": dynamic_starts, "imports": imports })?,
     )
+}
+
+fn import_value(alloc: Global, import: &JsDocImport<'_>) -> Result<Value, AllocError> {
+    let mode = mode_value(alloc, import)?;
+    let range = range_value(alloc, &import.specifier_range)?;
+    let specifier = import.specifier;
+    json!(in alloc; { "mode": mode, "range": range, "specifier": specifier })
 }
 
 fn mode_value(alloc: Global, import: &JsDocImport<'_>) -> Result<Value, AllocError> {

@@ -119,11 +119,19 @@ fn every_way_to(
 /// Whether copies are equal, and the parts of the source give the same as the whole.
 fn by_copies(alloc: Global, source: &ParsedSource, info: &ModuleInfo) -> Result<bool, AllocError> {
     Ok(
-        info_of_parts(alloc, source)? == *info
+        is_made_of_parts(alloc, source, info)?
             && is_copied(alloc, info)?
             && is_copied(alloc, source.program())?
             && is_copied(alloc, source.comments())?,
     )
+}
+
+fn is_made_of_parts(
+    alloc: Global,
+    source: &ParsedSource,
+    info: &ModuleInfo,
+) -> Result<bool, AllocError> {
+    Ok(info_of_parts(alloc, source)? == *info)
 }
 
 /// Whether a copy is equal.

@@ -3,13 +3,13 @@
 use crate::answer::{push_line, push_lines};
 use crate::calls::{of_json, text_of};
 use crate::row_fault::RowFault;
-use std::alloc::Global;
+use std::alloc::{AllocError, Global};
 
 /// More than a row writes, so that neither writer asks for memory.
 const ROOM: usize = 65536;
 
 /// What one run of the program left: its status and what it wrote.
-#[derive(Debug, PartialEq, Eq, Drop)]
+#[derive(PartialEq, Eq, Drop)]
 struct Run {
     status: u8,
     output: Vec<u8>,
@@ -76,23 +76,48 @@ impl Run {
 /// something else.
 pub fn serve(alloc: Global, words: &[&str], input: &[u8]) -> Result<String, RowFault> {
     let run = Run::of(alloc, words, input)?;
+    answer_with_others(alloc, words, input, &run)
+}
+
+fn answer_with_others(
+    alloc: Global,
+    words: &[&str],
+    input: &[u8],
+    run: &Run,
+) -> Result<String, RowFault> {
     let mut answer = run.answer(alloc)?;
-    let [word] = words else {
-        return Ok(answer);
-    };
-    if run.status < 2 && !input.is_empty() {
-        push_other_lines(alloc, &mut answer, word, input, &run)?;
-    }
-    if run.status < 2 && *word != "check" && !word.starts_with("--") {
-        push_other_report(alloc, &mut answer, word, input, &run)?;
-    }
-    if run.status == 0 && *word == "analyze" {
-        let ways = of_json(alloc, "every_way", &[], input)?;
-        if found(ways.as_str(), "answer ") != found(answer.as_str(), "output ") {
-            answer.push_str(ways.as_str())?;
-        }
+    if let [word] = words {
+        push_others(alloc, &mut answer, word, input, run)?;
     }
     Ok(answer)
+}
+
+fn push_others(
+    alloc: Global,
+    answer: &mut String,
+    word: &str,
+    input: &[u8],
+    run: &Run,
+) -> Result<(), RowFault> {
+    if run.status < 2 && !input.is_empty() {
+        push_other_lines(alloc, answer, word, input, run)?;
+    }
+    if run.status < 2 && word != "check" && !word.starts_with("--") {
+        push_other_report(alloc, answer, word, input, run)?;
+    }
+    if run.status == 0 && word == "analyze" {
+        push_other_ways(alloc, answer, input)?;
+    }
+    Ok(())
+}
+
+/// What the other ways lead to, where that isn't what the run printed.
+fn push_other_ways(alloc: Global, answer: &mut String, input: &[u8]) -> Result<(), RowFault> {
+    let ways = of_json(alloc, "every_way", &[], input)?;
+    if found(ways.as_str(), "answer ") != found(answer.as_str(), "output ") {
+        answer.push_str(ways.as_str())?;
+    }
+    Ok(())
 }
 
 /// What a run over two lines, which are both this document, prints other than the line of this run
@@ -104,14 +129,33 @@ fn push_other_lines(
     document: &[u8],
     single: &Run,
 ) -> Result<(), RowFault> {
+    let lines = two_lines(alloc, document)?;
+    let run = Run::of(alloc, &[word, "--lines"], lines.as_slice())?;
+    push_unless_twice(alloc, answer, word, &run, single)
+}
+
+fn two_lines(alloc: Global, document: &[u8]) -> Result<Vec<u8>, AllocError> {
     let mut lines = Vec::new(alloc);
+    for _ in 0..2 {
+        push_as_line(&mut lines, document)?;
+    }
+    Ok(lines)
+}
+
+fn push_as_line(lines: &mut Vec<u8>, document: &[u8]) -> Result<(), AllocError> {
     for byte in document {
         lines.push(if *byte == b'\n' { b' ' } else { *byte })?;
     }
-    lines.push(b'\n')?;
-    let once = lines.clone()?;
-    lines.extend_from_slice(once.as_slice())?;
-    let run = Run::of(alloc, &[word, "--lines"], lines.as_slice())?;
+    Ok(lines.push(b'\n')?)
+}
+
+fn push_unless_twice(
+    alloc: Global,
+    answer: &mut String,
+    word: &str,
+    run: &Run,
+    single: &Run,
+) -> Result<(), RowFault> {
     let line = single.line(alloc, word)?;
     let expected = format!(in alloc; "{line}\n{line}\n")?;
     let status = if word == "check" { single.status } else { 0 };
@@ -131,16 +175,19 @@ fn push_other_report(
     document: &[u8],
     single: &Run,
 ) -> Result<(), RowFault> {
+    let expected = beginning_of_report(alloc, single)?;
     let run = Run::of(alloc, &["check", word], document)?;
-    let expected = if single.status == 0 {
-        String::from_str(alloc, "{\"valid\":true")?
-    } else {
-        format!(in alloc; "{{\"fault\":\"{}\",", single.fault()?)?
-    };
     if run.status != single.status || !run.output.as_slice().starts_with(expected.as_bytes()) {
         push_lines(answer, "check", text_of(run.output.as_slice())?)?;
     }
     Ok(())
+}
+
+fn beginning_of_report(alloc: Global, single: &Run) -> Result<String, RowFault> {
+    if single.status == 0 {
+        return Ok(String::from_str(alloc, "{\"valid\":true")?);
+    }
+    Ok(format!(in alloc; "{{\"fault\":\"{}\",", single.fault()?)?)
 }
 
 /// What is behind the word on the last line.
@@ -152,11 +199,21 @@ fn found<'a>(answer: &'a str, word: &str) -> Option<&'a str> {
 /// else the first other one.
 pub fn beginnings(alloc: Global, words: &[&str], input: &[u8]) -> Result<String, RowFault> {
     let first = Run::of(alloc, words, &[])?;
+    let other = other_beginning(alloc, words, input, &first)?;
+    other.as_ref().unwrap_or(&first).answer(alloc)
+}
+
+fn other_beginning(
+    alloc: Global,
+    words: &[&str],
+    input: &[u8],
+    first: &Run,
+) -> Result<Option<Run>, RowFault> {
     for end in 0..input.len() {
         let run = Run::of(alloc, words, &input[..end])?;
-        if run != first {
-            return run.answer(alloc);
+        if run != *first {
+            return Ok(Some(run));
         }
     }
-    first.answer(alloc)
+    Ok(None)
 }
