@@ -1,5 +1,5 @@
-//! The first way: a module whose tree is made by hand. It becomes a source, with its text, and is
-//! analyzed. There is no parser, and nothing to implement.
+//! The first way: a module whose tree is made by hand. The tree becomes a source, with its text, and
+//! that is analyzed. There is no parser, and nothing to implement.
 
 use crate::tree::import_program;
 use anyhow::Result;

@@ -1,5 +1,5 @@
-//! The second way: a parser of one's own, which an analyzer asks. What it has parsed is kept in a store of
-//! one's own, and before both of them is an analyzer of one's own.
+//! The second way: a parser of one's own. What it has parsed is kept in a store of one's own, and an
+//! analyzer of one's own asks both.
 
 mod analyzer;
 mod parser;

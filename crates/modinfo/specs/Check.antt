@@ -1,4 +1,4 @@
--- When a report is that on a text.
+-- What a text states where a report on it is right.
 use Rattle.std.specs.Prelude.{◌≡◌, ◌≢◌, ◌⊎◌, ℕ, List, None, Some, Ok}
 use Rattle.std.specs.Rc.{rc_str_bytes}
 use Rattle.serde_json.specs.Data.{Data}

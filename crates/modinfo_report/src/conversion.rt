@@ -12,7 +12,8 @@ use deno_graph_info::analysis::{ConvertFault, module_graph_1_to_2};
 use serde_json::{Map, Value};
 use std::alloc::{AllocError, Global};
 
-/// Why stored information can't be converted, if it can't.
+/// Converts stored information in place. `None` where it was converted; else why it can't be, or that
+/// memory was refused.
 pub fn convert_fault(alloc: Global, value: &mut Value) -> Option<ConvertFault>
     ensures { MatchOption result (CanBeConverted (view value.old)) (IsConvertFault (view value.old)) }
 {

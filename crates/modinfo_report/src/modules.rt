@@ -26,8 +26,8 @@ impl From<FormFault> for Misread {
     }
 }
 
-/// The report on the value of a document of `reach`: `Wrong` exactly where `reach` has a fault. The
-/// only error is that memory was refused.
+/// The report on the value of a document of `reach`: `Wrong` exactly where `reach` has a fault, and of
+/// the same name. The only error is that memory was refused.
 pub fn report_modules(alloc: Global, value: &Value) -> Result<Report, AllocError> {
     let mut search = Search::new(alloc);
     match find_in_document(&mut search, value) {

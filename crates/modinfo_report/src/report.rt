@@ -38,7 +38,7 @@ impl Wrong {
     }
 
     /// A fault of the value to which this JSON Pointer leads.
-    pub fn of_value(fault: String, pointer: String, expected: String) -> Wrong {
+    pub(crate) fn of_value(fault: String, pointer: String, expected: String) -> Wrong {
         Wrong {
             fault,
             pointer: Some(pointer),
@@ -50,7 +50,7 @@ impl Wrong {
     }
 
     /// A fault of a text, which is no JSON from there on.
-    pub fn of_text(fault: String, at: TextPlace, expected: String) -> Wrong {
+    pub(crate) fn of_text(fault: String, at: TextPlace, expected: String) -> Wrong {
         Wrong {
             fault,
             pointer: None,

@@ -67,7 +67,7 @@ impl ParsedSourceStore for CountingStore {
 
 type Analyzer = CapturingModuleAnalyzer<TableParser, CountingStore>;
 
-/// An analyzer that knows the second source and has the first in its store, and what it answers.
+/// An analyzer that knows the second source and gets the first into its store; and both.
 #[derive(Drop)]
 struct Tested {
     analyzer: Analyzer,

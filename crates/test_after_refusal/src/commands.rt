@@ -33,7 +33,7 @@ const PARSE_WITH_SCOPES: Action = Action::Parse {
     scope_analysis: true,
 };
 
-/// What is done to which specifier, with which text.
+/// What is done to which specifier, with which text. A removal reads none.
 type Planned = (Action, &'static str, &'static str);
 
 /// A source that was kept before the run and one of the caller's own are answered, a diagnostic keeps

@@ -1,7 +1,7 @@
 //! Tests of parsers, stores and capturing analyzers: rows of commands, and each call with ample
 //! memory. A test stops where it is refused memory itself; in `refusals` a parser or a store says that
-//! it is. What is there after a refusal is looked at by `crates/test_after_refusal`. Like a caller's,
-//! this crate lists the front doors alone of the library; `front_doors` has each name of theirs.
+//! it is. What is there after a refusal is looked at by `crates/test_after_refusal`. Of the
+//! library this crate lists the front doors alone, as a caller does; `front_doors` has each name of theirs.
 #![tactic(auto)]
 
 #[cfg(test)]

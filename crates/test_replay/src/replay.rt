@@ -77,11 +77,11 @@ fn is_stated<R: Print>(
 ) -> Result<bool, RowFault> {
     match answer {
         Ok(answer) => {
-            let is_stated = answer.as_str() == expected;
-            if !is_stated {
+            let is_same = answer.as_str() == expected;
+            if !is_same {
                 print!(rt; "row {name} has to answer\n{expected}and answers\n{answer}")?;
             }
-            Ok(is_stated)
+            Ok(is_same)
         }
         Err(RowFault::OutOfMemory) => Err(RowFault::OutOfMemory),
         Err(fault) => {
