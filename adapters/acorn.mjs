@@ -17,7 +17,7 @@ const SOURCE_TYPES = {
 
 const LONGEST_WORD = "import".length;
 const MODULE_WORD = /^(?:import|export|await)(?![\p{ID_Continue}$])/u;
-/** In a script `await` is a name, behind which no operand stands. */
+/** In a script `await` is a name, behind which there is no operand. */
 const AWAIT_BEFORE = new RegExp(
   String.raw`(?<![\p{ID_Continue}$.#])await(?:\s|/\*(?:(?!\*/)[^])*\*/|//.*[\n\r\u2028\u2029])+$`,
   "u",
@@ -63,7 +63,7 @@ function loadAcorn() {
 
 /**
  * Of the errors in the order of the ways: the module's where the script's is that it has the syntax
- * of a module, else the one that stands furthest behind.
+ * of a module, else the one that is furthest behind.
  * @param {string} text
  * @param {{ pos: number, message: string }[]} errors
  */

@@ -1,5 +1,5 @@
 /**
- * Where comments stand: between which tokens, and under which position they are filed.
+ * Where comments are: between which tokens, and under which position they are filed.
  *
  * @typedef {{ kind: "line" | "block" | "html", start: number, end: number }} Comment offsets in
  *   UTF-16 units; an HTML-like comment (`<!--`, `-->`) parts tokens, and is not filed
@@ -291,7 +291,7 @@ function spaceStart(text, offset) {
 }
 
 /**
- * The first offset from one on at which no white space stands.
+ * The first offset from one on at which there is no white space.
  * @param {string} text
  * @param {number} offset
  */

@@ -1,6 +1,6 @@
 /**
  * Builds the document that `modinfo analyze` reads, from any parser's tree that is seen through a
- * `View`. Only nodes that some rule reads are written; the children of any other node stand in its
+ * `View`. Only nodes that some rule reads are written; the children of any other node are in its
  * place.
  *
  * @typedef {import("./source.mjs").Source} Source
@@ -61,7 +61,7 @@
  * @property {(node: unknown) => Description} describe
  * @property {(node: unknown, open?: number) => Value} value an expression in parentheses is
  *   `Other`, but for that at `open`
- * @property {() => Kept[]} kept the nodes that are written, wherever they stand in the tree, each
+ * @property {() => Kept[]} kept the nodes that are written, wherever they are in the tree, each
  *   before those below it, in the order of the source; an `Await` in a function is none
  *
  * @typedef {{ message: string, line: number, column: number }} Warning of what a document leaves

@@ -57,7 +57,7 @@ export function faultOf(error) {
 }
 
 /**
- * What a system call says, without the path, which stands before it anyway.
+ * What a system call says, without the path, which is before it anyway.
  * @param {Error} error
  * @returns {string} as `ENOENT: no such file or directory`
  */

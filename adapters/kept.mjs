@@ -31,7 +31,7 @@ export function isKept(described) {
   }
 }
 
-/** The kept nodes of a tree, found by where they stand. */
+/** The kept nodes of a tree, found by where they are. */
 export class KeptNodes {
   /**
    * @param {Kept[]} kept each before those below it, in the order of the source
@@ -46,7 +46,7 @@ export class KeptNodes {
   }
 
   /**
-   * The outermost of those that stand at a node or below it.
+   * The outermost of those that are at a node or below it.
    * @param {unknown} node
    * @returns {Kept[]} in the order of the source
    */
@@ -55,7 +55,7 @@ export class KeptNodes {
   }
 
   /**
-   * The outermost of those that stand below a node.
+   * The outermost of those that are below a node.
    * @param {unknown} node
    * @returns {Kept[]} in the order of the source
    */

@@ -26,7 +26,7 @@
 import { jsString } from "./source.mjs";
 
 /**
- * How many levels of nodes fit into JSON that nests 127 deep: the items stand 4 deep, each level
+ * How many levels of nodes fit into JSON that nests 127 deep: the items are 4 deep, each level
  * takes 2, and what a node has beside its children takes 3.
  */
 export const MOST_LEVELS = 61;
@@ -34,7 +34,7 @@ export const MOST_LEVELS = 61;
 /** Each operand of a sum is a level, below an item and a call. */
 const MOST_OPERANDS = MOST_LEVELS - 2;
 
-/** What stands in the body under its own kind; any other item is an `Other` or an `ExportOther`. */
+/** What is in the body under its own kind; any other item is an `Other` or an `ExportOther`. */
 const ITEMS = new Set(["ImportDecl", "NamedExport", "ExportAll", "ImportEquals", "ModuleDecl"]);
 
 const NONE = Object.freeze({});
@@ -44,14 +44,14 @@ const NOTHING = Object.freeze([]);
 export class NodeWriter {
   /** Where something is left out, and what: `offset` is in UTF-16 units. */
   warnings = [];
-  /** What stands inside of the node that is being written, where that is to stand beside it. */
+  /** What is inside of the node that is being written, where that is to be beside it. */
   #beside = [];
 
   /**
    * @param {Source} source
    * @param {View} view
    * @param {KeptNodes} kept
-   * @param {boolean} flat whether the nodes inside another are to stand beside it, where the
+   * @param {boolean} flat whether the nodes inside another are to be beside it, where the
    *   analysis comes to them in the same order: those inside a call before it, all others behind
    */
   constructor(source, view, kept, flat) {

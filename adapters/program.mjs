@@ -40,7 +40,7 @@ export function isMain(url) {
  */
 export async function runProgram(program) {
   const { name, parser, main } = program;
-  // A write that fails is told to whoever writes; what can't be said isn't said.
+  // A write that fails is told to its caller; what can't be said isn't said.
   process.stdout.on("error", () => {});
   process.stderr.on("error", () => {});
   try {

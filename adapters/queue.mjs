@@ -6,7 +6,7 @@ export class Queue {
   /** @type {T[]} */
   #entering = [];
   /**
-   * The next to leave stands last.
+   * The next to leave is last.
    * @type {T[]}
    */
   #leaving = [];

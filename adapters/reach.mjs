@@ -17,7 +17,7 @@ import { pathToFileURL } from "node:url";
 const ROOT = "";
 
 /**
- * What stands beside a declaration file, and is what an import of it runs.
+ * What is beside a declaration file, and is what an import of it runs.
  * @type {[string, string[]][]}
  */
 const BESIDE = [[".d.ts", [".js", ".jsx"]], [".d.mts", [".mjs"]], [".d.cts", [".cjs"]]];
@@ -104,7 +104,7 @@ function member(key, specifiers) {
 }
 
 /**
- * What may stand beside a declaration file.
+ * What may be beside a declaration file.
  * @param {string} name a URL
  * @returns {string[]} none for another file
  */

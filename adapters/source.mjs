@@ -6,7 +6,7 @@
  * @typedef {string | number[]} JsString a text, or the UTF-16 units of one with a lone surrogate
  */
 
-/** A byte order mark may stand before the `#!`; it stays a part of the text. */
+/** A byte order mark may be before the `#!`; it stays a part of the text. */
 const SHEBANG = /^\uFEFF?#!.*/u;
 export const LONE_SURROGATE = /\p{Surrogate}/u;
 const LINE_END = /\r\n|[\n\r\u2028\u2029]/u;

@@ -4,7 +4,7 @@ from documents import encoded
 
 
 def commented(count):
-    """A module graph of version 1, whose dependencies have comments that name types."""
+    """The information of one module of version 1, whose dependencies have comments that name types."""
     return encoded({"dependencies": [stored(f"./{number}.js") | comments_of(number) for number in range(count)]})
 
 
@@ -14,7 +14,7 @@ def comments_of(number):
 
 
 def one_comment(count):
-    """A module graph of version 1, with one dependency and one long comment that names no types."""
+    """The information of one module of version 1, with one dependency and one long comment that names no types."""
     comment = {"range": [[0, 0], [0, 10 * count + 2]], "text": " " * (10 * count)}
     return encoded({"dependencies": [stored("./a.js") | {"leadingComments": [comment]}]})
 

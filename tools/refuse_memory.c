@@ -10,7 +10,7 @@
 //     answer REQUEST COUNT STATUS LENGTH LENGTH
 //
 // REQUEST is the first that had this answer, COUNT how many had it, STATUS the exit status, or 128
-// and the signal. Behind the line stand so many bytes of output and of error output. The program's
+// and the signal. Behind the line are so many bytes of output and of error output. The program's
 // output and error output have to be files.
 #define _GNU_SOURCE
 #include <dlfcn.h>

@@ -29,7 +29,7 @@ export function commentOpenings(text) {
 }
 
 /**
- * The comments: what looks like one, but for what stands in another, or in a token of free text.
+ * The comments: what looks like one, but for what is in another, or in a token of free text.
  * @param {Compiler} compiler
  * @param {Node} file
  * @param {string} text

@@ -150,7 +150,7 @@ function syntaxErrors({ parseDiagnostics = [] }) {
 
 /**
  * The text with `assert` for each `with` that is an error, in as many characters: TypeScript before
- * 5.3 knows clauses of attributes by that keyword alone. Where no blanks stand round `with`, there
+ * 5.3 knows clauses of attributes by that keyword alone. Where there are no blanks around `with`, there
  * is no room.
  * @param {string} text
  * @param {{ start: number }[]} errors

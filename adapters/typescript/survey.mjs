@@ -235,7 +235,7 @@ class Pass {
 }
 
 /**
- * The offsets at which something stands that is looked for.
+ * The offsets at which there is something that is looked for.
  * @param {string} text
  * @param {number[]} openings
  * @returns {Uint32Array} ascending

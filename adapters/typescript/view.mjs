@@ -177,7 +177,7 @@ export class TypeScriptView {
   }
 
   /**
-   * The type begins at `import`, also where `typeof` stands before it.
+   * The type begins at `import`, also where `typeof` is before it.
    * @param {Node} node
    * @returns {Description}
    */

@@ -3,7 +3,7 @@
     python3 rows.py LIBRARY FOLDER
 
 Each row is called with room for just its answer, and with one byte less: then nothing may be written,
-and the length that is needed has to be named. Behind the room stand bytes that no call may touch.
+and the length that is needed has to be named. Behind the room are bytes that no call may touch.
 """
 
 import ctypes

@@ -1,4 +1,4 @@
-"""The commands of docs/SCALE.md, one after another, as they stand there."""
+"""The commands of docs/SCALE.md, one after another, as they are there."""
 
 import os
 import re
