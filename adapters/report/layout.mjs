@@ -67,7 +67,8 @@ export async function layoutOf(view) {
  * @returns {Promise<string>} JSON
  */
 async function runDot(graph) {
-  const child = spawn("dot", WORDS, { timeout: LONGEST });
+  // A timer of `spawn` itself would keep node waiting where there is no dot to be ended.
+  const child = spawn("dot", WORDS, { signal: AbortSignal.timeout(LONGEST) });
   const ended = new Promise((resolve, reject) => {
     child.once("error", reject);
     child.once("close", (...end) => resolve(end));
@@ -84,9 +85,21 @@ async function runDot(graph) {
     }
     return answer;
   } catch (error) {
-    throw error.code === "ENOENT"
-      ? new LayoutFault("dot isn't installed; it is in Debian's package graphviz")
-      : error;
+    const message = describeError(error);
+    throw message ? new LayoutFault(message) : error;
+  }
+}
+
+/**
+ * Why dot was not started, or not waited for.
+ * @param {any} error
+ * @returns {string | undefined}
+ */
+function describeError({ code }) {
+  switch (code) {
+    case "ENOENT": return "dot isn't installed; it is in Debian's package graphviz";
+    case "ABORT_ERR": return `dot took more than ${LONGEST / 1000} seconds`;
+    default: return undefined;
   }
 }
 
@@ -96,9 +109,7 @@ async function runDot(graph) {
  * @param {string} errors
  */
 function describeEnd(status, signal, errors) {
-  return signal === "SIGTERM"
-    ? `dot took more than ${LONGEST / 1000} seconds`
-    : `dot ended with ${signal ?? `status ${status}`}: ${errors.trim()}`;
+  return `dot ended with ${signal ?? `status ${status}`}: ${errors.trim()}`;
 }
 
 /**

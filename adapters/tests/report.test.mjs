@@ -7,7 +7,7 @@ import { join } from "node:path";
 import { test } from "node:test";
 
 import { pageOf } from "../report/page.mjs";
-import { STAND_IN, folderOf, programOf, run } from "./running.mjs";
+import { STAND_IN, folderOf, programOf, run, threadsFor } from "./running.mjs";
 
 const NAME = "modinfo-report";
 
@@ -25,10 +25,14 @@ function folderOfDot(script) {
   return folder;
 }
 
-/** Runs the command where `dot` is looked for in this folder first, or nowhere else. */
+/**
+ * Runs the command where `dot` is looked for in this folder first, or nowhere else. It is killed before it
+ * has waited for as long as `dot` may take.
+ */
 function runWith(path, words, cwd) {
-  const { stdout, stderr, status } = spawnSync(process.execPath, [programOf("report.mjs"), ...words], {
-    cwd, env: { ...process.env, PATH: path, MODINFO: STAND_IN },
+  const command = [programOf("report.mjs"), ...threadsFor("report.mjs", words), ...words];
+  const { stdout, stderr, status } = spawnSync(process.execPath, command, {
+    cwd, env: { ...process.env, PATH: path, MODINFO: STAND_IN }, timeout: 50_000,
   });
   return { stdout: String(stdout), stderr: String(stderr), status };
 }

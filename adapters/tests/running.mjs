@@ -46,13 +46,25 @@ export function programOf(name) {
  * @returns {{ stdout: string, stderr: string, status: number | null }}
  */
 export function run(name, words, { cwd, input = "", modinfo = STAND_IN } = {}) {
-  const { stdout, stderr, status } = spawnSync(process.execPath, [programOf(name), ...words], {
+  const command = [programOf(name), ...threadsFor(name, words), ...words];
+  const { stdout, stderr, status } = spawnSync(process.execPath, command, {
     cwd,
     input,
     env: { ...process.env, MODINFO: modinfo },
     maxBuffer: 1e9,
   });
   return { stdout: String(stdout), stderr: String(stderr), status };
+}
+
+/**
+ * Two threads, where the words don't say how many: each loads a parser, and the files of a test are few.
+ * @param {string} name
+ * @param {string[]} words
+ * @returns {string[]}
+ */
+export function threadsFor(name, words) {
+  const hasThreads = ["files.mjs", "report.mjs"].includes(name);
+  return hasThreads && !words.includes("--jobs") ? ["--jobs", "2"] : [];
 }
 
 /**
