@@ -57,7 +57,9 @@ export function parseWithAcorn(source, mediaType) {
 /** @returns {any} acorn's parser, with import attributes */
 function loadAcorn() {
   const acorn = loadParser("acorn");
-  extended ??= acorn.Parser.extend((Parser) => withAttributes(Parser, acorn));
+  extended ??= acorn.Parser.extend(
+    (Parser) => withClauses(Parser, acorn), withAttributes, (Parser) => withOptions(Parser, acorn),
+  );
   return extended;
 }
 
@@ -103,35 +105,16 @@ function parseAs(parser, text, sourceType) {
 }
 
 /**
- * Import attributes: the clause `assert { .. }`, which acorn has never had, and for acorn before
- * 8.14 also `with { .. }` and the second argument of `import(..)`.
+ * A clause of import attributes: `assert { .. }`, which acorn has never had, and `with { .. }`, which
+ * acorn before 8.14 hasn't.
  * @param {any} Parser
  * @param {any} acorn
  */
-function withAttributes(Parser, { tokTypes }) {
+function withClauses(Parser, { tokTypes }) {
   return class extends Parser {
-    parseImport(node) {
-      this.declaration = node;
-      return super.parseImport(node);
-    }
-
-    parseExport(node, exports) {
-      this.declaration = node;
-      return super.parseExport(node, exports);
-    }
-
     /** Where acorn has clauses, it reads them here. */
     parseWithClause() {
       return this.parseClause();
-    }
-
-    /** Both kinds of declaration end here, their source just read. */
-    semicolon() {
-      const node = this.declaration;
-      if (node?.source && node.attributes === undefined) {
-        node.attributes = this.parseClause();
-      }
-      super.semicolon();
     }
 
     parseClause() {
@@ -161,7 +144,43 @@ function withAttributes(Parser, { tokTypes }) {
       node.value = this.parseExprAtom();
       return this.finishNode(node, "ImportAttribute");
     }
+  };
+}
 
+/**
+ * Declarations with a clause behind their source.
+ * @param {any} Parser that reads clauses
+ */
+function withAttributes(Parser) {
+  return class extends Parser {
+    parseImport(node) {
+      this.declaration = node;
+      return super.parseImport(node);
+    }
+
+    parseExport(node, exports) {
+      this.declaration = node;
+      return super.parseExport(node, exports);
+    }
+
+    /** Both kinds of declaration end here, their source just read. */
+    semicolon() {
+      const node = this.declaration;
+      if (node?.source && node.attributes === undefined) {
+        node.attributes = this.parseClause();
+      }
+      super.semicolon();
+    }
+  };
+}
+
+/**
+ * The second argument of `import(..)`, which acorn before 8.14 hasn't.
+ * @param {any} Parser
+ * @param {any} acorn
+ */
+function withOptions(Parser, { tokTypes }) {
+  return class extends Parser {
     parseDynamicImport(node) {
       this.next();
       node.source = this.parseMaybeAssign();

@@ -50,7 +50,7 @@ export function faultOf(error) {
   if (error instanceof WorkerEnd && error.code === "ERR_WORKER_OUT_OF_MEMORY") {
     return { fault: "OutOfMemory", message: "memory for the parser was refused" };
   }
-  if (error?.syscall) {
+  if (error?.syscall || error?.code === "ERR_FS_FILE_TOO_LARGE") {
     return { fault: "Input", message: systemMessage(error) };
   }
   return { fault: "Parser", message: String(error?.message ?? error) };

@@ -84,15 +84,25 @@ async function main({ values, positionals }) {
 /**
  * Runs the program without a document.
  * @param {string} program
+ * @returns {Promise<void>} rejected where it can't be started, or ends otherwise than with status 0
  */
 export async function checkProgram(program) {
-  const child = spawn(program, ["analyze", "--lines"], { stdio: ["ignore", "ignore", "inherit"] });
-  const end = once(child, "close").then(([status, signal]) => signal ?? `status ${status}`);
-  const how = await end.catch(({ message }) => message);
+  const how = await endOf(program).catch(({ message }) => message);
   if (how !== "status 0") {
     const hint = "./modinfo --prove makes it in the repository, MODINFO names another";
     throw new Error(`${program} doesn't run with analyze --lines: ${how} (${hint})`);
   }
+}
+
+/**
+ * How the program ends that is handed no document.
+ * @param {string} program
+ * @returns {Promise<string>} as `status 0` or `SIGTERM`; rejected where it can't be started
+ */
+async function endOf(program) {
+  const child = spawn(program, ["analyze", "--lines"], { stdio: ["ignore", "ignore", "inherit"] });
+  const [status, signal] = await once(child, "close");
+  return signal ?? `status ${status}`;
 }
 
 /** @param {FileResult} result */
@@ -111,13 +121,13 @@ async function writeReached(run, { reach: entries, unreached = false, null: isNu
   const modules = new Map();
   const paths = new Map();
   const keep = async ({ path, module: { key, names } = moduleWithout(path) }) => {
-    if (!modules.has(key) && existsSync(path)) {
+    if (existsSync(path)) {
       modules.set(key, names);
       paths.set(key, path);
     }
   };
   const all = [...run.paths, ...entries];
-  const status = await runLines({ ...run, paths: all, isQuiet: true, write: keep });
+  const status = await runLines({ ...run, paths: all, isOnce: true, isQuiet: true, write: keep });
   const keys = entries.map((entry) => canonicalUrl(absolute(entry)));
   const reached = await reach(run.work.program, modules, keys);
   for (const [key, path] of paths) {

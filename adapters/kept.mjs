@@ -7,6 +7,8 @@
  * @typedef {{ node: unknown, described: Description }} Kept
  */
 
+import { firstIndex } from "./search.mjs";
+
 /** The callees of `import.defer(..)` and `import.source(..)` by their phase. */
 export const PHASE_CALLEES = new Map([["defer", "importDefer"], ["source", "importSource"]]);
 
@@ -88,16 +90,7 @@ export class KeptNodes {
    * @param {number} offset
    */
   #firstFrom(offset) {
-    let [low, high] = [0, this.starts.length];
-    while (low < high) {
-      const middle = (low + high) >>> 1;
-      if (this.starts[middle] < offset) {
-        low = middle + 1;
-      } else {
-        high = middle;
-      }
-    }
-    return low;
+    return firstIndex(this.starts.length, (at) => this.starts[at] < offset);
   }
 
   /** For each the place of the next that isn't below it. */

@@ -1,5 +1,6 @@
 /** Reads many files at once, and writes a line for each. */
 
+import { resolve as absolute } from "node:path";
 import { Readable } from "node:stream";
 
 import { describeFault, faultOf } from "./faults.mjs";
@@ -8,6 +9,7 @@ import { writeOutput } from "./output.mjs";
 import { Pool, WorkerEnd, inOrder } from "./pool.mjs";
 import { readJobs } from "./program.mjs";
 import { Progress } from "./progress.mjs";
+import { canonicalUrl } from "./reach.mjs";
 
 /**
  * @typedef {import("./file_worker.mjs").FileResult & { path: string }} FileResult
@@ -70,16 +72,19 @@ async function readFile(pool, { path, error }) {
  * @param {any} run.values those of its options
  * @param {string[]} run.paths
  * @param {Work} run.work
+ * @param {boolean} [run.isOnce] whether a file that several paths name is read for the first of them alone
  * @param {boolean} [run.isQuiet] whether nothing is written to the standard output meanwhile
  * @param {Promise<void>} [run.ready] nothing is said or written before it; where it is rejected, so is this
  * @param {(result: FileResult) => Promise<void>} [run.write] is called for each file in turn
  * @returns {Promise<number>} the status
  */
-export async function runLines({ name, values, paths, work, isQuiet, ready, write = writeLine }) {
+export async function runLines(run) {
+  const { name, values, paths, work, isOnce, isQuiet, ready, write = writeLine } = run;
   const jobs = readJobs(values.jobs);
   const progress = new Progress(process.stderr, isQuiet || !process.stdout.isTTY);
   const teller = new Teller(name, progress);
-  const files = findFiles(named(paths, values), { mediaTypes: work.mediaTypes, all: values.all });
+  const found = findFiles(named(paths, values), { mediaTypes: work.mediaTypes, all: values.all });
+  const files = isOnce ? eachOnce(found) : found;
   const ahead = Readable.from(counted(files, progress), { highWaterMark: AHEAD });
   for await (const result of readFiles(ahead, { jobs, work })) {
     await ready;
@@ -109,6 +114,21 @@ async function* named(paths, values) {
       yield* readPaths(process.stdin, values.null ? "\0" : "\n");
     } else {
       yield path;
+    }
+  }
+}
+
+/**
+ * Each file by the first path that leads to it.
+ * @param {AsyncIterable<Found>} files
+ */
+async function* eachOnce(files) {
+  const passed = new Set();
+  for await (const file of files) {
+    const url = canonicalUrl(absolute(file.path));
+    if (!passed.has(url)) {
+      passed.add(url);
+      yield file;
     }
   }
 }

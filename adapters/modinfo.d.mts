@@ -26,17 +26,24 @@ export class Modinfo {
   /**
    * What a module depends on, from its source, tree and comments.
    * @param document also as JSON, the bytes in UTF-8
-   * @throws {ModinfoFault} the document is refused
-   * @throws {ProgramEnd} the process ended before it had answered
-   * @throws {TypeError} what is handed over is neither an object nor JSON
+   * @throws {ModinfoFault} the document is refused, with one of the faults in docs/FORMATS.md of
+   *   the repository: `Input` where it is no UTF-8, `Json` where it is no JSON, `Tree` where it
+   *   isn't in the notation, as null isn't, and so on. Or memory was refused: `OutOfMemory`
+   * @throws {ProgramEnd} the process ended before it had answered, it can't be started, or `close`
+   *   was called before
+   * @throws {TypeError} `JSON.stringify` can't write it: it is undefined, a function or a symbol, or
+   *   has itself or a bigint in it
    */
   analyze(document: ModuleDocument | string | Uint8Array): Promise<ModuleInfo>;
 
   /**
    * The information of one module, as version 1 stored it, in version 2. JSON that is no such
-   * information is answered as it is.
+   * information is answered as it is, and then is no `ModuleInfo`, though the type says so.
    * @param information also as JSON, the bytes in UTF-8
-   * @throws as `analyze` does
+   * @throws {ModinfoFault} it is refused: `Input` or `Json` as by `analyze`, `Float` where a number
+   *   isn't held as a whole number, `ColumnOverflow` where a column is above 2^64 - 1. Or `OutOfMemory`
+   * @throws {ProgramEnd} as `analyze` does
+   * @throws {TypeError} as `analyze` does
    */
   convert(information: object | string | Uint8Array): Promise<ModuleInfo>;
 
@@ -44,7 +51,11 @@ export class Modinfo {
    * The keys that a root reaches among modules, ascending. A dependency names the key that its
    * specifier is, or its argument where that is a string; nothing is resolved.
    * @param graph also as JSON, the bytes in UTF-8
-   * @throws as `analyze` does
+   * @throws {ModinfoFault} it is refused: `Input` or `Json` as by `analyze`, `Shape` where it or a
+   *   module's part of it doesn't have its form, `Float` where a number in such a part isn't held as
+   *   a whole number. Or `OutOfMemory`
+   * @throws {ProgramEnd} as `analyze` does
+   * @throws {TypeError} as `analyze` does
    */
   reach(graph: ModuleGraph | string | Uint8Array): Promise<string[]>;
 
@@ -54,15 +65,17 @@ export class Modinfo {
    * @param document also as JSON, the bytes in UTF-8. Places in the text of an object are those in
    *   what `JSON.stringify` makes of it
    * @throws {ModinfoFault} memory was refused: `OutOfMemory` alone
-   * @throws {ProgramEnd} the process ended before it had answered
-   * @throws {TypeError} what is handed over is neither an object nor JSON, or there is no such command
+   * @throws {ProgramEnd} as `analyze` does
+   * @throws {TypeError} as `analyze` does, and where there is no such command
    */
   check(document: object | string | Uint8Array, options?: CheckOptions): Promise<Report>;
 
   /**
    * What a module depends on, from its text, which TypeScript's parser parses.
-   * @throws {ModinfoFault} also `Syntax`, `Depth`, `OutOfMemory` or `Parser`
-   * @throws {ProgramEnd} the process ended before it had answered
+   * @throws {ModinfoFault} `Syntax`: the text has a syntax error, or a lone surrogate. `Depth`: it
+   *   nests too deep for the parser. `OutOfMemory`: memory was refused. `Parser`: TypeScript isn't
+   *   installed, or it or the adapter failed otherwise. Another one: a defect of the adapter
+   * @throws {ProgramEnd} as `analyze` does
    * @throws {TypeError} a text or an option isn't what it has to be
    */
   moduleInfo(text: string, options: ModuleInfoOptions): Promise<ModuleInfo>;

@@ -34,7 +34,8 @@ export class WorkerEnd extends Error {
 
 /**
  * Workers of one module, which runs `serve` of worker.mjs. They are started as tasks come. Where
- * one ends, the tasks that it held are tried once more, each alone in a worker.
+ * one ends, the tasks that it held are tried once more, each alone in a worker. Where one can't be
+ * started, the others do its work.
  */
 export class Pool {
   #module;
@@ -68,7 +69,8 @@ export class Pool {
 
   /**
    * @param {unknown} task is cloned into a worker
-   * @returns {Promise<any>} the result; rejected with a `WorkerEnd` where the worker ends twice
+   * @returns {Promise<any>} the result; rejected with a `WorkerEnd` where a worker ends twice over
+   *   the task or the pool is closed, and with another error where no worker can be started
    */
   run(task) {
     return new Promise((resolve, reject) => {
@@ -91,8 +93,7 @@ export class Pool {
   /** Gives tasks to workers as long as there is room. */
   #deal() {
     if (this.#broken) {
-      const jobs = [...this.#waiting.takeAll(), ...this.#suspects.takeAll()];
-      jobs.forEach(({ reject }) => reject(this.#broken));
+      this.#rejectWaiting(this.#broken);
     }
     const next = () => (this.#suspects.length > 0 ? this.#idleLane() : this.#openLane());
     while (this.#suspects.length + this.#waiting.length > 0) {
@@ -105,15 +106,39 @@ export class Pool {
     this.#lanes.forEach((lane) => lane.send());
   }
 
+  /**
+   * Rejects the tasks that no worker holds.
+   * @param {Error} error
+   */
+  #rejectWaiting(error) {
+    const jobs = [...this.#waiting.takeAll(), ...this.#suspects.takeAll()];
+    jobs.forEach(({ reject }) => reject(error));
+  }
+
   #idleLane() {
     const idle = this.#lanes.find(({ held }) => held === 0);
-    if (idle || this.#lanes.length === this.#most) {
-      return idle;
+    return idle || this.#lanes.length === this.#most ? idle : this.#startLane();
+  }
+
+  /**
+   * A new lane; none where the system refuses a thread. Then those that there are have to do, and
+   * without any the tasks that wait are rejected: the next one may get its thread.
+   * @returns {Lane | undefined}
+   */
+  #startLane() {
+    try {
+      const worker = new Worker(this.#module, this.#options);
+      const lane = new Lane(worker, () => this.#deal(), (...end) => this.#onEnd(lane, ...end));
+      this.#lanes.push(lane);
+      return lane;
+    } catch (error) {
+      if (this.#lanes.length > 0) {
+        this.#most = this.#lanes.length;
+      } else {
+        this.#rejectWaiting(error);
+      }
+      return undefined;
     }
-    const worker = new Worker(this.#module, this.#options);
-    const lane = new Lane(worker, () => this.#deal(), (...end) => this.#onEnd(lane, ...end));
-    this.#lanes.push(lane);
-    return lane;
   }
 
   /** The lane with the fewest tasks. */
@@ -129,14 +154,17 @@ export class Pool {
    */
   #onEnd(lane, jobs, error) {
     this.#lanes = this.#lanes.filter((each) => each !== lane);
-    if (!lane.isReady) {
+    if (!lane.isReady && this.#lanes.length > 0) {
+      this.#most = this.#lanes.length;
+    } else if (!lane.isReady) {
       this.#broken ??= new Error(error.message);
     }
     for (const job of jobs) {
-      if (this.#broken || job.isSuspect) {
+      // A worker that never was ready has begun none of its tasks.
+      if (this.#broken || (job.isSuspect && lane.isReady)) {
         job.reject(this.#broken ?? error);
       } else {
-        job.isSuspect = true;
+        job.isSuspect ||= lane.isReady;
         this.#suspects.push(job);
       }
     }

@@ -44,11 +44,19 @@ export function documentOf(toDocument, text, options) {
 /**
  * @param {Uint8Array} bytes
  * @returns {string} a byte order mark stays in it
+ * @throws {FileFault} the bytes are not UTF-8, or are more than a text can have
  */
 export function decode(bytes) {
   try {
     return decoder.decode(bytes);
-  } catch {
-    throw new FileFault("Input", "the file is not UTF-8");
+  } catch (error) {
+    switch (error.code) {
+      case "ERR_ENCODING_INVALID_ENCODED_DATA":
+        throw new FileFault("Input", "the file is not UTF-8");
+      case "ERR_STRING_TOO_LONG":
+        throw new FileFault("Input", "the file is longer than a text can be");
+      default:
+        throw error;
+    }
   }
 }

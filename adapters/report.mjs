@@ -104,7 +104,8 @@ async function readProject({ values, program, paths }) {
   };
   const project = new Project();
   const take = async (result) => project.add(result);
-  const status = await runLines({ name: NAME, values, paths, work, isQuiet: true, write: take });
+  const run = { name: NAME, values, paths, work, isOnce: true, isQuiet: true, write: take };
+  const status = await runLines(run);
   return { status, ...project.finish(paths) };
 }
 

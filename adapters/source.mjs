@@ -6,6 +6,8 @@
  * @typedef {string | number[]} JsString a text, or the UTF-16 units of one with a lone surrogate
  */
 
+import { firstIndex } from "./search.mjs";
+
 /** A byte order mark may be before the `#!`; it stays a part of the text. */
 const SHEBANG = /^\uFEFF?#!.*/u;
 export const LONE_SURROGATE = /\p{Surrogate}/u;
@@ -144,16 +146,7 @@ class ByteOffsets {
    * @param {number} offset
    */
   #runsUpTo(offset) {
-    let [low, high] = [0, this.#ends.length];
-    while (low < high) {
-      const middle = (low + high) >>> 1;
-      if (this.#ends[middle] <= offset) {
-        low = middle + 1;
-      } else {
-        high = middle;
-      }
-    }
-    return low;
+    return firstIndex(this.#ends.length, (run) => this.#ends[run] <= offset);
   }
 
   /**

@@ -28,7 +28,7 @@ EXAMPLE = ROOT / "examples/cluster"
 sys.path[:0] = [str(EXAMPLE), str(EXAMPLE / "tests")]
 
 from distributed import Client  # noqa: E402
-from local import Local, local_cluster  # noqa: E402
+from local import PATIENCE, Local, local_cluster  # noqa: E402
 
 NODE_FILES = Path("/usr/share/nodejs")
 ENDINGS = {".ts", ".tsx", ".mts", ".cts", ".js", ".jsx", ".mjs", ".cjs"}
@@ -200,7 +200,7 @@ def measure_all(folder: Path, paths: Path, documents: Path, rounds: int) -> None
             (folder / str(count)).mkdir()
             clusters[count] = stack.enter_context(local_cluster(folder / str(count), count))
             with Client(scheduler_file=str(clusters[count].scheduler_file)) as client:
-                client.wait_for_workers(count)
+                client.wait_for_workers(count, timeout=PATIENCE)
         measure("documents", documents, document_ways(clusters), rounds)
         measure("files with their parser", paths, file_ways(clusters), rounds)
         by_bytes, by_lines = partition_ways(clusters[4])

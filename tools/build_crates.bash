@@ -82,7 +82,7 @@ bytes_of() {
 list_sources() {
     local parts
     mapfile -t parts < <(parts)
-    (cd "$root" && printf '%s\0' "${crates[@]/#/crates/}" && find "${parts[@]}" -print0) | sort -z
+    (cd "$root" && printf '%s\0' "${crates[@]/#/crates/}" && find "${parts[@]}" -print0) | LC_ALL=C sort -z
 }
 
 parts() {
@@ -144,10 +144,11 @@ find_kit() {
     kit_version=$(rt version)
 }
 
+# What is built counts as as old as the beginning of the build, or as the file that BEGUN names.
 begin_stage() {
     rm -rf "$stage"
     mkdir -p "$stage"
-    touch "$stage/start"
+    touch ${BEGUN:+--reference="$BEGUN"} "$stage/start"
 }
 
 # At most a crate for each processor, and for each four gigabytes of memory.

@@ -59,24 +59,29 @@ function asFault(error) {
  */
 export async function layoutOf(view) {
   const answer = await runDot(dotOf(view));
-  return readLayout(JSON.parse(answer), view.edges.length);
+  return readLayout(drawingOf(answer), view.edges.length);
 }
 
 /**
  * @param {string} graph in Graphviz's language
- * @returns {Promise<string>} JSON
+ * @returns {Promise<string>} what dot writes; rejected with a `LayoutFault` where dot can't be run,
+ *   takes too long, or ends with another status than 0
  */
 async function runDot(graph) {
-  // A timer of `spawn` itself would keep node waiting where there is no dot to be ended.
-  const child = spawn("dot", WORDS, { signal: AbortSignal.timeout(LONGEST) });
-  const ended = new Promise((resolve, reject) => {
-    child.once("error", reject);
-    child.once("close", (...end) => resolve(end));
-  });
-  // What a write fails with says less than how the process ends.
-  child.stdin.on("error", () => {});
-  child.stdin.end(graph);
   try {
+    // A timer of `spawn` itself would keep node waiting where there is no dot to be ended.
+    const child = spawn("dot", WORDS, { signal: AbortSignal.timeout(LONGEST) });
+    const ended = new Promise((resolve, reject) => {
+      child.once("error", reject);
+      child.once("close", (...end) => resolve(end));
+    });
+    if (child.pid === undefined) {
+      // Its error is on the way, and it may have no streams.
+      await ended;
+    }
+    // What a write fails with says less than how the process ends.
+    child.stdin.on("error", () => {});
+    child.stdin.end(graph);
     const [answer, errors, [status, signal]] = await Promise.all([
       text(child.stdout), text(child.stderr), ended,
     ]);
@@ -93,13 +98,13 @@ async function runDot(graph) {
 /**
  * Why dot was not started, or not waited for.
  * @param {any} error
- * @returns {string | undefined}
+ * @returns {string | undefined} nothing where the error is no such one
  */
-function describeError({ code }) {
+function describeError({ code, syscall, message }) {
   switch (code) {
     case "ENOENT": return "dot isn't installed; it is in Debian's package graphviz";
     case "ABORT_ERR": return `dot took more than ${LONGEST / 1000} seconds`;
-    default: return undefined;
+    default: return syscall && `dot can't be run: ${message}`;
   }
 }
 
@@ -110,6 +115,23 @@ function describeError({ code }) {
  */
 function describeEnd(status, signal, errors) {
   return `dot ended with ${signal ?? `status ${status}`}: ${errors.trim()}`;
+}
+
+/**
+ * @param {string} answer what dot writes
+ * @returns {any} its drawing
+ * @throws {LayoutFault} it is no JSON, or none of a drawing
+ */
+function drawingOf(answer) {
+  try {
+    const drawing = JSON.parse(answer);
+    if (typeof drawing.bb === "string") {
+      return drawing;
+    }
+  } catch {
+    // What is no JSON is told as other JSON is.
+  }
+  throw new LayoutFault(`dot answers what is no drawing: ${answer.trim().slice(0, 100)}`);
 }
 
 /**

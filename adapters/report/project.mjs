@@ -24,21 +24,18 @@ import { CommentResolver } from "./comment_resolver.mjs";
 import { faultMarks, marksOf } from "./marks.mjs";
 import { rowsOf } from "./rows.mjs";
 
-/** Takes the modules as they are read; a file that has two names counts once. */
+/** Takes the modules as they are read, each file once. */
 export class Project {
-  /** @type {Map<string, Module>} */
-  #byKey = new Map();
+  /** @type {Module[]} */
+  #modules = [];
   #resolver = new CommentResolver();
 
   /** @param {FileResult} result with the line that `--resolve` gives */
   add({ path, line, fault }) {
     const file = absolute(path);
-    const key = canonicalUrl(file);
-    if (!this.#byKey.has(key)) {
-      const module = { file, path: "", key, rows: [], marks: [] };
-      this.#byKey.set(key, module);
-      this.#read(module, line && JSON.parse(String(line)).info, fault && withoutExcerpt(fault));
-    }
+    const module = { file, path: "", key: canonicalUrl(file), rows: [], marks: [] };
+    this.#modules.push(module);
+    this.#read(module, line && JSON.parse(String(line)).info, fault && withoutExcerpt(fault));
   }
 
   /**
@@ -46,7 +43,7 @@ export class Project {
    * @returns {{ folder: string, modules: Module[] }} the folder is the deepest that has all of them
    */
   finish(paths) {
-    const modules = [...this.#byKey.values()];
+    const modules = this.#modules;
     const folders = paths.filter(isFolder).map((path) => absolute(path));
     const folder = commonFolder([...folders, ...modules.map(({ file }) => dirname(file))]);
     for (const module of modules) {

@@ -3,12 +3,13 @@
 import assert from "node:assert/strict";
 import { spawn, spawnSync } from "node:child_process";
 import { once } from "node:events";
-import { chmodSync, existsSync, symlinkSync, writeFileSync } from "node:fs";
+import { chmodSync, existsSync, symlinkSync, truncateSync, writeFileSync } from "node:fs";
 import { join } from "node:path";
 import { createInterface } from "node:readline";
 import { test } from "node:test";
 import { pathToFileURL } from "node:url";
 
+import { decode } from "../reading.mjs";
 import { MODINFO, STAND_IN, folderOf, linesOf, programOf, run, shell } from "./running.mjs";
 import { fault, readSchema } from "./schema.mjs";
 
@@ -75,13 +76,16 @@ test("the output is the same for any number of threads", () => {
 test("what has no answer is a fault, and the others go on", () => {
   const folder = folderOf({
     "bytes.js": Buffer.of(0xff), "text.txt": "", "good.js": "", "deep.js": "(".repeat(100_000),
+    "large.js": "",
   });
-  const files = ["none.js", "bytes.js", "text.txt", "deep.js", "good.js"];
+  truncateSync(join(folder, "large.js"), 2 ** 31);
+  const files = ["none.js", "bytes.js", "text.txt", "deep.js", "large.js", "good.js"];
   const messages = {
     "none.js": ["Input", "ENOENT: no such file or directory"],
     "bytes.js": ["Input", "the file is not UTF-8"],
     "text.txt": ["MediaType", "the name doesn't end as that of a file which is read"],
     "deep.js": ["Depth", "the text nests too deep for the parser"],
+    "large.js": ["Input", "File size (2147483648) is greater than 2 GiB"],
   };
   const said = Object.entries(messages).map(([file, [, text]]) => `${NAME}: ${file}: ${text}\n`);
   const found = answers(files, folder, { stderr: said.join(""), status: 1 });
@@ -91,6 +95,12 @@ test("what has no answer is a fault, and the others go on", () => {
     return name ? { specifier, fault: name, message } : { specifier, info: { script: true } };
   });
   assert.deepEqual(found, expected);
+});
+
+test("bytes that are too many for a text aren't said to be no UTF-8", () => {
+  const refused = (message) => ({ name: "FileFault", fault: "Input", message });
+  assert.throws(() => decode(Buffer.of(0xff)), refused("the file is not UTF-8"));
+  assert.throws(() => decode(new Uint8Array(2 ** 29)), refused("the file is longer than a text can be"));
 });
 
 test("warnings are said, and the file has its answer", () => {
@@ -111,10 +121,11 @@ test("paths come from the standard input", () => {
   assert.deepEqual(specifiers(["--", "a.js"], ""), ["a.js"]);
 });
 
-test("a partner that waits for each answer gets it", async () => {
+test("a partner that waits for each answer gets it", async (t) => {
   const folder = folderOf({ "a.js": "", "b.js": "" });
   const env = { ...process.env, MODINFO: STAND_IN };
   const child = spawn(process.execPath, [programOf("files.mjs"), "-"], { cwd: folder, env });
+  t.after(() => child.kill());
   const lines = createInterface({ input: child.stdout })[Symbol.asyncIterator]();
   for (const name of ["a.js", "b.js", "a.js"]) {
     child.stdin.write(`${name}\n`);
@@ -174,7 +185,9 @@ test("--reach writes the files that the entries reach, --unreached the others", 
     "src/lonely.js", "src/only_types.ts", "src/wrong.ts",
   ]);
   const two = ["--reach", "src/lonely.js", "--reach", "src/wrong.ts", "."];
-  assert.deepEqual(reached(two, folder).files, ["src/c.js", "src/lonely.js", "src/wrong.ts"]);
+  assert.deepEqual(reached(two, folder), {
+    files: ["src/c.js", "src/lonely.js", "src/wrong.ts"], ...expected,
+  });
 });
 
 test("an entry need not be among the paths", () => {
@@ -243,6 +256,8 @@ test("a program that doesn't answer lines is named", () => {
   for (const [modinfo, message] of [
     [old, `usage\n${NAME}: ${old} doesn't run with analyze --lines: status 2 ${hint}\n`],
     ["/none", `${NAME}: /none doesn't run with analyze --lines: spawn /none ENOENT ${hint}\n`],
+    // This error of node's is thrown, those above come later.
+    [`${old}/x`, `${NAME}: ${old}/x doesn't run with analyze --lines: spawn ENOTDIR ${hint}\n`],
   ]) {
     const result = run("files.mjs", ["a.js"], { cwd: folder, modinfo });
     assert.deepEqual(result, { stdout: "", stderr: message, status: 1 });

@@ -68,7 +68,7 @@ test("which calls are listed", () => {
   assert.deepEqual(dependencies("require`a`"), []);
 });
 
-test("calls stand behind those inside them, wherever these are", () => {
+test("calls come behind those inside them, wherever these are", () => {
   const found = dependencies(`
     require(f(require("a"), { b: [require(\`\${require("b")}\`)] }), { with: import("c"), [import("d")]: 1, ...import("e") }, import("f"));
     class A { [require("g")] = require("h"); static { require("i"); } #j = () => require("j"); }
@@ -248,7 +248,7 @@ test("the options are checked", () => {
   }
 });
 
-test("what stands behind an await at the top is read once", () => {
+test("what is behind an await at the top is read once", () => {
   const behind = `\nimport "a";\nrequire("b");\n/* c */`;
   for (const await_ of [
     "await { d };", "await [1, ...d];", "await [1,\n...(await d).e, f]; let g = await { h: [...i] };",

@@ -105,14 +105,16 @@ for (const { name, program, skip } of PROGRAMS) {
   test(`a process of ${name} that is killed`, { skip }, async () => {
     const { path, starts } = noted(program);
     const modinfo = new Modinfo({ program: path });
-    const answers = NUMBERS.map((number) => modinfo.analyze(numbered(number).document));
+    // More than the pipes and the program hold, so that some have no answer yet.
+    const numbers = Array.from({ length: 20_000 }, (_, number) => number);
+    const answers = numbers.map((number) => modinfo.analyze(numbered(number).document));
     const settled = Promise.allSettled(answers);
     await answers[500];
     process.kill(starts()[0].process, "SIGKILL");
     // What is handed over now may go to the process before its end is noticed.
     const found = await settled;
     const lost = found.filter(({ reason }) => reason);
-    assert.ok(lost.length > 0 && lost.length <= NUMBERS.length - 501, `${lost.length} are lost`);
+    assert.ok(lost.length > 0 && lost.length <= numbers.length - 501, `${lost.length} are lost`);
     lost.forEach(({ reason }) => assert.match(String(reason), /^ProgramEnd: .* ended by SIGKILL$/));
     found.forEach(({ value }, number) => value && assert.deepEqual(value, numbered(number).info));
     assert.deepEqual(await modinfo.analyze(numbered(7).document), numbered(7).info);

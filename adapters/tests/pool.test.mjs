@@ -41,8 +41,8 @@ async function all(iterable) {
 }
 
 /** The results of tasks in a pool, or the names of their errors, in the order of the tasks. */
-async function results(worker, jobs, tasks, most = 40) {
-  const pool = new Pool(worker, { jobs });
+async function results(worker, jobs, tasks, most = 40, data = undefined) {
+  const pool = new Pool(worker, { jobs, data });
   const run = (task) => pool.run(task).catch((error) => error.name);
   const found = await all(inOrder(tasks, most, run));
   await pool.close();
@@ -156,8 +156,56 @@ test("where workers can't be started, each task is rejected at once", async () =
   await pool.close();
 });
 
-test("closing ends a worker that is at work", async () => {
-  const pool = new Pool(workerOf(`() => new Promise(() => setInterval(() => {}, 1000))`), { jobs: 1 });
-  pool.run(1).catch(() => {});
+/**
+ * Data with which some workers can't be started.
+ * @param {number[]} refused which ones, the first being 1
+ */
+function dataRefused(refused) {
+  let starts = 0;
+  return {
+    get start() {
+      starts++;
+      return refused.includes(starts) ? assert.fail(`the start ${starts} is refused`) : starts;
+    },
+  };
+}
+
+test("where node starts no worker, each task is rejected with its error", async () => {
+  const pool = new Pool(new URL("http://a/"), { jobs: 1 });
+  const refused = { code: "ERR_INVALID_URL_SCHEME" };
+  await Promise.all([1, 2, 3].map((task) => assert.rejects(pool.run(task), refused)));
+  await assert.rejects(pool.run(4), refused);
   await pool.close();
+});
+
+test("where node starts no second worker, the first one does all tasks", async () => {
+  const worker = workerOf(`async (task) => (await sleep(1), [workerData.start, task])`);
+  const found = await results(worker, 3, numbers(100), 40, dataRefused([2]));
+  assert.deepEqual(found, (await all(numbers(100))).map((task) => [1, task]));
+});
+
+test("where node starts none for one that has ended, what waits is rejected, and later tasks aren't", async () => {
+  const worker = workerOf(`async (task) => (task < 20 ? process.exit(1) : task)`);
+  const pool = new Pool(worker, { jobs: 1, data: dataRefused([2]) });
+  const refused = { message: "the start 2 is refused" };
+  await Promise.all((await all(numbers(40))).map((task) => assert.rejects(pool.run(task), refused)));
+  assert.equal(await pool.run(20), 20);
+  await pool.close();
+});
+
+test("where further workers end before they are ready, the one that there is does all tasks", async () => {
+  const worker = workerOf(`Atomics.add(workerData, 0, 1) > 0 ? process.exit(1) : async (task) => task`);
+  const data = new Int32Array(new SharedArrayBuffer(4));
+  assert.deepEqual(await results(worker, 3, numbers(100), 40, data), await all(numbers(100)));
+  assert.deepEqual([...data], [3]);
+});
+
+test("closing ends a worker that is at work, and rejects its task", async () => {
+  const worker = workerOf(`(task) => task && new Promise(() => setInterval(() => {}, 1000))`);
+  const pool = new Pool(worker, { jobs: 1 });
+  assert.equal(await pool.run(0), 0);
+  const lost = assert.rejects(pool.run(1), { name: "WorkerEnd", message: "the pool is closed" });
+  await pool.close();
+  await lost;
+  await assert.rejects(pool.run(0), { name: "WorkerEnd", message: "the pool is closed" });
 });

@@ -79,10 +79,14 @@ test("no path from outside of the folder is in the page", () => {
   assert.deepEqual(modules[1].rows[0].to, { file: "../other/g.ts" });
 });
 
-test("a file that is named twice is there once", () => {
-  const folder = folderOf(PROJECT);
-  runWith(withDot(folderOfDot(EMPTY_DOT)), ["src", "src/b.ts", "--entry", "src/b.ts"], folder);
-  assert.equal(dataOf(join(folder, "report.html")).modules.length, 3);
+test("a file that is named twice is there once, and so is what is said of it", () => {
+  const folder = folderOf({ ...PROJECT, "src/wrong.ts": "let b = ;\n" });
+  const words = ["src", "src/b.ts", "--entry", "src/wrong.ts"];
+  const { stderr } = runWith(withDot(folderOfDot(EMPTY_DOT)), words, folder);
+  const excerpt = "let b = ;\n        ^";
+  assert.equal(stderr, `${NAME}: src/wrong.ts:1:9: Expression expected.\n${excerpt}\n`);
+  const { modules, entries } = dataOf(join(folder, "report.html"));
+  assert.deepEqual([modules.length, entries], [4, [3]]);
 });
 
 test("the page is the same each time", () => {

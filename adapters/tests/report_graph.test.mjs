@@ -2,6 +2,8 @@
 
 import assert from "node:assert/strict";
 import { spawnSync } from "node:child_process";
+import { chmodSync } from "node:fs";
+import { join } from "node:path";
 import { test } from "node:test";
 
 import { cyclesOf } from "../report/cycles.mjs";
@@ -10,6 +12,7 @@ import { edgesOf } from "../report/graph.mjs";
 import { LayoutFault, layoutOf, layoutsOf, readLayout } from "../report/layout.mjs";
 import { Links } from "../report/links.mjs";
 import { viewsOf } from "../report/views.mjs";
+import { folderOf, shell } from "./running.mjs";
 
 /** Edges of one kind, each written as "from to". */
 function edges(texts, kind = "static") {
@@ -152,6 +155,62 @@ test("a drawing that fails is a fault with its message, and other errors go on",
   assert.ok(fault instanceof LayoutFault && fault.message === "none");
   assert.deepEqual(done, [fault]);
   await assert.rejects(layoutsOf([2], { jobs: 1, run }), TypeError);
+});
+
+/** The drawing of two modules by the `dot` that is found on a PATH. */
+function drawnWith(path) {
+  const [view] = viewsOf(["a.js", "b.js"], edges(["0 1"]));
+  const before = process.env.PATH;
+  process.env.PATH = path;
+  try {
+    return layoutOf(view);
+  } finally {
+    process.env.PATH = before;
+  }
+}
+
+/** A folder with a `dot` that writes this. */
+function folderOfDot(answer, mode = 0o755) {
+  const folder = folderOf({ dot: `#!/bin/sh\necho '${answer}'\n` });
+  chmodSync(join(folder, "dot"), mode);
+  return folder;
+}
+
+test("a dot that can't be run is a fault that says why", async () => {
+  const folder = folderOfDot("", 0o644);
+  const fault = (message) => (error) => error instanceof LayoutFault && error.message === message;
+  const missing = "dot isn't installed; it is in Debian's package graphviz";
+  await assert.rejects(drawnWith(folderOf()), fault(missing));
+  await assert.rejects(drawnWith(folder), fault("dot can't be run: spawn dot EACCES"));
+  await assert.rejects(drawnWith(join(folder, "dot")), fault("dot can't be run: spawn ENOTDIR"));
+});
+
+test("a dot that can't be run since too many files are open is a fault", () => {
+  const layout = new URL("../report/layout.mjs", import.meta.url).href;
+  const folder = folderOf({
+    "full.mjs": `
+      import { openSync } from "node:fs";
+      import { layoutOf } from ${JSON.stringify(layout)};
+      try {
+        for (;;) {
+          openSync("/dev/null");
+        }
+      } catch {
+        await layoutOf({ nodes: [], edges: [] }).catch((error) => console.log(String(error)));
+      }`,
+  });
+  assert.deepEqual(shell("ulimit -n 100; $node full.mjs", folder), {
+    stdout: "Error: dot can't be run: spawn dot EMFILE\n", stderr: "", status: 0,
+  });
+});
+
+test("an answer of dot that is no drawing is a fault", async () => {
+  for (const answer of ["", "no JSON", "null", "{}", "[1]"]) {
+    const message = `dot answers what is no drawing: ${answer}`;
+    await assert.rejects(
+      drawnWith(folderOfDot(answer)), (error) => error instanceof LayoutFault && error.message === message,
+    );
+  }
 });
 
 const hasDot = spawnSync("dot", ["-V"]).status === 0;

@@ -36,50 +36,63 @@ export function fault(value, schema, root = schema, path = "") {
 
 function faultOf(keyword, value, schema, root, path) {
   const rule = schema[keyword];
-  const isObject = typeof value === "object" && value !== null && !Array.isArray(value);
-  const broken = (holds) => (holds ? undefined : `${path}: ${keyword} ${JSON.stringify(rule)}`);
-  const each = (entries) => firstFault(entries, root, path);
   switch (keyword) {
     case "$ref":
       return fault(value, root.$defs[rule.replace("#/$defs/", "")], root, path);
-    case "type":
-      return broken([rule].flat().some((type) => isOfType(value, type)));
-    case "const":
-      return broken(value === rule);
-    case "enum":
-      return broken(rule.includes(value));
-    case "minimum":
-      return broken(typeof value !== "number" || value >= rule);
-    case "maximum":
-      return broken(typeof value !== "number" || value <= rule);
-    case "minItems":
-      return broken(!Array.isArray(value) || value.length >= rule);
-    case "maxItems":
-      return broken(!Array.isArray(value) || value.length <= rule);
-    case "required":
-      return broken(!isObject || rule.every((name) => Object.hasOwn(value, name)));
-    case "properties":
-      return isObject ? each(Object.keys(rule).filter((name) => Object.hasOwn(value, name))
-        .map((name) => [name, value[name], rule[name]])) : undefined;
-    case "additionalProperties":
-      return isObject ? each(Object.keys(value).filter((name) => !schema.properties?.[name])
-        .map((name) => [name, value[name], rule])) : undefined;
-    case "prefixItems":
-      return Array.isArray(value)
-        ? each(value.slice(0, rule.length).map((item, at) => [at, item, rule[at]])) : undefined;
-    case "items":
-      return Array.isArray(value)
-        ? each(value.slice(schema.prefixItems?.length ?? 0).map((item, at) => [at, item, rule])) : undefined;
+    case "properties": case "additionalProperties": case "prefixItems": case "items":
+      return firstFault(membersOf(keyword, value, schema), root, path);
     case "allOf":
       return rule.map((one) => fault(value, one, root, path)).find(Boolean);
     case "oneOf":
       return oneOf(value, rule, root, path);
-    case "anyOf":
-      return broken(rule.some((one) => !fault(value, one, root, path)));
     case "if":
       return fault(value, rule, root, path) ? undefined : fault(value, schema.then ?? true, root, path);
     default:
+      return holds(keyword, value, rule, root) ? undefined : `${path}: ${keyword} ${JSON.stringify(rule)}`;
+  }
+}
+
+/** Whether a value keeps a keyword that says something of the whole of it. */
+function holds(keyword, value, rule, root) {
+  switch (keyword) {
+    case "type":
+      return [rule].flat().some((type) => isOfType(value, type));
+    case "const":
+      return value === rule;
+    case "enum":
+      return rule.includes(value);
+    case "minimum":
+      return typeof value !== "number" || value >= rule;
+    case "maximum":
+      return typeof value !== "number" || value <= rule;
+    case "minItems":
+      return !Array.isArray(value) || value.length >= rule;
+    case "maxItems":
+      return !Array.isArray(value) || value.length <= rule;
+    case "required":
+      return !isOfType(value, "object") || rule.every((name) => Object.hasOwn(value, name));
+    case "anyOf":
+      return rule.some((one) => !fault(value, one, root));
+    default:
       throw new Error(`the keyword ${keyword} isn't known`);
+  }
+}
+
+/** The members of a value that a keyword is about, each with its name and its schema. */
+function membersOf(keyword, value, schema) {
+  const rule = schema[keyword];
+  const names = isOfType(value, "object") ? Object.keys(value) : [];
+  const items = Array.isArray(value) ? value : [];
+  switch (keyword) {
+    case "properties":
+      return Object.keys(rule).filter((name) => names.includes(name))
+        .map((name) => [name, value[name], rule[name]]);
+    case "additionalProperties":
+      return names.filter((name) => !schema.properties?.[name]).map((name) => [name, value[name], rule]);
+    case "prefixItems":
+      return items.slice(0, rule.length).map((item, at) => [at, item, rule[at]]);
+    default:
+      return items.slice(schema.prefixItems?.length ?? 0).map((item, at) => [at, item, rule]);
   }
 }
 

@@ -38,7 +38,7 @@ const [, section] = /^## Syntax\n(.*?)^## /ms.exec(readme);
 const rows = section.split("\n").filter((line) => line.startsWith("|")).slice(2)
   .map((line) => line.split(/(?<!\\)\|/).slice(1, -1).map((cell) => cell.trim().replace("\\|", "|")));
 
-/** Whether the version that is installed has to read what a cell stands for. */
+/** Whether the version that is installed has to read what a cell means. */
 function isRead(cell, parser) {
   if (cell === "reads" || cell === "-") {
     return cell === "reads";

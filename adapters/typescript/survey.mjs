@@ -11,6 +11,7 @@
  *   order of the source
  */
 
+import { firstIndex } from "../search.mjs";
 import { kindsOf } from "./kinds.mjs";
 
 const NODE = 1;
@@ -221,16 +222,8 @@ class Pass {
    */
   #hasPlace({ pos, end }) {
     const { places } = this;
-    let [low, high] = [0, places.length];
-    while (low < high) {
-      const middle = (low + high) >>> 1;
-      if (places[middle] < pos) {
-        low = middle + 1;
-      } else {
-        high = middle;
-      }
-    }
-    return low < places.length && places[low] < end;
+    const first = firstIndex(places.length, (at) => places[at] < pos);
+    return first < places.length && places[first] < end;
   }
 }
 

@@ -129,6 +129,17 @@ expect_trial() {
     expect "$1" 0 'tried\n' "$notice\n" ./modinfo analyze < /dev/null
 }
 
+# Waits until the stand-in has noted its process, which the process that was started runs.
+wait_for_process() {
+    local i
+    for ((i = 0; i < 600; i++)); do
+        [[ ! -s $ROOM/process ]] || return 0
+        kill -0 "$1" 2> /dev/null || break
+        sleep 0.1
+    done
+    fail "it never began"
+}
+
 # Whether the process that the stand-in has noted ends.
 has_ended() {
     local process i

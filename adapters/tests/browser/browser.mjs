@@ -146,9 +146,12 @@ export class Browser {
     if (this.#session) {
       await request(this.#session, "DELETE").catch(() => {});
     }
-    const exit = once(this.#driver, "exit");
-    this.#driver.kill();
-    await exit;
+    const { exitCode, signalCode } = this.#driver;
+    if (exitCode === null && signalCode === null) {
+      const exit = once(this.#driver, "exit");
+      this.#driver.kill();
+      await exit;
+    }
     rmSync(this.#profile, { recursive: true, force: true, maxRetries: 5, retryDelay: 200 });
   }
 

@@ -43,7 +43,9 @@ function shown(name, act) {
     await browser.log("performance");
     await act();
     assert.deepEqual(await browser.log("browser"), []);
-    for (const url of await requests()) {
+    const urls = await requests();
+    assert.ok(urls.length > 0, "the log hasn't even the page itself");
+    for (const url of urls) {
       assert.match(url, /^file:\/\/\/.*\/report\.html$/);
     }
   });

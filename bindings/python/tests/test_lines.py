@@ -43,6 +43,13 @@ def test_each_row_and_example_of_one_document() -> None:
     assert list(modinfo.analyze_lines(documents)) == wanted
 
 
+def test_a_line_that_is_no_bytes() -> None:
+    answers = modinfo.analyze_lines([b"{", "{}"])  # type: ignore[list-item]
+    assert next(answers) == b'{"fault":"Json"}\n'
+    with pytest.raises(TypeError, match="a line is bytes, not str"):
+        next(answers)
+
+
 def test_that_lines_are_read_as_answers_are_asked_for() -> None:
     read = []
 

@@ -4,7 +4,7 @@ use std::path::Path;
 use std::process::Command;
 use std::{env, fs};
 
-/// What stands in the first block that begins so.
+/// What is in the first block that begins so.
 fn block<'text>(text: &'text str, beginning: &str) -> &'text str {
     let (_, from) = text.split_once(beginning).expect(beginning);
     from.split_once("```").expect("its end").0

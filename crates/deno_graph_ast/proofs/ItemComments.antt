@@ -1,4 +1,4 @@
--- In a valid source the comments before its dependencies, at its head and at its tail stand in the
+-- In a valid source the comments before its dependencies, at its head and at its tail are in the
 -- text as they say.
 use Rattle.std.proofs.Common.{
   ◌≡◌,

@@ -196,7 +196,7 @@ no_types_named comment no_ts_types no_deno_types =
 
 -- ---- lists in parts
 
--- what the rest has as its last stands between the others of the rest and what is behind the rest
+-- what the rest has as its last is between the others of the rest and what is behind the rest
 pub whole_at_last : {X : Type 0} (xs rest front after : List X) (x : X) → xs ≡ rest ++ after
     → rest ≡ front ++ x ∷ [] → xs ≡ front ++ x ∷ after
 whole_at_last xs rest front after x whole last =

@@ -1,4 +1,4 @@
--- Lists whose members stand in an order: membership and order by recursion on the list, and that
+-- Lists whose members are in an order: membership and order by recursion on the list, and that
 -- such a list is determined by its members.
 use Rattle.std.proofs.Common.{
   ◌≡◌,
@@ -33,7 +33,7 @@ abbrev pub Member : {X : Type 0} → List X → X → Type 0
 Member [] x = ⊥
 Member (y ∷ ys) x = (y ≡ x) ⊎ Member ys x
 
--- each item stands in R to each later one
+-- each item is in the relation R to each later one
 abbrev pub Ascending : {X : Type 0} → (X → X → Type 0) → List X → Type 0
 Ascending R [] = Unit {0}
 Ascending R (x ∷ xs) = ((y : _) → Member xs y → R x y) × Ascending R xs
@@ -116,7 +116,7 @@ pub Ascending-weaker : {X : Type 0} (R S : X → X → Type 0) → ((x y : X) �
 Ascending-weaker R S h [] a = tt
 Ascending-weaker R S h (x ∷ xs) a = (λ y m. h x y (a.0 y m), Ascending-weaker R S h xs a.1)
 
--- two ascending lists with the same members are equal, where no two stand in R both ways
+-- two ascending lists with the same members are equal, where no two are in R both ways
 pub Ascending-unique : {X : Type 0} (R : X → X → Type 0) → ((x y : X) → R x y → R y x → ⊥) → (xs ys : List X)
     → Ascending R xs → Ascending R ys → ((x : X) → Member xs x → Member ys x)
     → ((x : X) → Member ys x → Member xs x) → xs ≡ ys

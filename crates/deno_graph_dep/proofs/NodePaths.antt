@@ -1,4 +1,4 @@
--- How two paths stand to one another, by recursion on both.
+-- How two paths are related, by recursion on both.
 use Rattle.std.proofs.Common.{
   ◌≡◌,
   ℕ,
@@ -118,7 +118,7 @@ Apart-not_above (m ∷ p) [] a b = a
 Apart-not_above (m ∷ p) (n ∷ q) (inl a) b = omega (arith, b.0)
 Apart-not_above (m ∷ p) (n ∷ q) (inr a) b = Apart-not_above p q a.1 b.1
 
--- the ways in which two paths may stand
+-- the ways in which two paths may be related
 data Compared (p q : NodePath) : Type 0 where
   same : p ≡ q → Compared p q
   low : Apart p q → Compared p q

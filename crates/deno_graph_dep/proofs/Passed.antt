@@ -78,7 +78,7 @@ no_past_end : (q : NodePath) → Past [] q → ⊥
 no_past_end [] p = ⊎_elim (λ a. a) (λ b. b) p
 no_past_end (m ∷ q) p = ⊎_elim (λ a. a) (λ b. b) p
 
--- how a path stands to that of a node, where it does not part from it at a greater index
+-- how a path is related to that of a node, where it does not part from it at a greater index
 abbrev pub Around : NodePath → NodePath → Type 0
 Around p q = Apart q p ⊎ ((q ≡ p) ⊎ (Below q p ⊎ Below p q))
 

@@ -37,7 +37,7 @@ not_at : (pos q : ℕ) → q ≢ pos → is_at (nat_cmp pos) q ≡ false
 not_at pos q apart = grind (arith, nat_tests, apart)
 
 module _ {T : Type 0} (item : T) where
-  -- an item may stand first, or after a list
+  -- an item may be the first, or come after a list
   later : (xs ys : List T) → IsPermutation (item ∷ (xs ++ ys)) (xs ++ (item ∷ ys))
   later xs ys = IsPermutation-sym _ _ (IsPermutation-middle xs item ys)
 

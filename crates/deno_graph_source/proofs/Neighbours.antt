@@ -1,4 +1,4 @@
--- Comments in ascending order of their starts: those that overlap stand next to each other.
+-- Comments in ascending order of their starts: those that overlap are next to each other.
 use Rattle.std.proofs.Common.{
   ◌≡◌,
   ◌≢◌,

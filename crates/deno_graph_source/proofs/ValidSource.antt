@@ -86,7 +86,7 @@ valid_comment text program comments comment valid at =
     (Contains-append_right (program_ranges program) _ comment.range
     (Contains-map (λ c. c.range) (comments_of comments) comment at))
 
--- what stands in the list at a position is among the items at all positions
+-- what is in the list at a position is among the items at all positions
 pub Contains-at_position : {T : Type 0} (entries : List (ℕ × List T)) (pos : ℕ) (items : List T) (item : T)
     → value_at entries pos ≡ Some items → Contains items item → Contains (all_items entries) item
 Contains-at_position entries pos items item found at =

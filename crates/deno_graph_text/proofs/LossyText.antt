@@ -139,7 +139,7 @@ readable_none at (p ∷ ps) e =
 pub IsReadable-none_lone : (at : ℕ) (ps : List ℕ) → lone_from at ps ≡ [] → IsReadable ps
 IsReadable-none_lone at ps e = All-from_recursion _ ps (readable_none at ps e)
 
--- without surrogates nothing stands before another
+-- without surrogates nothing comes before another
 is_surrogate-high : (p : ℕ) → is_high_surrogate p ≡ true → is_surrogate p ≡ true
 is_surrogate-high p h =
     let both = and_parts _ _ h in

@@ -44,7 +44,7 @@ use Rattle.std.proofs.lemmas.List.Sums.{suffix_len-le-length, sum_by-append, cou
 use Rattle.deno_graph_text.specs.declared.text.position.Position.{Position}
 use Rattle.deno_graph_text.specs.Position.{IsBefore, is_before, line_of, character_of, position_of}
 
--- what follows the last line feed is what stands at the end and is no line feed
+-- what follows the last line feed is what is at the end and no line feed
 character_of-suffix : (front : List ℕ) → character_of front ≡ suffix_len (λ c. not (c == 10)) front
 character_of-suffix front =
     let short = suffix_len-le-length (λ c. not (c == 10)) front in

@@ -1,4 +1,4 @@
--- The code points of units of UTF-16: no high surrogate stands before a low one, and each is a
+-- The code points of units of UTF-16: no high surrogate is before a low one, and each is a
 -- character or a surrogate.
 use Rattle.std.proofs.Common.{
   ◌≡◌,
@@ -116,7 +116,7 @@ pair_not_high u v h = omega (arith, high_bounds (surrogate_pair_char u v) h)
 pair_not_low : (u v : ℕ) → is_low_surrogate (surrogate_pair_char u v) ≡ true → ⊥
 pair_not_low u v h = omega (arith, low_bounds (surrogate_pair_char u v) h)
 
--- no high surrogate stands directly before a low one
+-- no high surrogate is directly before a low one
 IsPaired-cons : (p : ℕ) (ps : List ℕ)
     → (is_high_surrogate p ≡ true → is_low_surrogate (get_or ps 0 0) ≡ true → ⊥) → IsPaired ps
     → IsPaired (p ∷ ps)

@@ -8,5 +8,5 @@ abbrev pub known_of : TableParser → List ParsedModule
 known_of parser = parser.sources.items
 
 -- how often it was asked, up to the largest `u64`
-abbrev pub count_of : TableParser → ℕ
-count_of parser = parser.count
+abbrev pub call_count : TableParser → ℕ
+call_count parser = parser.count

@@ -6,7 +6,7 @@ ghost use Rattle.std.specs.Prelude.{◌≡◌, IfOk, IfErr};
 ghost use Rattle.std.specs.Option.{option_copied};
 ghost use Rattle.deno_graph_parser.specs.Parsing.{asked, input_of, outcome_of};
 ghost use Rattle.example_table_parser.specs.Table.{source_with, unknown_source};
-ghost use Rattle.example_table_parser.specs.TableParser.{known_of, count_of};
+ghost use Rattle.example_table_parser.specs.TableParser.{known_of, call_count};
 
 use deno_graph_parser::{EsParser, ParseDiagnostic, ParseError, ParseOptions};
 use deno_graph_source::text::Position;
@@ -28,7 +28,7 @@ impl TableParser {
     /// A parser that knows `sources`, and counts its calls in `calls` too.
     pub fn new(sources: Vec<ParsedSource>, calls: Rc<Cell<u64>>) -> TableParser
         ensures sources { known_of result ≡ sources.items }
-        ensures count { count_of result ≡ 0 }
+        ensures count { call_count result ≡ 0 }
     {
         TableParser {
             sources,
@@ -43,7 +43,7 @@ impl EsParser for TableParser {
 
     ghost parses = { λ it. outcome_in (known_of it) };
 
-    ghost count = { count_of };
+    ghost count = { call_count };
 
     ghost is_sound = { λ it. Unit {0} };
 

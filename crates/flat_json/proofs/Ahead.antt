@@ -1,4 +1,4 @@
--- What stands at the front of the tokens, and behind a value that was passed.
+-- What is at the front of the tokens, and behind a value that was passed.
 use Rattle.std.proofs.Common.{◌≡◌, ℕ, ◌+◌, ◌≤◌, max, map, Bool, true, false, ◌&&◌, List, [], ◌∷◌, ◌++◌}
 use Rattle.std.proofs.Common.{Option, Some, None, arith, refl, sym, ap, ◌∙◌, append_assoc, append-nil}
 use Rattle.std.specs.Prelude.{IsTrue}
@@ -31,7 +31,7 @@ Fit-parts : (ts us : List Token) → Fit (ts ++ us) → Fit ts × Fit us
 Fit-parts ts us e =
     both (list_all token_fits ts) (list_all token_fits us) (sym (list_all-append token_fits ts us) ∙ e)
 
--- ---- only one value stands at the front
+-- ---- only one value is at the front
 
 abbrev pick : {A : Type 0} → A → Option A → A
 pick d None = d
@@ -155,14 +155,14 @@ item_back d j (item k js) ts us r is all =
     let same = same_ahead j k us (items_tokens js ++ r) (sym is.0 ∙ (item_front d k js ts r all).0) in
     (js, (same.1, omega (arith, all.1), (Fit-parts (json_tokens k) (items_tokens js) all.2).1))
 
--- Once the items are passed that stand from `start` to `now`, what is still ahead makes a whole with them.
+-- Once the items from `start` to `now` are passed, what is still ahead makes a whole with them.
 abbrev pub ItemsPassed : ℕ → List Token → List Token → List PlainNode → ℕ → Type 0
 ItemsPassed d start now nodes count =
     (js : Items) → (r : List Token) → ItemsAhead d js now r
     → (all : Items) × ItemsAhead d all start r × (items_list all ≡ nodes ++ items_list js)
     × (element_count all ≡ count + element_count js)
 
--- Items that stand from `start` on go on from `now`.
+-- Items from `start` on go on from `now`.
 abbrev pub ItemsLeft : ℕ → List Token → List Token → Type 0
 ItemsLeft d start now = (all : Items) → (r : List Token) → ItemsAhead d all start r
     → (js : Items) × ItemsAhead d js now r

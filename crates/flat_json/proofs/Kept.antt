@@ -1,4 +1,4 @@
--- The values that stand among the nodes of an element.
+-- The values among the nodes of an element.
 use Rattle.std.proofs.Common.{◌≡◌, ◌↔◌, ℕ, zero, suc, ◌+◌, ◌-◌, ◌<◌, ◌≤◌, List, [], ◌∷◌, ◌++◌, length}
 use Rattle.std.proofs.Common.{map, take, drop, Option, Some, None, is_some, IsSome, IfSome, get_or, ltb}
 use Rattle.std.proofs.Common.{arith, refl, sym, ap, ◌∙◌, length-append}

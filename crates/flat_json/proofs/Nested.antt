@@ -1,4 +1,4 @@
--- The nodes of an array or an object, once all that stands in it is passed.
+-- The nodes of an array or an object, once all that is in it is passed.
 use Rattle.std.proofs.Common.{◌≡◌, ℕ, ◌+◌, ◌<◌, List, [], ◌∷◌, ◌++◌, length, map, slice_set, arith, refl}
 use Rattle.std.proofs.Common.{sym, ap, ◌∙◌, append_assoc}
 use Rattle.std.proofs.lemmas.List.{map-set, length-map, length-append, map-append}

@@ -1,4 +1,4 @@
--- A list of nodes is that of one value at most, and the values that stand in a list.
+-- A list of nodes is that of one value at most, and the values in a list.
 use Rattle.std.proofs.Common.{
   ◌≡◌,
   ℕ,

@@ -35,7 +35,8 @@ JSON.
   --strict  a warning counts as a fault does
 
 Status 0: answered; with --lines whatever the answers are. Status 1: a line `modinfo: NAME` on the
-error output, and no answer; of check a document with a fault. Status 2: other words.
+error output, and no answer; of check a document with a fault, with --lines too. Status 2: other
+words.
 
   Input            a read fails, or the input isn't UTF-8
   Json             it is no JSON, nests deeper than 127, or has a number too large for a float
@@ -74,7 +75,8 @@ pub enum Invocation {
 impl Invocation {
     /// What the words ask for, if they ask for anything.
     pub fn from_words(words: &[&str]) -> Option<Invocation>
-        ensures answer { (subcommand : Subcommand) → map (λ word. word.now) words.now ≡ name_of subcommand ∷ []
+        ensures answer { (subcommand : Subcommand)
+            → map (λ word. word.now) words.now ≡ name_of subcommand ∷ []
             → result ≡ Some (Invocation.Document (Task.Answer subcommand)) }
         ensures check { map (λ word. word.now) words.now ≡ codes "check" ∷ []
             → result ≡ Some (Invocation.Document (Task.Check Subcommand.Analyze false)) }

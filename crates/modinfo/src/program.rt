@@ -13,14 +13,17 @@ use std::alloc::Global;
 use std::io::{self, Read, Write};
 
 /// One run of the program, and its exit status. `words` are the arguments after the program's name:
-/// `analyze`, `convert` or `reach`, `--lines` behind one of them, or `--help` or `--version` alone.
+/// `analyze`, `convert` or `reach`, with `--lines` behind it or not; `check`, with one of these three
+/// behind it or not, and then with `--lines`, `--strict`, both or none; or `--help` or `--version`
+/// alone.
 ///
 /// Reads `input` to its end, and writes the answer to `output` as one line of JSON: status 0. Where
 /// that fails `errors` gets a line with the fault's name, and `output` nothing, or after a failed
-/// write maybe a beginning: status 1. With `--lines` each line of the input is answered by a line of
-/// the output, and only a read or a write that fails, or memory that is refused before the first
-/// line, ends the run. Other words give a line on the usage: status 2. A failed write to `errors` is
-/// passed over.
+/// write maybe a beginning: status 1. A check answers with its report, and has status 1 too where a
+/// document has a fault, or with `--strict` a warning. With `--lines` each line of the input is
+/// answered by a line of the output, and only a read or a write that fails, or memory that is refused
+/// before the first line, ends the run. Other words give a line on the usage: status 2. A failed write
+/// to `errors` is passed over.
 pub fn serve<R: Read, W: Write, E: Write>(
     alloc: Global,
     words: &[&str],

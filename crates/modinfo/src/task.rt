@@ -34,7 +34,8 @@ impl Task {
         ensures answer { (subcommand : Subcommand) → self ≡ Task.Answer subcommand
             → IfOk result (λ printed. IsTrue printed.is_passed
             × IsAnswerText subcommand document.items (string_bytes printed.line)) }
-        ensures check { (subcommand : Subcommand) → (is_strict : Bool) → self ≡ Task.Check subcommand is_strict
+        ensures check { (subcommand : Subcommand) → (is_strict : Bool)
+            → self ≡ Task.Check subcommand is_strict
             → IfOk result (λ printed. IsTrue printed.is_passed → IsValidDocument subcommand document.items) }
     {
         match self {

@@ -99,7 +99,8 @@ fn file_comments(
     comments: &mut Comments,
 ) -> Result<(), NotationFault>
     ensures misfit { IfErr result (IsIn (array_of_elements values.entry)) }
-    ensures read { AnswersBy (λ filed _. AreAppendedOn side comments.old comments.new (entry_with pos filed ∷ []))
+    ensures read { AnswersBy (λ filed _. AreAppendedOn side comments.old comments.new
+        (entry_with pos filed ∷ []))
         (reads_items reads_comment (items_left values.entry)) result }
 {
     for value in values {

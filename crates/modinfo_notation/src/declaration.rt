@@ -57,11 +57,16 @@ impl<'a> SourceMembers<'a> {
         ensures has_specifiers { IfSome result.has_specifiers (IsMemberOf members.entry) }
         ensures has_with { IfSome result.has_with (IsMemberOf members.entry) }
         ensures src { IfSome result.src (IsMemberOf members.entry) }
-        ensures last_type_only { option_map value_of result.type_only ≡ last_named (codes "typeOnly") (members_of members.entry) }
-        ensures last_phase { option_map value_of result.phase ≡ last_named (codes "phase") (members_of members.entry) }
-        ensures last_has_specifiers { option_map value_of result.has_specifiers ≡ last_named (codes "hasSpecifiers") (members_of members.entry) }
-        ensures last_has_with { option_map value_of result.has_with ≡ last_named (codes "hasWith") (members_of members.entry) }
-        ensures last_src { option_map value_of result.src ≡ last_named (codes "src") (members_of members.entry) }
+        ensures last_type_only { option_map value_of result.type_only
+            ≡ last_named (codes "typeOnly") (members_of members.entry) }
+        ensures last_phase { option_map value_of result.phase
+            ≡ last_named (codes "phase") (members_of members.entry) }
+        ensures last_has_specifiers { option_map value_of result.has_specifiers
+            ≡ last_named (codes "hasSpecifiers") (members_of members.entry) }
+        ensures last_has_with { option_map value_of result.has_with
+            ≡ last_named (codes "hasWith") (members_of members.entry) }
+        ensures last_src { option_map value_of result.src
+            ≡ last_named (codes "src") (members_of members.entry) }
     {
         let mut type_only = None;
         let mut phase = None;
@@ -93,7 +98,8 @@ const PHASES: &str = "evaluation, source, defer";
 #[tactic(auto, using(crate::proofs::Reading::reading), unfolding(crate::specs::Kind::reads_named, crate::specs::Kind::named))]
 fn import_phase(found: Option<Element<'_>>) -> Result<ImportPhase, NotationFault>
     ensures misfit { IfErr result (IsInFound found.entry) }
-    ensures read { Answers (found_or (reads_named phases) Evaluation (option_map value_of found.entry)) result }
+    ensures read { Answers (found_or (reads_named phases) Evaluation
+        (option_map value_of found.entry)) result }
 {
     let Some(value) = found else {
         return Ok(ImportPhase::Evaluation);

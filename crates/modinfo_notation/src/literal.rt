@@ -50,8 +50,10 @@ pub fn read_literal(alloc: Global, value: Element<'_>) -> Result<StrLit, Notatio
 fn literal_members<'a>(members: Members<'a>) -> (Option<Element<'a>>, Option<Element<'a>>)
     ensures range { IfSome result.0 (IsMemberOf members.entry) }
     ensures value { IfSome result.1 (IsMemberOf members.entry) }
-    ensures last_range { option_map value_of result.0 ≡ last_named (codes "range") (members_of members.entry) }
-    ensures last_value { option_map value_of result.1 ≡ last_named (codes "value") (members_of members.entry) }
+    ensures last_range { option_map value_of result.0
+        ≡ last_named (codes "range") (members_of members.entry) }
+    ensures last_value { option_map value_of result.1
+        ≡ last_named (codes "value") (members_of members.entry) }
 {
     let mut range = None;
     let mut value = None;

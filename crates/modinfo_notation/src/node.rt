@@ -81,9 +81,12 @@ impl<'a> NodeMembers<'a> {
         ensures range { IfSome result.range (IsMemberOf members.entry) }
         ensures kind { IfSome result.kind (IsMemberOf members.entry) }
         ensures children { IfSome result.children (IsMemberOf members.entry) }
-        ensures last_range { option_map value_of result.range ≡ last_named (codes "range") (members_of members.entry) }
-        ensures last_kind { option_map value_of result.kind ≡ last_named (codes "kind") (members_of members.entry) }
-        ensures last_children { option_map value_of result.children ≡ last_named (codes "children") (members_of members.entry) }
+        ensures last_range { option_map value_of result.range
+            ≡ last_named (codes "range") (members_of members.entry) }
+        ensures last_kind { option_map value_of result.kind
+            ≡ last_named (codes "kind") (members_of members.entry) }
+        ensures last_children { option_map value_of result.children
+            ≡ last_named (codes "children") (members_of members.entry) }
     {
         let mut range = None;
         let mut kind = None;

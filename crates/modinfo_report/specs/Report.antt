@@ -13,10 +13,10 @@ abbrev pub MatchReport : Type 0 → Type 0 → Report → Type 0
 MatchReport IsRight IsWrong (Valid warnings) = IsRight
 MatchReport IsRight IsWrong (Wrong wrong) = IsWrong
 
--- the report says that the document is valid and, where warnings count, has none
-abbrev pub Passes : Bool → Report → Type 0
-Passes is_strict (Valid warnings) = is_strict ≡ true → warnings.kept.items ≡ []
-Passes is_strict (Wrong wrong) = ⊥
+-- the report lets a run pass: it says that the document is valid and, where warnings count, has none
+abbrev pub LetsPass : Bool → Report → Type 0
+LetsPass is_strict (Valid warnings) = is_strict ≡ true → warnings.kept.items ≡ []
+LetsPass is_strict (Wrong wrong) = ⊥
 
 -- the value has no float, and is converted to another
 abbrev pub CanBeConverted : Data → Type 0

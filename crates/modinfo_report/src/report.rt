@@ -1,5 +1,5 @@
 ghost use Rattle.std.specs.Prelude.{◌↔◌, IsTrue};
-ghost use Rattle.modinfo_report.specs.Report.{Passes};
+ghost use Rattle.modinfo_report.specs.Report.{LetsPass};
 
 use crate::text_place::TextPlace;
 use crate::warning::{Warning, Warnings};
@@ -74,7 +74,7 @@ pub enum Report {
 impl Report {
     /// Whether the document is valid and, where warnings count, has none.
     pub fn passes(&self, is_strict: bool) -> bool
-        ensures { IsTrue result ↔ Passes is_strict self.now }
+        ensures { IsTrue result ↔ LetsPass is_strict self.now }
     {
         match self {
             Report::Valid(warnings) => !is_strict || warnings.is_empty(),

@@ -1,11 +1,9 @@
-//! Tests of the analysis and of the program for what has no text: dependencies by their parts, what
-//! comments state by the calls on parts of a source, a walk step by step, readers and writers that
-//! fail at each of their calls, and faults by the errors that they come from. What has a text is a row
-//! of `crates/test_replay`. A test stops where it is refused memory.
+//! Tests of the analysis and of the program for what has no text: dependencies by their parts, a walk
+//! step by step, readers and writers that fail at each of their calls, and faults by the errors that
+//! they come from. What has a text is a row of `crates/test_replay`. A test stops where it is refused
+//! memory.
 #![tactic(auto)]
 
-#[cfg(test)]
-mod comments;
 #[cfg(test)]
 mod descriptors;
 #[cfg(test)]
@@ -16,7 +14,6 @@ mod faults;
 mod lines;
 #[cfg(test)]
 mod members;
-pub mod parts;
 #[cfg(test)]
 mod steps;
 #[cfg(test)]

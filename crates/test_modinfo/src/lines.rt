@@ -54,6 +54,10 @@ impl Read for Partner<'_> {
     }
 }
 
+fn count_lines(bytes: &[u8]) -> usize {
+    bytes.iter().filter(|byte| **byte == b'\n').count()
+}
+
 /// Counts the lines that were handed on by a flush.
 #[derive(Drop)]
 struct Answered {
@@ -63,8 +67,7 @@ struct Answered {
 
 impl Write for Answered {
     fn write(&mut self, buf: &[u8]) -> Result<usize> {
-        let lines = buf.iter().filter(|byte| **byte == b'\n').count();
-        self.written = self.written.saturating_add(lines);
+        self.written = self.written.saturating_add(count_lines(buf));
         Ok(buf.len())
     }
 
@@ -104,7 +107,6 @@ fn a_read_that_fails_ends_behind_the_answers_before_it(rt: HostRuntime) {
     let bytes = INPUT.as_bytes();
     for cut in 0..=bytes.len() {
         let (first, second) = bytes.split_at(cut);
-        let whole_lines = first.iter().filter(|byte| **byte == b'\n').count();
         let input = Pieces {
             first,
             second,
@@ -113,10 +115,7 @@ fn a_read_that_fails_ends_behind_the_answers_before_it(rt: HostRuntime) {
         let (status, output, errors) = serve_lines(rt.alloc(), input);
         assert_eq!(rt; status, 1);
         assert!(rt; PRINTED.as_bytes().starts_with(output.as_slice()));
-        assert_eq!(rt;
-            output.iter().filter(|byte| **byte == b'\n').count(),
-            whole_lines
-        );
+        assert_eq!(rt; count_lines(output.as_slice()), count_lines(first));
         assert_eq!(rt; errors.as_slice(), b"modinfo: Input\n".as_slice());
     }
 }

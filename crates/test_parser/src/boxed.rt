@@ -1,4 +1,4 @@
-use crate::sources::{U, counter, parse, parsed, parser, url};
+use crate::sources::{U, assert_parsed, counter, parsed, parsed_with, parser, url};
 use deno_graph_analysis::ast::{
     CapturingModuleAnalyzer, DefaultParsedSourceStore, EsParser, ParsedSourceStore,
 };
@@ -13,12 +13,7 @@ fn assert_source(rt: &(impl AllocGlobal + Abort), found: Option<ParsedSource>, e
         assert!(rt; found.is_none());
         return;
     };
-    let source = parsed(rt, text);
-    let source = if is_marked {
-        source.into_with_scope_analysis()
-    } else {
-        source
-    };
+    let source = parsed_with(rt, text, is_marked);
     assert!(rt; found.is_some_and(|found| found == source));
 }
 
@@ -84,14 +79,7 @@ fn an_analyzer_of_boxes_parses_once(rt: HostRuntime) {
     let table: Box<dyn EsParser> = Box::new(rt.alloc(), parser(&rt, &calls)).expect(&rt, "memory");
     let mut analyzer = CapturingModuleAnalyzer::new(table, boxed_store(&rt));
     for _ in 0..2 {
-        assert_parsed(&rt, &mut analyzer);
+        assert_parsed(&rt, &mut analyzer, false);
         assert_eq!(rt; calls.get(), 1);
     }
-}
-
-/// The text `a` is parsed.
-fn assert_parsed<P: EsParser>(rt: &(impl AllocGlobal + Abort), parser: &mut P) {
-    let answer = parse(rt, parser, "a", false);
-    let expected = parsed(rt, "a");
-    assert!(rt; answer.is_ok_and(|source| source == expected));
 }

@@ -1,9 +1,9 @@
-use crate::sources::{U, counter, parse, parsed, parser, shared, url};
+use crate::sources::{U, assert_module, counter, parse, parsed, parsed_with, parser, url};
 use deno_graph_analysis::ast::{
-    CapturingEsParser, CapturingModuleAnalyzer, DefaultParsedSourceStore, EsParser, ModuleAnalyzer,
-    ParseError, ParsedSourceStore, ParserModuleAnalyzer,
+    CapturingEsParser, CapturingModuleAnalyzer, DefaultParsedSourceStore, ParseError,
+    ParsedSourceStore, ParserModuleAnalyzer,
 };
-use deno_graph_source::tree::{MediaType, ParsedSource};
+use deno_graph_source::tree::ParsedSource;
 use std::process::Abort;
 
 /// A store with the source of `a` under `U`.
@@ -31,14 +31,14 @@ fn parse_with_scopes(
 
 fn assert_marked(rt: &(impl AllocGlobal + Abort), store: &DefaultParsedSourceStore) {
     let found = store.get_parsed_source(rt.alloc(), &url(rt, U));
-    let marked = parsed(rt, "a").into_with_scope_analysis();
+    let marked = parsed_with(rt, "a", true);
     assert!(rt; found.is_ok_and(|found| found.as_ref() == Some(&marked)));
 }
 
 #[test]
 fn the_mark_is_set_where_the_text_is_the_same(rt: HostRuntime) {
     let answer = parse_with_scopes(&rt, "a");
-    let marked = parsed(&rt, "a").into_with_scope_analysis();
+    let marked = parsed_with(&rt, "a", true);
     assert!(rt; answer.is_ok_and(|source| source == marked));
 }
 
@@ -46,13 +46,6 @@ fn the_mark_is_set_where_the_text_is_the_same(rt: HostRuntime) {
 fn the_mark_is_set_even_where_the_text_is_no_module(rt: HostRuntime) {
     let answer = parse_with_scopes(&rt, "x");
     assert!(rt; matches!(answer, Err(ParseError::Diagnostic(_))));
-}
-
-/// The information on `a` is that of a module.
-fn assert_module<A: ModuleAnalyzer>(rt: &(impl AllocGlobal + Abort), analyzer: &mut A) {
-    let (specifier, source) = (url(rt, U), shared(rt, "a"));
-    let info = analyzer.analyze_sync(rt.alloc(), &specifier, source, MediaType::JavaScript);
-    assert!(rt; info.is_ok_and(|info| !info.is_script));
 }
 
 #[test]

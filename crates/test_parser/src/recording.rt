@@ -1,11 +1,11 @@
 //! A parser that keeps the option of scopes, and who hands it on.
 
-use crate::sources::{U, counter, parse, parsed, parser, shared, url};
+use crate::sources::{assert_module, assert_parsed, counter, parser};
 use deno_graph_analysis::ast::{
     CapturingModuleAnalyzer, DefaultParsedSourceStore, EsParser, ModuleAnalyzer, ParseError,
     ParseOptions, ParserModuleAnalyzer,
 };
-use deno_graph_source::tree::{MediaType, ParsedSource};
+use deno_graph_source::tree::ParsedSource;
 use example_table_parser::TableParser;
 use std::alloc::Global;
 use std::cell::Cell;
@@ -62,32 +62,14 @@ fn a_boxed_parser_is_handed_the_option_of_scopes(rt: HostRuntime) {
     }
 }
 
-/// The source of `a` is answered, with the mark of scopes where those are asked for.
-fn assert_parsed<P: EsParser>(
-    rt: &(impl AllocGlobal + Abort),
-    parser: &mut P,
-    scope_analysis: bool,
-) {
-    let answer = parse(rt, parser, "a", scope_analysis);
-    let expected = parsed(rt, "a");
-    let expected = if scope_analysis {
-        expected.into_with_scope_analysis()
-    } else {
-        expected
-    };
-    assert!(rt; answer.is_ok_and(|source| source == expected));
-}
-
 /// The analyzer asks its parser for no scopes.
 fn assert_no_scopes<A: ModuleAnalyzer>(
     rt: &(impl AllocGlobal + Abort),
     analyzer: &mut A,
     last: &Cell<Option<bool>>,
 ) {
-    let (specifier, source) = (url(rt, U), shared(rt, "a"));
     last.set(None);
-    let info = analyzer.analyze_sync(rt.alloc(), &specifier, source, MediaType::JavaScript);
-    assert!(rt; info.is_ok_and(|info| !info.is_script));
+    assert_module(rt, analyzer);
     assert_eq!(rt; last.get(), Some(false));
 }
 

@@ -1,7 +1,7 @@
 //! The sources of the tests, each an import of another module: `a` and `b` under one specifier, and
 //! `a` under another as JavaScript and as TypeScript. The parser of the tests knows no more.
 
-use deno_graph_analysis::ast::{Command, EsParser, ParseError, ParseOptions};
+use deno_graph_analysis::ast::{Command, EsParser, ModuleAnalyzer, ParseError, ParseOptions};
 use deno_graph_source::text::{JsString, SourceRange};
 use deno_graph_source::tree::{
     Comments, ImportPhase, Kind, MediaType, Node, ParsedSource, Program, StrLit,
@@ -86,6 +86,20 @@ pub fn parsed(rt: &(impl AllocGlobal + Abort), text: &str) -> ParsedSource {
     importing(rt, U, text, MediaType::JavaScript, text)
 }
 
+/// The same with the mark of scopes, or without.
+pub fn parsed_with(
+    rt: &(impl AllocGlobal + Abort),
+    text: &str,
+    scope_analysis: bool,
+) -> ParsedSource {
+    let source = parsed(rt, text);
+    if scope_analysis {
+        source.into_with_scope_analysis()
+    } else {
+        source
+    }
+}
+
 /// A parser of the four sources that counts in `calls`.
 pub fn parser(rt: &(impl AllocGlobal + Abort), calls: &Rc<Cell<u64>>) -> TableParser {
     let mut sources = Vec::new(rt.alloc());
@@ -116,6 +130,24 @@ pub fn parse<P: EsParser>(
         scope_analysis,
     };
     parser.parse_program(rt.alloc(), options)
+}
+
+/// The source of `a` is answered, with the mark of scopes where those are asked for.
+pub fn assert_parsed<P: EsParser>(
+    rt: &(impl AllocGlobal + Abort),
+    parser: &mut P,
+    scope_analysis: bool,
+) {
+    let answer = parse(rt, parser, "a", scope_analysis);
+    let expected = parsed_with(rt, "a", scope_analysis);
+    assert!(rt; answer.is_ok_and(|source| source == expected));
+}
+
+/// The information on `a` is that of a module.
+pub fn assert_module<A: ModuleAnalyzer>(rt: &(impl AllocGlobal + Abort), analyzer: &mut A) {
+    let (specifier, source) = (url(rt, U), shared(rt, "a"));
+    let info = analyzer.analyze_sync(rt.alloc(), &specifier, source, MediaType::JavaScript);
+    assert!(rt; info.is_ok_and(|info| !info.is_script));
 }
 
 /// A command as data: on a specifier, and on a text where it has one.

@@ -7,6 +7,7 @@ pub mod finders;
 pub mod infos;
 pub mod jsdoc;
 pub mod modules;
+pub mod parts;
 pub mod serve;
 pub mod texts;
 
@@ -95,6 +96,8 @@ fn of_source(alloc: Global, name: &str, source: &ParsedSource) -> Result<String,
         "parse_import_attributes" => attributes::of_declaration(alloc, source),
         "parse_import_attributes_from_object_lit" => attributes::of_object(alloc, source),
         "comments" => comments::listed(alloc, source),
+        "jsdoc_imports" => parts::imports(alloc, source),
+        "analyze_ts_or_deno_types" => parts::types(alloc, source),
         "media_type" => modules::media_type(alloc, source),
         "every_way" => modules::every_way(alloc, source),
         _ => Err(RowFault::Row("it calls nothing that is known")),

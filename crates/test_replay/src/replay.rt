@@ -51,7 +51,7 @@ where
     let mut are_well = true;
     for block in blocks {
         if !names.insert(block.name)? {
-            println!(rt; "row {} stands twice", block.name)?;
+            println!(rt; "row {} is there twice", block.name)?;
             are_well = false;
         }
         are_well &= is_replayed(rt, block)?;

@@ -10,7 +10,7 @@ from typing import IO
 
 import pytest
 from distributed import Client
-from local import Local, local_cluster
+from local import PATIENCE, Local, local_cluster
 from running import command, run
 
 # Small, so that there are many partitions for few files.
@@ -21,7 +21,7 @@ SMALL = ("--partition-bytes", "30000")
 def test_one_two_and_four_workers(workers: int, documents: Path, answers: bytes, tmp_path: Path) -> None:
     with local_cluster(tmp_path, workers) as cluster:
         with Client(scheduler_file=str(cluster.scheduler_file)) as client:
-            client.wait_for_workers(workers)
+            client.wait_for_workers(workers, timeout=PATIENCE)
         done = run(cluster, *SMALL, documents)
     assert (done.returncode, done.stderr) == (0, b"")
     assert done.stdout == answers
@@ -33,7 +33,7 @@ def test_a_worker_that_is_killed_with_work_in_its_hands(documents: Path, answers
     lines = documents.read_bytes().splitlines(keepends=True)
     beginning, rest = lines[: len(lines) // 3], lines[len(lines) // 3 :]
     with local_cluster(tmp_path, 2) as cluster, Client(scheduler_file=str(cluster.scheduler_file)) as client:
-        client.wait_for_workers(2)
+        client.wait_for_workers(2, timeout=PATIENCE)
         program = subprocess.Popen(command(cluster, *SMALL, "-"), stdin=subprocess.PIPE, stdout=subprocess.PIPE)
         assert program.stdin is not None and program.stdout is not None
         written = Written(program.stdout)

@@ -38,7 +38,8 @@ _CHECKS = {"analyze": _library.CHECK, "convert": _library.CHECK_CONVERT, "reach"
 def analyze(document: Document) -> ModuleInfo:
     """What a module depends on, from its source, tree and comments.
 
-    Raises Fault where the document is refused, TypeError where it is none of the three types.
+    Raises Fault where the document is refused, TypeError where it is none of the three types. A dict that
+    json.dumps can't write raises what that raises: TypeError, ValueError or RecursionError.
     """
     information: ModuleInfo = _answer(_library.ANALYZE, document)
     return information
@@ -48,9 +49,11 @@ def analyze_lines(lines: Iterable[bytes]) -> Iterator[bytes]:
     """Each line's answer, in the bytes that `modinfo analyze --lines` prints for it, with a line feed.
 
     A line is the JSON of one document, with or without a line feed behind it. A refused one is answered
-    by `{"fault":NAME}`, and the next line is read all the same.
+    by `{"fault":NAME}`, and the next line is read all the same. Raises TypeError where a line isn't bytes.
     """
     for line in lines:
+        if not isinstance(line, bytes):
+            raise TypeError(f"a line is bytes, not {type(line).__name__}")
         try:
             yield b'{"answer":%b}\n' % _library.call(_library.ANALYZE, line).removesuffix(b"\n")
         except Fault as fault:
@@ -62,7 +65,7 @@ def check(document: Document, command: Command = "analyze") -> Report:
 
     `at` in the report of a dict is a place in what json.dumps makes of it, without white space. Raises Fault
     only where memory was refused, its name OutOfMemory; TypeError where the document is none of the three types,
-    ValueError where there is no such command.
+    ValueError where there is no such command, and for a dict as analyze does.
     """
     if command not in _CHECKS:
         raise ValueError(f"a command is analyze, convert or reach, not {command!r}")

@@ -21,10 +21,13 @@ pub fn look_up(alloc: Global, made: &Made) -> Result<(), Fault> {
     let source = &made.source;
     check_each(&[
         (positions_are_found(source.text_info_lazy()), "positions"),
-        (is_surrogate(&made.surrogate), "strings"),
+        (string_is_found(&made.surrogate), "strings"),
         (parts_are_found(source), "parts of a source"),
         (is_copied(alloc, source), "a copy of a source"),
-        (is_import(made.info.dependencies.first()), "dependencies"),
+        (
+            dependency_is_found(made.info.dependencies.first()),
+            "dependencies",
+        ),
         (is_at_start(alloc, source.program()), "Walk::new"),
         (has_comments(alloc, source.comments()), "Comments::new"),
     ])
@@ -62,7 +65,7 @@ fn positions_are_found(info: &SourceTextInfo) -> bool {
         && PositionRange::from_source_range(range, info) == positions
 }
 
-fn is_surrogate(string: &JsString) -> bool {
+fn string_is_found(string: &JsString) -> bool {
     string.as_str().is_none()
         && string.to_str_lossy() == "\u{fffd}"
         && !string.is_empty()
@@ -79,7 +82,7 @@ fn parts_are_found(source: &ParsedSource) -> bool {
         && !source.has_scope_analysis()
 }
 
-fn is_import(found: Option<&DependencyDescriptor>) -> bool {
+fn dependency_is_found(found: Option<&DependencyDescriptor>) -> bool {
     let Some(found) = found else {
         return false;
     };

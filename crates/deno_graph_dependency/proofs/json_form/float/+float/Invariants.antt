@@ -1,4 +1,4 @@
--- No float stood in what was passed.
+-- No float was in what was passed.
 use Rattle.std.proofs.Common.{◌≡◌, map, drop}
 use Rattle.serde_json.specs.View.{view, items_of, members_view}
 use Rattle.serde_json.specs.Written.{items_have_float, members_have_float}

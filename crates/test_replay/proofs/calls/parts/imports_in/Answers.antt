@@ -2,7 +2,7 @@
 use Rattle.std.proofs.lemmas.List.Sorted.{All-permutation}
 use Rattle.deno_graph_ast.proofs.JsDocComments.{apart_in_any_order}
 use Rattle.deno_graph_source.specs.Source.{IsSpelled}
-use Rattle.test_modinfo.proofs.parts.imports_in.Goals as goal
+use Rattle.test_replay.proofs.calls.parts.imports_in.Goals as goal
 
 pub jsdoc_imports-requires-clause-spelled : goal.jsdoc_imports-requires-clause-spelled
 jsdoc_imports-requires-clause-spelled c =

@@ -5,7 +5,7 @@ use Rattle.deno_graph_source.specs.Comments.{comments_of}
 use Rattle.deno_graph_source.specs.Source.{IsSpelled}
 use Rattle.deno_graph_source.proofs.Lists.{All-within}
 use Rattle.deno_graph_source.proofs.ValidSource.{Contains-leading}
-use Rattle.test_modinfo.proofs.parts.types_before.Goals as goal
+use Rattle.test_replay.proofs.calls.parts.types_before.Goals as goal
 
 pub analyze_ts_or_deno_types-requires : goal.analyze_ts_or_deno_types-requires
 analyze_ts_or_deno_types-requires c =

@@ -1,0 +1,37 @@
+# shellcheck shell=bash
+# Installs packages of Debian, for the setup scripts.
+
+# The status where they can't be had.
+unavailable=69
+
+as_root() {
+    if [[ $EUID -eq 0 ]]; then "$@"; else sudo --non-interactive "$@"; fi
+}
+
+apt() {
+    as_root env DEBIAN_FRONTEND=noninteractive apt-get -qq -o Acquire::Retries=0 \
+        -o Acquire::http::Timeout=30 "$@" < /dev/null
+}
+
+# provide SCRIPT IS_READY COMMAND PACKAGE ..
+#
+# Installs the packages, by `install` or `satisfy` of apt-get, unless the command IS_READY says that all is there: as the
+# lists are, or else by new ones. Where that fails it ends with status 69, and says so in the name of the script.
+provide() {
+    local script=$1 is_ready=$2 command=$3 log status=0
+    shift 3
+    ! "$is_ready" || return 0
+    log=$(mktemp)
+    if ! { install_packages "$command" "$@" && "$is_ready"; } > "$log" 2>&1; then
+        tail -n 5 "$log" >&2
+        echo "$script: $* can't be had from Debian's packages here" >&2
+        status=$unavailable
+    fi
+    rm -f "$log"
+    return "$status"
+}
+
+install_packages() {
+    local words=("$1" -y --no-install-recommends "${@:2}")
+    apt "${words[@]}" || { apt update && apt "${words[@]}"; }
+}
