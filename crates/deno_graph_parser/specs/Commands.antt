@@ -101,7 +101,8 @@ has_text asked (Some source) = bytes_eq source.input.text asked.text
     && (media_types.ghosts).eq source.input.media_type asked.media_type
 
 module _ (parses : ParseFunction) (start : List ℕ → Option Unmarked) where
-  -- the parser has to be asked, since the last successful command had another text or media type
+  -- the parser has to be asked, since there was no successful command, or the last one had another text or
+  -- media type
   abbrev pub is_miss : List Command → Command → Bool
   is_miss past (Analyze specifier source media_type) =
       let asked = input specifier (rc_str_bytes source) media_type in

@@ -25,7 +25,7 @@ with_source sources key source = map.insert sources key source
 abbrev pub without_source : Sources → List ℕ → Sources
 without_source sources key = map.remove sources key
 
--- the sources with this one in the place of one that is there
+-- the sources with this one, marked, under its specifier; as they are where there is none
 abbrev pub with_mark_of : Sources → List ℕ → Option ParsedModule → Sources
 with_mark_of sources key None = sources
 with_mark_of sources key (Some source) = with_source sources key (marked source)

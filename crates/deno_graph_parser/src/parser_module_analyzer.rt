@@ -1,4 +1,4 @@
-ghost use Rattle.std.specs.Prelude.{◌≡◌, false};
+ghost use Rattle.std.specs.Prelude.{◌≡◌, ◌+◌, ◌≤◌, false};
 ghost use Rattle.deno_graph_parser.specs.ParserModuleAnalyzer.{borrowed_parser};
 
 use crate::analyze_error::AnalyzeError;
@@ -52,6 +52,9 @@ impl<'a, P: EsParser> ModuleAnalyzer for ParserModuleAnalyzer<'a, P> {
         ensures answer { P.is_sound (borrowed_parser self.old).now
             → AnalyzesAs (P.parses (borrowed_parser self.old).now)
             (input specifier.now (rc_str_bytes source) media_type) result }
+        // The parser's count rises by at most one.
+        ensures counted { (P.count (borrowed_parser self.old).now ≤ P.count (borrowed_parser self.new).now)
+            × (P.count (borrowed_parser self.new).now ≤ P.count (borrowed_parser self.old).now + 1) }
         // The parser is asked without the scope option.
         ensures analysis { IsAnalysisOfSome (P.may_answer (borrowed_parser self.old).now
             (input specifier.now (rc_str_bytes source) media_type) false) result }

@@ -17,8 +17,8 @@ use std::alloc::{AllocError, Global};
 /// Begun with a sound parser and an empty store, each answer is that of the parser alone, aside
 /// from the mark of scope analysis. The answer to a `Remove` is the source of the last successful
 /// `Analyze` or `Parse` of its specifier since that specifier's last `Remove`. The parser is asked
-/// at most once for each command whose text or media type is another than that of the last
-/// successful `Analyze` or `Parse` of its specifier since that specifier's last `Remove`.
+/// at most once for each `Analyze` or `Parse` whose specifier had no successful one since its last
+/// `Remove`, or whose last one had another text or media type.
 ///
 /// The error is that memory was refused. The room for the answers is taken first: where that is
 /// refused, no command has run. Otherwise the commands before the refused one have run in full.

@@ -1,8 +1,8 @@
 -- What a subcommand prints, as text, for a document.
-use Rattle.std.specs.Prelude.{◌≡◌, ◌⊎◌, ◌++◌, ℕ, List, Some, IsUtf8, codes}
+use Rattle.std.specs.Prelude.{◌≡◌, ◌⊎◌, ◌++◌, ℕ, List, Some, IsUtf8, codes, false}
 use Rattle.serde_json.specs.Data.{Data}
 use Rattle.serde_json.specs.Read.{read as read_text}
-use Rattle.serde_json.specs.Written.{compact_text, IsInOrder}
+use Rattle.serde_json.specs.Written.{compact_text, has_float, IsInOrder}
 use Rattle.deno_graph_source.specs.ParsedSource.{ParsedModule}
 use Rattle.deno_graph_info.specs.Conversion.{IsConverted}
 use Rattle.deno_graph_info.specs.Json.ModuleInfo.{json_of_info}
@@ -19,7 +19,7 @@ use Rattle.modinfo.specs.declared.subcommand.Subcommand.{Subcommand}
 use Rattle.modinfo.specs.declared.subcommand.Subcommand.TheVariants.{Analyze, Convert, Reach}
 use Rattle.modinfo.specs.Fault.{fault_of_notation}
 
--- the module that a text states in the notation
+-- the module that a text states in the notation, which is valid
 pub record IsModuleOf (text : List ℕ) (module_ : ParsedModule) : Type 0 where
   pub document : Document
   pub is_stated : IsDocumentOf text document
@@ -45,10 +45,10 @@ IsNoModule text OutOfMemory = Unit {0}
 IsNoModule text fault = (told : NotationFault) × (fault_of_notation told ≡ fault)
     × HasNotationFault text told
 
--- the document is JSON that is converted to this
+-- the document is JSON without a float that is converted to this
 abbrev pub IsConversionOf : List ℕ → Data → Type 0
 IsConversionOf document after = (before : Data) × (read_text document ≡ Some before)
-    × IsConverted before after
+    × (has_float before ≡ false) × IsConverted before after
 
 -- the JSON of what the document is converted to
 abbrev pub IsConvertedText : List ℕ → List ℕ → Type 0

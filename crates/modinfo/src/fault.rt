@@ -4,7 +4,8 @@ use modinfo_notation::NotationFault;
 use std::alloc::{AllocError, AllocFailed};
 use thiserror::Error;
 
-/// Why the program gave no answer. Each prints as its name.
+/// Why the program gave no answer. Each prints as its name: `NotInNotation` as `Tree`, and a fault of a
+/// source, of a conversion or of information as that one does.
 #[derive(Debug, PartialEq, Eq, Drop, Error)]
 pub enum Fault {
     /// A read failed, or the input isn't UTF-8.

@@ -17,7 +17,8 @@ use std::io::{self, Read, Write};
 /// behind it or not, and then with `--lines`, `--strict`, both or none; or `--help` or `--version`
 /// alone.
 ///
-/// Reads `input` to its end, and writes the answer to `output` as one line of JSON: status 0. Where
+/// `--help` and `--version` read nothing, and print their text: status 0. The others read `input` to
+/// its end, and write the answer to `output` as one line of JSON: status 0. Where
 /// that fails `errors` gets a line with the fault's name, and `output` nothing, or after a failed
 /// write maybe a beginning: status 1. A check answers with its report, and has status 1 too where a
 /// document has a fault, or with `--strict` a warning. With `--lines` each line of the input is

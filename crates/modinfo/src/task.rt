@@ -57,7 +57,7 @@ impl Task {
     }
 
     /// Whether what is printed lets the run pass: only a check can fail a run.
-    pub fn is_passed(self, printed: &Result<Printed, Fault>) -> bool {
+    pub fn lets_pass(self, printed: &Result<Printed, Fault>) -> bool {
         match (self, printed) {
             (Task::Answer(_), _) => true,
             (Task::Check { .. }, Ok(printed)) => printed.is_passed,

@@ -1,10 +1,27 @@
 -- What a call leaves in the memory of its caller.
-use Rattle.std.specs.Prelude.{◌≡◌, ℕ, List, ◌+◌, ◌<◌, ◌≤◌, length, drop}
+use Rattle.std.specs.Prelude.{◌≡◌, ℕ, List, ◌++◌, ◌<◌, ◌≤◌, length, drop}
 
--- With status 0 or 1 the first `needed` bytes of the room are for the answer or the name of the fault,
--- and those behind them are as they were. With status 2 more bytes are needed than there are, and all
--- are as they were.
-pub data IsAnswered (before after : List ℕ) (needed status : ℕ) : Type 0 where
-  answered : status < 2 → needed ≤ length before → length after ≡ length before
-      → drop needed after ≡ drop needed before → IsAnswered before after needed status
-  too_small : status ≡ 2 → length before < needed → after ≡ before → IsAnswered before after needed status
+-- the text is at the front of the room, and the bytes behind it are as they were
+pub record IsPut (text before after : List ℕ) : Type 0 where
+  pub fits : length text ≤ length before
+  pub is : after ≡ text ++ drop (length text) before
+
+-- with the wanted status the text is put into the room; with status 2 it is longer than the room, which is as
+-- it was; in both `needed` is its length
+pub data IsLeft (text : List ℕ) (wanted : ℕ) (before after : List ℕ) (needed status : ℕ) : Type 0 where
+  put : status ≡ wanted → needed ≡ length text → IsPut text before after
+      → IsLeft text wanted before after needed status
+  too_small : status ≡ 2 → needed ≡ length text → length before < length text → after ≡ before
+      → IsLeft text wanted before after needed status
+
+-- with status 0 an answer is put into the room, with status 1 a fault's name; with status 2 what would have
+-- been put there is longer than the room, which is as it was; in each `needed` is its length
+pub data IsAnswered (IsAnswer : List ℕ → Type 0) (before after : List ℕ) (needed status : ℕ) : Type 0 where
+  answered : (line : List ℕ) → IsAnswer line → IsLeft line 0 before after needed status
+      → IsAnswered IsAnswer before after needed status
+  refused : (name : List ℕ) → IsLeft name 1 before after needed status
+      → IsAnswered IsAnswer before after needed status
+
+-- of the text of a report nothing is said
+abbrev pub IsReport : List ℕ → Type 0
+IsReport line = Unit {0}

@@ -2,8 +2,10 @@
 //! whatever else calls functions of C. `include/modinfo.h` declares what it exports.
 #![tactic(auto)]
 
-ghost use Rattle.std.specs.Prelude.{◌≡◌, ◌<◌};
-ghost use Rattle.modinfo_c.specs.Call.{IsAnswered};
+ghost use Rattle.std.specs.Prelude.{◌≡◌, IfOk, List, ℕ};
+ghost use Rattle.std.specs.String.{string_bytes};
+ghost use Rattle.modinfo.specs.Answer.{IsAnswerLine};
+ghost use Rattle.modinfo_c.specs.Call.{IsAnswered, IsLeft, IsReport};
 
 use modinfo::{Fault, Subcommand};
 use std::alloc::{AllocError, Global};
@@ -37,7 +39,7 @@ pub extern "C" fn modinfo_analyze(
     answer: &mut [u8],
     length: &mut usize,
 ) -> u8
-    ensures { IsAnswered answer.old answer.new length.new result }
+    ensures { IsAnswered (IsAnswerLine Subcommand.Analyze document.now) answer.old answer.new length.new result }
 {
     call(alloc, Subcommand::Analyze, document, answer, length)
 }
@@ -50,7 +52,7 @@ pub extern "C" fn modinfo_convert(
     answer: &mut [u8],
     length: &mut usize,
 ) -> u8
-    ensures { IsAnswered answer.old answer.new length.new result }
+    ensures { IsAnswered (IsAnswerLine Subcommand.Convert document.now) answer.old answer.new length.new result }
 {
     call(alloc, Subcommand::Convert, document, answer, length)
 }
@@ -63,7 +65,7 @@ pub extern "C" fn modinfo_reach(
     answer: &mut [u8],
     length: &mut usize,
 ) -> u8
-    ensures { IsAnswered answer.old answer.new length.new result }
+    ensures { IsAnswered (IsAnswerLine Subcommand.Reach document.now) answer.old answer.new length.new result }
 {
     call(alloc, Subcommand::Reach, document, answer, length)
 }
@@ -77,7 +79,7 @@ pub extern "C" fn modinfo_check(
     answer: &mut [u8],
     length: &mut usize,
 ) -> u8
-    ensures { IsAnswered answer.old answer.new length.new result }
+    ensures { IsAnswered IsReport answer.old answer.new length.new result }
 {
     check(alloc, Subcommand::Analyze, document, answer, length)
 }
@@ -90,7 +92,7 @@ pub extern "C" fn modinfo_check_convert(
     answer: &mut [u8],
     length: &mut usize,
 ) -> u8
-    ensures { IsAnswered answer.old answer.new length.new result }
+    ensures { IsAnswered IsReport answer.old answer.new length.new result }
 {
     check(alloc, Subcommand::Convert, document, answer, length)
 }
@@ -103,7 +105,7 @@ pub extern "C" fn modinfo_check_reach(
     answer: &mut [u8],
     length: &mut usize,
 ) -> u8
-    ensures { IsAnswered answer.old answer.new length.new result }
+    ensures { IsAnswered IsReport answer.old answer.new length.new result }
 {
     check(alloc, Subcommand::Reach, document, answer, length)
 }
@@ -115,7 +117,7 @@ fn check(
     answer: &mut [u8],
     length: &mut usize,
 ) -> u8
-    ensures { IsAnswered answer.old answer.new length.new result }
+    ensures { IsAnswered IsReport answer.old answer.new length.new result }
 {
     match report_line(alloc, subcommand, document) {
         Ok(line) => put(line.as_str(), ANSWERED, answer, length),
@@ -140,17 +142,24 @@ fn call(
     answer: &mut [u8],
     length: &mut usize,
 ) -> u8
-    ensures { IsAnswered answer.old answer.new length.new result }
+    ensures { IsAnswered (IsAnswerLine subcommand document.now) answer.old answer.new length.new result }
 {
-    let mut input = document;
-    match subcommand.answer(alloc, &mut input) {
+    match answer_line(alloc, subcommand, document) {
         Ok(line) => put(line.as_str(), ANSWERED, answer, length),
         Err(fault) => put_name(alloc, &fault, answer, length),
     }
 }
 
+fn answer_line(alloc: Global, subcommand: Subcommand, document: &[u8]) -> Result<String, Fault>
+    ensures { IfOk result (λ line. IsAnswerLine subcommand document.now (string_bytes line)) }
+{
+    let mut line = subcommand.answer_bytes(alloc, Vec::from_slice(alloc, document)?)?;
+    line.push('\n')?;
+    Ok(line)
+}
+
 fn put_name(alloc: Global, fault: &Fault, answer: &mut [u8], length: &mut usize) -> u8
-    ensures { IsAnswered answer.old answer.new length.new result }
+    ensures { (name : List ℕ) × IsLeft name 1 answer.old answer.new length.new result }
 {
     match name_of(alloc, fault) {
         Ok(name) => put(name.as_str(), FAULT, answer, length),
@@ -164,8 +173,7 @@ fn name_of(alloc: Global, fault: &Fault) -> Result<String, AllocError> {
 
 /// Copies a text to the front of the room, if it fits.
 fn put(text: &str, status: u8, answer: &mut [u8], length: &mut usize) -> u8
-    requires { status < 2 }
-    ensures { IsAnswered answer.old answer.new length.new result }
+    ensures { IsLeft text.now status answer.old answer.new length.new result }
 {
     let bytes = text.as_bytes();
     *length = bytes.len();

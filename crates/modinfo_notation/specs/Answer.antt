@@ -29,7 +29,7 @@ AnswersSeen seen wanted answer = MatchResult answer (λ x. wanted ≡ Some (seen
 abbrev pub AnswersBy : {A B : Type 0} → (A → B → Type 0) → Option A → Result B NotationFault → Type 0
 AnswersBy Meets wanted answer = MatchResult answer (λ x. IsSomeAnd wanted (λ w. Meets w x)) (IsRefusal wanted)
 
--- the fault is one of the notation
+-- the fault is that something isn't in the notation
 abbrev pub IsMisfit : NotationFault → Type 0
 IsMisfit (NotInNotation _) = Unit {0}
 IsMisfit OutOfMemory = ⊥

@@ -8,7 +8,7 @@ use Rattle.deno_graph_source.specs.declared.tree.media_type.MediaType.{MediaType
 use Rattle.deno_graph_source.specs.declared.tree.node.Program.{Program}
 use Rattle.deno_graph_source.specs.Comments.{FiledComments}
 use Rattle.deno_graph_source.specs.ParsedSource.{ParsedModule}
-use Rattle.deno_graph_source.specs.Source.{HasFault}
+use Rattle.deno_graph_source.specs.Source.{HasFault, IsValid}
 use Rattle.url.specs.Parser.{parse_url}
 use Rattle.url.specs.declared.error.ParseError.{ParseError}
 use Rattle.modinfo_notation.specs.Partial.{◌>>=◌, required}
@@ -83,7 +83,7 @@ IsNoDocument text OutOfMemory = Unit {0}
 IsNoDocument text Specifier = ⊥
 IsNoDocument text (Source _) = ⊥
 
--- the source has the parts of the document, and the URL that its specifier spells
+-- the source has the parts of the document, which fit one another, and the URL that its specifier spells
 pub record IsSourceOf (document : Document) (module_ : ParsedModule) : Type 0 where
   pub specifier : parse_url None document.specifier ≡ Ok module_.specifier
   pub text : module_.text ≡ rc_str_bytes document.source
@@ -91,6 +91,7 @@ pub record IsSourceOf (document : Document) (module_ : ParsedModule) : Type 0 wh
   pub program : module_.program ≡ document.program
   pub comments : module_.comments ≡ document.comments
   pub scope_analysis : module_.scope_analysis ≡ false
+  pub valid : IsValid (rc_str_bytes document.source) document.program document.comments
 
 -- why the document is no source
 abbrev pub IsNoSource : Document → NotationFault → Type 0

@@ -53,7 +53,8 @@ fn child<'a>(value: Element<'a>, name: &str, number: usize) -> Option<Element<'a
     value.members()?.get(name)?.elements()?.get(number)
 }
 
-/// The comment of this number, from 0 on, among those that are filed on one side of a position:
+/// The comment of this number, from 0 on, among those that are filed on one side of a position, in
+/// bytes from zero:
 /// those of all entries with that position count, in the order of the document.
 pub fn comment_at<'a>(
     root: Element<'a>,

@@ -6,6 +6,7 @@ use Rattle.deno_graph_info.specs.Conversion.{IsConverted, IsConvertFault}
 use Rattle.deno_graph_info.specs.declared.conversion.fault.ConvertFault.{ConvertFault}
 use Rattle.deno_graph_info.specs.declared.conversion.fault.ConvertFault.TheVariants as convert
 use Rattle.modinfo_report.specs.declared.report.Report.{Report}
+use Rattle.modinfo_report.specs.declared.warning.Warnings.{Warnings}
 use Rattle.modinfo_report.specs.declared.report.Report.TheVariants.{Valid, Wrong}
 
 -- the one of a document that is reported as valid, the other of one that is reported as wrong
@@ -13,9 +14,13 @@ abbrev pub MatchReport : Type 0 → Type 0 → Report → Type 0
 MatchReport IsRight IsWrong (Valid warnings) = IsRight
 MatchReport IsRight IsWrong (Wrong wrong) = IsWrong
 
+-- there are none, neither of those that are kept nor of those that are counted
+abbrev pub HasNone : Warnings → Type 0
+HasNone warnings = (warnings.kept.items ≡ []) × (warnings.more ≡ 0)
+
 -- the report lets a run pass: it says that the document is valid and, where warnings count, has none
 abbrev pub LetsPass : Bool → Report → Type 0
-LetsPass is_strict (Valid warnings) = is_strict ≡ true → warnings.kept.items ≡ []
+LetsPass is_strict (Valid warnings) = is_strict ≡ true → HasNone warnings
 LetsPass is_strict (Wrong wrong) = ⊥
 
 -- the value has no float, and is converted to another

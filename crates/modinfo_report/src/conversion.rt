@@ -1,8 +1,8 @@
 //! Documents of `convert`: stored information of one module.
 
-ghost use Rattle.std.specs.Prelude.{MatchOption};
+ghost use Rattle.std.specs.Prelude.{◌≡◌, IfSome, IsNone, MatchOption};
 ghost use Rattle.serde_json.specs.View.{view};
-ghost use Rattle.deno_graph_info.specs.Conversion.{IsConvertFault};
+ghost use Rattle.deno_graph_info.specs.Conversion.{IsConverted, IsConvertFault};
 ghost use Rattle.modinfo_report.specs.Report.{CanBeConverted};
 
 use crate::form::{FormFault, Search, find_float, wrong_form};
@@ -13,9 +13,11 @@ use serde_json::{Map, Value};
 use std::alloc::{AllocError, Global};
 
 /// Converts stored information in place. `None` where it was converted; else why it can't be, or that
-/// memory was refused.
+/// memory was refused, and it is as it was.
 pub fn convert_fault(alloc: Global, value: &mut Value) -> Option<ConvertFault>
-    ensures { MatchOption result (CanBeConverted (view value.old)) (IsConvertFault (view value.old)) }
+    ensures fault { MatchOption result (CanBeConverted (view value.old)) (IsConvertFault (view value.old)) }
+    ensures converted { IsNone result → IsConverted (view value.old) (view value.new) }
+    ensures unchanged { IfSome result (λ _. value.new ≡ value.old) }
 {
     module_graph_1_to_2(alloc, value).err()
 }

@@ -12,13 +12,14 @@ use std::alloc::{AllocError, Global};
 pub struct Wrong {
     /// The fault's name, as the program prints it.
     pub fault: String,
-    /// The JSON Pointer of the value that is at fault. `None` where the text is no JSON.
+    /// The JSON Pointer of the value that is at fault. `None` of `Json` and of `Input`.
     pub pointer: Option<String>,
     /// That of the other one, where two don't go together.
     pub other: Option<String>,
-    /// The range of the source that is at fault, in bytes, where it is one.
+    /// The range of the source that is at fault, or that of the node or comment that is, in bytes from
+    /// zero.
     pub range: Option<SourceRange>,
-    /// Where the text stops being JSON.
+    /// Of `Json` and of `Input`: where the document stops being JSON or UTF-8.
     pub at: Option<TextPlace>,
     /// What was expected there.
     pub expected: String,

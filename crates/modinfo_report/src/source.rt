@@ -19,8 +19,8 @@ pub fn wrong_source(
     let value = element_of(root, found);
     Ok(Wrong {
         fault: format!(in alloc; "{}", found.fault)?,
-        pointer: pointer_of(alloc, tape, value)?,
-        other: pointer_of(alloc, tape, other_element(root, &found.place))?,
+        pointer: pointer_of_element(alloc, tape, value)?,
+        other: pointer_of_element(alloc, tape, other_element(root, &found.place))?,
         range: range_of(value),
         at: None,
         expected: expected(alloc, found, length)?,
@@ -35,7 +35,7 @@ fn other_element<'a>(root: Element<'a>, place: &FaultPlace) -> Option<Element<'a
     }
 }
 
-fn pointer_of(
+fn pointer_of_element(
     alloc: Global,
     tape: &Tape<'_>,
     value: Option<Element<'_>>,

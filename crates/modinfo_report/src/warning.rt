@@ -1,4 +1,5 @@
-ghost use Rattle.std.specs.Prelude.{◌≡◌, ◌↔◌, [], IsTrue};
+ghost use Rattle.std.specs.Prelude.{◌↔◌, IsTrue};
+ghost use Rattle.modinfo_report.specs.Report.{HasNone};
 
 use flat_json::{Element, Tape};
 use std::alloc::{AllocError, Global};
@@ -35,9 +36,9 @@ impl Warnings {
 
     /// Whether there are none.
     pub fn is_empty(&self) -> bool
-        ensures { IsTrue result ↔ (self.now.kept.items ≡ []) }
+        ensures { IsTrue result ↔ HasNone self.now }
     {
-        self.kept.is_empty()
+        self.kept.is_empty() && self.more == 0
     }
 
     /// Adds a warning about a value of the document.

@@ -21,7 +21,7 @@ const EARLIER: &str = "the range starts before that of the child in front of it"
 
 /// What is searched, and what was found.
 #[derive(Drop)]
-struct Search<'a> {
+struct Survey<'a> {
     alloc: Global,
     tape: &'a Tape<'a>,
     source: &'a str,
@@ -35,18 +35,18 @@ pub fn find_warnings(
     tape: &Tape<'_>,
     document: &Document,
 ) -> Result<Warnings, AllocError> {
-    let mut search = Search {
+    let mut survey = Survey {
         alloc,
         tape,
         source: document.source.as_str(),
         is_code: document.media_type != MediaType::Json && document.media_type != MediaType::Other,
         found: Warnings::new(alloc),
     };
-    search.document(tape.root())?;
-    Ok(search.found)
+    survey.document(tape.root())?;
+    Ok(survey.found)
 }
 
-impl Search<'_> {
+impl Survey<'_> {
     fn document(&mut self, root: Element<'_>) -> Result<(), AllocError> {
         self.members(root, Role::Document)?;
         self.entries(elements(root, "leading"))?;
@@ -60,7 +60,7 @@ impl Search<'_> {
     fn program(&mut self, program: Element<'_>) -> Result<(), AllocError> {
         self.members(program, Role::Program)?;
         match member(program, "body") {
-            Some(body) => self.nodes(body, range_of(program)),
+            Some(body) => self.nodes(body, offsets_of(program)),
             None => Ok(()),
         }
     }
@@ -125,7 +125,7 @@ impl Search<'_> {
         let (first, last) = range;
         let mut before = first;
         for node in nodes {
-            let (start, end) = range_of(node);
+            let (start, end) = offsets_of(node);
             if start < first || end > last {
                 self.warn(node, OUTSIDE)?;
             } else if start < before {
@@ -144,7 +144,7 @@ impl Search<'_> {
         self.members(node, Role::Node(kind.unwrap_or("Other")))?;
         self.parts(node)?;
         match member(node, "children") {
-            Some(array) => self.nodes(array, range_of(node)),
+            Some(array) => self.nodes(array, offsets_of(node)),
             None => Ok(()),
         }
     }
@@ -163,7 +163,7 @@ impl Search<'_> {
 
     fn literal(&mut self, literal: Element<'_>) -> Result<(), AllocError> {
         self.members(literal, Role::Literal)?;
-        let (start, end) = range_of(literal);
+        let (start, end) = offsets_of(literal);
         let spelling = self.source.get(start as usize..end as usize);
         if self.is_code && !spelling.is_some_and(|spelling| is_quoted(spelling)) {
             return self.warn(literal, UNQUOTED);
@@ -186,7 +186,7 @@ fn is_quoted(text: &str) -> bool {
 }
 
 /// The member `range` of a value: two offsets in bytes.
-fn range_of(value: Element<'_>) -> (u64, u64) {
+fn offsets_of(value: Element<'_>) -> (u64, u64) {
     member(value, "range")
         .and_then(|range| range.as_pair())
         .unwrap_or((0, 0))

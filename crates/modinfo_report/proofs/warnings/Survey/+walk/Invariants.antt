@@ -1,5 +1,5 @@
 use Rattle.flat_json.specs.Tape.{TakesSame, array_of_elements, size_of}
-use Rattle.modinfo_report.proofs.warnings.Search.+walk.Given as goal
+use Rattle.modinfo_report.proofs.warnings.Survey.+walk.Given as goal
 
 abbrev pub decreases-node : goal.decreases-node
 decreases-node l = size_of l.node
