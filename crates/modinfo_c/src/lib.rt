@@ -153,9 +153,8 @@ fn call(
 fn answer_line(alloc: Global, subcommand: Subcommand, document: &[u8]) -> Result<String, Fault>
     ensures { IfOk result (λ line. IsAnswerLine subcommand document.now (string_bytes line)) }
 {
-    let mut line = subcommand.answer_bytes(alloc, Vec::from_slice(alloc, document)?)?;
-    line.push('\n')?;
-    Ok(line)
+    let mut input = document;
+    subcommand.answer(alloc, &mut input)
 }
 
 fn put_name(alloc: Global, fault: &Fault, answer: &mut [u8], length: &mut usize) -> u8
