@@ -1,5 +1,5 @@
--- In a valid source the comments before its dependencies, at its head and at its tail are in the
--- text as they say.
+-- The comments before the dependencies of a program, at its head and at its tail: what holds of all
+-- comments holds of them.
 use Rattle.std.proofs.Common.{
   ◌≡◌,
   ℕ,
@@ -48,27 +48,35 @@ use Rattle.deno_graph_dep.proofs.DependencyRanges.{dependency_ranges}
 use Rattle.deno_graph_ast.specs.HeadTail.{comments_before_items, head_comments, tail_comments, trailing_at}
 use Rattle.deno_graph_ast.specs.ModuleInfo.{comments_before, FitsText}
 
--- what is filed at a position is spelled, if all that is filed is
-filed_spelled : (text : List ℕ) (comments : FiledComments) (found : Option (List DependencyComment))
-    → ((filed : List DependencyComment) (comment : DependencyComment) → found ≡ Some filed
-    → Contains filed comment → Contains (comments_of comments) comment)
-    → All (IsSpelled text) (comments_of comments) → All (IsSpelled text) (unwrap_or found [])
-filed_spelled text comments None within all = All-nil (IsSpelled text)
-filed_spelled text comments (Some filed) within all =
-    All-within (IsSpelled text) (comments_of comments) filed
-    (λ comment there. within filed comment refl there) all
+-- what holds of all comments holds of those at a position, at the head and at the tail
+module _ (P : DependencyComment → Type 0) (comments : FiledComments)
+    (all : All P (comments_of comments)) where
+  all_found : (found : Option (List DependencyComment))
+      → ((filed : List DependencyComment) (comment : DependencyComment) → found ≡ Some filed
+      → Contains filed comment → Contains (comments_of comments) comment) → All P (unwrap_or found [])
+  all_found None within = All-nil P
+  all_found (Some filed) within =
+      All-within P (comments_of comments) filed (λ comment there. within filed comment refl there) all
 
-pub leading_spelled : (text : List ℕ) (program : Program) (comments : FiledComments) (pos : ℕ)
-    → IsValid text program comments → All (IsSpelled text) (leading_at comments pos)
-leading_spelled text program comments pos valid =
-    filed_spelled text comments (value_at comments.leading pos)
-    (λ filed comment is there. Contains-leading comments pos filed comment is there) valid.spelled
+  all_leading : (pos : ℕ) → All P (leading_at comments pos)
+  all_leading pos = all_found (value_at comments.leading pos)
+      (λ filed comment is there. Contains-leading comments pos filed comment is there)
 
-pub trailing_spelled : (text : List ℕ) (program : Program) (comments : FiledComments) (pos : ℕ)
-    → IsValid text program comments → All (IsSpelled text) (trailing_at comments pos)
-trailing_spelled text program comments pos valid =
-    filed_spelled text comments (value_at comments.trailing pos)
-    (λ filed comment is there. Contains-trailing comments pos filed comment is there) valid.spelled
+  all_trailing : (pos : ℕ) → All P (trailing_at comments pos)
+  all_trailing pos = all_found (value_at comments.trailing pos)
+      (λ filed comment is there. Contains-trailing comments pos filed comment is there)
+
+  all_head_by : (program : Program) (first : Option Node) (shebang : Bool) → program.has_shebang ≡ shebang
+      → All P (comments_before_items first program comments)
+  all_head_by program (Some item) shebang is = all_leading (range_of item).start
+  all_head_by program None true is = rw is (all_trailing program.range.end)
+  all_head_by program None false is = rw is (all_leading program.range.start)
+
+  pub all_head : (program : Program) → All P (head_comments program comments)
+  all_head program = all_head_by program (slice_get program.body 0) program.has_shebang refl
+
+  pub all_tail : (program : Program) → All P (tail_comments program comments)
+  all_tail program = all_trailing program.range.end
 
 -- the comments before what a node states are those that lead the node
 stated_at : (comments : FiledComments) (node : Node) (kind : Kind) (item : Item)
@@ -87,44 +95,37 @@ stated_at comments node (ModuleDecl (Some name)) item states = ap comments_befor
 stated_at comments node (Call callee args) item states = ap comments_before states.says
 stated_at comments node _ item states = absurd states
 
-stated_spelled : (text : List ℕ) (program : Program) (comments : FiledComments) (nodes : List Node)
-    (items : List Item) → IsValid text program comments
-    → AllStated comments nodes items → All (λ item. All (IsSpelled text) (comments_before item)) items
+-- and of those before what nodes state
+all_before : (P : DependencyComment → Type 0) (comments : FiledComments) (nodes : List Node)
+    (items : List Item) → All P (comments_of comments) → AllStated comments nodes items
+    → All (λ item. All P (comments_before item)) items
 unfolding States
-stated_spelled text program comments [] [] valid stated =
-    All-nil (λ item. All (IsSpelled text) (comments_before item))
-stated_spelled text program comments [] (item ∷ items) valid stated = absurd stated
-stated_spelled text program comments (node ∷ nodes) [] valid stated = absurd stated
-stated_spelled text program comments (node ∷ nodes) (item ∷ items) valid stated =
-    All-cons (λ item. All (IsSpelled text) (comments_before item)) item items
-    (subst (All (IsSpelled text)) (sym (stated_at comments node (kind_of node) item stated.0))
-    (leading_spelled text program comments (range_of node).start valid))
-    (stated_spelled text program comments nodes items valid stated.1)
+all_before P comments [] [] all stated = All-nil (λ item. All P (comments_before item))
+all_before P comments [] (item ∷ items) all stated = absurd stated
+all_before P comments (node ∷ nodes) [] all stated = absurd stated
+all_before P comments (node ∷ nodes) (item ∷ items) all stated =
+    All-cons (λ item. All P (comments_before item)) item items
+    (subst (All P) (sym (stated_at comments node (kind_of node) item stated.0))
+    (all_leading P comments all (range_of node).start)) (all_before P comments nodes items all stated.1)
+
+pub all_before_dependencies : (P : DependencyComment → Type 0) (program : Program) (comments : FiledComments)
+    (items : List Item) → All P (comments_of comments) → AreDependencies comments program.body items
+    → All (λ item. All P (comments_before item)) items
+all_before_dependencies P program comments items all are =
+    all_before P comments are.nodes items all are.stated
 
 -- the dependencies of a valid source fit its text
 pub dependencies_fit : (text : List ℕ) (program : Program) (comments : FiledComments) (items : List Item)
     → IsValid text program comments → AreDependencies comments program.body items → All (FitsText text) items
 dependencies_fit text program comments items valid are =
     let ranges = dependency_ranges text program comments items valid are in
-    let spelled = stated_spelled text program comments are.nodes items valid are.stated in
+    let spelled = all_before_dependencies (IsSpelled text) program comments items valid.spelled are in
     λ k d below. record { ranges = ranges k d below; comments = spelled k d below }
-
--- the comments at the head, and those at the tail
-head_by : (text : List ℕ) (program : Program) (comments : FiledComments) (first : Option Node)
-    (shebang : Bool) → IsValid text program comments
-    → program.has_shebang ≡ shebang → All (IsSpelled text) (comments_before_items first program comments)
-head_by text program comments (Some item) shebang valid is =
-    leading_spelled text program comments (range_of item).start valid
-head_by text program comments None true valid is =
-    rw is (trailing_spelled text program comments program.range.end valid)
-head_by text program comments None false valid is =
-    rw is (leading_spelled text program comments program.range.start valid)
 
 pub head_spelled : (text : List ℕ) (program : Program) (comments : FiledComments)
     → IsValid text program comments → All (IsSpelled text) (head_comments program comments)
-head_spelled text program comments valid =
-    head_by text program comments (slice_get program.body 0) program.has_shebang valid refl
+head_spelled text program comments valid = all_head (IsSpelled text) comments valid.spelled program
 
 pub tail_spelled : (text : List ℕ) (program : Program) (comments : FiledComments)
     → IsValid text program comments → All (IsSpelled text) (tail_comments program comments)
-tail_spelled text program comments valid = trailing_spelled text program comments program.range.end valid
+tail_spelled text program comments valid = all_tail (IsSpelled text) comments valid.spelled program

@@ -56,7 +56,7 @@ one_import_list comments imports others are again =
     (λ import has. (again.exact import).1 ((are.exact import).0 has))
     (λ import has. (are.exact import).1 ((again.exact import).0 has))
 
-one_info_list : (reads : Bool) (text : List ℕ) (comments : List DependencyComment)
+pub one_info_list : (reads : Bool) (text : List ℕ) (comments : List DependencyComment)
     (infos others : List JsDocImportInfo)
     → IsJsDocList reads text comments infos → IsJsDocList reads text comments others → infos ≡ others
 one_info_list false text comments infos others list again = list ∙ sym again

@@ -1,11 +1,13 @@
 pub mod Chosen
 pub mod Collected
+pub mod ExactRanges
 pub mod Gathered
 pub mod InSource
 pub mod InfoLemmas
 pub mod ItemComments
 pub mod JsDocComments
 pub mod Named
+pub mod OneInfo
 pub mod Places
 pub mod Pushed
 pub mod ReadComments

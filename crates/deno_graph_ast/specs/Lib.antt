@@ -2,6 +2,7 @@ pub mod CommentImportSteps
 pub mod CommentImports
 pub mod FoundPragma
 pub mod HeadTail
+pub mod InfoOfModule
 pub mod JsDocInfo
 pub mod ModuleInfo
 pub mod Pragma

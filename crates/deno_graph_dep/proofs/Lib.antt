@@ -26,4 +26,5 @@ pub mod Stating
 pub mod Steps
 pub mod Unique
 pub mod UniqueAttributes
+pub mod WalkEnds
 pub mod Walks

@@ -114,7 +114,9 @@ unknown_count [] = 0
 unknown_count (known known_text ∷ ps) = unknown_count ps
 unknown_count (unknown ∷ ps) = unknown_count ps + 1
 
--- Under an assignment, a form spells a text of the node. Parts have as many unknowns as the node has.
+-- Under an assignment, a form spells a text of the node: its own text, or its parts joined, with the
+-- texts of the node's unknowns in place of the unknown parts. There are as many unknown parts as
+-- unknowns. A form that says nothing of the argument spells each node's text.
 abbrev pub Spells : Assignment → Node → Form → Type 0
 Spells given node (text known_text) = HasText given [] node known_text
 Spells given node (parts ps) =
@@ -122,6 +124,7 @@ Spells given node (parts ps) =
     × (HasText given [] node (joined ps (map given unknowns)))
 Spells given node expression = Unit {0}
 
--- whatever the unknown parts are, a form with readable literals spells the node's text
+-- whatever texts the unknown parts have: if the node's literals are readable, the form spells the node's
+-- text
 abbrev pub SpellsItsText : Node → Form → Type 0
 SpellsItsText node form = (given : Assignment) → HasReadableLiterals node → Spells given node form

@@ -34,3 +34,9 @@ pub record GivesNode (old new : WalkState) (node : Node) : Type 0 where
 abbrev pub Gives : WalkState → WalkState → Option (Bor Node) → Type 0
 Gives old new None = GivesNone old new
 Gives old new (Some node) = GivesNode old new node.now
+
+-- steps one after another over one program, and what each of them gives
+abbrev pub AreSteps : WalkState → List (Option (Bor Node)) → WalkState → Type 0
+AreSteps old [] new = new ≡ old
+AreSteps old (found ∷ more) new =
+    (next : WalkState) × (next.program ≡ old.program) × Gives old next found × AreSteps next more new

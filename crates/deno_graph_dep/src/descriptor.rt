@@ -8,34 +8,35 @@ use deno_graph_text::text::SourceRange;
 use deno_graph_text::values::TryClone;
 use std::alloc::{AllocError, Global};
 
-/// A dependency of which the specifier is in the source, with what it borrows from the tree.
+/// A dependency with its specifier in the source, such as an import or an export. Borrows from the
+/// tree.
 #[derive(Debug, PartialEq, Eq, Drop)]
 pub struct StaticDependencyDescriptor<'a> {
     pub kind: StaticDependencyKind,
-    /// The comments that are filed as leading where the node starts, in the order of filing.
+    /// The comments that are filed as leading at the node's start, in the order of filing.
     pub leading_comments: &'a [DependencyComment],
-    /// Where the node is, in bytes from zero.
+    /// Range of the node, or of the name of a module declaration, in bytes from zero.
     pub range: SourceRange,
     /// The specifier, with U+FFFD for each lone surrogate.
     pub specifier: &'a str,
-    /// Where the specifier is, with its quotes, in bytes from zero.
+    /// Range of the specifier with its quotes, in bytes from zero.
     pub specifier_range: SourceRange,
     /// Whether it is an import without specifiers, as `import "./load.js"`.
     pub is_side_effect: bool,
     pub import_attributes: ImportAttributes,
 }
 
-/// A dependency by a call of `import` or `require`, with what it borrows from the tree.
+/// A dependency by a call of `import` or `require`. Borrows from the tree.
 #[derive(Debug, PartialEq, Eq, Drop)]
 pub struct DynamicDependencyDescriptor<'a> {
     pub kind: DynamicDependencyKind,
-    /// The comments that are filed as leading where the call starts, in the order of filing.
+    /// The comments that are filed as leading at the call's start, in the order of filing.
     pub leading_comments: &'a [DependencyComment],
-    /// Where the call is, in bytes from zero.
+    /// Range of the call, in bytes from zero.
     pub range: SourceRange,
     /// What is known of the first argument.
     pub argument: DynamicArgument<'a>,
-    /// Where the first argument is, in bytes from zero.
+    /// Range of the first argument, in bytes from zero.
     pub argument_range: SourceRange,
     pub import_attributes: ImportAttributes,
 }
@@ -48,7 +49,8 @@ pub enum DependencyDescriptor<'a> {
 }
 
 impl<'a> StaticDependencyDescriptor<'a> {
-    /// A descriptor that says the same and borrows the same, or an error where memory was refused.
+    /// Returns an equal descriptor that borrows from the same tree. The only error is that memory
+    /// ran out.
     pub fn try_clone(&self, alloc: Global) -> Result<StaticDependencyDescriptor<'a>, AllocError>
         ensures { IfOk result (λ copy. static_item_of copy ≡ static_item_of self.now) }
     {
@@ -65,7 +67,8 @@ impl<'a> StaticDependencyDescriptor<'a> {
 }
 
 impl<'a> DynamicDependencyDescriptor<'a> {
-    /// A descriptor that says the same and borrows the same, or an error where memory was refused.
+    /// Returns an equal descriptor that borrows from the same tree. The only error is that memory
+    /// ran out.
     pub fn try_clone(&self, alloc: Global) -> Result<DynamicDependencyDescriptor<'a>, AllocError>
         ensures { IfOk result (λ copy. dynamic_item_of copy ≡ dynamic_item_of self.now) }
     {
@@ -81,7 +84,8 @@ impl<'a> DynamicDependencyDescriptor<'a> {
 }
 
 impl<'a> DependencyDescriptor<'a> {
-    /// A descriptor that says the same and borrows the same, or an error where memory was refused.
+    /// Returns an equal descriptor that borrows from the same tree. The only error is that memory
+    /// ran out.
     pub fn try_clone(&self, alloc: Global) -> Result<DependencyDescriptor<'a>, AllocError>
         ensures { IfOk result (λ copy. item_of copy ≡ item_of self.now) }
     {

@@ -1,10 +1,14 @@
 //! The walk over the dependencies of a program, which can stop at each of them and go on.
 
-ghost use Rattle.std.specs.Prelude.{◌≡◌, ◌≤◌, ◌++◌, IfOk, OnErr, List};
+ghost use Rattle.std.specs.Borrow.{Bor};
+ghost use Rattle.std.specs.List.{count_by};
+ghost use Rattle.std.specs.Option.{is_some};
+ghost use Rattle.std.specs.Prelude.{◌≡◌, ◌≤◌, ◌+◌, ◌++◌, IfOk, OnErr, List, Option, None, length};
 ghost use Rattle.deno_graph_dep.specs.DependencyRules.{dependency_rules};
 ghost use Rattle.deno_graph_dep.specs.Listing.{IsListing};
 ghost use Rattle.deno_graph_source.specs.NodePath.{NodePath};
-ghost use Rattle.deno_graph_dep.specs.Walk.{Gives, WalkState};
+ghost use Rattle.deno_graph_source.specs.declared.tree.node.Node.{Node};
+ghost use Rattle.deno_graph_dep.specs.Walk.{AreSteps, Gives, WalkState};
 
 use crate::stack::Stack;
 use deno_graph_source::tree::{Node, Program};
@@ -13,8 +17,10 @@ use std::marker::Model;
 
 /// A walk over the nodes of a program that are dependencies, in tree order.
 ///
-/// It keeps a stack of its own, so that no tree is too deep for it, and enters no node past the one
-/// that it gave last.
+/// The walk keeps its own stack, so no tree is too deep for it. A walk that stops at a node has
+/// entered no node after that one. A step that runs out of memory may have entered nodes after the
+/// node that was returned last. A step that returns `None` has entered every node but those inside
+/// an import or an export.
 #[derive(Drop)]
 pub struct Walk<'a> {
     program: &'a Program,
@@ -37,7 +43,7 @@ impl<'a> Model for Walk<'a> {
 }
 
 impl<'a> Walk<'a> {
-    /// A walk that has everything still to come. It takes no memory.
+    /// Makes a walk at its start. Takes no memory.
     pub fn new(alloc: Global, program: &'a Program) -> Walk<'a>
         ensures program { result.program ≡ program.now }
         ensures to_come { IsListing dependency_rules program.now.body result.to_come }
@@ -49,9 +55,11 @@ impl<'a> Walk<'a> {
         }
     }
 
-    /// The next node that is a dependency, a call after those inside it and every other before
-    /// them, or `None` at the end and from then on. The only error is that memory was refused,
-    /// and then the same nodes are still to come.
+    /// Returns the next node that is a dependency: a call after the dependencies inside it, any
+    /// other node before them. Returns `None` at the end, and at each step from then on.
+    ///
+    /// The only error is that memory ran out. The same nodes are then still to come, so the step
+    /// can be tried again, and `entered` may have risen.
     pub fn step(&mut self) -> Result<Option<&'a Node>, AllocError>
         ensures program { self.new.program ≡ self.old.program }
         ensures gives { IfOk result (Gives self.old self.new) }
@@ -61,15 +69,15 @@ impl<'a> Walk<'a> {
         self.stack.next_listed()
     }
 
-    /// How many nodes were entered so far, or the largest `u64` where they are more. What is inside
-    /// an import or an export is not entered.
+    /// Returns how many nodes were entered so far, or `u64::MAX` if they are more. Nodes inside an
+    /// import or an export are not entered.
     pub fn entered(&self) -> u64
         ensures { result ≡ self.now.entered }
     {
         self.stack.entered
     }
 
-    /// The program that is walked.
+    /// Returns the program of the walk.
     pub fn program(&self) -> &'a Program
         ensures { result.now ≡ self.now.program }
     {
@@ -84,4 +92,22 @@ impl<'a> Walk<'a> {
     {
         let _ = &self.program;
     }
+
+    /// A law: a walk that gave `None` gives `None` at each step from then on, and enters no node
+    /// more. This call does nothing: what it ensures holds of every walk, and a caller learns it by
+    /// the call.
+    pub fn stays_at_its_end()
+        ensures { (old end new : WalkState) (found : Option (Bor Node))
+            → end.program ≡ old.program → new.program ≡ end.program
+            → Gives old end None → Gives end new found → (found ≡ None) × (new ≡ end) }
+    {}
+
+    /// A law: a walk ends. Each step that gives a node takes one of the paths that are still to
+    /// come, of which there are finitely many. This call does nothing: what it ensures holds of
+    /// every walk, and a caller learns it by the call.
+    pub fn ends()
+        ensures { (old new : WalkState) (found : List (Option (Bor Node)))
+            → AreSteps old found new
+            → count_by is_some found + length new.to_come ≡ length old.to_come }
+    {}
 }

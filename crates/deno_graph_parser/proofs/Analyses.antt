@@ -2,7 +2,7 @@
 use Rattle.std.proofs.Common.{Result, Ok, Err, sym, subst}
 use Rattle.deno_graph_source.specs.ParsedSource.{ParsedModule}
 use Rattle.deno_graph_info.specs.declared.analysis.module_info.ModuleInfo.{ModuleInfo}
-use Rattle.deno_graph_ast.specs.ModuleInfo.{IsModuleInfo}
+use Rattle.deno_graph_ast.specs.InfoOfModule.{IsInfoOfSource}
 use Rattle.deno_graph_parser.specs.Analysis.{AnalyzesAs, IsAnalysisOf}
 use Rattle.deno_graph_parser.specs.Parsing.{ParseFunction, Input, AnswersAs}
 use Rattle.deno_graph_parser.specs.declared.analyze_error.AnalyzeError.{AnalyzeError}
@@ -19,7 +19,8 @@ analysis_of_outcome f asked (Ok source) (Ok info) h is =
       program = source.program;
       comments = source.comments;
       outcome = is.outcome;
-      states = subst (λ (i : Input). IsModuleInfo i.text i.media_type source.program source.comments info)
+      is_info = subst
+          (λ (i : Input). IsInfoOfSource i.text i.media_type source.program source.comments info)
           is.from_input h;
     }
 analysis_of_outcome f asked (Ok source) (Err (analyze.Parse d)) h is = cc

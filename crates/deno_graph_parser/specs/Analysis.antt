@@ -4,24 +4,20 @@ use Rattle.deno_graph_source.specs.Comments.{FiledComments}
 use Rattle.deno_graph_source.specs.ParsedSource.{ParsedModule}
 use Rattle.deno_graph_source.specs.declared.tree.node.Program.{Program}
 use Rattle.deno_graph_info.specs.declared.analysis.module_info.ModuleInfo.{ModuleInfo}
-use Rattle.deno_graph_ast.specs.ModuleInfo.{IsModuleInfo}
+use Rattle.deno_graph_ast.specs.InfoOfModule.{IsInfoOfModule, IsInfoOfSource}
 use Rattle.deno_graph_parser.specs.Parsing.{ParseFunction, Input, parsed, refused}
 use Rattle.deno_graph_parser.specs.declared.parse_error.ParseError.{ParseError}
 use Rattle.deno_graph_parser.specs.AnalyzeError.{analyze_error_of}
 use Rattle.deno_graph_parser.specs.declared.analyze_error.AnalyzeError.{AnalyzeError}
 use Rattle.deno_graph_parser.specs.declared.analyze_error.AnalyzeError.TheVariants.{Parse, OutOfMemory}
 
--- the info is that of the input's text, read as its media type, with this tree and these comments
-abbrev pub StatesInfo : Input → Program → FiledComments → ModuleInfo → Type 0
-StatesInfo input program comments info =
-    IsModuleInfo input.text input.media_type program comments info
-
--- the info is that of the tree and comments that the parse function has for the input
+-- the info is that of the input's text, read as its media type, with the tree and comments that the
+-- parse function has for the input
 pub record IsInfoOf (parses : ParseFunction) (input : Input) (info : ModuleInfo) : Type 0 where
   pub program : Program
   pub comments : FiledComments
   pub outcome : parses input ≡ Some (parsed program comments)
-  pub states : StatesInfo input program comments info
+  pub is_info : IsInfoOfSource input.text input.media_type program comments info
 
 -- the answer is the info of the parse function's tree, or its diagnostic, or memory was refused
 abbrev pub AnalyzesAs : ParseFunction → Input → Result ModuleInfo AnalyzeError → Type 0
@@ -31,8 +27,7 @@ AnalyzesAs parses input (Err OutOfMemory) = Unit {0}
 
 -- what an analyzer answers once a parser has answered: the info of its source, or its error
 abbrev pub IsAnalysisOf : Result ParsedModule ParseError → Result ModuleInfo AnalyzeError → Type 0
-IsAnalysisOf (Ok source) (Ok info) =
-    IsModuleInfo source.text source.media_type source.program source.comments info
+IsAnalysisOf (Ok source) (Ok info) = IsInfoOfModule source info
 IsAnalysisOf (Ok source) (Err error) = error ≡ OutOfMemory
 IsAnalysisOf (Err error) answer = answer ≡ Err (analyze_error_of error)
 

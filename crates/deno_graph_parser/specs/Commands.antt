@@ -44,6 +44,16 @@ use Rattle.deno_graph_parser.specs.declared.command.Command.TheVariants.{Analyze
 use Rattle.deno_graph_parser.specs.declared.command.Answer.{Answer}
 use Rattle.deno_graph_parser.specs.declared.command.Answer.TheVariants.{Analyzed, Parsed, Removed}
 
+-- the second is the first command: of one kind, with equal specifiers, texts and options
+abbrev pub IsCommand : Command → Command → Type 0
+IsCommand (Analyze specifier source media_type) (Analyze specifier' source' media_type') =
+    (specifier' ≡ specifier) × (rc_str_bytes source' ≡ rc_str_bytes source) × (media_type' ≡ media_type)
+IsCommand (Parse specifier source media_type scope) (Parse specifier' source' media_type' scope') =
+    (specifier' ≡ specifier) × (rc_str_bytes source' ≡ rc_str_bytes source) × (media_type' ≡ media_type)
+    × (scope' ≡ scope)
+IsCommand (Remove specifier) (Remove specifier') = specifier' ≡ specifier
+IsCommand _ _ = ⊥
+
 -- a parsed source aside from its mark
 pub record Unmarked : Type 0 where
   pub input : Input

@@ -9,7 +9,7 @@ use std::rc::RcStr;
 use url::Url;
 
 /// What a capturing analyzer is told to do.
-#[derive(Clone, Debug, PartialEq, Eq, Drop)]
+#[derive(Debug, PartialEq, Eq, Drop)]
 pub enum Command {
     /// Analyze a text.
     Analyze {
@@ -28,6 +28,41 @@ pub enum Command {
     Remove {
         specifier: Url,
     },
+}
+
+impl Command {
+    ghost use Rattle.deno_graph_parser.specs.Commands.{IsCommand};
+
+    /// An equal command, which shares the text, or an error where memory was refused.
+    pub fn try_clone(&self, _alloc: Global) -> Result<Command, AllocError>
+        ensures { IfOk result (IsCommand self.now) }
+    {
+        Ok(match self {
+            Command::Analyze {
+                specifier,
+                source,
+                media_type,
+            } => Command::Analyze {
+                specifier: specifier.clone()?,
+                source: source.clone()?,
+                media_type: *media_type,
+            },
+            Command::Parse {
+                specifier,
+                source,
+                media_type,
+                scope_analysis,
+            } => Command::Parse {
+                specifier: specifier.clone()?,
+                source: source.clone()?,
+                media_type: *media_type,
+                scope_analysis: *scope_analysis,
+            },
+            Command::Remove { specifier } => Command::Remove {
+                specifier: specifier.clone()?,
+            },
+        })
+    }
 }
 
 /// What it answers: to each command the answer of its name.

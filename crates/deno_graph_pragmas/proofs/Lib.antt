@@ -1,6 +1,6 @@
 mod Attributes
 mod Barriers
-mod Captured
+pub mod Captured
 mod Folding
 mod Found
 mod Lines

@@ -1,11 +1,18 @@
 -- Comments by the position that they are filed at.
 use Rattle.std.specs.Prelude.{ℕ, List, ◌++◌}
+use Rattle.std.specs.List.Sorted.{IsStrictlySortedBy}
+use Rattle.std.specs.Map.{keys_of}
+use Rattle.std.specs.Ordering.{nat_cmp}
 use Rattle.deno_graph_source.specs.ByPosition.{all_items}
 use Rattle.deno_graph_source.specs.declared.tree.comments.DependencyComment.{DependencyComment}
 
 -- positions in ascending order, each with the comments filed there, in the order of filing
 abbrev pub Filing : Type 0
 Filing = List (ℕ × List DependencyComment)
+
+-- each position is below those after it
+abbrev pub Ascends : Filing → Type 0
+Ascends filing = IsStrictlySortedBy nat_cmp (keys_of filing)
 
 -- the comments filed as leading, and those filed as trailing
 pub record FiledComments : Type 0 where

@@ -1,7 +1,8 @@
-//! A JSON text as a flat list: what is in an array or an object comes right behind it.
+//! A JSON text as a flat list: the items of an array and the members of an object come right after
+//! it.
 //!
-//! It is read as `serde_json` reads it: the same texts are refused, but nothing is copied, and a
-//! value takes 24 bytes.
+//! It accepts the texts that `serde_json` accepts. Only strings with escapes are copied, into the
+//! scratch. Each node takes 24 bytes.
 #![tactic(auto)]
 
 ghost use Rattle.std.specs.Prelude.{◌≡◌, ◌<◌, ◌≤◌, ◌+◌, ◌-◌, ◌^◌, ◌↔◌, length, vec_len, IfSome, IsTrue};
@@ -18,7 +19,7 @@ pub use fault::TapeFault;
 use json::Scratch;
 use std::alloc::Global;
 
-/// What is at one place of a tape.
+/// One node of a tape.
 #[derive(Clone, Copy)]
 pub enum Node<'a> {
     Null,
@@ -28,16 +29,16 @@ pub enum Node<'a> {
     /// Any other number.
     Number,
     String(&'a str),
-    /// The name of a member, whose value is behind it.
+    /// The name of a member. Its value comes after it.
     Key(&'a str),
-    /// An array of so many elements, and the number of the nodes behind it that they take.
+    /// An array: how many elements it has, and how many nodes after it they take.
     Array { elements: usize, nodes: usize },
-    /// An object, and the number of the nodes behind it that its members take.
+    /// An object, and how many nodes after it its members take.
     Object { nodes: usize },
 }
 
-/// A JSON text that was read. Its strings are borrowed from the text, and those with escapes from
-/// the scratch.
+/// A JSON text that was read. Its strings are borrowed from the text, strings with escapes from the
+/// scratch.
 #[derive(Drop)]
 pub struct Tape<'a> {
     nodes: Vec<Node<'a>>,
@@ -52,9 +53,8 @@ impl<'a> Tape<'a> {
     ghost use Rattle.flat_json.specs.View.{tape_value, value_of, IsValueOf};
     ghost use Rattle.flat_json.specs.declared.fault.TapeFault.TheVariants.{Json};
 
-    /// Reads a text to its end. `Json` where it isn't one JSON value, nests deeper than 127 or has
-    /// a number too large for a float, with the offset in bytes at which that shows, and
-    /// `OutOfMemory` where memory was refused.
+    /// Reads a text to its end. Returns `Json` if the text isn't one JSON value, nests deeper than
+    /// 127 or has a number too large for a float, and `OutOfMemory` if memory ran out.
     pub fn read(
         alloc: Global,
         text: &'a str,

@@ -1,23 +1,34 @@
--- What a subcommand prints, as text, for a document.
-use Rattle.std.specs.Prelude.{◌≡◌, ◌⊎◌, ◌++◌, ℕ, List, Some, IsUtf8, codes, false}
+-- What a subcommand prints for a document, as text, and which faults a document has.
+use Rattle.std.specs.Prelude.{◌≡◌, ◌≢◌, ◌⊎◌, ◌++◌, ℕ, List, Some, None, IsUtf8, codes, false}
+use Rattle.json.specs.Lex.{tokens}
+use Rattle.json.specs.Print.{print}
 use Rattle.serde_json.specs.Data.{Data}
 use Rattle.serde_json.specs.Read.{read as read_text}
 use Rattle.serde_json.specs.Written.{compact_text, has_float, IsInOrder}
 use Rattle.deno_graph_source.specs.ParsedSource.{ParsedModule}
-use Rattle.deno_graph_info.specs.Conversion.{IsConverted}
+use Rattle.deno_graph_info.specs.Conversion.{IsConverted, IsConvertFault}
 use Rattle.deno_graph_info.specs.Json.ModuleInfo.{json_of_info}
 use Rattle.deno_graph_info.specs.declared.analysis.module_info.ModuleInfo.{ModuleInfo}
-use Rattle.deno_graph_ast.specs.ModuleInfo.{HasExactRanges, IsModuleInfo}
-use Rattle.deno_graph_ast.specs.SpelledDependencies.{SpellDependencies}
+use Rattle.deno_graph_info.specs.declared.conversion.fault.ConvertFault.TheVariants as convert
+use Rattle.deno_graph_ast.specs.InfoOfModule.{IsInfoOfModule}
 use Rattle.modinfo_notation.specs.Document.{HasNotationFault, IsDocumentOf, IsSourceOf}
 use Rattle.modinfo_notation.specs.declared.document.Document.{Document}
 use Rattle.modinfo_notation.specs.declared.fault.NotationFault.{NotationFault}
-use Rattle.modinfo.specs.Check.{StatesConvertible, StatesNoConvertible, StatesNoSource, StatesSource}
+use Rattle.modinfo.specs.Check.{
+  StatesConvertible,
+  StatesNoConvertible,
+  StatesNoQuestion,
+  StatesNoSource,
+  StatesQuestion,
+  StatesSource,
+}
 use Rattle.modinfo.specs.declared.fault.Fault.{Fault}
-use Rattle.modinfo.specs.declared.fault.Fault.TheVariants.{Input, OutOfMemory}
+use Rattle.modinfo.specs.declared.fault.Fault.TheVariants.{Input, Json, Output, OutOfMemory}
+use Rattle.modinfo.specs.declared.fault.Fault.TheVariants as fault_of
 use Rattle.modinfo.specs.declared.subcommand.Subcommand.{Subcommand}
 use Rattle.modinfo.specs.declared.subcommand.Subcommand.TheVariants.{Analyze, Convert, Reach}
 use Rattle.modinfo.specs.Fault.{fault_of_notation}
+use Rattle.modinfo.specs.Reach.{IsNoQuestion, IsReachText}
 
 -- the module that a text states in the notation, which is valid
 pub record IsModuleOf (text : List ℕ) (module_ : ParsedModule) : Type 0 where
@@ -25,40 +36,79 @@ pub record IsModuleOf (text : List ℕ) (module_ : ParsedModule) : Type 0 where
   pub is_stated : IsDocumentOf text document
   pub is_source : IsSourceOf document module_
 
--- the information is that of the module: it is what its definition says, its ranges are exact, and
--- its arguments spell what their expressions say
-pub record IsInfoOfModule (module_ : ParsedModule) (info : ModuleInfo) : Type 0 where
-  pub is : IsModuleInfo module_.text module_.media_type module_.program module_.comments info
-  pub ranges : HasExactRanges module_.text info
-  pub spells : SpellDependencies module_.program.body info.dependencies
-
 -- the compact JSON of the information of the module that a text states
 abbrev pub IsInfoText : List ℕ → List ℕ → Type 0
 IsInfoText document text = (module_ : ParsedModule) × IsModuleOf document module_
     × (info : ModuleInfo) × IsInfoOfModule module_ info
     × (text ≡ compact_text (json_of_info info))
 
--- why a text states no module: it isn't UTF-8, or has a fault of the notation; or memory was refused
+-- Why a text states no module: it isn't UTF-8, or has a fault of the notation; or an allocation failed.
 abbrev pub IsNoModule : List ℕ → Fault → Type 0
 IsNoModule text Input = ¬ IsUtf8 text
 IsNoModule text OutOfMemory = Unit {0}
 IsNoModule text fault = (told : NotationFault) × (fault_of_notation told ≡ fault)
     × HasNotationFault text told
 
--- the document is JSON without a float that is converted to this
+-- Why bytes are no JSON value: they aren't UTF-8, or the text isn't JSON; or an allocation failed.
+abbrev pub IsNoJson : List ℕ → Fault → Type 0
+IsNoJson bytes Input = ¬ IsUtf8 bytes
+IsNoJson bytes Json = read_text bytes ≡ None
+IsNoJson bytes OutOfMemory = Unit {0}
+IsNoJson bytes fault = ⊥
+
+-- The document is JSON without a float that is converted to this value.
 abbrev pub IsConversionOf : List ℕ → Data → Type 0
 IsConversionOf document after = (before : Data) × (read_text document ≡ Some before)
     × (has_float before ≡ false) × IsConverted before after
 
--- the JSON of what the document is converted to
+-- JSON without white space between its tokens. Line feeds in strings are escaped, so it is one line.
+abbrev pub IsCompact : List ℕ → Type 0
+IsCompact text = text ≡ print (tokens text)
+
+-- The compact JSON of the value that the document is converted to.
 abbrev pub IsConvertedText : List ℕ → List ℕ → Type 0
 IsConvertedText document text = (after : Data) × IsConversionOf document after × IsInOrder text after
+    × IsCompact text
 
--- the answer to a document, where the subcommand is `analyze` or `convert`
+-- Why a document isn't converted: it is no JSON, or its value can't be converted.
+abbrev pub IsNoConversion : List ℕ → Fault → Type 0
+IsNoConversion document (fault_of.Convert told) = (told ≢ convert.OutOfMemory)
+    × (before : Data) × (read_text document ≡ Some before) × IsConvertFault before told
+IsNoConversion document fault = IsNoJson document fault
+
+-- Why a document of `reach` has no answer: it is no JSON, or its value isn't what `reach` reads.
+abbrev pub IsNoReach : List ℕ → Fault → Type 0
+IsNoReach document (fault_of.Info told) = (value : Data) × (read_text document ≡ Some value)
+    × IsNoQuestion value (fault_of.Info told)
+IsNoReach document fault = IsNoJson document fault
+
+-- The JSON that a subcommand prints for a document.
 abbrev pub IsAnswerText : Subcommand → List ℕ → List ℕ → Type 0
 IsAnswerText Analyze document text = IsInfoText document text
 IsAnswerText Convert document text = IsConvertedText document text
-IsAnswerText Reach document text = Unit {0}
+IsAnswerText Reach document text = IsReachText document text
+
+-- The document has this fault, or an allocation failed.
+abbrev pub IsDocumentFault : Subcommand → List ℕ → Fault → Type 0
+IsDocumentFault Analyze document fault = IsNoModule document fault
+IsDocumentFault Convert document fault = IsNoConversion document fault
+IsDocumentFault Reach document fault = IsNoReach document fault
+
+-- A read or an allocation failed.
+abbrev pub IsReadFailure : Fault → Type 0
+IsReadFailure Input = Unit {0}
+IsReadFailure OutOfMemory = Unit {0}
+IsReadFailure fault = ⊥
+
+-- The document has this fault, or a read or an allocation failed.
+abbrev pub IsInputFault : Subcommand → List ℕ → Fault → Type 0
+IsInputFault subcommand document Input = Unit {0}
+IsInputFault subcommand document fault = IsDocumentFault subcommand document fault
+
+-- The document has this fault, or a read, a write or an allocation failed.
+abbrev pub IsRunFault : Subcommand → List ℕ → Fault → Type 0
+IsRunFault subcommand document Output = Unit {0}
+IsRunFault subcommand document fault = IsInputFault subcommand document fault
 
 -- the answer to a document, and a line feed
 abbrev pub IsAnswerLine : Subcommand → List ℕ → List ℕ → Type 0
@@ -69,13 +119,13 @@ IsAnswerLine subcommand document line = (text : List ℕ) × IsAnswerText subcom
 abbrev pub IsValidDocument : Subcommand → List ℕ → Type 0
 IsValidDocument Analyze document = StatesSource document
 IsValidDocument Convert document = StatesConvertible document
-IsValidDocument Reach document = Unit {0}
+IsValidDocument Reach document = StatesQuestion document
 
 -- the bytes are no text, or one with a fault
 abbrev pub IsFaultyDocument : Subcommand → List ℕ → Type 0
 IsFaultyDocument Analyze document = (¬ IsUtf8 document) ⊎ StatesNoSource document
 IsFaultyDocument Convert document = (¬ IsUtf8 document) ⊎ StatesNoConvertible document
-IsFaultyDocument Reach document = Unit {0}
+IsFaultyDocument Reach document = (¬ IsUtf8 document) ⊎ StatesNoQuestion document
 
 -- the word by which a subcommand is asked for
 abbrev pub name_of : Subcommand → List ℕ

@@ -6,12 +6,16 @@ use Rattle.serde_json.specs.Read.{read as read_text}
 use Rattle.url.specs.Parts.{Parts}
 use Rattle.url.specs.Parser.{parse_url}
 use Rattle.deno_graph_source.specs.Source.{IsValid}
+use Rattle.deno_graph_info.specs.declared.analysis.fault.InfoFault.{InfoFault}
+use Rattle.deno_graph_info.specs.declared.analysis.fault.InfoFault.TheVariants.{OutOfMemory as NoMemory}
+use Rattle.deno_graph_info.specs.declared.analysis.module_info.ModuleInfo.{ModuleInfo}
 use Rattle.modinfo_notation.specs.Document.{HasNotationFault, IsDocumentOf}
 use Rattle.modinfo_notation.specs.declared.document.Document.{Document}
 use Rattle.modinfo_notation.specs.declared.fault.NotationFault.{NotationFault}
 use Rattle.modinfo_notation.specs.declared.fault.NotationFault.TheVariants.{OutOfMemory}
 use Rattle.modinfo_report.specs.Report.{CanBeConverted, CannotBeConverted, MatchReport}
 use Rattle.modinfo_report.specs.declared.report.Report.{Report}
+use Rattle.modinfo.specs.Reach.{Asks, IsQuestionFault}
 
 -- The text states a valid source: a document whose specifier is a URL, and whose tree and comments fit its
 -- source.
@@ -45,3 +49,25 @@ StatesNoConvertible text = (read_text text ≡ None)
 -- the same of a document of `convert`
 abbrev pub ReportsOnStored : List ℕ → Report → Type 0
 ReportsOnStored text = MatchReport (StatesConvertible text) (StatesNoConvertible text)
+
+-- The value asks which modules a root reaches.
+abbrev pub AsksSome : Data → Type 0
+AsksSome value = (modules : List (List ℕ × ModuleInfo)) × (root : List ℕ) × Asks value modules root
+
+-- The value has a fault as one of `reach`, other than that an allocation failed.
+abbrev pub AsksNone : Data → Type 0
+AsksNone value = (fault : InfoFault) × (fault ≢ NoMemory) × IsQuestionFault value fault
+
+-- The text is JSON that asks which modules a root reaches.
+abbrev pub StatesQuestion : List ℕ → Type 0
+StatesQuestion text = (value : Data) × (read_text text ≡ Some value) × AsksSome value
+
+-- The text is no JSON, or JSON with a fault as a document of `reach`.
+abbrev pub StatesNoQuestion : List ℕ → Type 0
+StatesNoQuestion text = (read_text text ≡ None)
+    ⊎ ((value : Data) × (read_text text ≡ Some value) × AsksNone value)
+
+-- A document of `reach` is reported as valid only where it asks something, and as wrong only where it has a
+-- fault.
+abbrev pub ReportsOnQuestion : List ℕ → Report → Type 0
+ReportsOnQuestion text = MatchReport (StatesQuestion text) (StatesNoQuestion text)

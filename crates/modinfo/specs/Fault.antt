@@ -1,5 +1,8 @@
--- What the faults of the libraries are to the program: each is the fault of its name, and refused memory is
--- always the same one.
+-- The program's faults: which fault of a library each is, and the names that are printed. A failed allocation
+-- is always the same fault.
+use Rattle.std.specs.Prelude.{ℕ, List, codes}
+use Rattle.deno_graph_source.specs.declared.tree.fault.SourceFault.{SourceFault}
+use Rattle.deno_graph_source.specs.declared.tree.fault.SourceFault.TheVariants as source
 use Rattle.modinfo_notation.specs.declared.fault.NotationFault.{NotationFault}
 use Rattle.modinfo_notation.specs.declared.fault.NotationFault.TheVariants as notation
 use Rattle.deno_graph_info.specs.declared.analysis.fault.InfoFault.{InfoFault}
@@ -8,12 +11,14 @@ use Rattle.deno_graph_info.specs.declared.conversion.fault.ConvertFault.{Convert
 use Rattle.deno_graph_info.specs.declared.conversion.fault.ConvertFault.TheVariants as convert
 use Rattle.modinfo.specs.declared.fault.Fault.{Fault}
 use Rattle.modinfo.specs.declared.fault.Fault.TheVariants.{
+  Input,
   Json,
   NotInNotation,
   Specifier,
   Source,
   Convert,
   Info,
+  Output,
   OutOfMemory,
 }
 
@@ -34,3 +39,37 @@ fault_of_conversion fault = Convert fault
 abbrev pub fault_of_info : InfoFault → Fault
 fault_of_info info.OutOfMemory = OutOfMemory
 fault_of_info fault = Info fault
+
+-- The printed names of the faults of a source.
+abbrev pub name_of_source : SourceFault → List ℕ
+name_of_source source.RangeReversed = codes "RangeReversed"
+name_of_source source.RangeOutside = codes "RangeOutside"
+name_of_source source.RangeOffBoundary = codes "RangeOffBoundary"
+name_of_source source.CommentText = codes "CommentText"
+name_of_source source.CommentsOverlap = codes "CommentsOverlap"
+name_of_source source.Shape = codes "Shape"
+name_of_source source.OutOfMemory = codes "OutOfMemory"
+
+-- The printed names of the faults of a conversion.
+abbrev pub name_of_conversion : ConvertFault → List ℕ
+name_of_conversion convert.ColumnOverflow = codes "ColumnOverflow"
+name_of_conversion convert.Float = codes "Float"
+name_of_conversion convert.OutOfMemory = codes "OutOfMemory"
+
+-- The printed names of the faults of information.
+abbrev pub name_of_info : InfoFault → List ℕ
+name_of_info info.Shape = codes "Shape"
+name_of_info info.Float = codes "Float"
+name_of_info info.OutOfMemory = codes "OutOfMemory"
+
+-- The printed name of a fault.
+abbrev pub name_of_fault : Fault → List ℕ
+name_of_fault Input = codes "Input"
+name_of_fault Json = codes "Json"
+name_of_fault NotInNotation = codes "Tree"
+name_of_fault Specifier = codes "Specifier"
+name_of_fault (Source fault) = name_of_source fault
+name_of_fault (Convert fault) = name_of_conversion fault
+name_of_fault (Info fault) = name_of_info fault
+name_of_fault Output = codes "Output"
+name_of_fault OutOfMemory = codes "OutOfMemory"

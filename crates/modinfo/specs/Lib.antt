@@ -1,3 +1,7 @@
 pub mod Answer
 pub mod Check
 pub mod Fault
+pub mod Reach
+pub mod Invocation
+pub mod Lines
+pub mod Run

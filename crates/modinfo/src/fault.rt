@@ -1,41 +1,97 @@
+ghost use Rattle.std.specs.Prelude.{◌≡◌};
+ghost use Rattle.modinfo.specs.Fault.{name_of_conversion, name_of_fault, name_of_info, name_of_source};
+
 use deno_graph_info::analysis::{ConvertFault, InfoFault};
 use deno_graph_source::tree::SourceFault;
 use modinfo_notation::NotationFault;
 use std::alloc::{AllocError, AllocFailed};
-use thiserror::Error;
+use std::error::Error;
+use std::fmt;
 
-/// Why the program gave no answer. Each prints as its name: `NotInNotation` as `Tree`, and a fault of a
-/// source, of a conversion or of information as that one does.
-#[derive(Debug, PartialEq, Eq, Drop, Error)]
+/// Why the program printed no answer. Each prints as its name: `NotInNotation` as `Tree`, and a fault
+/// of a source, of a conversion or of information by its own name.
+#[derive(Debug, PartialEq, Eq, Drop)]
 pub enum Fault {
     /// A read failed, or the input isn't UTF-8.
-    #[error("Input")]
     Input,
     /// The input is no JSON, nests deeper than 127 or has a number too large for a float.
-    #[error("Json")]
     Json,
     /// The JSON isn't in the notation.
-    #[error("Tree")]
     NotInNotation,
     /// The specifier is no URL.
-    #[error("Specifier")]
     Specifier,
     /// The tree or the comments don't fit the source.
-    #[error(transparent)]
     Source(SourceFault),
     /// A module's stored information can't be converted.
-    #[error(transparent)]
     Convert(ConvertFault),
     /// The JSON isn't what `reach` reads, or a module's isn't that of a `ModuleInfo`.
-    #[error(transparent)]
     Info(InfoFault),
     /// A write failed.
-    #[error("Output")]
     Output,
-    /// Memory was refused.
-    #[error("OutOfMemory")]
+    /// An allocation failed.
     OutOfMemory,
 }
+
+impl Fault {
+    /// The name that is printed for the fault.
+    pub fn name(&self) -> &'static str
+        ensures { result.now ≡ name_of_fault self.now }
+    {
+        match self {
+            Fault::Input => "Input",
+            Fault::Json => "Json",
+            Fault::NotInNotation => "Tree",
+            Fault::Specifier => "Specifier",
+            Fault::Source(fault) => source_name(fault),
+            Fault::Convert(fault) => conversion_name(fault),
+            Fault::Info(fault) => info_name(fault),
+            Fault::Output => "Output",
+            Fault::OutOfMemory => "OutOfMemory",
+        }
+    }
+}
+
+fn source_name(fault: &SourceFault) -> &'static str
+    ensures { result.now ≡ name_of_source fault.now }
+{
+    match fault {
+        SourceFault::RangeReversed => "RangeReversed",
+        SourceFault::RangeOutside => "RangeOutside",
+        SourceFault::RangeOffBoundary => "RangeOffBoundary",
+        SourceFault::CommentText => "CommentText",
+        SourceFault::CommentsOverlap => "CommentsOverlap",
+        SourceFault::Shape => "Shape",
+        SourceFault::OutOfMemory => "OutOfMemory",
+    }
+}
+
+fn conversion_name(fault: &ConvertFault) -> &'static str
+    ensures { result.now ≡ name_of_conversion fault.now }
+{
+    match fault {
+        ConvertFault::ColumnOverflow => "ColumnOverflow",
+        ConvertFault::Float => "Float",
+        ConvertFault::OutOfMemory => "OutOfMemory",
+    }
+}
+
+fn info_name(fault: &InfoFault) -> &'static str
+    ensures { result.now ≡ name_of_info fault.now }
+{
+    match fault {
+        InfoFault::Shape => "Shape",
+        InfoFault::Float => "Float",
+        InfoFault::OutOfMemory => "OutOfMemory",
+    }
+}
+
+impl fmt::Display for Fault {
+    fn fmt<W: fmt::Write>(&self, f: &mut fmt::Formatter<W>) -> fmt::Result {
+        f.write_str(self.name())
+    }
+}
+
+impl Error for Fault {}
 
 impl From<AllocError> for Fault {
     ghost use Rattle.std.specs.Prelude.{◌≡◌};

@@ -1,10 +1,10 @@
 //! From the bytes of an input to what a subcommand reads.
 
-ghost use Rattle.std.specs.Prelude.{◌≡◌, Some, None, Err, IfOk, IfSome, IsUtf8, MatchResult};
+ghost use Rattle.std.specs.Prelude.{◌≡◌, Some, IfSome, IsUtf8, MatchResult};
 ghost use Rattle.serde_json.specs.View.{view};
 ghost use Rattle.serde_json.specs.Read.{read as read_text};
 ghost use Rattle.modinfo_notation.specs.Document.{IsDocumentOf};
-ghost use Rattle.modinfo.specs.Answer.{IsModuleOf, IsNoModule};
+ghost use Rattle.modinfo.specs.Answer.{IsModuleOf, IsNoJson, IsNoModule, IsReadFailure};
 
 use crate::fault::Fault;
 use deno_graph_source::tree::ParsedSource;
@@ -32,9 +32,8 @@ fn document_of(alloc: Global, input: Vec<u8>) -> Result<Document, Fault>
 
 /// The one JSON value that the input is.
 pub fn parse_json(alloc: Global, input: Vec<u8>) -> Result<Value, Fault>
-    ensures ok { IfOk result (λ value. read_text input.items ≡ Some (view value)) }
-    ensures input { result ≡ Err Fault.Input → ¬ (IsUtf8 input.items) }
-    ensures json { result ≡ Err Fault.Json → read_text input.items ≡ None }
+    ensures { MatchResult result (λ value. read_text input.items ≡ Some (view value))
+        (IsNoJson input.items) }
 {
     Ok(Value::from_str(alloc, text_of(input.as_slice())?)?)
 }
@@ -46,11 +45,13 @@ fn text_of(bytes: &[u8]) -> Result<&str, Fault>
     basic::from_utf8(bytes).map_err(|_| Fault::Input)
 }
 
-/// Reads the input to its end. A refused growth is told from a failed read here, which an
-/// `io::Error` doesn't do. Not inlined, so that its chunk is on the stack only while it reads.
+/// Reads the input to its end. `Input` where a read fails, `OutOfMemory` where an allocation does,
+/// which an `io::Error` doesn't tell apart. Not inlined, so that its chunk is on the stack only while
+/// it reads.
 #[inline(never)]
 pub fn read_to_end<R: Read>(alloc: Global, input: &mut R) -> Result<Vec<u8>, Fault>
-    ensures { IfOk result (λ bytes. IfSome (R.remaining input.old) (λ left. bytes.items ≡ left)) }
+    ensures { MatchResult result (λ bytes. IfSome (R.remaining input.old) (λ left. bytes.items ≡ left))
+        IsReadFailure }
 {
     let mut bytes = Vec::new(alloc);
     let mut chunk = [0u8; CHUNK];

@@ -1,7 +1,8 @@
 //! The words behind the program's name, and what is printed about them.
 
-ghost use Rattle.std.specs.Prelude.{◌≡◌, [], ◌∷◌, codes, false, map, Some};
+ghost use Rattle.std.specs.Prelude.{◌≡◌, [], ◌∷◌, Bool, codes, if◌then◌else◌, map, Some};
 ghost use Rattle.modinfo.specs.Answer.{name_of};
+ghost use Rattle.modinfo.specs.Invocation.{Flags, are_strict, flag_words, have_lines, invocation_of};
 
 use crate::subcommand::Subcommand;
 use crate::task::Task;
@@ -73,13 +74,19 @@ pub enum Invocation {
 }
 
 impl Invocation {
-    /// What the words ask for, if they ask for anything.
+    /// What the words ask for, `None` where they ask for nothing.
     pub fn from_words(words: &[&str]) -> Option<Invocation>
-        ensures answer { (subcommand : Subcommand)
-            → map (λ word. word.now) words.now ≡ name_of subcommand ∷ []
-            → result ≡ Some (Invocation.Document (Task.Answer subcommand)) }
-        ensures check { map (λ word. word.now) words.now ≡ codes "check" ∷ []
-            → result ≡ Some (Invocation.Document (Task.Check Subcommand.Analyze false)) }
+        ensures answer { (subcommand : Subcommand) → (has_lines : Bool)
+            → map (λ word. word.now) words.now
+            ≡ name_of subcommand ∷ (if has_lines then codes "--lines" ∷ [] else [])
+            → result ≡ Some (invocation_of has_lines (Task.Answer subcommand)) }
+        ensures check { (subcommand : Subcommand) → (flags : Flags)
+            → map (λ word. word.now) words.now ≡ codes "check" ∷ name_of subcommand ∷ flag_words flags
+            → result ≡ Some (invocation_of (have_lines flags) (Task.Check subcommand (are_strict flags))) }
+        ensures check_analyze { (flags : Flags)
+            → map (λ word. word.now) words.now ≡ codes "check" ∷ flag_words flags
+            → result ≡ Some
+            (invocation_of (have_lines flags) (Task.Check Subcommand.Analyze (are_strict flags))) }
     {
         match words {
             [word] if *word == "--help" => Some(Invocation::Help),
@@ -97,24 +104,38 @@ impl Invocation {
         }
     }
 
-    /// What the words behind `check` ask for: a subcommand, or else that is `analyze`, and then
-    /// `--lines` and `--strict` in any order.
+    /// What the words after `check` ask for: a subcommand, which is `analyze` where none is named, and
+    /// then flags.
     fn from_check(words: &[&str]) -> Option<Invocation>
-        ensures { words.now ≡ [] → result ≡ Some (Invocation.Document (Task.Check Subcommand.Analyze false)) }
+        ensures named { (subcommand : Subcommand) → (flags : Flags)
+            → map (λ word. word.now) words.now ≡ name_of subcommand ∷ flag_words flags
+            → result ≡ Some (invocation_of (have_lines flags) (Task.Check subcommand (are_strict flags))) }
+        ensures unnamed { (flags : Flags) → map (λ word. word.now) words.now ≡ flag_words flags
+            → result ≡ Some
+            (invocation_of (have_lines flags) (Task.Check Subcommand.Analyze (are_strict flags))) }
     {
-        let (subcommand, flags) = match words {
-            [name, flags @ ..] if !name.starts_with("--") => (Subcommand::from_name(name)?, flags),
-            _ => (Subcommand::Analyze, words),
-        };
-        let mut is_strict = false;
-        let mut has_lines = false;
-        for flag in flags {
-            match *flag {
-                "--strict" if !is_strict => is_strict = true,
-                "--lines" if !has_lines => has_lines = true,
-                _ => return None,
+        match words {
+            [name, flags @ ..] if !name.starts_with("--") => {
+                let subcommand = Subcommand::from_name(name)?;
+                Invocation::of_check(subcommand, flags)
             }
+            _ => Invocation::of_check(Subcommand::Analyze, words),
         }
+    }
+
+    /// A check of documents of a subcommand, with `--lines` and `--strict` in any order.
+    fn of_check(subcommand: Subcommand, flags: &[&str]) -> Option<Invocation>
+        ensures { (given : Flags) → map (λ word. word.now) flags.now ≡ flag_words given
+            → result ≡ Some (invocation_of (have_lines given) (Task.Check subcommand (are_strict given))) }
+    {
+        let (is_strict, has_lines) = match flags {
+            [] => (false, false),
+            [word] if *word == "--strict" => (true, false),
+            [word] if *word == "--lines" => (false, true),
+            [word, other] if *word == "--strict" && *other == "--lines" => (true, true),
+            [word, other] if *word == "--lines" && *other == "--strict" => (true, true),
+            _ => return None,
+        };
         let task = Task::Check {
             subcommand,
             is_strict,

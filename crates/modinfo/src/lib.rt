@@ -6,8 +6,11 @@ pub mod check;
 pub mod fault;
 mod input;
 mod invocation;
+pub mod laws;
 mod lines;
+mod output;
 mod program;
+mod reach;
 pub mod subcommand;
 mod task;
 

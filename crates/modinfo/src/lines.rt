@@ -1,121 +1,261 @@
-//! A document a line, and an answer a line.
+//! A document a line, and a line printed for each.
+
+ghost use Rattle.std.specs.Prelude.{◌≡◌, ◌++◌, ◌∷◌, ℕ, List, [], MatchOption, MatchResult, OnOk, Option, true};
+ghost use Rattle.std.specs.Io.Buffered.{reader_remaining};
+ghost use Rattle.std.specs.Io.{StopsAt};
+ghost use Rattle.std.specs.Io.BufRead.{ends_with_byte, strip_last};
+ghost use Rattle.std.specs.Io.KnownBytes.{Appends, Consumes, IsAtEnd};
+ghost use Rattle.modinfo.specs.Lines.{LeavesFirstLines, LeavesLines, PrintsLine, TakesLines, TakesNext, fault_line, framed, passes_without};
+ghost use Rattle.modinfo.specs.Run.{AppendsFront, IsFailure};
 
 use crate::fault::Fault;
-use crate::task::{Printed, Task};
+use crate::output::write_front;
+use crate::task::Task;
 use memchr::memchr;
-use std::alloc::Global;
-use std::io::{self, BufRead, BufReader, BufWriter, ErrorKind, Read, Write};
+use std::alloc::{AllocError, Global};
+use std::io::{BufRead, BufReader, ErrorKind, Read, Write};
 
 const CHUNK: usize = 65536;
 
-/// Answers each line of the input by one of the output, `{"answer":..}`, a report or
-/// `{"fault":"NAME"}`, in the same order, and says whether each document of a check passed. Answers
-/// are handed on when no further whole line was read. `Input` where a read fails, `Output` where a
-/// write does.
+/// Room for the line of any fault.
+const FAULT_ROOM: usize = 64;
+
+/// Prints a line for each line of the input, `{"answer":..}`, a report or `{"fault":"NAME"}`, in the
+/// same order, and returns whether each document of a check passed. What is printed is written when
+/// no further whole line was read. `Input` where a read fails, `Output` where a write does.
 pub fn answer_lines<R: Read, W: Write>(
     alloc: Global,
     task: Task,
     input: R,
-    output: W,
+    output: &mut W,
 ) -> Result<bool, Fault>
 where
     R: Drop,
-    W: Drop,
+    ensures { MatchResult result
+        (LeavesLines task (R.remaining input) (W.contents output.old) (W.contents output.new))
+        (LeavesFirstLines task (R.remaining input) (W.contents output.old) (W.contents output.new)) }
 {
-    let refused = |_| Fault::OutOfMemory;
-    let mut input = BufReader::with_capacity(alloc, CHUNK, input).map_err(refused)?;
-    let mut output = BufWriter::with_capacity(alloc, CHUNK, output).map_err(refused)?;
+    let mut input = buffered(alloc, input)?;
+    let mut waiting = Vec::with_capacity(alloc, CHUNK + FAULT_ROOM)?;
     let mut is_passed = true;
-    for _ in 0..u64::MAX {
-        let Some(line) = next_line(alloc, &mut input)? else {
-            break;
-        };
-        let printed = line.print(alloc, task);
-        is_passed &= task.lets_pass(&printed);
-        let is_last_at_hand = memchr(b'\n', input.buffer()).is_none();
-        match write_line(&mut output, task, printed, is_last_at_hand) {
-            Ok(()) => {}
-            Err(_) => return Err(Fault::Output),
-        }
-    }
-    Ok(is_passed)
-}
-
-/// A line without its line feed.
-#[derive(Drop)]
-struct Line {
-    bytes: Vec<u8>,
-    /// Memory for it was refused, and it holds none.
-    is_refused: bool,
-}
-
-impl Line {
-    fn push(&mut self, alloc: Global, bytes: &[u8]) {
-        if !self.is_refused && self.bytes.extend_from_slice(bytes).is_err() {
-            self.bytes = Vec::new(alloc);
-            self.is_refused = true;
-        }
-    }
-
-    fn print(self, alloc: Global, task: Task) -> Result<Printed, Fault> {
-        let Line { bytes, is_refused } = self;
-        if is_refused {
-            return Err(Fault::OutOfMemory);
-        }
-        task.print(alloc, bytes)
-    }
-}
-
-/// The next line, or `None` at the end. What is behind the last line feed is a line, where there
-/// is anything.
-fn next_line<R: Read>(
-    alloc: Global,
-    input: &mut BufReader<R, Global>,
-) -> Result<Option<Line>, Fault> {
-    let mut line = Line {
-        bytes: Vec::new(alloc),
-        is_refused: false,
-    };
-    let mut is_begun = false;
-    for _ in 0..u64::MAX {
-        let bytes = match input.fill_buf() {
-            Ok(bytes) => bytes,
-            Err(error) if error.kind() == ErrorKind::Interrupted => continue,
-            Err(_) => return Err(Fault::Input),
-        };
-        if bytes.is_empty() {
-            return Ok(is_begun.then_some(line));
-        }
-        is_begun = true;
-        let end = memchr(b'\n', bytes);
-        let taken = end.unwrap_or(bytes.len());
-        line.push(alloc, &bytes[..taken]);
-        input.consume(taken);
-        if end.is_some() {
-            input.consume(1);
-            return Ok(Some(line));
+    'lines: for _ in 0..u64::MAX {
+        let is_due = waiting.len() >= CHUNK || memchr(b'\n', input.buffer()).is_none();
+        hand_on(output, &mut waiting, is_due)?;
+        match answer_next(alloc, task, &mut input, &mut waiting)? {
+            Some(passes) => is_passed &= passes,
+            None => {
+                hand_on(output, &mut waiting, true)?;
+                return Ok(is_passed);
+            }
         }
     }
     Err(Fault::Input)
 }
 
-fn write_line<W: Write>(
-    output: &mut W,
-    task: Task,
-    printed: Result<Printed, Fault>,
-    is_last_at_hand: bool,
-) -> io::Result<()> {
-    match printed {
-        Ok(printed) => {
-            let (before, behind) = task.frame();
-            output.write_all(before.as_bytes())?;
-            output.write_all(printed.line.as_bytes())?;
-            output.write_all(behind.as_bytes())?;
-        }
-        Err(fault) => writeln!(output, "{{\"fault\":\"{fault}\"}}")?,
+fn buffered<R: Read>(alloc: Global, input: R) -> Result<BufReader<R, Global>, Fault>
+where
+    R: Drop,
+    ensures { MatchResult result (λ reader. reader_remaining R.remaining reader ≡ R.remaining input)
+        (λ fault. fault ≡ Fault.OutOfMemory) }
+{
+    match BufReader::with_capacity(alloc, CHUNK, input) {
+        Ok(reader) => Ok(reader),
+        Err(_) => Err(Fault::OutOfMemory),
     }
-    if is_last_at_hand {
-        output.flush()?;
+}
+
+/// Writes what waits, if it is due, and flushes the output.
+fn hand_on<W: Write>(output: &mut W, waiting: &mut Vec<u8>, is_due: bool) -> Result<(), Fault>
+    ensures { MatchResult result
+        (λ _. (written : List ℕ) × (waiting.old.items ≡ written ++ waiting.new.items)
+        × Appends (W.contents output.old) (W.contents output.new) written
+        × (is_due ≡ true → waiting.new.items ≡ []))
+        (λ fault. (fault ≡ Fault.Output)
+        × AppendsFront (W.contents output.old) (W.contents output.new) waiting.old.items) }
+{
+    if !is_due || waiting.is_empty() {
+        return Ok(());
     }
+    if !write_front(output, waiting.as_slice()) || output.flush().is_err() {
+        return Err(Fault::Output);
+    }
+    waiting.clear();
+    waiting.shrink_to(CHUNK + FAULT_ROOM);
     Ok(())
+}
+
+/// Reads a line, and appends what is printed for it to what waits. Returns whether the line passes,
+/// or `None` at the end of the input.
+fn answer_next<R: Read>(
+    alloc: Global,
+    task: Task,
+    input: &mut BufReader<R, Global>,
+    waiting: &mut Vec<u8>,
+) -> Result<Option<bool>, Fault>
+    ensures { MatchResult result (λ next. MatchOption next
+        ((waiting.new.items ≡ waiting.old.items)
+        × IsAtEnd (reader_remaining R.remaining input.old))
+        (λ passes. (line : List ℕ) × (printed : List ℕ)
+        × TakesLines (reader_remaining R.remaining input.old)
+            (reader_remaining R.remaining input.new) (line ∷ [])
+        × PrintsLine task line passes printed
+        × (waiting.new.items ≡ waiting.old.items ++ printed))) IsFailure }
+{
+    match next_line(alloc, input)? {
+        Next::Line(line) => Ok(Some(print_line(alloc, task, line, waiting)?)),
+        Next::Skipped => Ok(Some(print_refused(task, waiting)?)),
+        Next::End => Ok(None),
+    }
+}
+
+/// What was read for the next line.
+#[derive(Drop)]
+enum Next {
+    /// The line, without its line feed.
+    Line(Vec<u8>),
+    /// Memory for the line was refused, and it was skipped.
+    Skipped,
+    /// The input has no further line.
+    End,
+}
+
+/// Reads the next line. What follows the last line feed is a line if it isn't empty. A read that
+/// fails for want of memory counts as an allocation that fails.
+fn next_line<R: Read>(alloc: Global, input: &mut BufReader<R, Global>) -> Result<Next, Fault>
+    ensures { MatchResult result
+        (TakesNext (reader_remaining R.remaining input.old) (reader_remaining R.remaining input.new))
+        IsFailure }
+{
+    let mut line = Vec::new(alloc);
+    match input.read_until(b'\n', &mut line) {
+        Ok(0) => Ok(Next::End),
+        Ok(_) => Ok(Next::Line(without_feed(line))),
+        Err(error) if error.kind() == ErrorKind::OutOfMemory => skip_rest(input, line),
+        Err(_) => Err(Fault::Input),
+    }
+}
+
+/// The line without its line feed, if it has one.
+fn without_feed(mut line: Vec<u8>) -> Vec<u8>
+    ensures { result.items ≡ strip_last 10 line.items }
+{
+    if ends_with_feed(line.as_slice()) {
+        line.pop();
+    }
+    line
+}
+
+fn ends_with_feed(bytes: &[u8]) -> bool
+    ensures { result ≡ ends_with_byte 10 bytes.now }
+{
+    let count = bytes.len();
+    count > 0 && bytes[count - 1] == b'\n'
+}
+
+/// Skips what is left of a line, for which memory was refused after its first bytes.
+fn skip_rest<R: Read>(input: &mut BufReader<R, Global>, first: Vec<u8>) -> Result<Next, Fault>
+    ensures { (before : Option (List ℕ)) → StopsAt first.items 10
+        → Consumes before (reader_remaining R.remaining input.old) first.items
+        → MatchResult result (TakesNext before (reader_remaining R.remaining input.new)) IsFailure }
+{
+    if ends_with_feed(first.as_slice()) {
+        return Ok(Next::Skipped);
+    }
+    let count = first.len();
+    drop(first);
+    match input.skip_until(b'\n') {
+        Ok(skipped) if count > 0 || skipped > 0 => Ok(Next::Skipped),
+        Ok(_) => Err(Fault::OutOfMemory),
+        Err(_) => Err(Fault::Input),
+    }
+}
+
+/// Appends what is printed for a line, and returns whether the line passes.
+fn print_line(
+    alloc: Global,
+    task: Task,
+    line: Vec<u8>,
+    waiting: &mut Vec<u8>,
+) -> Result<bool, Fault>
+    ensures { MatchResult result
+        (λ passes. (printed : List ℕ) × PrintsLine task line.items passes printed
+        × (waiting.new.items ≡ waiting.old.items ++ printed))
+        (λ fault. fault ≡ Fault.OutOfMemory) }
+{
+    match task.print(alloc, line) {
+        Ok(printed) => match put_framed(task, printed.line.as_str(), waiting) {
+            Ok(()) => Ok(printed.is_passed),
+            Err(_) => print_refused(task, waiting),
+        },
+        Err(fault) => {
+            put_fault(&fault, waiting)?;
+            Ok(passes_without(task))
+        }
+    }
+}
+
+/// Appends what is printed for a line for which memory was refused, and returns whether it passes.
+fn print_refused(task: Task, waiting: &mut Vec<u8>) -> Result<bool, Fault>
+    ensures { MatchResult result
+        (λ passes. (passes ≡ passes_without task)
+        × (waiting.new.items ≡ waiting.old.items ++ fault_line Fault.OutOfMemory))
+        (λ fault. fault ≡ Fault.OutOfMemory) }
+{
+    put_fault(&Fault::OutOfMemory, waiting)?;
+    Ok(passes_without(task))
+}
+
+/// Whether a line without an answer or a report passes.
+fn passes_without(task: Task) -> bool
+    ensures { result ≡ passes_without task }
+{
+    match task {
+        Task::Answer(_) => true,
+        Task::Check { .. } => false,
+    }
+}
+
+/// Appends the line that holds an answer or a report, or nothing where memory is refused.
+fn put_framed(task: Task, text: &str, waiting: &mut Vec<u8>) -> Result<(), AllocError>
+    ensures { MatchResult result
+        (λ _. waiting.new.items ≡ waiting.old.items ++ framed task text.now)
+        (λ _. waiting.new.items ≡ waiting.old.items) }
+{
+    let start = waiting.len();
+    let (before, after) = frame(task);
+    match put_parts(before, text, after, waiting) {
+        Ok(()) => Ok(()),
+        Err(refused) => {
+            waiting.truncate(start);
+            Err(refused)
+        }
+    }
+}
+
+/// What is before and after an answer or a report in its line.
+fn frame(task: Task) -> (&'static str, &'static str)
+    ensures { (text : List ℕ) → result.0.now ++ text ++ result.1.now ≡ framed task text }
+{
+    match task {
+        Task::Answer(_) => ("{\"answer\":", "}\n"),
+        Task::Check { .. } => ("", "\n"),
+    }
+}
+
+/// Appends the line that holds a fault.
+fn put_fault(fault: &Fault, waiting: &mut Vec<u8>) -> Result<(), AllocError>
+    ensures { OnOk result (waiting.new.items ≡ waiting.old.items ++ fault_line fault.now) }
+{
+    put_parts("{\"fault\":\"", fault.name(), "\"}\n", waiting)
+}
+
+/// Appends three texts, or a beginning of them where memory is refused.
+fn put_parts(before: &str, text: &str, after: &str, waiting: &mut Vec<u8>) -> Result<(), AllocError>
+    ensures { MatchResult result
+        (λ _. waiting.new.items ≡ waiting.old.items ++ (before.now ++ text.now ++ after.now))
+        (λ _. (added : List ℕ) × (waiting.new.items ≡ waiting.old.items ++ added)) }
+{
+    waiting.extend_from_slice(before.as_bytes())?;
+    waiting.extend_from_slice(text.as_bytes())?;
+    waiting.extend_from_slice(after.as_bytes())
 }

@@ -1,30 +1,32 @@
-ghost use Rattle.std.specs.Prelude.{◌≡◌, [], ◌∷◌, ℕ, Bool, codes, List, IfSome, Ok, OnOk, map, true};
-ghost use Rattle.std.specs.Io.KnownBytes.{Appends};
-ghost use Rattle.modinfo.specs.Check.{StatesSource};
-ghost use Rattle.modinfo.specs.Answer.{IsAnswerLine, IsValidDocument, name_of};
+ghost use Rattle.std.specs.Prelude.{◌≡◌, [], ◌∷◌, ◌++◌, ℕ, Bool, codes, false, List, IfSome, map, if◌then◌else◌};
+ghost use Rattle.std.specs.Prelude.{MatchResult, OnOk, true};
+ghost use Rattle.std.specs.Io.KnownBytes.{Appends, Keeps};
+ghost use Rattle.modinfo.specs.Answer.{IsRunFault, name_of};
+ghost use Rattle.modinfo.specs.Invocation.{Flags, are_strict, flag_words, have_lines, invocation_of};
+ghost use Rattle.modinfo.specs.Lines.{IsLinesRun, LeavesFirstLines, LeavesLines};
+ghost use Rattle.modinfo.specs.Run.{AppendsFront, IsFailure, IsRun, Leaves, LeavesFault, PrintsAnswer, PrintsReport, error_line};
 
 use crate::fault::Fault;
 use crate::input::read_to_end;
 use crate::invocation::{HELP, Invocation, USAGE, VERSION};
 use crate::lines::answer_lines;
+use crate::output::write_front;
 use crate::subcommand::Subcommand;
 use crate::task::{Printed, Task};
 use std::alloc::Global;
 use std::io::{self, Read, Write};
 
 /// One run of the program, and its exit status. `words` are the arguments after the program's name:
-/// `analyze`, `convert` or `reach`, with `--lines` behind it or not; `check`, with one of these three
-/// behind it or not, and then with `--lines`, `--strict`, both or none; or `--help` or `--version`
-/// alone.
+/// `analyze`, `convert` or `reach`, and then `--lines` or not; `check`, and then one of these three
+/// or none, and then `--lines`, `--strict`, both or none; or `--help` or `--version` alone.
 ///
-/// `--help` and `--version` read nothing, and print their text: status 0. The others read `input` to
-/// its end, and write the answer to `output` as one line of JSON: status 0. Where
-/// that fails `errors` gets a line with the fault's name, and `output` nothing, or after a failed
-/// write maybe a beginning: status 1. A check answers with its report, and has status 1 too where a
-/// document has a fault, or with `--strict` a warning. With `--lines` each line of the input is
-/// answered by a line of the output, and only a read or a write that fails, or memory that is refused
-/// before the first line, ends the run. Other words give a line on the usage: status 2. A failed write
-/// to `errors` is passed over.
+/// `--help` and `--version` read nothing and print their text: status 0. The others read `input` to
+/// its end and write one line of JSON to `output`: status 0. Where that fails `errors` gets a line
+/// with the fault's name, and `output` nothing, or a beginning where a write failed: status 1. A
+/// check prints its report, and has status 1 too where the document has a fault, or with `--strict`
+/// a warning. With `--lines` each line of the input is a document, for which one line is printed, and
+/// only a failed read, write or allocation ends the run. Other words print a line on the usage:
+/// status 2. A failed write to `errors` is ignored.
 pub fn serve<R: Read, W: Write, E: Write>(
     alloc: Global,
     words: &[&str],
@@ -33,31 +35,81 @@ pub fn serve<R: Read, W: Write, E: Write>(
     errors: &mut E,
 ) -> u8
     ensures answer { (subcommand : Subcommand) → map (λ word. word.now) words.now ≡ name_of subcommand ∷ []
-        → result ≡ 0 → (document : List ℕ) × IfSome (R.remaining input.old) (λ left. document ≡ left)
-        × (line : List ℕ) × IsAnswerLine subcommand document line
-        × Appends (W.contents output.old) (W.contents output.new) line }
-    ensures check { map (λ word. word.now) words.now ≡ codes "check" ∷ [] → result ≡ 0
         → (document : List ℕ) × IfSome (R.remaining input.old) (λ left. document ≡ left)
-        × StatesSource document }
+        × IsRun (PrintsAnswer subcommand document) (IsRunFault subcommand document)
+        (W.contents output.old) (W.contents output.new) (E.contents errors.old) (E.contents errors.new)
+        result }
+    ensures check { (subcommand : Subcommand) → (flags : Flags)
+        → map (λ word. word.now) words.now ≡ codes "check" ∷ name_of subcommand ∷ flag_words flags
+        → have_lines flags ≡ false
+        → (document : List ℕ) × IfSome (R.remaining input.old) (λ left. document ≡ left)
+        × IsRun (PrintsReport subcommand (are_strict flags) document) IsFailure
+        (W.contents output.old) (W.contents output.new) (E.contents errors.old) (E.contents errors.new)
+        result }
+    ensures check_analyze { (flags : Flags)
+        → map (λ word. word.now) words.now ≡ codes "check" ∷ flag_words flags
+        → have_lines flags ≡ false
+        → (document : List ℕ) × IfSome (R.remaining input.old) (λ left. document ≡ left)
+        × IsRun (PrintsReport Subcommand.Analyze (are_strict flags) document) IsFailure
+        (W.contents output.old) (W.contents output.new) (E.contents errors.old) (E.contents errors.new)
+        result }
+    ensures lines { (subcommand : Subcommand)
+        → map (λ word. word.now) words.now ≡ name_of subcommand ∷ codes "--lines" ∷ []
+        → IsLinesRun (Task.Answer subcommand) (R.remaining input.old)
+        (W.contents output.old) (W.contents output.new) (E.contents errors.old) (E.contents errors.new)
+        result }
+    ensures check_lines { (subcommand : Subcommand) → (flags : Flags)
+        → map (λ word. word.now) words.now ≡ codes "check" ∷ name_of subcommand ∷ flag_words flags
+        → have_lines flags ≡ true
+        → IsLinesRun (Task.Check subcommand (are_strict flags)) (R.remaining input.old)
+        (W.contents output.old) (W.contents output.new) (E.contents errors.old) (E.contents errors.new)
+        result }
+    ensures check_analyze_lines { (flags : Flags)
+        → map (λ word. word.now) words.now ≡ codes "check" ∷ flag_words flags
+        → have_lines flags ≡ true
+        → IsLinesRun (Task.Check Subcommand.Analyze (are_strict flags)) (R.remaining input.old)
+        (W.contents output.old) (W.contents output.new) (E.contents errors.old) (E.contents errors.new)
+        result }
+    ensures usage { result ≡ 2 → Keeps (W.contents output.old) (W.contents output.new) }
 {
     let Some(invocation) = Invocation::from_words(words) else {
-        let _ = writeln!(errors, "{USAGE}");
+        print_line(errors, USAGE);
         return 2;
     };
     match answer(alloc, invocation, input, output) {
-        Ok(true) => 0,
-        Ok(false) => 1,
+        Ok(passes) => status_of(passes),
         Err(fault) => {
-            tell(errors, &fault);
+            print_fault(errors, &fault);
             1
         }
     }
 }
 
-fn tell<E: Write>(errors: &mut E, fault: &Fault) {
-    let _ = writeln!(errors, "modinfo: {fault}");
+fn status_of(passes: bool) -> u8
+    ensures { result ≡ (if passes then 0 else 1) }
+{
+    if passes { 0 } else { 1 }
 }
 
+/// Prints the line of a fault. A write that fails ends the line there.
+fn print_fault<E: Write>(errors: &mut E, fault: &Fault)
+    ensures { AppendsFront (E.contents errors.old) (E.contents errors.new) (error_line fault.now) }
+{
+    if write_front(errors, b"modinfo: ") {
+        print_line(errors, fault.name());
+    }
+}
+
+/// Prints a text and a line feed. A write that fails ends the line there.
+fn print_line<E: Write>(errors: &mut E, text: &str)
+    ensures { AppendsFront (E.contents errors.old) (E.contents errors.new) (text.now ++ codes "\n") }
+{
+    if write_front(errors, text.as_bytes()) {
+        let _ = write_front(errors, b"\n");
+    }
+}
+
+/// Runs an invocation, and returns whether what was printed lets the run pass.
 fn answer<R: Read, W: Write>(
     alloc: Global,
     invocation: Invocation,
@@ -65,13 +117,20 @@ fn answer<R: Read, W: Write>(
     output: &mut W,
 ) -> Result<bool, Fault>
     ensures answer { (subcommand : Subcommand) → invocation ≡ Invocation.Document (Task.Answer subcommand)
-        → OnOk result ((document : List ℕ) × IfSome (R.remaining input.old) (λ left. document ≡ left)
-        × (line : List ℕ) × IsAnswerLine subcommand document line
-        × Appends (W.contents output.old) (W.contents output.new) line) }
-    ensures check { (subcommand : Subcommand) → (is_strict : Bool)
-        → invocation ≡ Invocation.Document (Task.Check subcommand is_strict) → result ≡ Ok true
         → (document : List ℕ) × IfSome (R.remaining input.old) (λ left. document ≡ left)
-        × IsValidDocument subcommand document }
+        × MatchResult result
+        (Leaves (PrintsAnswer subcommand document) (W.contents output.old) (W.contents output.new))
+        (LeavesFault (IsRunFault subcommand document) (W.contents output.old) (W.contents output.new)) }
+    ensures check { (subcommand : Subcommand) → (is_strict : Bool)
+        → invocation ≡ Invocation.Document (Task.Check subcommand is_strict)
+        → (document : List ℕ) × IfSome (R.remaining input.old) (λ left. document ≡ left)
+        × MatchResult result
+        (Leaves (PrintsReport subcommand is_strict document) (W.contents output.old) (W.contents output.new))
+        (LeavesFault IsFailure (W.contents output.old) (W.contents output.new)) }
+    ensures lines { (task : Task) → invocation ≡ Invocation.Lines task
+        → MatchResult result
+        (LeavesLines task (R.remaining input.old) (W.contents output.old) (W.contents output.new))
+        (LeavesFirstLines task (R.remaining input.old) (W.contents output.old) (W.contents output.new)) }
 {
     match invocation {
         Invocation::Help => print(output, HELP)?,
@@ -82,6 +141,7 @@ fn answer<R: Read, W: Write>(
     Ok(true)
 }
 
+/// Reads the input, which is one document, and prints one line for it.
 fn answer_document<R: Read, W: Write>(
     alloc: Global,
     task: Task,
@@ -89,13 +149,15 @@ fn answer_document<R: Read, W: Write>(
     output: &mut W,
 ) -> Result<bool, Fault>
     ensures answer { (subcommand : Subcommand) → task ≡ Task.Answer subcommand
-        → OnOk result ((document : List ℕ) × IfSome (R.remaining input.old) (λ left. document ≡ left)
-        × (line : List ℕ) × IsAnswerLine subcommand document line
-        × Appends (W.contents output.old) (W.contents output.new) line) }
-    ensures check { (subcommand : Subcommand) → (is_strict : Bool) → task ≡ Task.Check subcommand is_strict
-        → result ≡ Ok true
         → (document : List ℕ) × IfSome (R.remaining input.old) (λ left. document ≡ left)
-        × IsValidDocument subcommand document }
+        × MatchResult result
+        (Leaves (PrintsAnswer subcommand document) (W.contents output.old) (W.contents output.new))
+        (LeavesFault (IsRunFault subcommand document) (W.contents output.old) (W.contents output.new)) }
+    ensures check { (subcommand : Subcommand) → (is_strict : Bool) → task ≡ Task.Check subcommand is_strict
+        → (document : List ℕ) × IfSome (R.remaining input.old) (λ left. document ≡ left)
+        × MatchResult result
+        (Leaves (PrintsReport subcommand is_strict document) (W.contents output.old) (W.contents output.new))
+        (LeavesFault IsFailure (W.contents output.old) (W.contents output.new)) }
 {
     let document = read_to_end(alloc, input)?;
     let Printed {
@@ -108,7 +170,8 @@ fn answer_document<R: Read, W: Write>(
 }
 
 fn print<W: Write>(output: &mut W, text: &str) -> Result<(), Fault>
-    ensures { OnOk result (Appends (W.contents output.old) (W.contents output.new) text.now) }
+    ensures { MatchResult result (λ _. Appends (W.contents output.old) (W.contents output.new) text.now)
+        (λ fault. fault ≡ Fault.Output) }
 {
     match write_text(output, text) {
         Ok(()) => Ok(()),

@@ -1,23 +1,24 @@
 //! What the program can be asked for, each from a text to the JSON that is printed.
 
-ghost use Rattle.std.specs.Prelude.{◌≡◌, ◌≢◌, ℕ, IfErr, IfOk, IfSome, List, MatchResult, None};
+ghost use Rattle.std.specs.Prelude.{◌≡◌, ◌≢◌, ℕ, IfOk, IfSome, List, MatchResult, None};
 ghost use Rattle.std.specs.String.{string_bytes};
 ghost use Rattle.serde_json.specs.View.{view};
 ghost use Rattle.deno_graph_source.specs.ParsedSource.{ParsedModule};
 ghost use Rattle.modinfo_report.specs.Report.{MatchReport};
-ghost use Rattle.modinfo.specs.Answer.{IsAnswerLine, IsAnswerText, IsConversionOf, IsInfoOfModule, IsInfoText, IsModuleOf, IsNoModule, name_of};
-ghost use Rattle.modinfo.specs.Answer.{IsFaultyDocument, IsValidDocument};
+ghost use Rattle.deno_graph_ast.specs.InfoOfModule.{IsInfoOfModule};
+ghost use Rattle.modinfo.specs.Answer.{IsAnswerLine, IsAnswerText, IsConversionOf, IsConvertedText, name_of};
+ghost use Rattle.modinfo.specs.Answer.{IsDocumentFault, IsInfoText, IsInputFault, IsModuleOf, IsFaultyDocument};
+ghost use Rattle.modinfo.specs.Answer.{IsNoConversion, IsNoModule, IsValidDocument};
 
 use crate::check::{Report, check_document, check_modules, check_stored, report_bytes};
 use crate::fault::Fault;
 use crate::input::{parse_json, parse_source, read_to_end};
+use crate::reach::reach_text;
 use deno_graph_ast::module_info;
-use deno_graph_info::analysis::{InfoFault, ModuleInfo, module_graph_1_into_2};
-use deno_graph_info::reach::reach;
-use serde_json::{Map, Value};
+use deno_graph_info::analysis::{ModuleInfo, module_graph_1_into_2};
+use serde_json::Value;
 use simdutf8::compat;
 use std::alloc::{AllocError, Global};
-use std::collections::BTreeMap;
 use std::io::Read;
 
 /// What the program is asked for.
@@ -45,27 +46,45 @@ impl Subcommand {
         }
     }
 
-    /// Reads the input to its end, and gives the line that answers it: compact JSON and a line feed.
+    /// Reads the input to its end and returns what is printed for it: compact JSON and a line feed.
+    /// The error is a fault of the document; or `Input` where a read fails, or `OutOfMemory` where an
+    /// allocation does.
     pub fn answer<R: Read>(self, alloc: Global, input: &mut R) -> Result<String, Fault>
-        ensures { IfOk result (λ line. (document : List ℕ)
-            × IfSome (R.remaining input.old) (λ left. document ≡ left)
-            × IsAnswerLine self document (string_bytes line)) }
+        ensures { (document : List ℕ) × IfSome (R.remaining input.old) (λ left. document ≡ left)
+            × MatchResult result (λ line. IsAnswerLine self document (string_bytes line))
+            (IsInputFault self document) }
     {
         let bytes = read_to_end(alloc, input)?;
-        let mut line = self.answer_bytes(alloc, bytes)?;
+        self.answer_line(alloc, bytes)
+    }
+
+    /// Like `answer`, for a document in memory, of which a copy is made.
+    pub fn answer_slice(self, alloc: Global, document: &[u8]) -> Result<String, Fault>
+        ensures { MatchResult result (λ line. IsAnswerLine self document.now (string_bytes line))
+            (IsDocumentFault self document.now) }
+    {
+        self.answer_line(alloc, Vec::from_slice(alloc, document)?)
+    }
+
+    fn answer_line(self, alloc: Global, input: Vec<u8>) -> Result<String, Fault>
+        ensures { MatchResult result (λ line. IsAnswerLine self input.items (string_bytes line))
+            (IsDocumentFault self input.items) }
+    {
+        let mut line = self.answer_bytes(alloc, input)?;
         line.push('\n')?;
         Ok(line)
     }
 
-    /// The answer to a whole input: compact JSON, without a line feed.
+    /// What is printed for a whole document: compact JSON, without a line feed. The error is a fault
+    /// of the document, or `OutOfMemory` where an allocation fails.
     pub fn answer_bytes(self, alloc: Global, input: Vec<u8>) -> Result<String, Fault>
-        ensures answer { IfOk result (λ text. IsAnswerText self input.items (string_bytes text)) }
-        ensures fault { self ≡ Subcommand.Analyze → IfErr result (IsNoModule input.items) }
+        ensures { MatchResult result (λ text. IsAnswerText self input.items (string_bytes text))
+            (IsDocumentFault self input.items) }
     {
         match self {
             Subcommand::Analyze => analyze(alloc, input),
-            Subcommand::Convert => Ok(convert(alloc, input)?.to_string(alloc)?),
-            Subcommand::Reach => Ok(reach_of(alloc, input)?.to_string(alloc)?),
+            Subcommand::Convert => convert(alloc, input),
+            Subcommand::Reach => reach_text(alloc, input),
         }
     }
 }
@@ -105,49 +124,17 @@ fn info_of(alloc: Global, input: Vec<u8>) -> Result<ModuleInfo, Fault>
     Ok(module_info(alloc, &source)?)
 }
 
-fn convert(alloc: Global, input: Vec<u8>) -> Result<Value, Fault>
-    ensures { IfOk result (λ after. IsConversionOf input.items (view after)) }
+fn convert(alloc: Global, input: Vec<u8>) -> Result<String, Fault>
+    ensures { MatchResult result (λ text. IsConvertedText input.items (string_bytes text))
+        (IsNoConversion input.items) }
+{
+    Ok(converted(alloc, input)?.to_string(alloc)?)
+}
+
+fn converted(alloc: Global, input: Vec<u8>) -> Result<Value, Fault>
+    ensures { MatchResult result (λ after. IsConversionOf input.items (view after))
+        (IsNoConversion input.items) }
 {
     let before = parse_json(alloc, input)?;
     Ok(module_graph_1_into_2(alloc, before)?)
-}
-
-// Both members are looked for before any information is read.
-fn reach_of(alloc: Global, input: Vec<u8>) -> Result<Value, Fault> {
-    let Some((modules, root)) = modules_and_root(parse_json(alloc, input)?) else {
-        return Err(Fault::Info(InfoFault::Shape));
-    };
-    let infos = read_infos(alloc, modules)?;
-    let mut keys = Vec::new(alloc);
-    for key in reach(alloc, &infos, root.as_str())? {
-        keys.push(Value::String(key))?;
-    }
-    Ok(Value::Array(keys))
-}
-
-fn modules_and_root(document: Value) -> Option<(Map<String, Value>, String)> {
-    match document {
-        Value::Object(members) => {
-            let mut members = members;
-            match (members.remove("modules"), members.remove("root")) {
-                (Some(Value::Object(modules)), Some(Value::String(root))) => Some((modules, root)),
-                _ => None,
-            }
-        }
-        _ => None,
-    }
-}
-
-// The JSON of a module is gone before that of the next is read.
-fn read_infos(
-    alloc: Global,
-    modules: Map<String, Value>,
-) -> Result<BTreeMap<String, ModuleInfo>, Fault> {
-    let mut infos = BTreeMap::new(alloc);
-    for (key, value) in modules {
-        let info = ModuleInfo::from_value(alloc, &value)?;
-        drop(value);
-        drop(infos.insert(key, info)?);
-    }
-    Ok(infos)
 }

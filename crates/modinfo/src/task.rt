@@ -1,17 +1,17 @@
-ghost use Rattle.std.specs.Prelude.{◌≡◌, Bool, IfOk, IsTrue};
+ghost use Rattle.std.specs.Prelude.{◌≡◌, ◌⊎◌, Bool, IsTrue, true, MatchBool, MatchResult};
 ghost use Rattle.std.specs.String.{string_bytes};
-ghost use Rattle.modinfo.specs.Answer.{IsAnswerText, IsValidDocument};
+ghost use Rattle.modinfo.specs.Answer.{IsAnswerText, IsDocumentFault, IsFaultyDocument, IsValidDocument};
 
 use crate::fault::Fault;
 use crate::subcommand::Subcommand;
 use std::alloc::Global;
 
-/// What is done with a document.
+/// What is done with each document.
 #[derive(Debug, Clone, Copy, PartialEq, Eq)]
 pub enum Task {
-    /// The subcommand's answer to it is printed.
+    /// Prints what the subcommand makes of the document.
     Answer(Subcommand),
-    /// A report on it, as a document of the subcommand, is printed. Where it is strict a warning
+    /// Prints a report on the document, as one of the subcommand. Where the check is strict a warning
     /// counts as a fault does.
     Check {
         subcommand: Subcommand,
@@ -19,24 +19,29 @@ pub enum Task {
     },
 }
 
-/// What is printed about a document.
+/// What is printed for a document.
 #[derive(Debug, PartialEq, Eq, Drop)]
 pub struct Printed {
     /// One line of JSON, without a line feed.
     pub line: String,
-    /// Whether the document is as it has to be.
+    /// Whether the check passed; true where no check was asked for.
     pub is_passed: bool,
 }
 
 impl Task {
-    /// What is printed about a document.
+    /// What is printed for a document. The error is a fault of the document, or `OutOfMemory` where
+    /// an allocation fails; of a check the second alone.
     pub fn print(self, alloc: Global, document: Vec<u8>) -> Result<Printed, Fault>
         ensures answer { (subcommand : Subcommand) → self ≡ Task.Answer subcommand
-            → IfOk result (λ printed. IsTrue printed.is_passed
-            × IsAnswerText subcommand document.items (string_bytes printed.line)) }
+            → MatchResult result (λ printed. IsTrue printed.is_passed
+            × IsAnswerText subcommand document.items (string_bytes printed.line))
+            (IsDocumentFault subcommand document.items) }
         ensures check { (subcommand : Subcommand) → (is_strict : Bool)
             → self ≡ Task.Check subcommand is_strict
-            → IfOk result (λ printed. IsTrue printed.is_passed → IsValidDocument subcommand document.items) }
+            → MatchResult result (λ printed. MatchBool printed.is_passed
+            (IsValidDocument subcommand document.items)
+            (IsFaultyDocument subcommand document.items ⊎ (is_strict ≡ true)))
+            (λ fault. fault ≡ Fault.OutOfMemory) }
     {
         match self {
             Task::Answer(subcommand) => Ok(Printed {
@@ -53,23 +58,6 @@ impl Task {
                     is_passed: report.passes(is_strict),
                 })
             }
-        }
-    }
-
-    /// Whether what is printed lets the run pass: only a check can fail a run.
-    pub fn lets_pass(self, printed: &Result<Printed, Fault>) -> bool {
-        match (self, printed) {
-            (Task::Answer(_), _) => true,
-            (Task::Check { .. }, Ok(printed)) => printed.is_passed,
-            (Task::Check { .. }, Err(_)) => false,
-        }
-    }
-
-    /// What is around the line where it is one of many.
-    pub fn frame(self) -> (&'static str, &'static str) {
-        match self {
-            Task::Answer(_) => ("{\"answer\":", "}\n"),
-            Task::Check { .. } => ("", "\n"),
         }
     }
 }

@@ -2,10 +2,10 @@
 //! whatever else calls functions of C. `include/modinfo.h` declares what it exports.
 #![tactic(auto)]
 
-ghost use Rattle.std.specs.Prelude.{◌≡◌, IfOk, List, ℕ};
-ghost use Rattle.std.specs.String.{string_bytes};
-ghost use Rattle.modinfo.specs.Answer.{IsAnswerLine};
-ghost use Rattle.modinfo_c.specs.Call.{IsAnswered, IsLeft, IsReport};
+ghost use Rattle.std.specs.Prelude.{◌≡◌};
+ghost use Rattle.modinfo.specs.Answer.{IsAnswerLine, IsDocumentFault};
+ghost use Rattle.modinfo.specs.Fault.{name_of_fault};
+ghost use Rattle.modinfo_c.specs.Call.{IsAnswered, IsLeft, IsOutOfMemory, IsReport};
 
 use modinfo::{Fault, Subcommand};
 use std::alloc::{AllocError, Global};
@@ -39,7 +39,8 @@ pub extern "C" fn modinfo_analyze(
     answer: &mut [u8],
     length: &mut usize,
 ) -> u8
-    ensures { IsAnswered (IsAnswerLine Subcommand.Analyze document.now) answer.old answer.new length.new result }
+    ensures { IsAnswered (IsAnswerLine Subcommand.Analyze document.now)
+        (IsDocumentFault Subcommand.Analyze document.now) answer.old answer.new length.new result }
 {
     call(alloc, Subcommand::Analyze, document, answer, length)
 }
@@ -52,7 +53,8 @@ pub extern "C" fn modinfo_convert(
     answer: &mut [u8],
     length: &mut usize,
 ) -> u8
-    ensures { IsAnswered (IsAnswerLine Subcommand.Convert document.now) answer.old answer.new length.new result }
+    ensures { IsAnswered (IsAnswerLine Subcommand.Convert document.now)
+        (IsDocumentFault Subcommand.Convert document.now) answer.old answer.new length.new result }
 {
     call(alloc, Subcommand::Convert, document, answer, length)
 }
@@ -65,7 +67,8 @@ pub extern "C" fn modinfo_reach(
     answer: &mut [u8],
     length: &mut usize,
 ) -> u8
-    ensures { IsAnswered (IsAnswerLine Subcommand.Reach document.now) answer.old answer.new length.new result }
+    ensures { IsAnswered (IsAnswerLine Subcommand.Reach document.now)
+        (IsDocumentFault Subcommand.Reach document.now) answer.old answer.new length.new result }
 {
     call(alloc, Subcommand::Reach, document, answer, length)
 }
@@ -79,7 +82,7 @@ pub extern "C" fn modinfo_check(
     answer: &mut [u8],
     length: &mut usize,
 ) -> u8
-    ensures { IsAnswered IsReport answer.old answer.new length.new result }
+    ensures { IsAnswered IsReport IsOutOfMemory answer.old answer.new length.new result }
 {
     check(alloc, Subcommand::Analyze, document, answer, length)
 }
@@ -92,7 +95,7 @@ pub extern "C" fn modinfo_check_convert(
     answer: &mut [u8],
     length: &mut usize,
 ) -> u8
-    ensures { IsAnswered IsReport answer.old answer.new length.new result }
+    ensures { IsAnswered IsReport IsOutOfMemory answer.old answer.new length.new result }
 {
     check(alloc, Subcommand::Convert, document, answer, length)
 }
@@ -105,7 +108,7 @@ pub extern "C" fn modinfo_check_reach(
     answer: &mut [u8],
     length: &mut usize,
 ) -> u8
-    ensures { IsAnswered IsReport answer.old answer.new length.new result }
+    ensures { IsAnswered IsReport IsOutOfMemory answer.old answer.new length.new result }
 {
     check(alloc, Subcommand::Reach, document, answer, length)
 }
@@ -117,11 +120,11 @@ fn check(
     answer: &mut [u8],
     length: &mut usize,
 ) -> u8
-    ensures { IsAnswered IsReport answer.old answer.new length.new result }
+    ensures { IsAnswered IsReport IsOutOfMemory answer.old answer.new length.new result }
 {
     match report_line(alloc, subcommand, document) {
         Ok(line) => put(line.as_str(), ANSWERED, answer, length),
-        Err(_) => put("OutOfMemory", FAULT, answer, length),
+        Err(_) => put_name(&Fault::OutOfMemory, answer, length),
     }
 }
 
@@ -142,32 +145,19 @@ fn call(
     answer: &mut [u8],
     length: &mut usize,
 ) -> u8
-    ensures { IsAnswered (IsAnswerLine subcommand document.now) answer.old answer.new length.new result }
+    ensures { IsAnswered (IsAnswerLine subcommand document.now) (IsDocumentFault subcommand document.now)
+        answer.old answer.new length.new result }
 {
-    match answer_line(alloc, subcommand, document) {
+    match subcommand.answer_slice(alloc, document) {
         Ok(line) => put(line.as_str(), ANSWERED, answer, length),
-        Err(fault) => put_name(alloc, &fault, answer, length),
+        Err(fault) => put_name(&fault, answer, length),
     }
 }
 
-fn answer_line(alloc: Global, subcommand: Subcommand, document: &[u8]) -> Result<String, Fault>
-    ensures { IfOk result (λ line. IsAnswerLine subcommand document.now (string_bytes line)) }
+fn put_name(fault: &Fault, answer: &mut [u8], length: &mut usize) -> u8
+    ensures { IsLeft (name_of_fault fault.now) 1 answer.old answer.new length.new result }
 {
-    let mut input = document;
-    subcommand.answer(alloc, &mut input)
-}
-
-fn put_name(alloc: Global, fault: &Fault, answer: &mut [u8], length: &mut usize) -> u8
-    ensures { (name : List ℕ) × IsLeft name 1 answer.old answer.new length.new result }
-{
-    match name_of(alloc, fault) {
-        Ok(name) => put(name.as_str(), FAULT, answer, length),
-        Err(_) => put("OutOfMemory", FAULT, answer, length),
-    }
-}
-
-fn name_of(alloc: Global, fault: &Fault) -> Result<String, AllocError> {
-    format!(in alloc; "{fault}")
+    put(fault.name(), FAULT, answer, length)
 }
 
 /// Copies a text to the front of the room, if it fits.

@@ -1,5 +1,6 @@
 pub mod Reading
 pub mod Nodes
+pub mod OneDocument
 pub mod Filed
 pub mod Documents
 pub mod Places

@@ -8,15 +8,17 @@ use Rattle.std.specs.Prelude.{
   ◌∷◌,
   ◌++◌,
   codes,
+  IsPermutation,
   Option,
   Some,
+  None,
   unwrap_or,
   if◌then◌else◌,
 }
 use Rattle.std.specs.List.{flat_map}
 use Rattle.flat_json.specs.Value.{Value, Members, as_object, as_str, as_whole, last_named}
-use Rattle.deno_graph_source.specs.ByPosition.{AddsItem, value_at}
-use Rattle.deno_graph_source.specs.Comments.{Filing, FiledComments}
+use Rattle.deno_graph_source.specs.ByPosition.{AddsItem, all_items, value_at}
+use Rattle.deno_graph_source.specs.Comments.{Ascends, Filing, FiledComments}
 use Rattle.deno_graph_source.specs.declared.tree.fault_place.CommentSide.{CommentSide}
 use Rattle.deno_graph_source.specs.declared.tree.fault_place.CommentSide.TheVariants.{Leading, Trailing}
 use Rattle.deno_graph_source.specs.declared.tree.comments.CommentKind.{CommentKind}
@@ -63,34 +65,30 @@ side_name Trailing = codes "trailing"
 unfoldable pub reads_side : CommentSide → Members → Option (List FiledEntry)
 reads_side side members = found_or (reads_array reads_entry) [] (last_named (side_name side) members)
 
--- a comment was filed on a side, and the other side is as it was
-abbrev pub AddsOn : CommentSide → FiledComments → FiledComments → ℕ → DependencyComment → Type 0
-AddsOn Leading old new position comment = AddsItem old.leading new.leading position comment
-    × (new.trailing ≡ old.trailing)
-AddsOn Trailing old new position comment = AddsItem old.trailing new.trailing position comment
-    × (new.leading ≡ old.leading)
-
--- the comments of the entries with this position, one entry behind another
+-- The comments of the entries at this position, in the order of the entries.
 abbrev pub comments_at : ℕ → List FiledEntry → List DependencyComment
 comments_at position entries = flat_map (λ e. if e.position == position then e.comments else []) entries
 
--- the comments filed at a position
-abbrev pub filed_at : Filing → ℕ → List DependencyComment
-filed_at filing position = unwrap_or (value_at filing position) []
+-- The comments of all entries, in the order of the entries.
+abbrev pub all_comments : List FiledEntry → List DependencyComment
+all_comments entries = flat_map (λ e. e.comments) entries
 
--- At each position the comments of its entries were filed, in their order, behind those that were there.
-abbrev pub AreAppended : Filing → Filing → List FiledEntry → Type 0
-AreAppended old new entries = (position : ℕ) → filed_at new position
-    ≡ filed_at old position ++ comments_at position entries
+-- The comments at a position and then others; `None` where there are neither.
+abbrev pub followed_by : Option (List DependencyComment) → List DependencyComment
+    → Option (List DependencyComment)
+followed_by found [] = found
+followed_by found (x ∷ xs) = Some (unwrap_or found [] ++ x ∷ xs)
 
--- the same on one side, and the other is as it was
-abbrev pub AreAppendedOn : CommentSide → FiledComments → FiledComments → List FiledEntry → Type 0
-AreAppendedOn Leading old new entries =
-    AreAppended old.leading new.leading entries × (new.trailing ≡ old.trailing)
-AreAppendedOn Trailing old new entries =
-    AreAppended old.trailing new.trailing entries × (new.leading ≡ old.leading)
+-- The filing has the comments of these entries, and no others.
+pub record HasCommentsOf (entries : List FiledEntry) (filing : Filing) : Type 0 where
+  -- each position is below those after it
+  pub ascending : Ascends filing
+  -- a position has the comments of its entries, in their order; it is left out where they have none
+  pub at_each : (position : ℕ) → value_at filing position ≡ followed_by None (comments_at position entries)
+  -- each comment is there as often as the entries have it
+  pub all : IsPermutation (all_comments entries) (all_items filing)
 
--- the entries of both sides
+-- The entries of both sides.
 pub record Sides : Type 0 where
   pub leading : List FiledEntry
   pub trailing : List FiledEntry
@@ -101,7 +99,30 @@ reads_sides members = do
   trailing ← reads_side Trailing members
   Some (record { leading = leading; trailing = trailing })
 
--- the comments of these entries, and no others
+-- Both sides have the comments of their entries, and no others.
 abbrev pub AreThoseOf : Sides → FiledComments → Type 0
-AreThoseOf sides comments = AreAppended [] comments.leading sides.leading
-    × AreAppended [] comments.trailing sides.trailing
+AreThoseOf sides comments = HasCommentsOf sides.leading comments.leading
+    × HasCommentsOf sides.trailing comments.trailing
+
+-- Steps of the reading, for private functions
+
+-- A comment was filed on a side, and the other side is as it was.
+abbrev pub AddsOn : CommentSide → FiledComments → FiledComments → ℕ → DependencyComment → Type 0
+AddsOn Leading old new position comment = AddsItem old.leading new.leading position comment
+    × (new.trailing ≡ old.trailing) × Ascends new.leading
+AddsOn Trailing old new position comment = AddsItem old.trailing new.trailing position comment
+    × (new.leading ≡ old.leading) × Ascends new.trailing
+
+-- The comments of these entries were filed after those that were there.
+pub record AreAppended (old new : Filing) (entries : List FiledEntry) : Type 0 where
+  pub ascending : Ascends old → Ascends new
+  pub at_each : (position : ℕ) → value_at new position
+      ≡ followed_by (value_at old position) (comments_at position entries)
+  pub all : IsPermutation (all_items old ++ all_comments entries) (all_items new)
+
+-- The comments of these entries were filed on a side, and the other side is as it was.
+abbrev pub AreAppendedOn : CommentSide → FiledComments → FiledComments → List FiledEntry → Type 0
+AreAppendedOn Leading old new entries =
+    AreAppended old.leading new.leading entries × (new.trailing ≡ old.trailing)
+AreAppendedOn Trailing old new entries =
+    AreAppended old.trailing new.trailing entries × (new.leading ≡ old.leading)

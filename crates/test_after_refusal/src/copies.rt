@@ -23,7 +23,7 @@ fn copy_parts(alloc: Global, made: &Made, twin: &Made) -> Result<Outcome, Fault>
         copy(alloc, made.source.program(), twin.source.program())?,
         copy(alloc, made.source.comments(), twin.source.comments())?,
         copy(alloc, &made.info, &twin.info)?,
-        copy(alloc, &made.surrogate, &twin.surrogate)?,
+        copy(alloc, &made.strings.surrogate, &twin.strings.surrogate)?,
     ];
     if outcomes.contains(&Outcome::Refused) {
         Ok(Outcome::Refused)

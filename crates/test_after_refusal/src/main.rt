@@ -38,7 +38,7 @@ const NAMES: [&str; 13] = [
     "copies",
     "filings",
     "steps_through_a_deep_tree",
-    "step_into_a_wide_tree",
+    "steps_through_a_wide_tree",
     "calls_without_memory",
 ];
 
@@ -83,7 +83,7 @@ fn outcome_of(alloc: Global, name: &str) -> Result<Outcome, Fault> {
         "copies" => copies::copy_all(alloc),
         "filings" => comments::file_all(alloc),
         "steps_through_a_deep_tree" => steps::through_a_deep_tree(alloc),
-        "step_into_a_wide_tree" => steps::into_a_wide_tree(alloc),
+        "steps_through_a_wide_tree" => steps::through_a_wide_tree(alloc),
         "calls_without_memory" => without_memory::call_all(alloc),
         _ => Err(Fault::State("no call has this name")),
     }

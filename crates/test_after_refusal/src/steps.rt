@@ -65,11 +65,13 @@ fn step_again<'a>(walk: &mut Walk<'a>, before: u64, after: u64) -> Result<Option
     Ok(walk.step()?)
 }
 
-/// The first step enters one node, however many there are.
-pub fn into_a_wide_tree(alloc: Global) -> Result<Outcome, Fault> {
+/// The first step enters one node, however many there are, and each after it one more, up to the end.
+pub fn through_a_wide_tree(alloc: Global) -> Result<Outcome, Fault> {
     let program = program(wide(alloc)?);
     let mut walk = Walk::new(alloc, &program);
-    step_into(&mut walk, program.body.first())
+    let outcome = step_into(&mut walk, program.body.first())?;
+    step_to_the_end(&mut walk)?;
+    Ok(outcome)
 }
 
 fn step_into(walk: &mut Walk<'_>, first: Option<&Node>) -> Result<Outcome, Fault> {
@@ -84,6 +86,21 @@ fn step_into(walk: &mut Walk<'_>, first: Option<&Node>) -> Result<Outcome, Fault
     outcome.provided(
         walk.entered() == 1,
         "the first step enters another number of nodes",
+    )
+}
+
+/// Takes all steps after the first.
+fn step_to_the_end(walk: &mut Walk<'_>) -> Result<(), Fault> {
+    for count in 2..=WIDTH {
+        check(walk.step()?.is_some(), "a step gives no node")?;
+        check(
+            walk.entered() == count as u64,
+            "a step enters another number of nodes",
+        )?;
+    }
+    check(
+        walk.step()?.is_none() && walk.entered() == WIDTH as u64,
+        "the step at the end gives or enters a node",
     )
 }
 

@@ -1,5 +1,6 @@
 //! What is found in a module, in a line.
 
+use deno_graph_analysis::dep;
 use deno_graph_info::analysis::{
     DependencyDescriptor, DynamicArgument, DynamicTemplatePart, JsDocImportInfo, ModuleInfo,
 };
@@ -36,6 +37,32 @@ fn of_parts(alloc: Global, parts: &[DynamicTemplatePart]) -> Result<String, Allo
         runs.push(match part {
             DynamicTemplatePart::String { value } => format!(in alloc; "{:?}", value.as_str())?,
             DynamicTemplatePart::Expr => String::from_str(alloc, "an expression")?,
+        })?;
+    }
+    format!(in alloc; "[{}]", runs.line(alloc)?)
+}
+
+/// What is known of an argument that borrows from the tree.
+pub fn known_text(
+    alloc: Global,
+    argument: &dep::DynamicArgument<'_>,
+) -> Result<String, AllocError> {
+    match argument {
+        dep::DynamicArgument::String(text) => format!(in alloc; "{text:?}"),
+        dep::DynamicArgument::Template(parts) => of_borrowed_parts(alloc, parts.as_slice()),
+        dep::DynamicArgument::Expr => String::from_str(alloc, "an expression"),
+    }
+}
+
+fn of_borrowed_parts(
+    alloc: Global,
+    parts: &[dep::DynamicTemplatePart<'_>],
+) -> Result<String, AllocError> {
+    let mut runs = Runs::new(alloc);
+    for part in parts {
+        runs.push(match part {
+            dep::DynamicTemplatePart::String(text) => format!(in alloc; "{text:?}")?,
+            dep::DynamicTemplatePart::Expr => String::from_str(alloc, "an expression")?,
         })?;
     }
     format!(in alloc; "[{}]", runs.line(alloc)?)

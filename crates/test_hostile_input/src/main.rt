@@ -3,7 +3,7 @@
 //!
 //!     test_hostile_input                      all of it
 //!     test_hostile_input broken COUNT         so many broken documents
-//!     test_hostile_input NAME COUNT           one module: nested, calls, operands, types, braces or filings
+//!     test_hostile_input NAME COUNT           one of nested, calls, operands, sum, types, braces, filings
 //!     test_hostile_input NAME COUNT build     builds the module, and no more
 //!
 //! Status 1 where a document has no outcome that is named, or another one among all of them, and where
@@ -25,11 +25,12 @@ use anyhow::{Context, Result};
 use std::env;
 use std::fs::Files;
 
-const CASES: [(&str, usize); 7] = [
+const CASES: [(&str, usize); 8] = [
     ("broken", 100_000),
     ("nested", 2000),
     ("calls", 2000),
     ("operands", 2000),
+    ("sum", 2000),
     ("types", 2000),
     ("filings", 1000),
     ("braces", 1_000_000),

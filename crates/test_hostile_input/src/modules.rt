@@ -1,10 +1,11 @@
 //! Modules that are deeper, wider or longer than documents are, made in code and analyzed.
 
 use crate::comments::{braces, filed};
-use crate::found::found;
-use crate::trees::{calls, nested, operands, types};
-use anyhow::{Result, bail};
+use crate::found::{found, known_text};
+use crate::trees::{calls, nested, operands, sum, types};
+use anyhow::{Context, Result, bail};
 use deno_graph_analysis::ast::module_info;
+use deno_graph_analysis::dep::{DynamicArgument, argument_of};
 use deno_graph_analysis::jsdoc::scan;
 use deno_graph_info::analysis::ModuleInfo;
 use deno_graph_source::text::SourceRange;
@@ -15,7 +16,7 @@ use std::rc::RcStr;
 use url::Url;
 
 /// Prints what is known of the dependencies of a module, equal ones in a row once with their number,
-/// and what JSDoc imports there are.
+/// and what JSDoc imports there are; of a sum what is known of it as an argument.
 pub fn print_found<R: AllocGlobal + Print>(rt: &R, name: &str, count: usize) -> Result<()> {
     let text = found_in(rt.alloc(), name, count)?;
     println!(rt; "{name} {count}: {text}")?;
@@ -27,8 +28,27 @@ pub fn print_found<R: AllocGlobal + Print>(rt: &R, name: &str, count: usize) -> 
 
 fn found_in(alloc: Global, name: &str, count: usize) -> Result<String> {
     let source = source(alloc, name, count)?;
+    if name == "sum" {
+        return known_of_first(alloc, &source);
+    }
     let info = info_of(alloc, &source)?;
     Ok(found(alloc, &info)?)
+}
+
+/// What `argument_of` knows of the first node of a module.
+fn known_of_first(alloc: Global, source: &ParsedSource) -> Result<String> {
+    let argument = first_argument(alloc, source)?.context("the module has no node")?;
+    Ok(known_text(alloc, &argument)?)
+}
+
+fn first_argument(
+    alloc: Global,
+    source: &ParsedSource,
+) -> Result<Option<DynamicArgument<'_>>, AllocError> {
+    match source.program().body.first() {
+        Some(node) => Ok(Some(argument_of(alloc, node)?)),
+        None => Ok(None),
+    }
 }
 
 /// The information on a source. Its contract is left behind here, since a caller's proof needs none.
@@ -102,6 +122,7 @@ fn body(alloc: Global, tree: &str, count: usize) -> Result<Items<Node>> {
         "nested" => Ok(nested(alloc, count)?),
         "calls" => Ok(calls(alloc, count)?),
         "operands" => Ok(operands(alloc, count)?),
+        "sum" => Ok(sum(alloc, count)?),
         "types" => Ok(types(alloc, count)?),
         _ => bail!("no module has this name"),
     }

@@ -29,12 +29,18 @@ pub fn calls(alloc: Global, count: usize) -> Result<Items<Node>, AllocError> {
 
 /// A call of `import` with a string, plus `x` so often.
 pub fn operands(alloc: Global, count: usize) -> Result<Items<Node>, AllocError> {
+    let sum = sum(alloc, count)?;
+    one(alloc, import(alloc, sum)?)
+}
+
+/// A string, plus `x` so often.
+pub fn sum(alloc: Global, count: usize) -> Result<Items<Node>, AllocError> {
     let mut sum = one(alloc, string(alloc, "a")?)?;
     for _ in 0..count {
         sum.push(name(alloc, "x")?)?;
         sum = one(alloc, node_of(Kind::Binary(BinaryOp::Add), sum))?;
     }
-    one(alloc, import(alloc, sum)?)
+    Ok(sum)
 }
 
 /// So many import types of an empty text, beside one another.

@@ -1,8 +1,12 @@
-//! Copies of commands, answers and errors.
+//! Copies of commands, options, scans, answers and errors.
 
-use crate::sources::{Row, U, analyze, commands, parsed};
-use deno_graph_analysis::ast::{AnalyzeError, Answer, Command, ParseDiagnostic, ParseError};
+use crate::sources::{Row, U, analyze, commands, parsed, shared, url};
+use deno_graph_analysis::ast::{
+    AnalyzeError, Answer, Command, ParseDiagnostic, ParseError, ParseOptions,
+};
+use deno_graph_analysis::jsdoc::scan;
 use deno_graph_source::text::Position;
+use deno_graph_source::tree::MediaType;
 use deno_graph_source::values::{Text, TryClone};
 use std::process::Abort;
 
@@ -16,7 +20,7 @@ fn commands_are_copied(rt: HostRuntime) {
     ];
     let commands = commands(&rt, &rows);
     for (number, command) in commands.iter().enumerate() {
-        let copy = command.clone().expect(&rt, "memory");
+        let copy = command.try_clone(rt.alloc()).expect(&rt, "memory");
         assert_only(&rt, &copy, number, &commands);
     }
 }
@@ -26,6 +30,27 @@ fn assert_only(rt: &impl Abort, command: &Command, number: usize, commands: &[Co
     for (other_number, other) in commands.iter().enumerate() {
         assert_eq!(rt; command == other, number == other_number);
     }
+}
+
+#[test]
+fn options_are_copied(rt: HostRuntime) {
+    let options = ParseOptions {
+        specifier: &url(&rt, U),
+        source: shared(&rt, "a"),
+        media_type: MediaType::Tsx,
+        scope_analysis: true,
+    };
+    let copy = options.try_clone(rt.alloc()).expect(&rt, "memory");
+    assert!(rt; copy == options);
+}
+
+#[test]
+fn scans_are_copied(rt: HostRuntime) {
+    let text = "* {import('a')} @import b from 'c'";
+    let found = scan(rt.alloc(), text).expect(&rt, "memory");
+    let copy = found.try_clone(rt.alloc()).expect(&rt, "memory");
+    assert_eq!(rt; copy.imports.len(), 2);
+    assert!(rt; copy == found);
 }
 
 /// A copy is there, and equal.

@@ -32,11 +32,13 @@ impl<P: EsParser> EsParser for RefusedParser<P> {
     }
 }
 
-/// A store that refuses to keep the second source that it is handed.
+/// A store that refuses to keep one of the sources that it is handed.
 #[derive(Drop)]
 pub struct RefusedStore<S: ParsedSourceStore> {
     pub store: S,
     pub sets: u64,
+    /// The number of the source that it refuses, counted from one.
+    pub refused: u64,
 }
 
 impl<S: ParsedSourceStore> ParsedSourceStore for RefusedStore<S> {
@@ -49,7 +51,7 @@ impl<S: ParsedSourceStore> ParsedSourceStore for RefusedStore<S> {
         source: ParsedSource,
     ) -> Result<Option<ParsedSource>, AllocError> {
         self.sets = self.sets.saturating_add(1);
-        if self.sets == 2 {
+        if self.sets == self.refused {
             return Err(AllocError);
         }
         self.store.set_parsed_source(alloc, specifier, source)

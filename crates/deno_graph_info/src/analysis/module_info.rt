@@ -40,6 +40,8 @@ pub struct ModuleInfo {
 }
 
 impl ModuleInfo {
+    ghost use Rattle.deno_graph_info.specs.declared.analysis.module_info.ModuleInfo.{ModuleInfo};
+
     /// No script, and nothing found. Takes no memory.
     pub fn new(alloc: Global) -> ModuleInfo
         ensures script { result.is_script ≡ false }
@@ -95,6 +97,13 @@ impl ModuleInfo {
     {
         text_of(alloc, self)
     }
+
+    /// A law: the JSON of a `ModuleInfo` is read as that very `ModuleInfo`. What `IsHeldInfo` asks
+    /// holds of each `ModuleInfo` of a program. This call does nothing: what it ensures holds of
+    /// every value, and a caller learns it by the call.
+    pub fn law_of_json()
+        ensures { (info : ModuleInfo) → IsHeldInfo info → reads_info (json_of_info info) ≡ Some info }
+    {}
 }
 
 impl TryClone for ModuleInfo {

@@ -120,6 +120,7 @@ impl<T: Drop> ByPosition<Items<T>> {
     /// `item` is dropped.
     pub(crate) fn add(&mut self, pos: usize, item: T) -> Result<(), AllocError>
         ensures ok { OnOk result (AddsItem self.old self.new pos item) }
+        ensures ascending { IsStrictlySortedBy nat_cmp (keys_of self.new) }
         ensures err { OnErr result (self.new ≡ self.old) }
     {
         add_item(&mut self.map, self.alloc, pos, item)

@@ -21,8 +21,9 @@ use crate::tree::fault_place::SourceFaultPlace;
 use crate::tree::node::Program;
 use std::alloc::{AllocError, Global};
 
-/// What is wrong with a text and what a parser made of it: `None` where nothing is. Where there
-/// are several faults, any one of them is answered.
+/// Looks for a fault of a source: of a text with the tree and the comments that a parser made of
+/// it. Returns `None` if the source is valid. If it has several faults, returns one of them. The
+/// only error is that memory ran out.
 pub fn source_fault(
     alloc: Global,
     text: &str,
@@ -40,7 +41,8 @@ pub fn source_fault(
     }
 }
 
-/// The same fault as that of `source_fault`, and where it is.
+/// Looks for a fault of a source, and where it is. Returns `None` if the source is valid. If it has
+/// several faults, returns one of them. The only error is that memory ran out.
 pub fn source_fault_place(
     alloc: Global,
     text: &str,

@@ -59,7 +59,7 @@ impl Model for Comments {
 
 impl Comments {
     ghost use Rattle.deno_graph_source.specs.ByPosition.{AddsItem, value_at};
-    ghost use Rattle.deno_graph_source.specs.Comments.{comments_of};
+    ghost use Rattle.deno_graph_source.specs.Comments.{Ascends, comments_of};
     ghost use Rattle.deno_graph_source.specs.FaultPlace.{comment_at};
 
     /// No comments. Takes no memory.
@@ -73,25 +73,27 @@ impl Comments {
         }
     }
 
-    /// Files a comment as leading at `pos`, after those that are there. Where memory is refused all
-    /// stays as it was, and the comment is dropped.
+    /// Files a comment as leading at `pos`, in bytes from zero, after those that are there. Where an
+    /// allocation fails all stays as it was, and the comment is dropped.
     pub fn add_leading(&mut self, pos: usize, comment: DependencyComment) -> Result<(), AllocError>
         ensures leading { OnOk result (AddsItem self.old.leading self.new.leading pos comment) }
         ensures trailing { OnOk result (self.new.trailing ≡ self.old.trailing) }
         ensures all { OnOk result
             (IsPermutation (comment ∷ comments_of self.old) (comments_of self.new)) }
+        ensures ascending { Ascends self.new.leading }
         ensures err { OnErr result (self.new ≡ self.old) }
     {
         self.leading.add(pos, comment)
     }
 
-    /// Files a comment as trailing at `pos`, after those that are there. Where memory is refused
-    /// all stays as it was, and the comment is dropped.
+    /// Files a comment as trailing at `pos`, in bytes from zero, after those that are there. Where an
+    /// allocation fails all stays as it was, and the comment is dropped.
     pub fn add_trailing(&mut self, pos: usize, comment: DependencyComment) -> Result<(), AllocError>
         ensures trailing { OnOk result (AddsItem self.old.trailing self.new.trailing pos comment) }
         ensures leading { OnOk result (self.new.leading ≡ self.old.leading) }
         ensures all { OnOk result
             (IsPermutation (comment ∷ comments_of self.old) (comments_of self.new)) }
+        ensures ascending { Ascends self.new.trailing }
         ensures err { OnErr result (self.new ≡ self.old) }
     {
         self.trailing.add(pos, comment)

@@ -30,9 +30,23 @@ impl SourceFaultPlace {
 impl TryClone for SourceFaultPlace {
     fn try_clone(&self, alloc: Global) -> Result<SourceFaultPlace, AllocError> {
         Ok(SourceFaultPlace {
-            fault: self.fault,
+            fault: copied(&self.fault),
             place: self.place.try_clone(alloc)?,
         })
+    }
+}
+
+fn copied(fault: &SourceFault) -> SourceFault
+    ensures { result ≡ fault.now }
+{
+    match fault {
+        SourceFault::RangeReversed => SourceFault::RangeReversed,
+        SourceFault::RangeOutside => SourceFault::RangeOutside,
+        SourceFault::RangeOffBoundary => SourceFault::RangeOffBoundary,
+        SourceFault::CommentText => SourceFault::CommentText,
+        SourceFault::CommentsOverlap => SourceFault::CommentsOverlap,
+        SourceFault::Shape => SourceFault::Shape,
+        SourceFault::OutOfMemory => SourceFault::OutOfMemory,
     }
 }
 
@@ -41,12 +55,12 @@ impl TryClone for SourceFaultPlace {
 pub enum FaultPlace {
     /// The program's own range.
     Program,
-    /// A part of a node. The path is the numbers of the children on the way to the node: the first
-    /// chooses an item of the body, and each next a child of the node so far.
+    /// A part of a node. `path` leads to the node: its first number is that of an item of the
+    /// body, and each next one that of a child of the node so far. All numbers count from zero.
     Node { path: Items<usize>, part: NodePart },
-    /// A comment.
+    /// A comment, by where it is filed.
     Comment(CommentPlace),
-    /// Two comments that are unequal and share a byte.
+    /// Two unequal comments that share a byte of the text, by where they are filed.
     Comments(CommentPlace, CommentPlace),
 }
 
@@ -81,7 +95,7 @@ pub enum NodePart {
     Range,
     /// The range of its string literal.
     Literal,
-    /// The range of its argument with this number.
+    /// The range of its argument with this number, from zero.
     Argument(usize),
     /// Its children, which break this rule.
     Children(ShapeRule),
@@ -106,13 +120,14 @@ pub enum ShapeRule {
 #[derive(Clone, Copy, Debug, PartialEq, Eq)]
 pub struct CommentPlace {
     pub side: CommentSide,
-    /// The position that it is filed at.
+    /// The offset that the comment is filed at, in bytes from zero.
     pub position: usize,
-    /// Which of those that are filed there it is, counted from zero.
+    /// The comment's number among those that are filed there on this side, from zero, in the order
+    /// of filing.
     pub number: usize,
 }
 
-/// How a comment is filed.
+/// The side on which a comment is filed.
 #[derive(Clone, Copy, Debug, PartialEq, Eq)]
 pub enum CommentSide {
     Leading,

@@ -18,8 +18,8 @@ use modinfo_report::{
 };
 use std::alloc::{AllocError, Global};
 
-/// Checks a document of `analyze`: `Wrong` exactly where `analyze` has a fault, and of the same
-/// name. The only error is that memory was refused.
+/// Checks a document of `analyze`: `Valid` where it states a valid source, `Wrong` where it has a
+/// fault. The only error is that an allocation failed.
 pub fn check_document(alloc: Global, text: &str) -> Result<Report, AllocError>
     ensures { IfOk result (ReportsOn text.now) }
 {

@@ -7,4 +7,4 @@ returns-in-Ok c = answered _ c.in-Ok.ensures (rw c.as_str.ensures.value at c.put
 
 -- the name of the fault was put
 pub returns-in-Err : goal.returns-in-Err
-returns-in-Err c = refused c.put_name.ensures.0 c.put_name.ensures.1
+returns-in-Err c = refused c.in-Err.fault c.in-Err.ensures c.put_name.ensures

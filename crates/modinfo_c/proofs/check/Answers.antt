@@ -1,3 +1,4 @@
+use Rattle.std.proofs.Common.{refl}
 use Rattle.modinfo_c.specs.Call.{answered, refused}
 use Rattle.modinfo_c.proofs.check.Goals as goal
 
@@ -7,4 +8,4 @@ returns-in-Ok c = answered _ tt c.put.ensures
 
 -- the name of the fault was put
 pub returns-in-Err : goal.returns-in-Err
-returns-in-Err c = refused _ c.put-in-Err.ensures
+returns-in-Err c = refused _ refl c.put_name.ensures

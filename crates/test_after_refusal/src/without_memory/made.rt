@@ -1,7 +1,7 @@
 use crate::fault::Fault;
 use crate::sources::{U, info_of, table, url};
 use deno_graph_info::analysis::ModuleInfo;
-use deno_graph_source::text::{JsString, SourceRange};
+use deno_graph_source::text::{JsString, SourceRange, SourceTextInfo};
 use deno_graph_source::tree::{
     CommentKind, Comments, DependencyComment, ImportPhase, Kind, MediaType, Node, ParsedSource,
     Program, StrLit,
@@ -11,7 +11,7 @@ use example_table_parser::TableParser;
 use std::alloc::{AllocError, Global};
 use std::rc::RcStr;
 
-pub const TEXT: &str = "// é\nimport \"a\";";
+pub const TEXT: &str = "/* é */ import \"a\";";
 
 /// What the calls are made on, made while there is memory.
 #[derive(Drop)]
@@ -19,23 +19,45 @@ pub struct Made {
     /// A comment and an import.
     pub source: ParsedSource,
     pub info: ModuleInfo,
-    /// A string of a high surrogate alone.
-    pub surrogate: JsString,
+    /// A text of two characters, a line feed the second.
+    pub line: SourceTextInfo,
+    pub strings: Strings,
     pub parser: TableParser,
+}
+
+/// Strings of UTF-16 units.
+#[derive(Drop)]
+pub struct Strings {
+    /// A high surrogate alone.
+    pub surrogate: JsString,
+    /// A high surrogate and a low one, which join.
+    pub pair: JsString,
+    /// A thousand high surrogates.
+    pub surrogates: JsString,
 }
 
 impl Made {
     pub fn new(alloc: Global) -> Result<Made, Fault> {
-        let surrogate = JsString::from_units(alloc, &[0xd800])?;
+        let line = SourceTextInfo::new(alloc, RcStr::from_str(alloc, "é\n")?)?;
+        let strings = strings_of_units(alloc)?;
         let parser = table(alloc)?;
         let source = source(alloc)?;
         Ok(Made {
             info: info_of(alloc, &source)?,
             source,
-            surrogate,
+            line,
+            strings,
             parser,
         })
     }
+}
+
+fn strings_of_units(alloc: Global) -> Result<Strings, AllocError> {
+    Ok(Strings {
+        surrogate: JsString::from_units(alloc, &[0xd83d])?,
+        pair: JsString::from_units(alloc, &[0xd83d, 0xde00])?,
+        surrogates: JsString::from_units(alloc, &[0xd800; 1000])?,
+    })
 }
 
 fn source(alloc: Global) -> Result<ParsedSource, Fault> {
@@ -53,11 +75,11 @@ fn source(alloc: Global) -> Result<ParsedSource, Fault> {
 fn program(alloc: Global) -> Result<Program, AllocError> {
     let src = StrLit {
         value: JsString::from_str(alloc, "a")?,
-        range: SourceRange { start: 13, end: 16 },
+        range: SourceRange { start: 16, end: 19 },
     };
     let mut body = Items::new(alloc);
     body.push(Node {
-        range: SourceRange { start: 6, end: 17 },
+        range: SourceRange { start: 9, end: 20 },
         kind: Kind::ImportDecl {
             type_only: false,
             phase: ImportPhase::Evaluation,
@@ -68,7 +90,7 @@ fn program(alloc: Global) -> Result<Program, AllocError> {
         children: Items::new(alloc),
     })?;
     Ok(Program {
-        range: SourceRange { start: 6, end: 17 },
+        range: SourceRange { start: 0, end: 20 },
         body,
         has_shebang: false,
     })
@@ -77,10 +99,10 @@ fn program(alloc: Global) -> Result<Program, AllocError> {
 fn comments(alloc: Global) -> Result<Comments, AllocError> {
     let mut comments = Comments::new(alloc);
     let comment = DependencyComment {
-        kind: CommentKind::Line,
-        range: SourceRange { start: 0, end: 5 },
-        text: Text::from_str(alloc, " é")?,
+        kind: CommentKind::Block,
+        range: SourceRange { start: 0, end: 8 },
+        text: Text::from_str(alloc, " é ")?,
     };
-    comments.add_leading(6, comment)?;
+    comments.add_leading(9, comment)?;
     Ok(comments)
 }

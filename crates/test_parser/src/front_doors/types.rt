@@ -11,9 +11,6 @@ pub struct Copied<T: Copy + Debug + Eq>(pub T);
 /// A value of a type of data that holds memory.
 pub struct Cloned<T: TryClone + Debug + Eq>(pub T);
 
-/// A value of a type of data that holds a shared text: a copy shares it.
-pub struct Shared<T: Clone + Debug + Eq>(pub T);
-
 /// A value of a type of data that borrows or is handed on, or is an error.
 pub struct Compared<T: Debug + Eq>(pub T);
 
@@ -36,7 +33,7 @@ pub struct Sources {
     pub node_part: Copied<source::NodePart>,
     pub resolution_mode: Copied<source::ResolutionMode>,
     pub shape_rule: Copied<source::ShapeRule>,
-    pub source_fault: Copied<source::SourceFault>,
+    pub source_fault: Compared<source::SourceFault>,
     pub types_resolution_mode: Copied<source::TypeScriptTypesResolutionMode>,
     pub items: Cloned<source::Items<source::Arg>>,
     pub text: Cloned<source::Text>,
@@ -84,15 +81,15 @@ pub struct Analyses<'a> {
     pub analyze_error: Cloned<analysis::AnalyzeError>,
     pub answer: Cloned<analysis::Answer>,
     pub parse_error: Cloned<analysis::ParseError>,
-    pub command: Shared<analysis::Command>,
-    pub parse_options: Shared<analysis::ParseOptions<'a>>,
+    pub command: Compared<analysis::Command>,
+    pub parse_options: Compared<analysis::ParseOptions<'a>>,
     pub dependency: Compared<analysis::DependencyDescriptor<'a>>,
     pub dynamic_argument: Compared<analysis::DynamicArgument<'a>>,
     pub dynamic_dependency: Compared<analysis::DynamicDependencyDescriptor<'a>>,
     pub dynamic_template_part: Compared<analysis::DynamicTemplatePart<'a>>,
     pub static_dependency: Compared<analysis::StaticDependencyDescriptor<'a>>,
     pub jsdoc_import: Compared<analysis::JsDocImport<'a>>,
-    pub scan: Shared<analysis::Scan<'a>>,
+    pub scan: Compared<analysis::Scan<'a>>,
 }
 
 /// A value of each other type of `deno_graph_analysis`.

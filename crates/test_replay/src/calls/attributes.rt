@@ -31,11 +31,25 @@ pub fn of_declaration(alloc: Global, source: &ParsedSource) -> Result<String, Ro
 /// What `parse_import_attributes_from_object_lit` finds in the object that is the first node of a
 /// document.
 pub fn of_object(alloc: Global, source: &ParsedSource) -> Result<String, RowFault> {
+    let found = attributes_of_object(alloc, source)?;
+    answer(alloc, &found)
+}
+
+/// Whether `has_asset` is true of the attributes that an import type reads from the object that is the
+/// first node of a document.
+pub fn has_asset(alloc: Global, source: &ParsedSource) -> Result<String, RowFault> {
+    let found = attributes_of_object(alloc, source)?;
+    named(alloc, if found.has_asset() { "true" } else { "false" })
+}
+
+fn attributes_of_object(
+    alloc: Global,
+    source: &ParsedSource,
+) -> Result<ImportAttributes, RowFault> {
     let Some(object) = source.program().body.first() else {
         return Err(RowFault::Row("its document has no node"));
     };
-    let found = parse_import_attributes_from_object_lit(alloc, object)?;
-    answer(alloc, &found)
+    Ok(parse_import_attributes_from_object_lit(alloc, object)?)
 }
 
 /// The second argument of a call, and its node.

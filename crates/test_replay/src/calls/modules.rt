@@ -60,7 +60,7 @@ fn place_line(
     fault: Option<SourceFault>,
     found: &SourceFaultPlace,
 ) -> Result<String, AllocError> {
-    if fault != Some(found.fault) || !is_copied(alloc, found)? {
+    if fault.as_ref() != Some(&found.fault) || !is_copied(alloc, found)? {
         return String::from_str(alloc, "another fault, or another copy");
     }
     let SourceFaultPlace { fault, place } = found;

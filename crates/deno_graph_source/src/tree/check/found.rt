@@ -18,7 +18,7 @@ pub(crate) enum Found<'a> {
 }
 
 /// A fault of a part of a node.
-#[derive(Clone, Copy)]
+#[derive(Drop)]
 pub(crate) struct FoundPart {
     pub fault: SourceFault,
     pub part: NodePart,
@@ -33,7 +33,7 @@ pub(crate) struct FoundNode {
 }
 
 /// A fault of a comment.
-#[derive(Clone, Copy)]
+#[derive(Drop)]
 pub(crate) struct FoundComment<'a> {
     pub fault: SourceFault,
     pub comment: &'a DependencyComment,

@@ -1,4 +1,4 @@
-use Rattle.std.proofs.Common.{sym, ap, ◌∙◌}
+use Rattle.std.proofs.Common.{◌≡◌, sym, ap, ◌∙◌}
 use Rattle.modinfo.specs.declared.invocation.Invocation.{Invocation}
 use Rattle.modinfo.specs.declared.invocation.Invocation.TheVariants.{Help, Version, Document, Lines}
 use Rattle.modinfo.specs.declared.task.Task.{Task}
@@ -21,3 +21,15 @@ pub returns-in-Document-clause-check : goal.returns-in-Document-clause-check
 returns-in-Document-clause-check g c subcommand is_strict is =
     c.answer_document.ensures.check subcommand is_strict
     (ap (document_task c.in-Document.task) (sym c.in-Document.is ∙ is))
+
+-- the task of the lines, or `other`
+abbrev lines_task : Task → Invocation → Task
+lines_task other (Lines task) = task
+lines_task other (Document _) = other
+lines_task other Help = other
+lines_task other Version = other
+
+pub returns-in-Lines-clause-lines : goal.returns-in-Lines-clause-lines
+returns-in-Lines-clause-lines g c task is =
+    let same : c.in-Lines.task ≡ task = ap (lines_task c.in-Lines.task) (sym c.in-Lines.is ∙ is) in
+    rw (sym same) c.answer_lines.ensures

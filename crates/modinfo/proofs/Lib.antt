@@ -1,0 +1,4 @@
+pub mod Faults
+mod LinesTaken
+pub mod Modules
+pub mod Written

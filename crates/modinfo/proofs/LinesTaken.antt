@@ -1,0 +1,407 @@
+-- Lemmas on the lines of a text, and on what is printed for them.
+use Rattle.std.proofs.Common.{
+  ◌≡◌,
+  ◌++◌,
+  ◌&&◌,
+  ◌<◌,
+  ◌-◌,
+  ◌+◌,
+  ℕ,
+  suc,
+  Bool,
+  true,
+  false,
+  List,
+  [],
+  ◌∷◌,
+  Some,
+  None,
+  IfSome,
+  length,
+  take,
+  cond,
+  eqb,
+  get_or,
+  refl,
+  sym,
+  ap,
+  subst,
+  ◌∙◌,
+  arith,
+  append_assoc,
+  append-nil,
+  take_all,
+  length-append,
+  eqb-true,
+  ltb-true,
+  true≢false,
+  IsTrue,
+  eq-eqb,
+  lt-ltb,
+  zero-add,
+  Result,
+  Ok,
+  Err,
+  MatchResult,
+  ◌⊎◌,
+  inl,
+  inr,
+}
+use Rattle.std.specs.Io.{IsEmptyOrEndsWith, StopsAt}
+use Rattle.std.specs.Io.BufRead.{DropsThrough, drop_through, ends_with_byte, strip_last, take_through}
+use Rattle.std.specs.Io.Iter.{u64_saturate}
+use Rattle.std.specs.Io.KnownBytes.{Appends, Consumes, IsAtEnd}
+use Rattle.std.specs.Prelude.{Option, All, ◌≢◌}
+use Rattle.std.specs.Result.{IsErrAnd}
+use Rattle.std.proofs.BufReadLemmas.{drop_through-append, take_through_nonempty, through_part}
+use Rattle.std.proofs.KnownBytes.{Appends-nil, Appends-trans}
+use Rattle.std.proofs.lemmas.List.{take-append-le}
+use Rattle.std.proofs.lemmas.List.Elements.{All-more, All-nil}
+use Rattle.std.proofs.lemmas.Result.{err_from_is_err_and}
+use Rattle.modinfo.specs.Answer.{IsAnswerText, IsDocumentFault}
+use Rattle.modinfo.specs.Lines.{
+  PrintsLine,
+  PrintsLines,
+  TakesLines,
+  before_first,
+  lines_of,
+  fault_line,
+  framed,
+  passes_without,
+  LeavesFirstLines,
+}
+use Rattle.modinfo.specs.Lines.PrintsLine.{answered, faulted, refused, reported}
+use Rattle.modinfo.specs.Lines.PrintsLines.{more, none}
+use Rattle.modinfo.specs.Run.{PrintsReport, AppendsFront, IsFailure}
+use Rattle.modinfo.specs.declared.fault.Fault.{Fault}
+use Rattle.modinfo.specs.declared.fault.Fault.TheVariants.{OutOfMemory}
+use Rattle.modinfo.specs.declared.subcommand.Subcommand.{Subcommand}
+use Rattle.modinfo.specs.declared.subcommand.Subcommand.TheVariants.{Analyze, Convert, Reach}
+use Rattle.modinfo.specs.declared.task.Task.{Task}
+use Rattle.modinfo.specs.declared.task.Task.TheVariants.{Answer, Check}
+
+-- the last byte of a longer list
+ends_with_byte-cons : (byte x : ℕ) (xs : List ℕ) → 0 < length xs
+    → ends_with_byte byte (x ∷ xs) ≡ ends_with_byte byte xs
+ends_with_byte-cons byte x [] some = absurd (omega (arith, some))
+ends_with_byte-cons byte x (y ∷ ys) some =
+    let n = length (y ∷ ys) - 1 in
+    let at : length (x ∷ y ∷ ys) - 1 ≡ suc n = omega arith in
+    let last : Bool = eqb (get_or (y ∷ ys) n 0) byte in
+    ap (λ b. b && eqb (get_or (x ∷ y ∷ ys) (length (x ∷ y ∷ ys) - 1) 0) byte) (lt-ltb 0 (length
+    (x ∷ y ∷ ys)) (omega arith))
+    ∙ ap (λ k. eqb (get_or (x ∷ y ∷ ys) k 0) byte) at
+    ∙ sym (ap (λ b. b && last) (lt-ltb 0 (length (y ∷ ys)) (omega arith)))
+
+strip_last-cons : (byte x : ℕ) (xs : List ℕ) → 0 < length xs
+    → strip_last byte (x ∷ xs) ≡ x ∷ strip_last byte xs
+strip_last-cons byte x xs some =
+    ap (λ b. cond b (take (length (x ∷ xs) - 1) (x ∷ xs)) (x ∷ xs)) (ends_with_byte-cons byte x xs some)
+    ∙ at (ends_with_byte byte xs)
+  where
+    at : (b : Bool) → cond b (take (length (x ∷ xs) - 1) (x ∷ xs)) (x ∷ xs)
+        ≡ x ∷ cond b (take (length xs - 1) xs) xs
+    at true = let e : length (x ∷ xs) - 1 ≡ suc (length xs - 1) = omega arith in ap (λ n. take n (x ∷ xs)) e
+    at false = refl
+
+take_through-some : (byte x : ℕ) (xs : List ℕ) → 0 < length (take_through byte (x ∷ xs))
+take_through-some byte x xs = at (eqb x byte)
+  where
+    at : (b : Bool) → 0 < length (cond b (x ∷ []) (x ∷ take_through byte xs))
+    at true = omega arith
+    at false = omega arith
+
+strip_last-one : (x : ℕ) (b : Bool) → eqb x 10 ≡ b → strip_last 10 (x ∷ []) ≡ cond b [] (x ∷ [])
+strip_last-one x b e = ap (λ c. cond c [] (x ∷ [])) e
+
+lines_of-cons : (x y : ℕ) (ys : List ℕ) (b : Bool) → eqb x 10 ≡ b
+    → lines_of (y ∷ ys) ≡ strip_last 10 (take_through 10 (y ∷ ys)) ∷ lines_of (drop_through 10 (y ∷ ys))
+    → cond b ([] ∷ lines_of (y ∷ ys)) (before_first x (lines_of (y ∷ ys)))
+    ≡ strip_last 10 (cond b (x ∷ []) (x ∷ take_through 10 (y ∷ ys)))
+    ∷ lines_of (cond b (y ∷ ys) (drop_through 10 (y ∷ ys)))
+lines_of-cons x y ys true e rest = ap (λ l. l ∷ lines_of (y ∷ ys)) (sym (strip_last-one x true e))
+lines_of-cons x y ys false e rest =
+    ap (before_first x) rest
+    ∙ ap (λ l. l ∷ lines_of (drop_through 10 (y ∷ ys)))
+    (sym (strip_last-cons 10 x (take_through 10 (y ∷ ys)) (take_through-some 10 y ys)))
+
+lines_of-one : (x : ℕ) (b : Bool) → eqb x 10 ≡ b → cond b ([] ∷ []) ((x ∷ []) ∷ [])
+    ≡ strip_last 10 (cond b (x ∷ []) (x ∷ [])) ∷ lines_of (cond b [] [])
+lines_of-one x true e = ap (λ l. l ∷ []) (sym (strip_last-one x true e))
+lines_of-one x false e = ap (λ l. l ∷ []) (sym (strip_last-one x false e))
+
+-- the first line of a text that isn't empty is what is read through the first line feed, without it
+pub lines_of-first : (x : ℕ) (xs : List ℕ)
+    → lines_of (x ∷ xs) ≡ strip_last 10 (take_through 10 (x ∷ xs)) ∷ lines_of (drop_through 10 (x ∷ xs))
+lines_of-first x [] = lines_of-one x (eqb x 10) refl
+lines_of-first x (y ∷ ys) = lines_of-cons x y ys (eqb x 10) refl (lines_of-first y ys)
+
+pub TakesLines-nil : (a : Option (List ℕ)) → TakesLines a a []
+TakesLines-nil None = tt
+TakesLines-nil (Some x) = refl
+
+-- a line after others
+pub TakesLines-more : (a b c : Option (List ℕ)) (lines : List (List ℕ)) (line : List ℕ) → TakesLines a b lines
+    → TakesLines b c (line ∷ []) → TakesLines a c (lines ++ line ∷ [])
+TakesLines-more None b c lines line p q = tt
+TakesLines-more (Some x) None c lines line p q = absurd p
+TakesLines-more (Some x) (Some y) None lines line p q = absurd q
+TakesLines-more (Some x) (Some y) (Some z) lines line p q =
+    p ∙ ap (λ l. lines ++ l) q ∙ sym (append_assoc lines (line ∷ []) (lines_of z))
+
+-- at the end these are all lines
+pub TakesLines-all : (a b : Option (List ℕ)) (lines : List (List ℕ)) → TakesLines a b lines → IsAtEnd b
+    → IfSome a (λ left. lines ≡ lines_of left)
+TakesLines-all None b lines p end = tt
+TakesLines-all (Some x) None lines p end = absurd p
+TakesLines-all (Some x) (Some y) lines p end =
+    sym (p ∙ ap (λ l. lines ++ lines_of l) end ∙ append-nil lines)
+
+-- and before it the first
+pub TakesLines-first : (a b : Option (List ℕ)) (lines : List (List ℕ)) → TakesLines a b lines
+    → IfSome a (λ left. (rest : List (List ℕ)) × (lines_of left ≡ lines ++ rest))
+TakesLines-first None b lines p = tt
+TakesLines-first (Some x) None lines p = absurd p
+TakesLines-first (Some x) (Some y) lines p = (lines_of y, p)
+
+-- what is dropped through the first line feed is the first line
+pub TakesLines-through : (a b : Option (List ℕ)) (line : List ℕ)
+    → IfSome a (λ text. line ≡ strip_last 10 (take_through 10 text)) → IfSome a (λ text. 0 < length text)
+    → DropsThrough a b 10 → TakesLines a b (line ∷ [])
+TakesLines-through None b line is some drops = tt
+TakesLines-through (Some []) b line is some drops = absurd (omega (arith, some))
+TakesLines-through (Some (x ∷ xs)) b line is some drops =
+    subst (λ o. TakesLines (Some (x ∷ xs)) o (line ∷ [])) (sym drops)
+    (lines_of-first x xs ∙ ap (λ l. l ∷ lines_of (drop_through 10 (x ∷ xs))) (sym is))
+
+-- a line that was read
+pub TakesLines-read : (a b : Option (List ℕ)) (old new line : List ℕ) → old ≡ []
+    → IfSome a (λ text. new ≡ old ++ take_through 10 text) → 0 < length new → line ≡ strip_last 10 new
+    → DropsThrough a b 10 → TakesLines a b (line ∷ [])
+TakesLines-read None b old new line empty is some last drops = tt
+TakesLines-read (Some text) b old new line empty is some last drops =
+    let read : new ≡ take_through 10 text = is ∙ ap (λ l. l ++ take_through 10 text) empty in
+    TakesLines-through (Some text) b line (last ∙ ap (strip_last 10) read)
+    (take_through_nonempty 10 text (subst (λ l. 0 < length l) read some)) drops
+
+-- a line that was skipped
+pub TakesLines-skipped : (a b : Option (List ℕ)) → IfSome a (λ text. 0 < length text) → DropsThrough a b 10
+    → (line : List ℕ) × TakesLines a b (line ∷ [])
+TakesLines-skipped None b some drops = ([], tt)
+TakesLines-skipped (Some text) b some drops =
+    (strip_last 10 (take_through 10 text), TakesLines-through (Some text) b _ refl some drops)
+
+-- there are as many bytes as were read
+pub nonempty_before : (a b : Option (List ℕ)) (first : List ℕ) → Consumes a b first
+    → IfSome b (λ text. 0 < length first + length text) → IfSome a (λ text. 0 < length text)
+nonempty_before None b first p some = tt
+nonempty_before (Some x) None first p some = absurd p
+nonempty_before (Some x) (Some y) first p some = omega (arith, some, ap length p, length-append first y)
+
+both_true : (a b : Bool) → a && b ≡ true → (a ≡ true) × (b ≡ true)
+both_true true b e = (refl, e)
+both_true false b e = absurd (true≢false (sym e))
+
+nonempty_ended : (xs : List ℕ) → ends_with_byte 10 xs ≡ true → 0 < length xs
+nonempty_ended xs e = ltb-true _ _ (both_true _ _ e).0
+
+-- what was read ends with its first line feed
+pub DropsThrough-ended : (a b : Option (List ℕ)) (first : List ℕ) → Consumes a b first → StopsAt first 10
+    → ends_with_byte 10 first ≡ true → DropsThrough a b 10
+DropsThrough-ended None b first p stops e = tt
+DropsThrough-ended (Some x) None first p stops e = absurd p
+DropsThrough-ended (Some x) (Some y) first p stops e =
+    let last : IsEmptyOrEndsWith first 10 = λ some. eqb-true _ _ (both_true _ _ e).1 in
+    let part = through_part 10 first y stops last (λ zero. absurd (omega (
+      arith,
+      zero,
+      nonempty_ended first e,
+    ))) in
+    ap Some (sym (ap (drop_through 10) p ∙ part.1))
+
+pub TakesLines-ended : (a b : Option (List ℕ)) (first : List ℕ) → Consumes a b first → StopsAt first 10
+    → ends_with_byte 10 first ≡ true → (line : List ℕ) × TakesLines a b (line ∷ [])
+TakesLines-ended a b first p stops e =
+    TakesLines-skipped a b (nonempty_before a b first p (at b)) (DropsThrough-ended a b first p stops e)
+  where
+    at : (o : Option (List ℕ)) → IfSome o (λ text. 0 < length first + length text)
+    at None = tt
+    at (Some y) = omega (arith, nonempty_ended first e)
+
+-- what was read has no line feed
+All-unended : (xs : List ℕ) → StopsAt xs 10 → ends_with_byte 10 xs ≡ false → All (λ x. x ≢ 10) xs
+All-unended [] stops e = All-nil (λ x. x ≢ 10)
+All-unended (x ∷ xs) stops e =
+    let n = length (x ∷ xs) - 1 in
+    let last : get_or (x ∷ xs) n 0 ≢ 10 = λ is. true≢false (
+    sym (ap (λ b. b && eqb (get_or (x ∷ xs) n 0) 10) (lt-ltb 0 (length (x ∷ xs)) (omega arith))
+    ∙ eq-eqb _ _ is) ∙ e
+    ) in
+    subst (All (λ y. y ≢ 10)) (take_all (n + 1) (x ∷ xs) (omega arith))
+    (All-more (λ y. y ≢ 10) (x ∷ xs) n 0 (omega arith) stops last)
+
+DropsThrough-unended : (a b c : Option (List ℕ)) (first : List ℕ) → Consumes a b first → StopsAt first 10
+    → ends_with_byte 10 first ≡ false → DropsThrough b c 10 → DropsThrough a c 10
+DropsThrough-unended None b c first p stops e drops = tt
+DropsThrough-unended (Some x) None c first p stops e drops = absurd p
+DropsThrough-unended (Some x) (Some y) c first p stops e drops =
+    drops ∙ ap Some (sym (ap (drop_through 10) p
+    ∙ drop_through-append 10 first y (All-unended first stops e)))
+
+pub TakesLines-unended : (a b c : Option (List ℕ)) (first : List ℕ) → Consumes a b first → StopsAt first 10
+    → ends_with_byte 10 first ≡ false → DropsThrough b c 10
+    → IfSome b (λ text. 0 < length first + length text)
+    → (line : List ℕ) × TakesLines a c (line ∷ [])
+TakesLines-unended a b c first p stops e drops some =
+    TakesLines-skipped a c (nonempty_before a b first p some)
+    (DropsThrough-unended a b c first p stops e drops)
+
+-- some bytes were read or skipped
+pub nonempty_skipped : (b : Option (List ℕ)) (first : List ℕ) (count skipped : ℕ) → count ≡ length first
+    → IfSome b (λ text. skipped ≡ u64_saturate (length (take_through 10 text)))
+    → (0 < count) ⊎ (0 < skipped) → IfSome b (λ text. 0 < length first + length text)
+nonempty_skipped None first count skipped is counted some = tt
+nonempty_skipped (Some y) first count skipped is counted (inl some) = omega arith
+nonempty_skipped (Some y) first count skipped is counted (inr some) =
+    omega (arith, take_through_nonempty 10 y (omega arith))
+
+and_assoc : (a b c : Bool) → (a && b) && c ≡ a && (b && c)
+and_assoc true b c = refl
+and_assoc false b c = refl
+
+and_true : (a : Bool) → a && true ≡ a
+and_true true = refl
+and_true false = refl
+
+-- what is printed for a line after others
+PrintsLines-more : (task : Task) (lines : List (List ℕ)) (line : List ℕ) (passes next : Bool)
+    (printed text : List ℕ) → PrintsLines task lines passes printed → PrintsLine task line next text
+    → PrintsLines task (lines ++ line ∷ []) (passes && next) (printed ++ text)
+PrintsLines-more task _ line _ next _ text none one =
+    subst (λ b. PrintsLines task (line ∷ []) b text) (and_true next)
+    (subst (λ t. PrintsLines task (line ∷ []) (next && true) t) (append-nil text) (more one none))
+PrintsLines-more task _ line _ next _ text (more one_line others) one =
+    rw (and_assoc, append_assoc) (more one_line (PrintsLines-more task _ line _ next _ text others one))
+
+-- the same where a part of what was printed was written
+pub PrintsLines-next : (task : Task) (lines : List (List ℕ)) (line : List ℕ) (passes next : Bool)
+    (sent waiting written left printed new : List ℕ) → PrintsLines task lines passes (sent ++ waiting)
+    → waiting ≡ written ++ left → PrintsLine task line next printed → new ≡ left ++ printed
+    → PrintsLines task (lines ++ line ∷ []) (passes && next) ((sent ++ written) ++ new)
+PrintsLines-next task lines line passes next sent waiting written left printed new all is one e =
+    let same : (sent ++ waiting) ++ printed ≡ (sent ++ written) ++ new = cc (
+      ap (λ l. (sent ++ l) ++ printed) is,
+      ap (λ l. l ++ printed) (append_assoc sent written left),
+      append_assoc (sent ++ written) left printed,
+      ap (λ l. (sent ++ written) ++ l) e,
+    ) in
+    subst (PrintsLines task (lines ++ line ∷ []) (passes && next)) same
+    (PrintsLines-more task lines line passes next (sent ++ waiting) printed all one)
+
+-- what was written is a beginning of what was printed
+pub AppendsFront-sent : (a b : Option (List ℕ)) (sent waiting : List ℕ) → Appends a b sent
+    → AppendsFront a b (sent ++ waiting)
+AppendsFront-sent a b sent waiting p = (
+  length sent,
+  subst (Appends a b) (sym (take-append-le (length sent) sent waiting (omega arith)
+      ∙ take_all (length sent) sent (omega arith))) p,
+)
+
+take_past : (xs ys : List ℕ) (n : ℕ) → take (length xs + n) (xs ++ ys) ≡ xs ++ take n ys
+take_past [] ys n = ap (λ k. take k ys) (zero-add n)
+take_past (x ∷ xs) ys n =
+    let e : length (x ∷ xs) + n ≡ suc (length xs + n) = omega arith in
+    ap (λ k. take k (x ∷ (xs ++ ys))) e ∙ ap (λ l. x ∷ l) (take_past xs ys n)
+
+-- and so is it with a beginning of what waits
+pub AppendsFront-more : (a b c : Option (List ℕ)) (sent waiting : List ℕ) → Appends a b sent
+    → AppendsFront b c waiting → AppendsFront a c (sent ++ waiting)
+AppendsFront-more a b c sent waiting p q = (
+  length sent + q.0,
+  subst (Appends a c) (sym (take_past sent waiting q.0)) (Appends-trans a b c sent (take q.0 waiting) p q.1),
+)
+
+-- a document's answer or report
+pub PrintsLine-framed : (task : Task) (line text : List ℕ) (passes : Bool)
+    → ((subcommand : Subcommand) → task ≡ Answer subcommand
+    → IsTrue passes × IsAnswerText subcommand line text)
+    → ((subcommand : Subcommand) (is_strict : Bool) → task ≡ Check subcommand is_strict
+    → PrintsReport subcommand is_strict line passes text)
+    → PrintsLine task line passes (framed task text)
+PrintsLine-framed (Answer subcommand) line text passes answers reports =
+    let answer = answers subcommand refl in
+    subst (λ b. PrintsLine (Answer subcommand) line b (framed (Answer subcommand) text)) (sym answer.0)
+    (answered text answer.1)
+PrintsLine-framed (Check subcommand is_strict) line text passes answers reports =
+    reported text (reports subcommand is_strict refl)
+
+-- a document's fault
+pub PrintsLine-faulted : (task : Task) (line : List ℕ) (fault : Fault)
+    → ((subcommand : Subcommand) → task ≡ Answer subcommand → IsDocumentFault subcommand line fault)
+    → ((subcommand : Subcommand) (is_strict : Bool) → task ≡ Check subcommand is_strict → fault ≡ OutOfMemory)
+    → PrintsLine task line (passes_without task) (fault_line fault)
+PrintsLine-faulted (Answer subcommand) line fault answers reports = faulted fault (answers subcommand refl)
+PrintsLine-faulted (Check subcommand is_strict) line fault answers reports =
+    subst (λ f. PrintsLine (Check subcommand is_strict) line false (fault_line f))
+    (sym (reports subcommand is_strict refl)) refused
+
+-- memory may be refused for each document
+IsDocumentFault-refused : (subcommand : Subcommand) (line : List ℕ)
+    → IsDocumentFault subcommand line OutOfMemory
+IsDocumentFault-refused Analyze line = tt
+IsDocumentFault-refused Convert line = tt
+IsDocumentFault-refused Reach line = tt
+
+pub PrintsLine-refused : (task : Task) (line : List ℕ)
+    → PrintsLine task line (passes_without task) (fault_line OutOfMemory)
+PrintsLine-refused (Answer subcommand) line = faulted OutOfMemory (IsDocumentFault-refused subcommand line)
+PrintsLine-refused (Check subcommand is_strict) line = refused
+
+-- the same text, of which a part was written
+pub PrintsLines-written : (task : Task) (lines : List (List ℕ)) (passes : Bool) (sent waiting written left
+    : List ℕ)
+    → PrintsLines task lines passes (sent ++ waiting) → waiting ≡ written ++ left
+    → PrintsLines task lines passes ((sent ++ written) ++ left)
+PrintsLines-written task lines passes sent waiting written left all is =
+    subst (PrintsLines task lines passes) (ap (λ l. sent ++ l) is ∙ sym (append_assoc sent written left)) all
+
+-- a run that fails after some lines
+pub LeavesFirstLines-at : (task : Task) (input now before after : Option (List ℕ)) (lines : List (List ℕ))
+    (passes : Bool) (printed : List ℕ) (fault : Fault) → IsFailure fault → TakesLines input now lines
+    → PrintsLines task lines passes printed → AppendsFront before after printed
+    → LeavesFirstLines task input before after fault
+LeavesFirstLines-at task input now before after lines passes printed fault failure taken prints front =
+    (failure, lines, TakesLines-first input now lines taken, passes, printed, prints, front)
+
+-- or before the first
+pub LeavesFirstLines-none : (task : Task) (input output : Option (List ℕ)) (fault : Fault) → IsFailure fault
+    → LeavesFirstLines task input output output fault
+LeavesFirstLines-none task input output fault failure =
+    LeavesFirstLines-at task input input output output [] true [] fault failure (TakesLines-nil input) none
+    (0, Appends-nil output)
+
+-- the exit of a `?`
+pub exits : (r : Result Bool Fault) (P : Bool → Type 0) (Q : Fault → Type 0) (fault : Fault)
+    → IsErrAnd r (λ told. told ≡ fault) → Q fault → MatchResult r P Q
+exits r P Q fault err rest = let p = err_from_is_err_and r err in rw (p.1, p.2) rest
+
+-- a line for whose answer or report memory was refused
+pub refused_after : (r : Result Bool Fault) (task : Task) (line old kept new : List ℕ) → kept ≡ old
+    → MatchResult r (λ passes. (passes ≡ passes_without task) × (new ≡ kept ++ fault_line OutOfMemory))
+    (λ fault. fault ≡ OutOfMemory)
+    → MatchResult r (λ passes. (printed : List ℕ) × PrintsLine task line passes printed
+    × (new ≡ old ++ printed))
+    (λ fault. fault ≡ OutOfMemory)
+refused_after (Ok passes) task line old kept new same h = (
+  fault_line OutOfMemory,
+  subst (λ b. PrintsLine task line b (fault_line OutOfMemory)) (sym h.0) (PrintsLine-refused task line),
+  h.1 ∙ ap (λ l. l ++ fault_line OutOfMemory) same,
+)
+refused_after (Err fault) task line old kept new same h = h
+
+pub TakesLines-same : (a b c : Option (List ℕ)) (lines : List (List ℕ)) → a ≡ b → TakesLines a c lines
+    → TakesLines b c lines
+TakesLines-same a b c lines same taken = subst (λ o. TakesLines o c lines) same taken
+
+pub Appends-same : (a b : Option (List ℕ)) (bs cs : List ℕ) → bs ≡ cs → Appends a b bs → Appends a b cs
+Appends-same a b bs cs same p = subst (Appends a b) same p

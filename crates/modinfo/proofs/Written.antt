@@ -1,0 +1,74 @@
+-- What is written of a text: all of it, or a beginning.
+use Rattle.std.proofs.Common.{
+  ◌≡◌,
+  ℕ,
+  zero,
+  suc,
+  ◌+◌,
+  List,
+  [],
+  ◌∷◌,
+  ◌++◌,
+  length,
+  take,
+  Bool,
+  true,
+  false,
+  Option,
+  Some,
+  None,
+  IfSome,
+  MatchBool,
+  unwrap_or,
+  refl,
+  sym,
+  ap,
+  subst,
+  arith,
+}
+use Rattle.std.specs.Io.KnownBytes.{Appends}
+use Rattle.std.proofs.KnownBytes.{Appends-trans}
+use Rattle.std.proofs.Math.Seq.{take-append-add}
+use Rattle.std.proofs.lemmas.List.{take_all}
+use Rattle.modinfo.specs.Run.{AppendsFront}
+
+-- a beginning of the first of two texts is one of both
+front_taken : (n : ℕ) (xs ys : List ℕ) → (m : ℕ) × (take m (xs ++ ys) ≡ take n xs)
+front_taken n [] ys = (0, sym (take_all n [] (omega arith)))
+front_taken zero (x ∷ xs) ys = (0, refl)
+front_taken (suc n) (x ∷ xs) ys =
+    let rest = front_taken n xs ys in
+    (suc rest.0, ap (λ l. x ∷ l) rest.1)
+
+pub front_of_both : (a b : Option (List ℕ)) (xs ys : List ℕ) → AppendsFront a b xs
+    → AppendsFront a b (xs ++ ys)
+front_of_both a b xs ys front =
+    let taken = front_taken front.0 xs ys in
+    (taken.0, subst (Appends a b) (sym taken.1) front.1)
+
+-- a text was written, and then a beginning of another
+pub front_after : (a b c : Option (List ℕ)) (xs ys : List ℕ) → Appends a b xs → AppendsFront b c ys
+    → AppendsFront a c (xs ++ ys)
+front_after a b c xs ys whole front = (
+  length xs + front.0,
+  subst (Appends a c) (sym (take-append-add xs ys front.0))
+      (Appends-trans a b c xs (take front.0 ys) whole front.1),
+)
+
+-- all of it is a beginning
+pub whole_front : (a b : Option (List ℕ)) (xs : List ℕ) → Appends a b xs → AppendsFront a b xs
+whole_front a b xs whole = (
+  length xs,
+  subst (Appends a b) (sym (take_all (length xs) xs
+      (omega arith))) whole,
+)
+
+pub front_of_result : (all : Bool) (a b : Option (List ℕ)) (xs : List ℕ)
+    → MatchBool all (Appends a b xs) (AppendsFront a b xs) → AppendsFront a b xs
+front_of_result true a b xs whole = whole_front a b xs whole
+front_of_result false a b xs front = front
+
+-- the known bytes, or none
+pub known_or_none : (known : Option (List ℕ)) → IfSome known (λ left. unwrap_or known [] ≡ left)
+known_or_none (Some left) = refl
+known_or_none None = tt

@@ -1,0 +1,45 @@
+use Rattle.std.proofs.Common.{[], rules, unwrap_or}
+use Rattle.std.proofs.KnownBytes.{Keeps-refl}
+use Rattle.std.proofs.lemmas.Result.{err_from_is_err_and}
+use Rattle.std.specs.String.{string_bytes}
+use Rattle.modinfo.proofs.Faults.{failed_run, read_failure}
+use Rattle.modinfo.proofs.Written.{known_or_none}
+use Rattle.modinfo.proofs.program.answer_document.Goals as goal
+
+-- the input wasn't read
+pub returns-in_err-document-clause-answer : goal.returns-in_err-document-clause-answer
+returns-in_err-document-clause-answer g c subcommand is =
+    let f = err_from_is_err_and c.from_residual.result c.from_residual.ensures.1 in
+    let known = g.R.Read.remaining c.args.input.now in (
+      unwrap_or known [],
+      known_or_none known,
+      rw (f.1, f.2) (
+        failed_run subcommand (unwrap_or known []) c.in_err-document.field-0.0 c.in_err-document.ensures,
+        λ apart. Keeps-refl _,
+      ),
+    )
+
+pub returns-in_err-document-clause-check : goal.returns-in_err-document-clause-check
+returns-in_err-document-clause-check g c subcommand is_strict is =
+    let f = err_from_is_err_and c.from_residual.result c.from_residual.ensures.1 in
+    let known = g.R.Read.remaining c.args.input.now in (
+      unwrap_or known [],
+      known_or_none known,
+      rw (f.1, f.2) (
+        read_failure c.in_err-document.field-0.0 c.in_err-document.ensures,
+        λ apart. Keeps-refl _,
+      ),
+    )
+
+-- the line is the answer, and a line feed
+pub returns-clause-answer : goal.returns-clause-answer
+returns-clause-answer g c subcommand is =
+    let found = c.in_ok-line.ensures.answer subcommand is in (
+      c.in_ok-document.document.items,
+      c.in_ok-document.ensures,
+      (
+        c.as_str.result.now,
+        (found.0, (string_bytes c.in_ok-line.field-0.line, found.1, search rules)),
+        search rules,
+      ),
+    )

@@ -1,0 +1,87 @@
+-- A document of `reach`, and what is printed for it.
+use Rattle.std.specs.Prelude.{
+  ◌≡◌,
+  ◌≢◌,
+  ◌⊎◌,
+  ℕ,
+  List,
+  codes,
+  Option,
+  Some,
+  None,
+  MatchOption,
+  if◌then◌else◌,
+}
+use Rattle.serde_json.specs.Data.{Data, string, Members, no_members, member}
+use Rattle.serde_json.specs.Find.{as_object, as_str, get}
+use Rattle.serde_json.specs.Read.{read as read_text}
+use Rattle.serde_json.specs.Written.{compact_text, has_float}
+use Rattle.deno_graph_dependency.specs.Object.{array_of}
+use Rattle.deno_graph_dependency.specs.Read.Partial.{◌>>=◌, reads_members}
+use Rattle.deno_graph_info.specs.InfoFault.{IsInfoFault}
+use Rattle.deno_graph_info.specs.Json.ModuleInfo.{reads_info}
+use Rattle.deno_graph_info.specs.Reach.{IsReach}
+use Rattle.deno_graph_info.specs.declared.analysis.fault.InfoFault.{InfoFault}
+use Rattle.deno_graph_info.specs.declared.analysis.fault.InfoFault.TheVariants as info
+use Rattle.deno_graph_info.specs.declared.analysis.module_info.ModuleInfo.{ModuleInfo}
+use Rattle.modinfo.specs.declared.fault.Fault.{Fault}
+use Rattle.modinfo.specs.declared.fault.Fault.TheVariants.{Info, OutOfMemory}
+
+-- The JSON of modules by their keys, and the key of the root.
+pub record Question : Type 0 where
+  pub modules : Members
+  pub root : List ℕ
+
+-- The object that is the member `modules`.
+abbrev pub modules_in : Data → Option Members
+modules_in d = get (codes "modules") d >>= as_object
+
+-- The string that is the member `root`.
+abbrev pub root_in : Data → Option (List ℕ)
+root_in d = get (codes "root") d >>= as_str
+
+-- An object that has both; its other members are ignored.
+unfoldable pub reads_question : Data → Option Question
+reads_question d = do
+  root ← root_in d
+  modules ← modules_in d
+  Some (record { modules = modules; root = root })
+
+-- A `ModuleInfo`, where no number in its JSON is a float.
+unfoldable pub reads_stored : Data → Option ModuleInfo
+reads_stored d = if has_float d then None else reads_info d
+
+-- The value asks which of these modules the root reaches.
+abbrev pub Asks : Data → List (List ℕ × ModuleInfo) → List ℕ → Type 0
+Asks value modules root = (question : Question) × (reads_question value ≡ Some question)
+    × (root ≡ question.root) × (reads_members reads_stored question.modules ≡ Some modules)
+
+-- The compact JSON array of the keys that the root reaches.
+abbrev pub IsReachText : List ℕ → List ℕ → Type 0
+IsReachText document text = (value : Data) × (read_text document ≡ Some value)
+    × (modules : List (List ℕ × ModuleInfo)) × (root : List ℕ) × Asks value modules root
+    × (keys : List (List ℕ)) × IsReach modules root keys
+    × (text ≡ compact_text (array_of string keys))
+
+-- The fault of the first module, in the order of the keys, whose JSON isn't that of a `ModuleInfo`.
+abbrev pub IsFirstFault : Members → InfoFault → Type 0
+IsFirstFault no_members fault = ⊥
+IsFirstFault (member key d ms) fault = IsInfoFault d fault
+    ⊎ ((reads_stored d ≢ None) × IsFirstFault ms fault)
+
+-- Why no information of modules is read: the first fault, or an allocation failed.
+abbrev pub IsNoInfos : Members → Fault → Type 0
+IsNoInfos ms (Info told) = (told ≢ info.OutOfMemory) × IsFirstFault ms told
+IsNoInfos ms OutOfMemory = Unit {0}
+IsNoInfos ms fault = ⊥
+
+-- The fault of a value: its shape, or else that of the first module with one.
+abbrev pub IsQuestionFault : Data → InfoFault → Type 0
+IsQuestionFault d fault = MatchOption (reads_question d) (fault ≡ info.Shape)
+    (λ question. IsFirstFault question.modules fault)
+
+-- Why a value asks nothing, or an allocation failed.
+abbrev pub IsNoQuestion : Data → Fault → Type 0
+IsNoQuestion d (Info told) = (told ≢ info.OutOfMemory) × IsQuestionFault d told
+IsNoQuestion d OutOfMemory = Unit {0}
+IsNoQuestion d fault = ⊥

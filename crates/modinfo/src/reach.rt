@@ -1,0 +1,121 @@
+//! Documents of `reach`: a root, and the information of modules by their keys.
+
+ghost use Rattle.std.specs.Prelude.{◌≡◌, map, IfOk, MatchResult, None, Some, option_map};
+ghost use Rattle.std.specs.String.{string_bytes};
+ghost use Rattle.serde_json.specs.Data.{string};
+ghost use Rattle.serde_json.specs.Find.{as_object, get_member};
+ghost use Rattle.serde_json.specs.View.{members_view, view};
+ghost use Rattle.serde_json.specs.Written.{compact_text};
+ghost use Rattle.deno_graph_text.specs.TextMap.{entries_of};
+ghost use Rattle.deno_graph_dependency.specs.Object.{array_of};
+ghost use Rattle.deno_graph_dependency.specs.Read.Partial.{reads_members};
+ghost use Rattle.modinfo.specs.Answer.{IsNoReach};
+ghost use Rattle.modinfo.specs.Reach.{Asks, IsNoInfos, IsNoQuestion, IsReachText, modules_in, reads_stored, root_in};
+
+use crate::fault::Fault;
+use crate::input::parse_json;
+use deno_graph_dependency::json_form::text_of;
+use deno_graph_info::analysis::{InfoFault, ModuleInfo};
+use deno_graph_info::reach::reach;
+use deno_graph_source::values::{Items, Text, TextMap};
+use serde_json::{Map, Value};
+use std::alloc::{AllocError, Global};
+use std::collections::BTreeMap;
+
+/// What a document of `reach` asks: which of the modules the root reaches.
+#[derive(Drop)]
+pub struct Question {
+    pub infos: BTreeMap<String, ModuleInfo>,
+    pub root: Text,
+}
+
+/// The keys that the root reaches, as compact JSON. The error is a fault of the document, or
+/// `OutOfMemory` where an allocation fails.
+pub fn reach_text(alloc: Global, input: Vec<u8>) -> Result<String, Fault>
+    ensures { MatchResult result (λ text. IsReachText input.items (string_bytes text))
+        (IsNoReach input.items) }
+{
+    let question = read_question(alloc, parse_json(alloc, input)?)?;
+    let keys = reach(alloc, &question.infos, question.root.as_str())?;
+    Ok(keys_text(alloc, keys)?)
+}
+
+/// What the value of a document asks. The error is its fault, or `OutOfMemory` where an allocation
+/// fails.
+pub fn read_question(alloc: Global, document: Value) -> Result<Question, Fault>
+    ensures { MatchResult result
+        (λ question. Asks (view document) (entries_of question.infos) question.root)
+        (IsNoQuestion (view document)) }
+{
+    let Some(root) = root_of(alloc, &document)? else {
+        return Err(Fault::Info(InfoFault::Shape));
+    };
+    let Some(modules) = modules_of(document) else {
+        return Err(Fault::Info(InfoFault::Shape));
+    };
+    let infos = read_infos(alloc, modules)?.into_map();
+    Ok(Question { infos, root })
+}
+
+/// A copy of the member `root`, `None` where the document has no such string.
+fn root_of(alloc: Global, document: &Value) -> Result<Option<Text>, AllocError>
+    ensures { IfOk result (λ root. root ≡ root_in (view document.now)) }
+{
+    match document.get("root") {
+        Some(Value::String(root)) => Ok(Some(Text::from_str(alloc, root.as_str())?)),
+        _ => Ok(None),
+    }
+}
+
+/// The member `modules`, `None` where the document has no such object.
+fn modules_of(document: Value) -> Option<Map<String, Value>>
+    ensures { option_map (λ modules. members_view modules.entries) result ≡ modules_in (view document) }
+{
+    object_of(take_member(object_of(document)?, "modules")?)
+}
+
+/// The members of the object that the value is.
+fn object_of(value: Value) -> Option<Map<String, Value>>
+    ensures { option_map (λ members. members_view members.entries) result ≡ as_object (view value) }
+{
+    match value {
+        Value::Object(members) => Some(members),
+        _ => None,
+    }
+}
+
+/// The member of this name. The others are dropped.
+fn take_member(members: Map<String, Value>, name: &str) -> Option<Value>
+    ensures { option_map view result ≡ get_member name.now (members_view members.entries) }
+{
+    let mut members = members;
+    members.remove(name)
+}
+
+/// The information of each module by its key. Drops the JSON of a module before the next is read,
+/// to halve the peak memory.
+fn read_infos(alloc: Global, modules: Map<String, Value>) -> Result<TextMap<ModuleInfo>, Fault>
+    ensures { MatchResult result
+        (λ infos. reads_members reads_stored (members_view modules.entries) ≡ Some infos)
+        (IsNoInfos (members_view modules.entries)) }
+{
+    let mut infos = TextMap::new(alloc);
+    for (key, value) in modules {
+        let info = ModuleInfo::from_value(alloc, &value)?;
+        drop(value);
+        drop(infos.insert(Text::from_string(key), info)?);
+    }
+    Ok(infos)
+}
+
+/// The keys as one array of compact JSON.
+fn keys_text(alloc: Global, keys: Vec<String>) -> Result<String, AllocError>
+    ensures { IfOk result
+        (λ text. string_bytes text ≡ compact_text (array_of string (map string_bytes keys.items))) }
+{
+    let mut texts = Items::new(alloc);
+    for key in keys {
+        texts.push(Text::from_string(key))?;
+    }
+    text_of(alloc, &texts)
+}
