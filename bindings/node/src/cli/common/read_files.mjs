@@ -1,0 +1,273 @@
+/** Reads many files at once, and writes a line for each. */
+
+import { dirname, resolve as absolute } from "node:path";
+import { Readable } from "node:stream";
+
+import { describeFault, systemMessage } from "../../runtime/faults.mjs";
+import { AnalysisCache } from "../../files/analysis_cache.mjs";
+import { exclusionsOf } from "../../files/exclusions.mjs";
+import { findFiles, isFolder, readPaths } from "../../files/find_files.mjs";
+import { MAX_BYTES } from "../../files/regular_file.mjs";
+import { writeOutput } from "./standard_output.mjs";
+import { printable } from "../../runtime/printable.mjs";
+import { readFiles } from "../../runtime/read_files.mjs";
+import { UsageFault, readJobs, readMaxBytes, readTimeout } from "./command_line.mjs";
+import { Progress } from "./progress.mjs";
+import { canonicalUrl } from "../../graph/reach.mjs";
+
+/**
+ * @typedef {import("../../runtime/read_files.mjs").ReadFile} FileResult
+ * @typedef {import("../../runtime/file_worker.mjs").Work} Work
+ * @typedef {import("../../files/find_files.mjs").Found} Found
+ */
+
+/** The options of a program that reads many files, as node's `parseArgs` has them. */
+export const LINE_OPTIONS = {
+  jobs: { type: "string" },
+  all: { type: "boolean" },
+  follow: { type: "boolean" },
+  "max-bytes": { type: "string" },
+  null: { type: "boolean", short: "0" },
+  timeout: { type: "string" },
+};
+
+/** What the options mean that a program has for many files, for its help. */
+export const LINE_HELP = `  --follow           also the files outside of PATH that links in it lead to
+  --max-bytes N      the most bytes of a file; else ${MAX_BYTES}
+  --timeout SECONDS  how long a file may take; else as long as it takes
+  --jobs N           threads that parse; else one for each processor
+  --all              also what is in node_modules and in folders that begin with a dot
+`;
+
+const ENDINGS = ".js, .mjs, .cjs, .jsx, .ts, .mts, .cts or .tsx";
+
+/** What is said of a link that isn't followed. */
+const LEFT = "warning: a link out of the given paths is not followed (--follow follows it)";
+
+/** How many paths are looked up ahead of the files that are read. */
+const AHEAD = 1_000_000;
+
+/**
+ * @typedef {object} Run
+ * @property {string} name the program's
+ * @property {any} values those of its options
+ * @property {string[]} paths
+ * @property {Work} work
+ * @property {Promise<void>} [ready] nothing is said or written before it; where it is rejected, so is the run
+ */
+
+/**
+ * Reads the files of some paths, and says what is wrong with them.
+ * @param {Run & {
+ *   isOnce?: boolean,
+ *   isQuiet?: boolean,
+ *   write?: (result: FileResult) => Promise<void>,
+ * }} run `isOnce`: whether a file that several paths name is read for the first of them alone;
+ *   `isQuiet`: whether nothing is written to the standard output meanwhile; `write` is called for each
+ *   file in turn
+ * @returns {Promise<number>} the status
+ */
+export async function runLines(run) {
+  const { isOnce, isQuiet, ready, write = writeLine } = run;
+  const teller = new Teller(run.name, { isShown: isQuiet || !process.stdout.isTTY });
+  const found = await findNamed(run);
+  const files = ahead(isOnce ? eachOnce(found) : found, teller);
+  const options = readOptions(run);
+  for await (const result of readFiles(files, options)) {
+    await ready;
+    teller.tell(result);
+    if (!result.isLeft) {
+      await write(result);
+    }
+  }
+  await ready;
+  teller.end(run.paths);
+  await saveCache(run, options.cache);
+  return teller.status;
+}
+
+/**
+ * Writes what was added to a cache. Where that fails, a warning says so, and the next run reads more.
+ * @param {Run} run
+ * @param {AnalysisCache | undefined} cache
+ */
+export async function saveCache({ name, values }, cache) {
+  try {
+    await cache?.save();
+  } catch (/** @type {any} */ error) {
+    const message = printable(`${values.cache}: ${systemMessage(error)}`);
+    process.stderr.write(`${name}: warning: the cache is not written: ${message}\n`);
+  }
+}
+
+/**
+ * How the files of a run are read.
+ * @param {Run} run
+ * @returns {{ jobs: number, work: Work, timeout?: number, cache?: AnalysisCache }}
+ */
+export function readOptions({ work, values }) {
+  return {
+    ...(values.cache !== undefined && { cache: openCache(values.cache, work) }),
+    jobs: readJobs(values.jobs),
+    work: { ...work, maxBytes: readMaxBytes(values["max-bytes"]) },
+    timeout: readTimeout(values.timeout),
+  };
+}
+
+/**
+ * @param {string} path
+ * @param {Work} work
+ * @throws {Error} the cache or the program can't be read
+ */
+function openCache(path, { program = "" }) {
+  try {
+    return new AnalysisCache(path, program);
+  } catch (/** @type {any} */ error) {
+    throw new Error(`--cache ${printable(path)}: ${systemMessage(error)}`);
+  }
+}
+
+/**
+ * The files of the paths of a run.
+ * @param {Run} run
+ * @param {(path: string) => boolean} [isExcluded]
+ * @returns {Promise<AsyncGenerator<Found, void>>}
+ */
+export async function findNamed({ paths, values, work }, isExcluded) {
+  const { all, follow } = values;
+  return findFiles(named(paths, values), {
+    mediaTypes: work.mediaTypes, all, follow,
+    roots: paths.filter((path) => path !== "-"),
+    isExcluded: isExcluded ?? await exclusionsFor({ paths, values }),
+  });
+}
+
+/**
+ * What the words `--exclude` and `--gitignore` leave out.
+ * @param {{ paths: string[], values: any }} run
+ * @returns {Promise<(path: string) => boolean>}
+ */
+export function exclusionsFor({ paths, values: { exclude, gitignore, entry = [] } }) {
+  const folders = [...paths.filter(isFolder), ...entry.map((/** @type {string} */ each) => dirname(each))];
+  return exclusionsOf({ globs: exclude, ignoredIn: gitignore ? [...new Set(folders)] : [] });
+}
+
+/**
+ * The same files, looked up long before they are read, so that the progress knows how many they are.
+ * @param {AsyncIterable<Found>} files
+ * @param {Teller} teller
+ * @returns {AsyncIterable<Found>}
+ */
+export function ahead(files, teller) {
+  return Readable.from(counted(files, teller), { highWaterMark: AHEAD });
+}
+
+/** @param {FileResult} result */
+async function writeLine({ line }) {
+  if (line) {
+    await writeOutput(line);
+  }
+}
+
+/**
+ * The paths that are named, by the words or on the standard input.
+ * @param {string[]} paths
+ * @param {{ null?: boolean }} values
+ */
+async function* named(paths, values) {
+  for (const path of paths) {
+    if (path === "-") {
+      yield* readPaths(process.stdin, values.null ? "\0" : "\n");
+    } else {
+      yield path;
+    }
+  }
+}
+
+/**
+ * Each file by the first path that leads to it.
+ * @param {AsyncIterable<Found>} files
+ */
+async function* eachOnce(files) {
+  const passed = new Set();
+  for await (const file of files) {
+    const url = canonicalUrl(absolute(file.path));
+    if (file.isLeft) {
+      yield file;
+    } else if (!passed.has(url)) {
+      passed.add(url);
+      yield file;
+    }
+  }
+}
+
+/**
+ * @param {AsyncIterable<Found>} files
+ * @param {Teller} teller
+ */
+async function* counted(files, teller) {
+  for await (const file of files) {
+    teller.find();
+    yield file;
+  }
+}
+
+/** Says on the error output what is wrong with files. */
+export class Teller {
+  status = 0;
+  #name;
+  #progress;
+  #found = 0;
+  #noticed = new Set();
+
+  /**
+   * @param {string} name the program's
+   * @param {{ isShown: boolean }} options whether the progress is shown, on a terminal
+   */
+  constructor(name, { isShown }) {
+    this.#name = name;
+    this.#progress = new Progress(process.stderr, isShown);
+  }
+
+  /** Counts a file that was found. */
+  find() {
+    this.#found++;
+    this.#progress.find();
+  }
+
+  /**
+   * @param {string[]} paths those that were named
+   * @throws {UsageFault} there was nothing to read
+   */
+  end(paths) {
+    this.#progress.clear();
+    if (this.#found === 0 && !paths.includes("-")) {
+      throw new UsageFault(`${paths.join(", ")}: no file that can be read: no name ends as ${ENDINGS}`);
+    }
+  }
+
+  /** @param {FileResult} result */
+  tell({ path, isLeft, fault, warnings = [], notices = [] }) {
+    for (const notice of notices.filter((each) => !this.#noticed.has(each))) {
+      this.#noticed.add(notice);
+      this.#say(`warning: ${printable(notice)}`);
+    }
+    for (const { message, ...place } of warnings) {
+      this.#say(describeFault(path, { message: `warning: ${message}`, ...place }));
+    }
+    if (isLeft) {
+      this.#say(describeFault(path, { message: LEFT }));
+    }
+    if (fault) {
+      this.#say(describeFault(path, fault));
+      this.status = 1;
+      process.exitCode = 1;
+    }
+    this.#progress.pass(Boolean(fault));
+  }
+
+  /** @param {string} text */
+  #say(text) {
+    this.#progress.say(`${this.#name}: ${text}`);
+  }
+}

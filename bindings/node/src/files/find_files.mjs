@@ -1,0 +1,193 @@
+/** Finds the files that paths name. */
+
+import { realpathSync, statSync } from "node:fs";
+import { readdir } from "node:fs/promises";
+import { join, resolve as absolute, sep } from "node:path";
+
+import { mediaTypeOf } from "../document/media_types.mjs";
+import { FileFault } from "../runtime/faults.mjs";
+
+/**
+ * @typedef {import("node:fs").Dirent} Dirent
+ *
+ * @typedef {object} Found
+ * @property {string} path
+ * @property {Error} [error] why the path can't be read
+ * @property {boolean} [isLeft] whether it is a link that is not followed
+ *
+ * @typedef {object} Options
+ * @property {string[]} mediaTypes those that are read
+ * @property {boolean} [all] whether to go into `node_modules` and into folders whose names begin with
+ *   a dot
+ * @property {boolean} [follow] whether to follow links to files that are below no root
+ * @property {string[]} [roots] paths, besides the folder itself, below which a link may lead
+ * @property {(path: string) => boolean} [isExcluded] whether a file or folder is left out that a
+ *   folder has; takes an absolute path
+ */
+
+/**
+ * The files of some paths, in their order. A path that is not a folder is taken as it is. Of a folder
+ * the regular files are taken whose names end as those that are read, sorted by name, each folder in
+ * its place. A link to a file is followed as long as it leads to a place below a root; one to a folder
+ * never is.
+ * @param {AsyncIterable<string> | Iterable<string>} paths
+ * @param {Options} options
+ * @returns {AsyncGenerator<Found, void>}
+ */
+export async function* findFiles(paths, options) {
+  const roots = realPaths(options.roots ?? []);
+  for await (const path of paths) {
+    if (isFolder(path)) {
+      yield* filesBelow(path, options, [...realPaths([path]), ...roots]);
+    } else if (isThere(path)) {
+      yield { path };
+    } else {
+      yield { path, error: new FileFault("Input", "no such file or folder") };
+    }
+  }
+}
+
+/**
+ * Yields the paths of a list: one per line, or each ended by a zero byte.
+ * @param {AsyncIterable<Uint8Array>} input
+ * @param {"\n" | "\0"} separator
+ * @returns {AsyncGenerator<string, void>}
+ */
+export async function* readPaths(input, separator) {
+  const decoder = new TextDecoder();
+  let begun = "";
+  for await (const bytes of input) {
+    const paths = (begun + decoder.decode(bytes, { stream: true })).split(separator);
+    begun = paths.pop() ?? "";
+    yield* paths.filter((path) => path !== "");
+  }
+  const last = begun + decoder.decode();
+  if (last !== "") {
+    yield last;
+  }
+}
+
+/**
+ * @param {string} folder
+ * @param {Options} options
+ * @param {string[]} roots their real paths
+ * @returns {AsyncGenerator<Found, void>}
+ */
+async function* filesBelow(folder, options, roots) {
+  /** @type {(Found & { isFolder: boolean })[]} */
+  const todo = [{ path: folder, isFolder: true }];
+  for (let next = todo.pop(); next; next = todo.pop()) {
+    const { isFolder: hasEntries, ...found } = next;
+    if (!hasEntries) {
+      yield found;
+      continue;
+    }
+    try {
+      todo.push(...await entriesOf(found.path, options, roots));
+    } catch (/** @type {any} */ error) {
+      yield { path: found.path, error };
+    }
+  }
+}
+
+/**
+ * What is taken of a folder, the last first.
+ * @param {string} folder
+ * @param {Options} options
+ * @param {string[]} roots
+ */
+async function entriesOf(folder, { mediaTypes, all, follow, isExcluded = () => false }, roots) {
+  const entries = await readdir(folder, { withFileTypes: true });
+  entries.sort((one, other) => (one.name < other.name ? 1 : -1));
+  const taken = [];
+  for (const entry of entries) {
+    const path = join(folder, entry.name);
+    if (isExcluded(absolute(path))) {
+      continue;
+    }
+    if (entry.isDirectory()) {
+      if (all || !(entry.name === "node_modules" || entry.name.startsWith("."))) {
+        taken.push({ path, isFolder: true });
+      }
+    } else if (mediaTypes.includes(mediaTypeOf(entry.name) ?? "") && isRegular(entry, path)) {
+      const isLeft = entry.isSymbolicLink() && !follow && leadsOut(path, roots);
+      taken.push({ path, isFolder: false, ...(isLeft && { isLeft }) });
+    }
+  }
+  return taken;
+}
+
+/**
+ * Whether an entry is a regular file, or a link to one. A link to nothing counts as well: it is an
+ * error when it is read.
+ * @param {Dirent} entry
+ * @param {string} path
+ */
+function isRegular(entry, path) {
+  return entry.isFile() || (entry.isSymbolicLink() && (statusOf(path)?.isFile() ?? true));
+}
+
+/**
+ * Whether a link leads to a file that is below none of the roots.
+ * @param {string} path
+ * @param {string[]} roots their real paths
+ */
+function leadsOut(path, roots) {
+  const real = realPath(path);
+  const isIn = (/** @type {string} */ root) => {
+    return real === root || real?.startsWith(root.endsWith(sep) ? root : root + sep);
+  };
+  return real !== undefined && !roots.some(isIn);
+}
+
+/**
+ * @param {string[]} paths
+ * @returns {string[]} without those that lead to nothing
+ */
+function realPaths(paths) {
+  return paths.flatMap((path) => realPath(path) ?? []);
+}
+
+/**
+ * @param {string} path
+ * @returns {string | undefined} the path without links in it; nothing where it leads to nothing
+ */
+function realPath(path) {
+  try {
+    return realpathSync.native(path);
+  } catch {
+    return undefined;
+  }
+}
+
+/**
+ * @param {string} path
+ * @returns {import("node:fs").Stats | undefined} nothing where it leads to nothing
+ */
+function statusOf(path) {
+  try {
+    return statSync(path);
+  } catch {
+    return undefined;
+  }
+}
+
+/**
+ * @param {string} path
+ * @returns {boolean} true also where that can't be found out
+ */
+function isThere(path) {
+  try {
+    return statSync(path, { throwIfNoEntry: false }) !== undefined;
+  } catch {
+    return true;
+  }
+}
+
+/**
+ * @param {string} path
+ * @returns {boolean} false also where nothing is there
+ */
+export function isFolder(path) {
+  return statusOf(path)?.isDirectory() ?? false;
+}

@@ -1,0 +1,101 @@
+/** Reads regular files alone: a FIFO or a device may never end, and opening one may have effects. */
+
+import { closeSync, constants, fstatSync, openSync, readSync, statSync } from "node:fs";
+
+import { FileFault } from "../runtime/faults.mjs";
+
+/** The most bytes of a file, where no other limit is given: 64 MiB. */
+export const MAX_BYTES = 64 * 2 ** 20;
+
+/** The first bytes that are asked for of a file without a size, as those in /proc are. */
+const FIRST_PART = 2 ** 16;
+
+/**
+ * The content of a regular file.
+ * @param {string} path
+ * @param {number} [maxBytes]
+ * @returns {Buffer}
+ * @throws {FileFault} the file is not regular, or has more bytes
+ * @throws {Error} the system's, where it can't be read
+ */
+export function readRegularFile(path, maxBytes = MAX_BYTES) {
+  requireRegular(statSync(path));
+  // The path may lead to something else by now: opening doesn't wait for a FIFO's writer.
+  const file = openSync(path, constants.O_RDONLY | constants.O_NONBLOCK | constants.O_NOCTTY);
+  try {
+    const status = fstatSync(file);
+    requireRegular(status);
+    requireAtMost(maxBytes, status.size);
+    return readAtMost(file, status.size, maxBytes);
+  } finally {
+    closeSync(file);
+  }
+}
+
+/**
+ * What a stream has, at most so many bytes.
+ * @param {AsyncIterable<Uint8Array>} input
+ * @param {number} maxBytes
+ * @returns {Promise<Buffer>}
+ * @throws {FileFault} it has more
+ */
+export async function readStream(input, maxBytes) {
+  const parts = [];
+  let length = 0;
+  for await (const part of input) {
+    length += part.length;
+    requireAtMost(maxBytes, length);
+    parts.push(part);
+  }
+  return Buffer.concat(parts);
+}
+
+/**
+ * Reads to the end, which need not be where the size says.
+ * @param {number} file
+ * @param {number} size
+ * @param {number} maxBytes
+ */
+function readAtMost(file, size, maxBytes) {
+  let bytes = Buffer.allocUnsafe((size || FIRST_PART) + 1);
+  let length = 0;
+  for (;;) {
+    const count = readSync(file, bytes, length, bytes.length - length, null);
+    length += count;
+    requireAtMost(maxBytes, length);
+    if (count === 0) {
+      return bytes.subarray(0, length);
+    }
+    if (length === bytes.length) {
+      bytes = Buffer.concat([bytes], 2 * length);
+    }
+  }
+}
+
+/**
+ * @param {number} maxBytes
+ * @param {number} length
+ */
+function requireAtMost(maxBytes, length) {
+  if (length > maxBytes) {
+    throw new FileFault("Input", `the file has more than ${maxBytes} bytes (--max-bytes allows more)`);
+  }
+}
+
+/** @param {import("node:fs").Stats} status */
+function requireRegular(status) {
+  if (!status.isFile()) {
+    throw new FileFault("Input", `${kindOf(status)}, not a regular file`);
+  }
+}
+
+/** @param {import("node:fs").Stats} status */
+function kindOf(status) {
+  if (status.isDirectory()) {
+    return "a folder";
+  }
+  if (status.isFIFO()) {
+    return "a FIFO";
+  }
+  return status.isSocket() ? "a socket" : "a device";
+}

@@ -1,0 +1,213 @@
+/**
+ * The cycles of a graph: sets of modules of which each leads to each other one.
+ *
+ * @typedef {object} Cycle
+ * @property {number[]} modules ascending
+ * @property {number[]} path a shortest way from the first back to it, without its end; of a cycle
+ *   that types close, one that has an edge of types
+ * @property {boolean} isRun whether edges that run close it; else edges of types, JSDoc or
+ *   references are needed
+ *
+ * @typedef {object} Edge
+ * @property {number} from the index of a module
+ * @property {number} to
+ * @property {string} kind
+ */
+
+import { isRunKind } from "./references.mjs";
+
+/**
+ * The cycles of the edges that run; and with them those that need other edges, of which each has
+ * modules that no cycle of the first sort has together.
+ * @param {number} count of the modules
+ * @param {Edge[]} edges
+ * @returns {Cycle[]} by their first modules, those that run before others
+ */
+export function cyclesOf(count, edges) {
+  const runs = successors(count, edges.filter(({ kind }) => isRunKind(kind)));
+  const next = successors(count, edges);
+  const run = components(runs);
+  const group = groupsOf(count, run);
+  const others = components(next).filter(([first, ...rest]) => {
+    return group[first] < 0 || rest.some((each) => group[each] !== group[first]);
+  });
+  return [
+    ...run.map((modules) => ({ modules, path: shortestCycle(modules, runs), isRun: true })),
+    ...others.map((modules) => ({ modules, path: joinedCycle(modules, next, group), isRun: false })),
+  ].sort((one, other) => one.modules[0] - other.modules[0] || Number(other.isRun) - Number(one.isRun));
+}
+
+/**
+ * The component of each module.
+ * @param {number} count
+ * @param {number[][]} found
+ * @returns {Int32Array} -1 for a module that is in none
+ */
+function groupsOf(count, found) {
+  const group = new Int32Array(count).fill(-1);
+  found.forEach((modules, at) => modules.forEach((each) => (group[each] = at)));
+  return group;
+}
+
+/**
+ * @param {number} count
+ * @param {Edge[]} edges
+ * @returns {number[][]}
+ */
+function successors(count, edges) {
+  const next = Array.from({ length: count }, () => new Set());
+  edges.forEach(({ from, to }) => next[from].add(to));
+  return next.map((each) => [...each]);
+}
+
+/**
+ * The strongly connected components in which there is an edge.
+ * @param {number[][]} next
+ * @returns {number[][]}
+ */
+function components(next) {
+  const search = new Search(next);
+  next.forEach((_, root) => search.from(root));
+  return search.found.filter(([node, ...others]) => others.length > 0 || next[node].includes(node));
+}
+
+/** Tarjan's search, whose recursion is a list. */
+class Search {
+  /**
+   * The components.
+   * @type {number[][]}
+   */
+  found = [];
+  #next;
+  #order = new Map();
+  #low = new Map();
+  /**
+   * Nodes whose component isn't known yet.
+   * @type {number[]}
+   */
+  #open = [];
+  #isOpen = new Set();
+  /**
+   * From the root to the node that is looked at, with how many of its edges were.
+   * @type {{ node: number, at: number }[]}
+   */
+  #path = [];
+
+  /** @param {number[][]} next */
+  constructor(next) {
+    this.#next = next;
+  }
+
+  /** @param {number} root */
+  from(root) {
+    if (!this.#order.has(root)) {
+      this.#enter(root);
+    }
+    while (this.#path.length > 0) {
+      const top = this.#path[this.#path.length - 1];
+      const to = this.#next[top.node][top.at++];
+      if (to === undefined) {
+        this.#leave();
+      } else if (!this.#order.has(to)) {
+        this.#enter(to);
+      } else if (this.#isOpen.has(to)) {
+        this.#lower(top.node, this.#order.get(to));
+      }
+    }
+  }
+
+  /** @param {number} node */
+  #enter(node) {
+    this.#low.set(node, this.#order.size);
+    this.#order.set(node, this.#order.size);
+    this.#open.push(node);
+    this.#isOpen.add(node);
+    this.#path.push({ node, at: 0 });
+  }
+
+  #leave() {
+    const { node } = /** @type {{ node: number }} */ (this.#path.pop());
+    const parent = this.#path[this.#path.length - 1];
+    if (parent) {
+      this.#lower(parent.node, this.#low.get(node));
+    }
+    if (this.#low.get(node) === this.#order.get(node)) {
+      const component = this.#open.splice(this.#open.lastIndexOf(node));
+      component.forEach((each) => this.#isOpen.delete(each));
+      this.found.push(component.sort((one, other) => one - other));
+    }
+  }
+
+  /**
+   * @param {number} node
+   * @param {number} order
+   */
+  #lower(node, order) {
+    this.#low.set(node, Math.min(this.#low.get(node), order));
+  }
+}
+
+/**
+ * @param {number[]} component
+ * @param {number[][]} next
+ */
+function shortestCycle(component, next) {
+  const [first] = component;
+  return shortestWay(first, first, component, next);
+}
+
+/**
+ * A cycle through an edge that leads from one component to another, or to itself.
+ * @param {number[]} component
+ * @param {number[][]} next
+ * @param {Int32Array} group the components that other edges make
+ */
+function joinedCycle(component, next, group) {
+  const isInside = new Set(component);
+  for (const from of component) {
+    /** @type {(to: number) => boolean} */
+    const isJoin = (to) => isInside.has(to) && (group[from] < 0 || group[to] !== group[from]);
+    const to = next[from].find(isJoin);
+    if (to !== undefined) {
+      return to === from ? [from] : [from, ...shortestWay(to, from, component, next)];
+    }
+  }
+  throw new Error("a cycle that types close has no edge of types");
+}
+
+/**
+ * @param {number} start
+ * @param {number} end
+ * @param {number[]} component
+ * @param {number[][]} next
+ * @returns {number[]} from the start, without the end
+ */
+function shortestWay(start, end, component, next) {
+  const isInside = new Set(component);
+  const before = new Map();
+  const todo = [start];
+  for (const node of todo) {
+    for (const to of next[node].filter((each) => isInside.has(each))) {
+      if (to === end) {
+        return wayTo(node, before);
+      }
+      if (!before.has(to) && to !== start) {
+        before.set(to, node);
+        todo.push(to);
+      }
+    }
+  }
+  throw new Error("a component of a graph has no cycle");
+}
+
+/**
+ * @param {number} node
+ * @param {Map<number, number>} before
+ */
+function wayTo(node, before) {
+  const way = [];
+  for (let at = /** @type {number | undefined} */ (node); at !== undefined; at = before.get(at)) {
+    way.push(at);
+  }
+  return way.reverse();
+}

@@ -1,0 +1,67 @@
+/** Which files a graph is made of: those that are named, then those that these lead to. */
+
+import { resolve as absolute } from "node:path";
+
+import { Queue } from "../runtime/queue.mjs";
+import { canonicalUrl } from "./reach.mjs";
+
+/** @typedef {import("../files/find_files.mjs").Found} Found */
+
+/**
+ * Each file once, by the first path that leads to it. For each file that it yields, `pass` has to
+ * be called, in the order of the files: then the order of those that are found is always the same.
+ * @implements {AsyncIterable<Found>}
+ */
+export class Walk {
+  #named;
+  /** @type {Queue<string>} */
+  #found = new Queue();
+  #passed = new Set();
+  #underWay = 0;
+  #wake = () => {};
+
+  /** @param {AsyncIterable<Found>} named */
+  constructor(named) {
+    this.#named = named;
+  }
+
+  /** @returns {AsyncGenerator<Found, void>} */
+  async *[Symbol.asyncIterator]() {
+    for await (const file of this.#named) {
+      yield* this.#first(file);
+    }
+    while (this.#found.length > 0 || this.#underWay > 0) {
+      for (let path = this.#found.shift(); path !== undefined; path = this.#found.shift()) {
+        yield* this.#first({ path });
+      }
+      if (this.#underWay > 0) {
+        await new Promise((resolve) => {
+          this.#wake = () => resolve(undefined);
+        });
+      }
+    }
+  }
+
+  /**
+   * Takes the files that a file leads to.
+   * @param {string[]} paths
+   */
+  pass(paths) {
+    this.#underWay--;
+    paths.forEach((path) => this.#found.push(path));
+    this.#wake();
+  }
+
+  /** @param {Found} file */
+  *#first(file) {
+    // A link that isn't followed is said, and its file may have another path.
+    const key = file.isLeft ? undefined : canonicalUrl(absolute(file.path));
+    if (!this.#passed.has(key)) {
+      this.#underWay++;
+      if (key !== undefined) {
+        this.#passed.add(key);
+      }
+      yield file;
+    }
+  }
+}

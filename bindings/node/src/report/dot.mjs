@@ -1,0 +1,42 @@
+/** The graph of all modules as a text in Graphviz's language. */
+
+import { KINDS } from "./kinds.mjs";
+
+/** What Graphviz prints as it is, and no label may have. */
+const CONTROLS = /[\0-\x1f\x7f]/g;
+
+const HEAD = `digraph modules {
+  rankdir=LR;
+  nodesep=0.16;
+  ranksep=0.7;
+  node [shape=box, style=rounded, fontname="Helvetica", fontsize=12, height=0.36, margin="0.1,0.04"];
+  edge [arrowsize=0.7];
+`;
+
+/**
+ * @param {string[]} paths those of the modules
+ * @param {import("./links.mjs").Edge[]} edges
+ * @returns {string} with each edge of a kind between two modules once
+ */
+export function dotOf(paths, edges) {
+  const styles = new Map(KINDS.map(({ kind, light, dot }) => [kind, `color="${light}", ${dot}`]));
+  const lines = [
+    ...paths.map((path, module) => `  m${module} [label=${quoted(path)}];`),
+    ...edges.map(({ from, to, kind }) => `  m${from} -> m${to} [${styles.get(kind)}];`),
+  ];
+  return `${HEAD}${[...new Set(lines)].join("\n")}\n}\n`;
+}
+
+/**
+ * A text as a label: Graphviz reads escapes that begin with a backslash, and entities of HTML.
+ * @param {string} text
+ * @returns {string}
+ */
+export function quoted(text) {
+  const escaped = text
+    .replace(CONTROLS, "\ufffd")
+    .replace(/\\/g, "\\\\")
+    .replace(/"/g, '\\"')
+    .replace(/&/g, "&amp;");
+  return `"${escaped}"`;
+}

@@ -1,0 +1,104 @@
+/**
+ * Keeps a page small: of the longest texts it has the lines around their marks alone.
+ *
+ * @typedef {import("./marks.mjs").Mark} Mark
+ *
+ * @typedef {object} Text
+ * @property {string} [source] none where even the lines around its marks are too long
+ * @property {Mark[]} marks
+ * @property {[number, number][]} [pieces] where lines are left out: for each piece the line of
+ *   `source` at which it begins, and that line's number in the file, both from zero
+ * @property {number} [lines] how many the file has, where some are left out
+ */
+
+/** The most bytes of all texts of a page, in UTF-8, and of one of which lines are left out. */
+const MOST = 24_000_000;
+const MOST_OF_EXCERPT = 100_000;
+
+/** How many lines are kept before a mark and after it. */
+const AROUND = 3;
+
+/**
+ * @template {Text} Module
+ * @param {Module[]} modules
+ * @param {number} [most]
+ * @returns {(Module & Text)[]} the same, some with less text
+ */
+export function withinBounds(modules, most = MOST) {
+  const sizes = modules.map(({ source = "" }) => Buffer.byteLength(source));
+  const bySize = [...sizes.keys()].sort((one, other) => sizes[other] - sizes[one]);
+  const kept = [...modules];
+  let total = sizes.reduce((sum, size) => sum + size, 0);
+  for (const at of bySize) {
+    if (total <= most) {
+      break;
+    }
+    kept[at] = { ...modules[at], ...shortened(modules[at]) };
+    total += Buffer.byteLength(kept[at].source ?? "") - sizes[at];
+  }
+  return kept;
+}
+
+/** @param {Text} text */
+function shortened({ source = "", marks }) {
+  const excerpt = excerptOf(source, marks);
+  const isShort = Buffer.byteLength(excerpt.source ?? "") <= MOST_OF_EXCERPT;
+  return isShort ? excerpt : { source: undefined, marks: [], lines: excerpt.lines };
+}
+
+/**
+ * @param {string} source
+ * @param {Mark[]} marks
+ * @returns {Text}
+ */
+export function excerptOf(source, marks) {
+  const starts = [0, ...[...source.matchAll(/\n/g)].map(({ index = 0 }) => index + 1)];
+  /** @type {[number, number][]} */
+  const pieces = [];
+  const texts = [];
+  const moved = [];
+  let length = 0;
+  let count = 0;
+  for (const [first, last] of rangesOf(starts, marks)) {
+    const from = starts[first];
+    const to = starts[last + 1] ?? source.length;
+    const inside = marks.filter((mark) => mark.from >= from && mark.to <= to);
+    moved.push(...inside.map((mark) => {
+      return { ...mark, from: mark.from - from + length, to: mark.to - from + length };
+    }));
+    pieces.push([count, first]);
+    texts.push(source.slice(from, to));
+    count += last + 1 - first;
+    length += to - from;
+  }
+  return { source: texts.join(""), marks: moved, pieces, lines: starts.length };
+}
+
+/**
+ * The lines around the marks, those that touch as one range.
+ * @param {number[]} starts of the lines
+ * @param {Mark[]} marks sorted
+ * @returns {[number, number][]} first and last lines
+ */
+function rangesOf(starts, marks) {
+  /** @type {[number, number][]} */
+  const ranges = [];
+  let line = 0;
+  for (const { from, to } of marks.length > 0 ? marks : [{ from: 0, to: 0 }]) {
+    while (starts[line + 1] <= from) {
+      line++;
+    }
+    let end = line;
+    while (starts[end + 1] < to) {
+      end++;
+    }
+    const [first, last] = [Math.max(0, line - AROUND), Math.min(starts.length - 1, end + AROUND)];
+    const before = ranges[ranges.length - 1];
+    if (before && first <= before[1] + 1) {
+      before[1] = Math.max(before[1], last);
+    } else {
+      ranges.push([first, last]);
+    }
+  }
+  return ranges;
+}

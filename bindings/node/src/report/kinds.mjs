@@ -1,0 +1,59 @@
+/**
+ * The kinds of what a module names, with how each is drawn: the colour on a light and on a dark
+ * page, the dashes of its edges in SVG, and Graphviz's style.
+ *
+ * @typedef {"static" | "dynamic" | "type" | "require" | "jsdoc" | "pragma"} Kind
+ */
+
+/**
+ * In the order of the legend. Pragmas are marked in the text; their edges are those of types.
+ * @type {{ kind: Kind, title: string, says: string, light: string, dark: string, dash: string, dot: string }[]}
+ */
+export const KINDS = [
+  {
+    kind: "static", title: "static", says: "import, export .. from",
+    light: "#0b5fb4", dark: "#74b5ff", dash: "", dot: "style=solid",
+  },
+  {
+    kind: "dynamic", title: "dynamic", says: "import(..)",
+    light: "#b33f00", dark: "#ff9a5c", dash: "8 4", dot: "style=dashed",
+  },
+  {
+    kind: "type", title: "type", says: "import type, export type, types that a comment names",
+    light: "#0b7150", dark: "#54d3a4", dash: "2 3", dot: "style=dotted",
+  },
+  {
+    kind: "require", title: "require", says: "require(..), import name = require(..)",
+    light: "#7d5a00", dark: "#e3b94d", dash: "12 3 2 3", dot: "style=bold",
+  },
+  {
+    kind: "jsdoc", title: "JSDoc", says: "@import and import(..) in a JSDoc comment",
+    light: "#a3206f", dark: "#ff8ac8", dash: "5 2 1 2 1 2", dot: 'style=dashed, arrowhead="empty"',
+  },
+  {
+    kind: "pragma", title: "pragma", says: "a pragma or a reference in a comment",
+    light: "#5b4bb0", dark: "#b3a6ff", dash: "", dot: "style=solid",
+  },
+];
+
+/**
+ * What `ModuleInfo` calls the kind of a dependency, where it isn't one that imports a value.
+ * @type {Map<string, Kind>}
+ */
+const BY_WORD = new Map([
+  ["importType", "type"],
+  ["exportType", "type"],
+  ["maybeTsModuleAugmentation", "type"],
+  ["require", "require"],
+  ["importEquals", "require"],
+  ["exportEquals", "require"],
+]);
+
+/**
+ * The kind of a dependency.
+ * @param {{ type: "static" | "dynamic", kind?: string }} dependency of a `ModuleInfo`
+ * @returns {Kind}
+ */
+export function kindOf({ type, kind }) {
+  return BY_WORD.get(kind ?? "") ?? type;
+}

@@ -1,0 +1,56 @@
+/** The libraries that are written into the page: they lay out the graph and the picture of sizes. */
+
+import { readFileSync } from "node:fs";
+import { createRequire } from "node:module";
+import { join } from "node:path";
+
+/** Where Debian's packages put modules; its own node looks there by itself, others don't. */
+const DEBIAN_MODULES = "/usr/share/nodejs";
+
+const require = createRequire(import.meta.url);
+
+/**
+ * Each with the file that a browser can run, and what it draws.
+ * @type {{ name: string, file: string, debian: string, draws: string }[]}
+ */
+const LIBRARIES = [
+  { name: "dagre", file: "dist/dagre.min.js", debian: "node-dagre-layout", draws: "graph" },
+  {
+    name: "d3-hierarchy", file: "dist/d3-hierarchy.min.js", debian: "node-d3-hierarchy",
+    draws: "picture of sizes",
+  },
+];
+
+/**
+ * @typedef {object} Library
+ * @property {string} name
+ * @property {string} [text] its script
+ * @property {string} [fault] why there is none
+ * @property {string} draws
+ */
+
+/**
+ * @param {string[]} [folders] where packages are looked for
+ * @returns {Library[]}
+ */
+export function readLibraries(folders = foldersOfPackages()) {
+  return LIBRARIES.map(({ name, file, debian, draws }) => {
+    const text = folders.map((folder) => read(join(folder, name, file))).find((each) => each);
+    const fault = `${name} is not installed: npm install ${name}, or Debian's ${debian}`;
+    return text === undefined ? { name, draws, fault } : { name, draws, text };
+  });
+}
+
+/** @returns {string[]} as node looks for them from here, and Debian's */
+function foldersOfPackages() {
+  return [...require.resolve.paths("dagre") ?? [], DEBIAN_MODULES];
+}
+
+/** @param {string} path */
+function read(path) {
+  try {
+    return readFileSync(path, "utf8");
+  } catch {
+    return undefined;
+  }
+}

@@ -1,0 +1,56 @@
+/** The versions of packages, as their package.json has them. */
+
+import { dirname, join } from "node:path";
+
+import { readRegularFile } from "../files/regular_file.mjs";
+
+/** The members of a package.json that name other packages. */
+const MEMBERS = ["dependencies", "peerDependencies", "optionalDependencies", "devDependencies"];
+
+export class Manifests {
+  /** By folders. @type {Map<string, any>} */
+  #nearest = new Map();
+
+  /**
+   * @param {string} name of a package
+   * @param {{ file?: string, user: string }} found one of its files, where it is installed, and a
+   *   file that names it
+   * @returns {string | undefined} its version; else the range that the user's package.json has
+   */
+  version(name, { file, user }) {
+    const installed = file && this.#of(dirname(file)).version;
+    if (installed) {
+      return String(installed);
+    }
+    const manifest = this.#of(dirname(user));
+    const range = MEMBERS.map((member) => manifest[member]?.[name]).find((each) => each !== undefined);
+    return range === undefined ? undefined : String(range);
+  }
+
+  /**
+   * The package.json that is nearest to a folder and has a name.
+   * @param {string} folder
+   * @returns {any} an empty object where there is none
+   */
+  #of(folder) {
+    let manifest = this.#nearest.get(folder);
+    if (manifest === undefined) {
+      const own = read(join(folder, "package.json"));
+      const parent = dirname(folder);
+      manifest = own?.name || parent === folder ? own ?? {} : this.#of(parent);
+      this.#nearest.set(folder, manifest);
+    }
+    return manifest;
+  }
+}
+
+/** @param {string} path */
+function read(path) {
+  try {
+    const value = JSON.parse(String(readRegularFile(path)));
+    return typeof value === "object" ? value : undefined;
+  } catch {
+    // It isn't there, or is no JSON: then nothing is known of it.
+    return undefined;
+  }
+}

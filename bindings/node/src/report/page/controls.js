@@ -1,0 +1,50 @@
+/** Characters that aren't seen, or that change how others are seen, have their name shown. */
+
+const REST = "\\x0b-\\x1f\\x7f-\\x9f\\xad\\u061c\\u180e\\u200b\\u200e\\u200f" +
+  "\\u2028-\\u202e\\u2060-\\u206f\\ufeff\\ufff9-\\ufffb";
+
+/** In a text, whose tabs and line feeds are seen. */
+const IN_TEXT = new RegExp(`[\\0-\\x08${REST}]`, "u");
+
+/** In a name. */
+const IN_NAME = new RegExp(`[\\0-\\x0a${REST}]`, "u");
+
+const NAMES = new Map([
+  ["\r", "CR"], ["\n", "LF"], ["\t", "TAB"], ["\0", "NUL"], ["\x1b", "ESC"], ["\ufeff", "BOM"],
+  ["\xad", "SHY"],
+  ["\u2028", "LS"], ["\u2029", "PS"], ["\u200b", "ZWSP"], ["\x85", "NEL"],
+]);
+
+/**
+ * @param {string} text
+ * @returns {{ text: string, name?: string }[]} its parts; with a name those of one such character
+ */
+export function withControls(text) {
+  return partsWith(text, IN_TEXT);
+}
+
+/**
+ * @param {string} name of a file or a folder
+ * @returns {{ text: string, name?: string }[]} the same of a name, where a tab and a line feed are
+ *   such characters too
+ */
+export function nameParts(name) {
+  return partsWith(name, IN_NAME);
+}
+
+function partsWith(text, controls) {
+  const parts = [];
+  let rest = text;
+  for (let at = rest.search(controls); at >= 0; at = rest.search(controls)) {
+    if (at > 0) {
+      parts.push({ text: rest.slice(0, at) });
+    }
+    parts.push({ text: rest[at], name: NAMES.get(rest[at]) ?? codeOf(rest[at]) });
+    rest = rest.slice(at + 1);
+  }
+  return rest === "" ? parts : [...parts, { text: rest }];
+}
+
+function codeOf(character) {
+  return `U+${character.charCodeAt(0).toString(16).toUpperCase().padStart(4, "0")}`;
+}

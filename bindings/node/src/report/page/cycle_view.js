@@ -1,0 +1,76 @@
+/** A cycle in the graph, with the lines that make it. */
+
+import { element } from "./elements.js";
+import { eachPair } from "./graph_edges.js";
+import { countKind } from "./graph_kinds.js";
+import { askLayout, sizeOfLabel } from "./graph_layout.js";
+import { moduleLook } from "./graph_nodes.js";
+import { graphFrame, roomIn, showFault, showPlan } from "./graph_view.js";
+import { counted, kindLabel, moduleLink, nameLabel } from "./pieces.js";
+import { paths, report } from "./report.js";
+
+/** The most modules of a cycle that are drawn; of more those of its shortest way are. */
+const MOST_DRAWN = 40;
+
+/**
+ * @param {number} number of the cycle
+ * @returns {HTMLElement}
+ */
+export function cycleView(number) {
+  const cycle = report.lists.cycles[number];
+  const { modules, path, isRun, places } = cycle;
+  const frame = graphFrame([`Cycle of ${counted(modules.length, "module")}`]);
+  const kinds = isRun ? "" : " Types or comments close it: nothing of it runs in a circle.";
+  const says = `The marked edges are a shortest way around.${kinds}`;
+  frame.bar.after(element("p", { class: "says" }, says));
+  const steps = element("ol", { class: "steps" }, ...places.map(placeStep));
+  frame.view.append(element("h3", {}, "The lines that make it"), steps);
+  const drawn = modules.length > MOST_DRAWN ? path.slice(0, MOST_DRAWN) : modules;
+  requestAnimationFrame(() => drawCycle(frame, drawn, path).catch((error) => showFault(frame, error)));
+  return frame.view;
+}
+
+function placeStep({ module, row, line, kind, name }) {
+  return element(
+    "li", {},
+    moduleLink(module, row), element("span", { class: "place" }, `:${line + 1}`), " ",
+    kindLabel({ kind, word: kind }), " ", nameLabel(name),
+  );
+}
+
+async function drawCycle(frame, modules, path) {
+  const looks = new Map(modules.map((module) => [`m${module}`, moduleLook(module, paths[module])]));
+  const edges = edgesAmong(modules, path);
+  const items = [...looks].map(([id, { label }]) => ({ id, size: sizeOfLabel(label) }));
+  const given = edges.map(({ from, to }) => ({ from, to, count: 1 }));
+  const layout = await askLayout({ id: "top", title: 0, items, edges: given }, roomIn(frame.box));
+  const byEnds = new Map(edges.map((edge) => [`${edge.from} ${edge.to}`, edge]));
+  const placed = layout.edges.map((edge) => ({ ...edge, ...byEnds.get(`${edge.from} ${edge.to}`) }));
+  const nodes = modules.map((module) => {
+    const id = `m${module}`;
+    return { id, module, place: layout.boxes[id], look: looks.get(id) };
+  });
+  const leaves = [];
+  modules.forEach((module) => (leaves[module] = { id: `m${module}`, type: "module", module }));
+  showPlan(frame, { ...layout, nodes, frames: [], edges: placed }, { leaves });
+}
+
+/** The edges between modules, those marked that the path has. */
+function edgesAmong(modules, path) {
+  const inside = new Set(modules);
+  const steps = new Set(path.map((module, at) => `m${module} m${path[(at + 1) % path.length]}`));
+  const edges = new Map();
+  for (const module of modules) {
+    eachPair(module, (to, kind) => {
+      if (inside.has(to)) {
+        const [from, end] = [`m${module}`, `m${to}`];
+        const key = `${from} ${end}`;
+        const isMarked = steps.has(key);
+        const edge = edges.get(key) ?? { from, to: end, kinds: new Map(), count: 1, isMarked };
+        edges.set(key, edge);
+        countKind(edge.kinds, kind);
+      }
+    });
+  }
+  return [...edges.values()];
+}

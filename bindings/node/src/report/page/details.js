@@ -1,0 +1,42 @@
+/** The modules' texts and tables, which are compressed in the page, in parts of several modules. */
+
+import { report } from "./report.js";
+
+/** How many parts are kept. */
+const KEPT = 8;
+
+/** By their numbers, the last one that was used at the end. @type {Map<number, Promise<any[]>>} */
+const parts = new Map();
+
+/**
+ * @param {number} module
+ * @returns {Promise<any>} its `source`, `rows`, `marks`, and where lines are left out its `pieces`
+ *   and `lines`
+ */
+export async function detailsOf(module) {
+  const number = partOf(module);
+  const part = parts.get(number) ?? read(number);
+  parts.delete(number);
+  parts.set(number, part);
+  if (parts.size > KEPT) {
+    parts.delete(parts.keys().next().value);
+  }
+  return (await part)[module - report.starts[number]];
+}
+
+/** The number of the part that has a module: the last one that begins with it or before it. */
+function partOf(module) {
+  let [low, high] = [0, report.starts.length - 1];
+  while (low < high) {
+    const middle = Math.ceil((low + high) / 2);
+    [low, high] = report.starts[middle] <= module ? [middle, high] : [low, middle - 1];
+  }
+  return low;
+}
+
+async function read(number) {
+  const binary = atob(document.getElementById(`part-${number}`).textContent);
+  const bytes = Uint8Array.from(binary, (character) => character.charCodeAt(0));
+  const stream = new Blob([bytes]).stream().pipeThrough(new DecompressionStream("deflate"));
+  return new Response(stream).json();
+}

@@ -1,0 +1,128 @@
+/**
+ * A drawing as SVG.
+ *
+ * @typedef {object} Plan
+ * @property {number} width
+ * @property {number} height
+ * @property {PlannedNode[]} nodes
+ * @property {PlannedNode[]} frames the boxes around nodes, the outermost first
+ * @property {PlannedEdge[]} edges
+ *
+ * @typedef {object} PlannedNode
+ * @property {string} id
+ * @property {[number, number, number, number]} place the upper left corner, the width and the height
+ * @property {import("./graph_nodes.js").Look} look
+ * @property {number} [module]
+ * @property {import("./folders.js").Folder} [folder]
+ *
+ * @typedef {object} PlannedEdge
+ * @property {string} from
+ * @property {string} to
+ * @property {string} path
+ * @property {[number, number]} [label] the middle of its count
+ * @property {number} count
+ * @property {import("./graph_kinds.js").KindCounts} kinds
+ * @property {boolean} [isMarked]
+ */
+
+import { drawn } from "./elements.js";
+import { kindsText, strongestKind } from "./graph_kinds.js";
+import { kindNamed, report } from "./report.js";
+
+/**
+ * @param {Plan} plan
+ * @returns {{ drawing: SVGElement, scene: SVGElement }} the scene is the group that is moved
+ */
+export function draw({ nodes, frames, edges }) {
+  const says = new Map([...nodes, ...frames].map(({ id, look }) => [id, look.says]));
+  const scene = drawn(
+    "g", { class: "scene" },
+    drawn("g", {}, ...frames.map(frameView)),
+    drawn("g", { class: "edges" }, ...edges.map((edge) => edgeView(edge, says))),
+    drawn("g", { class: "nodes" }, ...nodes.map(nodeView)),
+    drawn("g", { class: "counts" }, ...edges.filter(({ label }) => label).map(countView)),
+    drawn("g", { class: "near-edges" }),
+  );
+  const drawing = drawn(
+    "svg", { role: "group", "aria-label": "graph of modules", class: "modules" },
+    drawn("defs", {}, ...report.kinds.map(({ kind }) => arrow(kind))),
+    scene,
+  );
+  drawing.querySelector(".node")?.setAttribute("tabindex", "0");
+  return { drawing, scene };
+}
+
+function arrow(kind) {
+  const tip = drawn("path", { d: "M0 0L8 3.5L0 7Z", class: `tip ${kind}` });
+  const size = { markerWidth: 8, markerHeight: 7, markerUnits: "userSpaceOnUse" };
+  const place = { refX: 7.5, refY: 3.5, orient: "auto" };
+  return drawn("marker", { id: `arrow-${kind}`, ...size, ...place }, tip);
+}
+
+function edgeView({ from, to, path, kinds, isMarked }, says) {
+  const title = `${says.get(from)} → ${says.get(to)}: ${kindsText(kinds)}`;
+  const attributes = { "data-from": from, "data-to": to, class: isMarked ? "marked" : undefined };
+  return edgeLine(path, kinds, attributes, drawn("title", {}, title));
+}
+
+/**
+ * @param {string} path
+ * @param {import("./graph_kinds.js").KindCounts} kinds
+ * @param {Record<string, any>} [more] attributes
+ * @param {...SVGElement} children
+ * @returns {SVGElement}
+ */
+export function edgeLine(path, kinds, { class: name = "", ...more } = {}, ...children) {
+  const kind = strongestKind(kinds);
+  const { dash } = kindNamed(kind);
+  return drawn(
+    "path",
+    {
+      d: path, class: `edge ${kind} ${name}`.trim(), "stroke-dasharray": dash || undefined,
+      "marker-end": `url(#arrow-${kind})`, "data-kinds": [...kinds.keys()].join(" "), ...more,
+    },
+    ...children,
+  );
+}
+
+function countView({ from, to, label: [x, y], count, kinds }) {
+  const text = count.toLocaleString("en");
+  const width = 8 + 7 * text.length;
+  const ends = { "data-from": from, "data-to": to, "data-kinds": [...kinds.keys()].join(" ") };
+  return drawn(
+    "g",
+    { class: `edge-count ${strongestKind(kinds)}`, ...ends },
+    drawn("rect", { x: x - width / 2, y: y - 8, width, height: 16, rx: 8 }),
+    drawn("text", { x, y: y + 4 }, text),
+  );
+}
+
+function frameView({ id, place: [x, y, width, height], look, folder }) {
+  return drawn(
+    "g", { class: "frame", "data-id": id, "data-folder": folder?.index },
+    drawn("rect", { x, y, width, height, rx: 6 }),
+    drawn(
+      "a", { href: look.href, "aria-label": look.says, class: "frame-title" },
+      drawn("title", {}, look.says),
+      labelText(look, { x: x + 10, y: y + 17 }),
+    ),
+  );
+}
+
+function nodeView({ id, place: [x, y, width, height], look, module, folder }) {
+  return drawn(
+    "a",
+    {
+      href: look.href, class: `node ${look.classes}`.trim(), "data-id": id, "data-module": module,
+      "data-folder": folder?.index, tabindex: "-1", "aria-label": look.says,
+    },
+    drawn("title", {}, look.says),
+    drawn("rect", { x, y, width, height, rx: look.classes.includes("folder-node") ? 2 : 7 }),
+    labelText(look, { x: x + width / 2, y: y + height / 2 + 4 }),
+  );
+}
+
+function labelText({ label, count }, place) {
+  const number = count && drawn("tspan", { class: "number", dx: 6, "data-all": count }, count);
+  return drawn("text", place, label, number);
+}

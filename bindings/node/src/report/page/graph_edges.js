@@ -1,0 +1,110 @@
+/**
+ * The edges between what is drawn: one, with a count, from one item to another that is in the same
+ * box, for all edges between modules of the first and of the second.
+ *
+ * @typedef {object} DrawnEdge
+ * @property {string} from the id of an item
+ * @property {string} to
+ * @property {import("./graph_kinds.js").KindCounts} kinds
+ * @property {number} count how many edges it is
+ *
+ * @typedef {import("./graph_tree.js").Item} Item
+ */
+
+import { eachModuleBelow } from "./folders.js";
+import { countKind } from "./graph_kinds.js";
+import { eachEdge, report } from "./report.js";
+
+/**
+ * For each module the innermost item that shows it.
+ * @param {Item} top
+ * @returns {(Item | undefined)[]} nothing for those that aren't drawn
+ */
+export function leavesOf(top) {
+  const leaves = new Array(report.modules.length);
+  const visit = (item) => {
+    const put = (module) => (leaves[module] ??= item);
+    switch (item.type) {
+      case "box": return item.items.forEach(visit);
+      case "module": return put(item.module);
+      case "flat": return item.folder.modules.forEach(put);
+      case "more": return item.folders.forEach((folder) => eachModuleBelow(folder, put));
+      default: return eachModuleBelow(item.folder, put);
+    }
+  };
+  visit(top);
+  return leaves;
+}
+
+/**
+ * Adds to each box the edges between its items.
+ * @param {Item} top
+ * @param {(Item | undefined)[]} leaves
+ * @returns {Map<Item, DrawnEdge[]>} by boxes
+ */
+export function edgesIn(top, leaves) {
+  /** @type {Map<Item, Map<string, DrawnEdge>>} */
+  const byBox = new Map();
+  for (let module = 0; module < leaves.length; module++) {
+    const from = leaves[module];
+    if (from !== undefined) {
+      eachPair(module, (to, kind) => leaves[to] && addEdge(byBox, from, leaves[to], kind));
+    }
+  }
+  return new Map([...byBox].map(([box, edges]) => [box, [...edges.values()]]));
+}
+
+/**
+ * Calls a function with each other module that a module leads to, once for each kind.
+ * @param {number} module
+ * @param {(to: number, kind: number) => void} act
+ */
+export function eachPair(module, act) {
+  const seen = new Set();
+  eachEdge(module, (to, kind) => {
+    const key = to * report.kinds.length + kind;
+    if (to !== module && !seen.has(key)) {
+      seen.add(key);
+      act(to, kind);
+    }
+  });
+}
+
+function addEdge(byBox, from, to, kind) {
+  const ends = from === to ? undefined : siblings(from, to);
+  if (ends === undefined) {
+    return;
+  }
+  const [box, first, second] = ends;
+  const edges = byBox.get(box) ?? new Map();
+  byBox.set(box, edges);
+  const key = `${first.id} ${second.id}`;
+  const edge = edges.get(key) ?? { from: first.id, to: second.id, kinds: new Map(), count: 0 };
+  edges.set(key, edge);
+  countKind(edge.kinds, kind);
+  edge.count++;
+}
+
+/** The innermost box that has both, and its items in which they are. */
+function siblings(from, to) {
+  let [first, second] = [from, to];
+  let [above, below] = [depthOf(first), depthOf(second)];
+  for (; above > below; above--) {
+    first = first.parent;
+  }
+  for (; below > above; below--) {
+    second = second.parent;
+  }
+  while (first.parent !== second.parent) {
+    [first, second] = [first.parent, second.parent];
+  }
+  return first === second || first.parent === undefined ? undefined : [first.parent, first, second];
+}
+
+function depthOf(item) {
+  let depth = 0;
+  for (let at = item; at.parent !== undefined; at = at.parent) {
+    depth++;
+  }
+  return depth;
+}

@@ -1,0 +1,42 @@
+/** The kinds of edges in a graph: which one an edge is drawn as, and which are hidden. */
+
+import { report } from "./report.js";
+
+/** The strongest first: an edge of several kinds is drawn as this one. */
+const STRENGTH = ["static", "require", "dynamic", "type", "jsdoc", "pragma"];
+
+/** Kinds that a click in the legend has hidden. @type {Set<string>} */
+export const hiddenKinds = new Set();
+
+/**
+ * How many edges of each kind there are between two things that are drawn.
+ * @typedef {Map<string, number>} KindCounts
+ */
+
+/**
+ * @param {KindCounts} kinds
+ * @param {number} kind the index of a kind
+ */
+export function countKind(kinds, kind) {
+  const name = report.kinds[kind].kind;
+  kinds.set(name, (kinds.get(name) ?? 0) + 1);
+}
+
+/**
+ * @param {KindCounts} kinds
+ * @returns {string} the kind as which an edge is drawn
+ */
+export function strongestKind(kinds) {
+  return STRENGTH.find((kind) => kinds.has(kind));
+}
+
+/**
+ * @param {KindCounts} kinds
+ * @returns {string} as "static (2), type (1)"; without numbers where there is one edge
+ */
+export function kindsText(kinds) {
+  const titles = new Map(report.kinds.map(({ kind, title }) => [kind, title]));
+  const total = [...kinds.values()].reduce((sum, count) => sum + count, 0);
+  const text = (kind) => (total === 1 ? titles.get(kind) : `${titles.get(kind)} (${kinds.get(kind)})`);
+  return STRENGTH.filter((kind) => kinds.has(kind)).map(text).join(", ");
+}

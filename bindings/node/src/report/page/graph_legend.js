@@ -1,0 +1,51 @@
+/** What the lines and the frames of a graph mean; a kind of lines is hidden by a click. */
+
+import { drawn, element } from "./elements.js";
+import { hiddenKinds } from "./graph_kinds.js";
+import { moduleStates, report, stateTitle } from "./report.js";
+
+/** The states of modules that are drawn, in the order of the legend. */
+const STATES = ["entry", "unreached", "faulty"];
+
+/**
+ * @param {import("./graph_drawing.js").Plan} plan
+ * @param {SVGElement} drawing of the plan
+ * @returns {HTMLElement} with the kinds and states that are in the drawing
+ */
+export function legend({ nodes, edges }, drawing) {
+  const drawnKinds = new Set(edges.flatMap(({ kinds }) => [...kinds.keys()]));
+  const modules = nodes.map(({ module }) => module).filter((module) => module !== undefined);
+  const found = new Set(modules.flatMap(moduleStates));
+  const states = STATES.filter((state) => found.has(state)).map((state) => {
+    return element("li", {}, element("span", { class: `swatch ${state}` }), stateTitle(state));
+  });
+  const attributes = { class: "legend", "aria-label": "legend" };
+  const kinds = report.kinds.filter(({ kind }) => drawnKinds.has(kind));
+  hideEdges(drawing);
+  return element("ul", attributes, ...kinds.map((kind) => kindItem(kind, drawing)), ...states);
+}
+
+function kindItem({ kind, title, says, dash }, drawing) {
+  const line = drawn("path", {
+    d: "M1 6H33", class: `edge ${kind}`, "stroke-dasharray": dash || undefined,
+    "marker-end": `url(#arrow-${kind})`,
+  });
+  const frame = { viewBox: "0 0 36 12", width: 36, height: 12, "aria-hidden": "true" };
+  const pressed = String(!hiddenKinds.has(kind));
+  const attributes = { type: "button", title: `${says}; a click hides them`, "aria-pressed": pressed };
+  const button = element("button", attributes, drawn("svg", frame, line), title);
+  button.addEventListener("click", () => {
+    const isHidden = !hiddenKinds.delete(kind) && Boolean(hiddenKinds.add(kind));
+    button.setAttribute("aria-pressed", String(!isHidden));
+    hideEdges(drawing);
+  });
+  return element("li", {}, button);
+}
+
+/** Hides the edges of which each kind is hidden. */
+function hideEdges(drawing) {
+  for (const edge of drawing.querySelectorAll("[data-kinds]")) {
+    const isHidden = edge.dataset.kinds.split(" ").every((kind) => hiddenKinds.has(kind));
+    edge.classList.toggle("hidden", isHidden);
+  }
+}

@@ -1,0 +1,218 @@
+/** Moves a drawing in its box: by dragging, the wheel, two fingers, keys and buttons. */
+
+import { element } from "./elements.js";
+
+/** Scales: of one step of a key and of the wheel, the least and the largest, and the largest fit. */
+const STEP = 1.25;
+const WHEEL = 0.0016;
+const LEAST = 0.05;
+const LARGEST = 4;
+const FITTING = 1.1;
+
+/** How far an arrow key moves a drawing, and how far a pointer has to move to drag it, in pixels. */
+const STRIDE = 60;
+const DRAG = 4;
+
+/** Around a drawing that fits its box, in pixels. */
+const AROUND = 12;
+
+export class Mover {
+  #box;
+  #scene;
+  #size;
+  #at = { x: 0, y: 0, scale: 1 };
+  /** Where each pointer that is down was last. @type {Map<number, { x: number, y: number }>} */
+  #pointers = new Map();
+  #dragged = false;
+  #isFitted = true;
+
+  /**
+   * @param {HTMLElement} box
+   * @param {SVGElement} scene the group in the box that is moved
+   * @param {{ width: number, height: number }} size the scene's
+   */
+  constructor(box, scene, size) {
+    this.#box = box;
+    this.#scene = scene;
+    this.#size = size;
+    const listen = (names, act) => names.forEach((name) => box.addEventListener(name, act));
+    listen(["pointerdown"], (event) => this.#onDown(event));
+    listen(["pointermove"], (event) => this.#onMove(event));
+    listen(["pointerup", "pointercancel", "pointerleave"], (event) => this.#onUp(event));
+    box.addEventListener("click", (event) => this.#onClick(event), { capture: true });
+    box.addEventListener("wheel", (event) => this.#onWheel(event), { passive: false });
+    box.addEventListener("dragstart", (event) => event.preventDefault());
+    new ResizeObserver(() => this.#isFitted && this.fit()).observe(box);
+  }
+
+  get scale() {
+    return this.#at.scale;
+  }
+
+  /** Shows the whole drawing, as large as both sides of the box allow. */
+  fit() {
+    const { clientWidth, clientHeight } = this.#box;
+    const scale = fitScale(this.#size, { width: clientWidth, height: clientHeight });
+    this.#put({
+      scale,
+      x: (clientWidth - this.#size.width * scale) / 2,
+      y: (clientHeight - this.#size.height * scale) / 2,
+    });
+    this.#isFitted = true;
+  }
+
+  /**
+   * @param {number} factor above 1 to make the drawing larger
+   * @param {{ x: number, y: number }} [point] of the box that stays where it is; else the middle
+   */
+  zoom(factor, point = { x: this.#box.clientWidth / 2, y: this.#box.clientHeight / 2 }) {
+    const { x, y, scale } = this.#at;
+    const next = Math.min(LARGEST, Math.max(LEAST, scale * factor));
+    const move = (from, middle) => middle - (middle - from) * (next / scale);
+    this.#put({ scale: next, x: move(x, point.x), y: move(y, point.y) });
+  }
+
+  /**
+   * @param {number} right
+   * @param {number} down
+   */
+  pan(right, down) {
+    this.#put({ ...this.#at, x: this.#at.x + right, y: this.#at.y + down });
+  }
+
+  /**
+   * Moves the drawing so far that a part of it is seen.
+   * @param {Element} part
+   */
+  show(part) {
+    const [inner, outer] = [part.getBoundingClientRect(), this.#box.getBoundingClientRect()];
+    const into = (low, high, from, to) => Math.max(0, from + AROUND - low) - Math.max(0, high - to + AROUND);
+    const right = into(inner.left, inner.right, outer.left, outer.right);
+    const down = into(inner.top, inner.bottom, outer.top, outer.bottom);
+    if (right !== 0 || down !== 0) {
+      this.pan(right, down);
+    }
+  }
+
+  /**
+   * @param {KeyboardEvent} event
+   * @returns {boolean} whether the key is one that moves the drawing
+   */
+  onKey({ key }) {
+    const acts = {
+      "+": () => this.zoom(STEP), "=": () => this.zoom(STEP), "-": () => this.zoom(1 / STEP),
+      0: () => this.fit(),
+      ArrowLeft: () => this.pan(STRIDE, 0), ArrowRight: () => this.pan(-STRIDE, 0),
+      ArrowUp: () => this.pan(0, STRIDE), ArrowDown: () => this.pan(0, -STRIDE),
+    };
+    acts[key]?.();
+    return key in acts;
+  }
+
+  /** @returns {HTMLElement} */
+  buttons() {
+    return element(
+      "span", { class: "zoom" },
+      moveButton("−", "smaller (key -)", () => this.zoom(1 / STEP)),
+      moveButton("+", "larger (key +)", () => this.zoom(STEP)),
+      moveButton("Fit", "show all of it (key 0)", () => this.fit()),
+    );
+  }
+
+  #put(at) {
+    this.#at = at;
+    this.#isFitted = false;
+    this.#scene.setAttribute("transform", `translate(${at.x} ${at.y}) scale(${at.scale})`);
+  }
+
+  #pointOf({ clientX, clientY }) {
+    const { left, top } = this.#box.getBoundingClientRect();
+    return { x: clientX - left, y: clientY - top };
+  }
+
+  #onDown(event) {
+    if (event.button === 0) {
+      this.#pointers.set(event.pointerId, this.#pointOf(event));
+      this.#dragged = this.#pointers.size > 1;
+    }
+  }
+
+  #onMove(event) {
+    const before = this.#pointers.get(event.pointerId);
+    const point = this.#pointOf(event);
+    if (!before || (!this.#dragged && distance(before, point) < DRAG)) {
+      return;
+    }
+    if (!this.#dragged) {
+      this.#dragged = true;
+      this.#box.setPointerCapture(event.pointerId);
+      this.#box.classList.add("dragging");
+    }
+    const [other] = [...this.#pointers].filter(([id]) => id !== event.pointerId).map(([, at]) => at);
+    this.#pointers.set(event.pointerId, point);
+    if (other === undefined) {
+      this.pan(point.x - before.x, point.y - before.y);
+    } else {
+      this.zoom(distance(other, point) / Math.max(1, distance(other, before)), middlePoint(other, point));
+    }
+  }
+
+  #onUp({ pointerId, type }) {
+    if (type !== "pointerleave" || !this.#dragged) {
+      this.#pointers.delete(pointerId);
+      this.#box.classList.remove("dragging");
+    }
+  }
+
+  /** A click that ends a drag opens nothing. */
+  #onClick(event) {
+    if (this.#dragged) {
+      event.preventDefault();
+      event.stopPropagation();
+      this.#dragged = false;
+    }
+  }
+
+  /** Where the whole drawing is seen, a wheel that would make it smaller scrolls the page. */
+  #onWheel(event) {
+    const { clientWidth: width, clientHeight: height } = this.#box;
+    const isSmaller = event.deltaY > 0;
+    if (isSmaller && !event.ctrlKey && this.#at.scale <= fitScale(this.#size, { width, height })) {
+      return;
+    }
+    event.preventDefault();
+    const lines = event.deltaMode === WheelEvent.DOM_DELTA_LINE ? 30 : 1;
+    const strength = event.ctrlKey ? 6 : 1;
+    this.zoom(Math.exp(-event.deltaY * lines * strength * WHEEL), this.#pointOf(event));
+  }
+}
+
+/**
+ * @param {{ width: number, height: number }} size of a drawing
+ * @param {{ width: number, height: number }} room of its box
+ * @returns {number} the scale at which all of it is seen
+ */
+export function fitScale(size, room) {
+  const across = (room.width - 2 * AROUND) / Math.max(1, size.width);
+  const down = (room.height - 2 * AROUND) / Math.max(1, size.height);
+  return Math.max(LEAST, Math.min(FITTING, across, down));
+}
+
+/** The height that a drawing needs in a box of a width, with what is around it. */
+export function heightFor(size, room) {
+  return size.height * fitScale(size, room) + 2 * AROUND;
+}
+
+function distance(one, other) {
+  return Math.hypot(one.x - other.x, one.y - other.y);
+}
+
+function middlePoint(one, other) {
+  return { x: (one.x + other.x) / 2, y: (one.y + other.y) / 2 };
+}
+
+function moveButton(text, title, act) {
+  const made = element("button", { type: "button", title, "aria-label": title }, text);
+  made.addEventListener("click", act);
+  return made;
+}

@@ -1,0 +1,66 @@
+/**
+ * How an item of a graph is shown.
+ *
+ * @typedef {object} Look
+ * @property {string} href
+ * @property {string} label
+ * @property {string} [count] after the label
+ * @property {string} says its whole name, for who points at it and for screen readers
+ * @property {string} classes
+ */
+
+import { counted, hashOf } from "./pieces.js";
+import { shortLabel } from "./graph_layout.js";
+import { moduleStates, paths, report, visible } from "./report.js";
+
+/**
+ * @param {import("./graph_tree.js").Item} item
+ * @returns {Look}
+ */
+export function lookOf(item) {
+  switch (item.type) {
+    case "module": return moduleLook(item.module, report.modules[item.module]);
+    case "flat": return flatLook(item);
+    case "more": return moreLook(item);
+    default: return folderLook(item);
+  }
+}
+
+/**
+ * @param {number} module
+ * @param {string} label
+ * @returns {Look}
+ */
+export function moduleLook(module, label) {
+  return {
+    href: hashOf(module), label: shortLabel(visible(label)), says: visible(paths[module]),
+    classes: moduleStates(module).join(" "),
+  };
+}
+
+function folderLook({ type, folder, parent }) {
+  const above = parent?.folder?.path ?? "";
+  const name = above === "" ? folder.path : folder.path.slice(above.length + 1);
+  const path = visible(folder.path);
+  return {
+    href: `#folder-${folder.index}`, label: `${shortLabel(visible(name))}/`,
+    count: folder.count.toLocaleString("en"), says: `${path}/: ${counted(folder.count, "module")}`,
+    classes: type === "box" ? "" : "folder-node",
+  };
+}
+
+function flatLook({ folder, count }) {
+  const label = counted(count, "module");
+  return {
+    href: `#flat-${folder.index}`, label, classes: "folder-node flat",
+    says: `${visible(folder.path)}/: ${label} that are directly in it`,
+  };
+}
+
+function moreLook({ folder, folders, count }) {
+  const label = counted(folders.length, "more folder");
+  return {
+    href: `#more-${folder.index}`, label, count: count.toLocaleString("en"), classes: "folder-node more",
+    says: `${label} with ${counted(count, "module")}`,
+  };
+}

@@ -1,0 +1,173 @@
+/** The graph of what one module leads to, and of what leads to it. */
+
+import { element } from "./elements.js";
+import { folderOf } from "./folders.js";
+import { eachPair } from "./graph_edges.js";
+import { countKind } from "./graph_kinds.js";
+import { layersOf, orderedLayers } from "./graph_layers.js";
+import { NODE_HEIGHT, shortLabel, sizeOfLabel } from "./graph_layout.js";
+import { moduleLook } from "./graph_nodes.js";
+import { READABLE_SCALE, crumbs, graphFrame, roomIn, showPlan } from "./graph_view.js";
+import { counted, hashOf, nameText } from "./pieces.js";
+import { paths, report, visible } from "./report.js";
+import { longList } from "./reveal.js";
+
+/** Lengths in a drawing: between layers and between nodes. */
+const BETWEEN = 90;
+const GAP_BELOW = 6;
+
+/** How many layers are shown at first, and at most. */
+export const DEPTHS = { into: 2, from: 1 };
+const DEEPEST = 9;
+
+/**
+ * @param {number} module
+ * @param {{ into: number, from: number }} depths
+ * @param {(Node | string)[]} [before] what is said before it
+ * @returns {HTMLElement}
+ */
+export function layersView(module, depths, before = []) {
+  const frame = graphFrame([crumbs(folderOf[module]), ...nameText(report.modules[module])]);
+  frame.bar.after(element("p", { class: "says" }, ...before, ...depthLinks(module, depths)));
+  requestAnimationFrame(() => {
+    if (frame.view.isConnected) {
+      const leaves = [];
+      const layers = layersOf(module, { ...depths, most: mostInLayer(roomIn(frame.box)) });
+      showPlan(frame, planOfLayers(layers, leaves), { leaves });
+    }
+  });
+  return frame.view;
+}
+
+/** How many modules of a layer are seen at once, at the least scale at which they are read. */
+function mostInLayer({ height }) {
+  return Math.max(6, Math.floor(height / READABLE_SCALE / (NODE_HEIGHT + GAP_BELOW)) - 1);
+}
+
+function depthLinks(module, { into, from }) {
+  const those = { from: "of what leads to it", into: "of what it leads to" };
+  const link = (text, next, says) => {
+    const href = `#layers-${module}-${next.into}-${next.from}`;
+    return element("a", { href, class: "step", "aria-label": says, title: says }, text);
+  };
+  const fewer = (value) => Math.max(0, value - 1);
+  const more = (value) => Math.min(DEEPEST, value + 1);
+  return [
+    "What leads to it: ",
+    link("−", { into, from: fewer(from) }, `one layer fewer ${those.from}`),
+    ` ${counted(from, "layer")} `,
+    link("+", { into, from: more(from) }, `one layer more ${those.from}`),
+    " · what it leads to: ",
+    link("−", { into: fewer(into), from }, `one layer fewer ${those.into}`),
+    ` ${counted(into, "layer")} `,
+    link("+", { into: more(into), from }, `one layer more ${those.into}`),
+    " · ", element("a", { href: hashOf(module), class: "open" }, "open the module"),
+  ];
+}
+
+/** Places the modules of each layer below one another, and the layers side by side. */
+function planOfLayers(layers, leaves) {
+  const ordered = orderedLayers(layers);
+  const label = labelsOf(ordered.flat());
+  const columns = layers.map((layer, at) => columnOf(layer, ordered[at], label));
+  const height = Math.max(...columns.map((column) => column.height));
+  const nodes = [];
+  let left = 0;
+  for (const column of columns) {
+    let top = (height - column.height) / 2;
+    for (const { id, look, module, size } of column.items) {
+      nodes.push({ id, look, module, place: [left, top, column.width, size[1]] });
+      top += size[1] + GAP_BELOW;
+      if (module !== undefined) {
+        leaves[module] = { id, type: "module", module };
+      }
+    }
+    left += column.width + BETWEEN;
+  }
+  const edges = layerEdges(ordered, nodes);
+  return { width: left - BETWEEN, height, nodes, frames: [], edges };
+}
+
+/** Names alone, where all modules are of one folder; else paths. */
+function labelsOf(modules) {
+  const folder = folderOf[modules[0]];
+  const isOne = modules.every((module) => folderOf[module] === folder);
+  return (module) => (isOne ? report.modules[module] : paths[module]);
+}
+
+function columnOf({ distance, left }, modules, label) {
+  const items = modules.map((module) => {
+    const look = moduleLook(module, label(module));
+    const chosen = distance === 0 ? "chosen-node" : "";
+    const href = distance === 0 ? look.href : `#layers-${module}`;
+    return { id: `m${module}`, module, look: { ...look, href, classes: `${look.classes} ${chosen}`.trim() } };
+  });
+  if (left > 0) {
+    const says = `${counted(left, "more module")} that are not drawn`;
+    const href = hashOf(modules[0]);
+    const look = { href, says, label: counted(left, "more module"), classes: "folder-node left" };
+    items.push({ id: `l${distance}`, look });
+  }
+  const sized = items.map((item) => ({ ...item, size: sizeOfLabel(item.look.label) }));
+  return {
+    items: sized,
+    width: Math.max(...sized.map(({ size }) => size[0])),
+    height: sized.reduce((sum, { size }) => sum + size[1] + GAP_BELOW, -GAP_BELOW),
+  };
+}
+
+/** The edges from a layer to the next one. */
+function layerEdges(ordered, nodes) {
+  const places = new Map(nodes.map(({ id, place }) => [id, place]));
+  const pairs = ordered.flatMap((modules, layer) => modules.map((module) => [module, layer]));
+  const layerOfModule = new Map(pairs);
+  const edges = new Map();
+  for (const [module, layer] of layerOfModule) {
+    eachPair(module, (to, kind) => {
+      if (layerOfModule.get(to) === layer + 1) {
+        const key = `${module} ${to}`;
+        const [from, end] = [`m${module}`, `m${to}`];
+        const path = across(places.get(from), places.get(end));
+        const edge = edges.get(key) ?? { from, to: end, kinds: new Map(), count: 1, path };
+        edges.set(key, edge);
+        countKind(edge.kinds, kind);
+      }
+    });
+  }
+  return [...edges.values()];
+}
+
+/** A curve from the right side of a rectangle to the left side of another. */
+function across([x, y, width, height], [left, top, , high]) {
+  const bend = (x + width + left) / 2;
+  const [start, end] = [y + height / 2, top + high / 2];
+  return `M${x + width} ${start}C${bend} ${start} ${bend} ${end} ${left} ${end}`;
+}
+
+/**
+ * What is shown of a folder whose modules are too many for one drawing: what the one with most
+ * edges leads to, and links to the others.
+ * @param {import("./folders.js").Folder} folder
+ * @returns {HTMLElement}
+ */
+export function largeFolderView(folder) {
+  const weight = (module) => report.edges[module].length;
+  const byEdges = [...folder.modules].sort((one, other) => weight(other) - weight(one));
+  const first = report.entries.find((entry) => folder.modules.includes(entry)) ?? byEdges[0];
+  const says = `${counted(folder.modules.length, "module")} of one folder are too many for one drawing. ` +
+    "This is what one of them leads to; choose another one in the list, or here. ";
+  const view = layersView(first, DEPTHS, [says]);
+  const inside = folder.folders.map((each) => {
+    const text = `${visible(each.name)}/ (${each.count.toLocaleString("en")})`;
+    return element("a", { href: `#folder-${each.index}` }, text);
+  });
+  const choices = longList(byEdges, (module) => element("li", {}, layersLink(module)));
+  choices.classList.add("choices");
+  view.append(element("p", { class: "says inside" }, ...inside.flatMap((link) => [link, " "])), choices);
+  return view;
+}
+
+function layersLink(module) {
+  const attributes = { href: `#layers-${module}`, title: visible(paths[module]) };
+  return element("a", attributes, ...nameText(shortLabel(report.modules[module])));
+}

@@ -1,0 +1,81 @@
+/** One module: its source, and beside it what it names. */
+
+import { detailsOf } from "./details.js";
+import { element } from "./elements.js";
+import { counted, pathLabel, sizeText } from "./pieces.js";
+import { moduleStates, paths, report, stateTitle } from "./report.js";
+import { sourceView } from "./source_view.js";
+import { importersView, tableView } from "./table_view.js";
+import { wayView } from "./way_view.js";
+
+/**
+ * @param {number} index
+ * @returns {{ view: HTMLElement, whole: Promise<void> }} `whole` is when its text is there
+ */
+export function moduleView(index) {
+  const text = element("div");
+  const beside = element("div", { class: "beside" });
+  const links = element(
+    "span", { class: "links" },
+    element("span", { class: "count" }, sizeText(report.bytes[index])),
+    element("a", { href: `#layers-${index}` }, "graph of what it leads to"),
+  );
+  const view = element(
+    "article", { class: "module", "data-module": index },
+    element("header", {}, element("h1", {}, pathLabel(paths[index])), ...states(index), links),
+    element("div", { class: "columns" }, text, beside),
+  );
+  return { view, whole: fill(index, text, beside) };
+}
+
+async function fill(index, text, beside) {
+  const details = await detailsOf(index);
+  const fault = report.faults[index];
+  const table = fault ? faultView(fault) : tableView(index, details.rows);
+  beside.append(table, importersView(index), wayView(index));
+  await fillText(index, details, text);
+}
+
+/** Shows the text, as far as the page has it. */
+async function fillText(index, details, box) {
+  const { source, lines } = details;
+  const left = lines && `The file has ${counted(lines, "line")}: too long to be in this page as a whole.`;
+  if (left || source === undefined) {
+    box.append(element("p", { class: "none" }, left ?? "Its text couldn't be read."));
+  }
+  if (source !== undefined) {
+    const { view, whole } = sourceView(index, details);
+    box.append(view);
+    await whole;
+  }
+}
+
+function states(index) {
+  return moduleStates(index).map((state) => element("span", { class: "state" }, stateTitle(state)));
+}
+
+function faultView({ fault, message, line, column }) {
+  const place = line ? `line ${line}, column ${column}: ` : "";
+  return element("p", { class: "fault" }, element("strong", {}, fault), " ", `${place}${message}`);
+}
+
+/**
+ * Marks a row and its marks as chosen, and brings them into sight.
+ * @param {HTMLElement} view
+ * @param {number | undefined} row
+ */
+export function choose(view, row) {
+  for (const each of view.querySelectorAll(".chosen")) {
+    each.classList.remove("chosen");
+  }
+  if (row === undefined) {
+    return;
+  }
+  const marks = [...view.querySelectorAll(`.mark[data-rows~="${row}"]`)];
+  const line = view.querySelector(`tr[data-row="${row}"]`);
+  for (const each of [...marks, line].filter(Boolean)) {
+    each.classList.add("chosen");
+  }
+  marks[marks.length - 1]?.scrollIntoView({ block: "nearest", inline: "nearest" });
+  line?.scrollIntoView({ block: "nearest" });
+}

@@ -1,0 +1,131 @@
+/** Small pieces that more than one part of the page shows. */
+
+import { nameParts } from "./controls.js";
+import { element } from "./elements.js";
+import { kindNamed, partsOf, paths } from "./report.js";
+
+/**
+ * A path whose name is darker than its folder.
+ * @param {string} path
+ * @returns {HTMLElement}
+ */
+export function pathLabel(path) {
+  const [folder, name] = partsOf(path);
+  const head = element("span", { class: "folder" }, ...breakable(folder));
+  return element("span", { class: "path" }, head, ...nameText(name));
+}
+
+/**
+ * A text in which a line may end after each slash, and each character is seen.
+ * @param {string} text
+ * @returns {(Node | string)[]}
+ */
+function breakable(text) {
+  const parts = text.match(/[^/]*\/|[^/]+/gu) ?? [];
+  return parts.flatMap((part) => [...nameText(part), element("wbr")]);
+}
+
+/**
+ * A name in which each character is seen.
+ * @param {string} text
+ * @returns {(Node | string)[]}
+ */
+export function nameText(text) {
+  return nameParts(text).map((part) => (part.name
+    ? element("span", { class: "control", "data-name": part.name }, part.text)
+    : part.text));
+}
+
+/**
+ * @param {number} module
+ * @param {number} [row]
+ * @returns {HTMLElement} a link
+ */
+export function moduleLink(module, row) {
+  return element("a", { href: hashOf(module, row) }, pathLabel(paths[module]));
+}
+
+/**
+ * @param {number} module
+ * @param {number} [row]
+ * @returns {string}
+ */
+export function hashOf(module, row) {
+  return row === undefined ? `#module-${module}` : `#module-${module}-${row}`;
+}
+
+/**
+ * @param {{ kind: string, word: string }} row
+ * @returns {HTMLElement}
+ */
+export function kindLabel({ kind, word }) {
+  const { title } = kindNamed(kind);
+  return element("span", { class: `kind ${kind}`, title: `ModuleInfo: ${word}` }, title);
+}
+
+/**
+ * A specifier, or what is known of an argument.
+ * @param {any} name
+ * @returns {HTMLElement}
+ */
+export function nameLabel(name) {
+  if (name === null) {
+    return element("span", { class: "name unknown" }, "not known");
+  }
+  const parts = typeof name === "string" ? [{ type: "string", value: name }] : name;
+  const hole = { class: "hole", title: "an expression, whose value isn't known" };
+  const shown = parts.map(({ type, value }) => (type === "string"
+    ? element("span", { class: "text" }, ...breakable(value))
+    : element("span", hole, "${…}")));
+  return element("code", { class: "name" }, ...shown);
+}
+
+/**
+ * Where a row leads to.
+ * @param {any} target
+ * @returns {HTMLElement | string}
+ */
+export function targetLabel(target) {
+  if (target === undefined) {
+    return element("span", { class: "outside" }, "–");
+  }
+  if (target.module !== undefined) {
+    return moduleLink(target.module);
+  }
+  if (target.class === "missing") {
+    return element("span", { class: "missing" }, "not found");
+  }
+  return element("span", { class: "outside", title: "not a module of this report" }, ...outsideLabel(target));
+}
+
+function outsideLabel({ class: name, file, package: packageName, version = "" }) {
+  switch (name) {
+    case "builtin": return ["a module of Node.js"];
+    case "url": return ["a URL"];
+    case "package": return [`package ${packageName} ${version}`.trim()];
+    default: return file === undefined ? [name] : [pathLabel(file)];
+  }
+}
+
+/**
+ * @param {number} count
+ * @returns {string} as "12 B", "3.4 kB", "56 MB"
+ */
+export function sizeText(count) {
+  const units = ["B", "kB", "MB", "GB"];
+  let [value, unit] = [count, 0];
+  for (; value >= 999.5 && unit < units.length - 1; unit++) {
+    value /= 1000;
+  }
+  return `${unit > 0 && value < 10 ? value.toFixed(1) : Math.round(value)} ${units[unit]}`;
+}
+
+/**
+ * @param {number} count
+ * @param {string} one
+ * @param {string} [many]
+ * @returns {string} as "1 module", "2 modules"
+ */
+export function counted(count, one, many = `${one}s`) {
+  return `${count.toLocaleString("en")} ${count === 1 ? one : many}`;
+}

@@ -1,0 +1,120 @@
+/** The index that is written into the page, and the questions that are asked of it. */
+
+import { nameParts } from "./controls.js";
+
+/** Numbers of an edge in a module's list: the target, the kind, the row and the line. */
+const EDGE = 4;
+
+/** @type {any} */
+export const report = JSON.parse(document.getElementById("data").textContent);
+
+/** The modules' paths from the report's folder. @type {string[]} */
+export const paths = report.modules.map((name, module) => {
+  const folder = report.folders[report.inFolder[module]];
+  return folder === "." ? name : `${folder}/${name}`;
+});
+
+const entries = new Set(report.entries);
+const unreached = new Set(report.lists.unreached);
+const cyclic = new Set(report.lists.cycles.flatMap(({ modules }) => modules));
+
+/** The kinds whose edges run code; the others are of types and comments. */
+const RUNS = new Set(["static", "dynamic", "require"]);
+export const kindRuns = report.kinds.map(({ kind }) => RUNS.has(kind));
+
+/**
+ * Calls a function with each edge from a module.
+ * @param {number} module
+ * @param {(to: number, kind: number, row: number, line: number) => void} act
+ */
+export function eachEdge(module, act) {
+  const flat = report.edges[module];
+  for (let at = 0; at < flat.length; at += EDGE) {
+    act(flat[at], flat[at + 1], flat[at + 2], flat[at + 3]);
+  }
+}
+
+/** For each module the edges that lead to it. @type {number[][] | undefined} */
+let edgesTo;
+
+/**
+ * Calls a function with each edge to a module.
+ * @param {number} module
+ * @param {(from: number, kind: number, row: number, line: number) => void} act
+ */
+export function eachImporter(module, act) {
+  edgesTo ??= turnedEdges();
+  const flat = edgesTo[module];
+  for (let at = 0; at < flat.length; at += EDGE) {
+    act(flat[at], flat[at + 1], flat[at + 2], flat[at + 3]);
+  }
+}
+
+function turnedEdges() {
+  const turned = report.modules.map(() => []);
+  report.modules.forEach((_, from) => {
+    eachEdge(from, (to, kind, row, line) => turned[to].push(from, kind, row, line));
+  });
+  return turned;
+}
+
+/**
+ * @param {number} module
+ * @returns {{ module: number, kind: number, row: number, line: number }[]} the rows that lead to it
+ */
+export function importers(module) {
+  const found = [];
+  eachImporter(module, (from, kind, row, line) => found.push({ module: from, kind, row, line }));
+  return found;
+}
+
+/**
+ * What is to be said of a module: whether it is an entry, unreached, in a cycle, or has a fault.
+ * @param {number} module
+ * @returns {string[]}
+ */
+export function moduleStates(module) {
+  const states = [
+    [entries.has(module), "entry"],
+    [unreached.has(module), "unreached"],
+    [cyclic.has(module), "cyclic"],
+    [module in report.faults, "faulty"],
+  ];
+  return states.filter(([has]) => has).map(([, name]) => name);
+}
+
+/**
+ * @param {string} state one of those of `moduleStates`
+ * @returns {string}
+ */
+export function stateTitle(state) {
+  const notReached = report.entries.length > 0 ? "unreached" : "imported by no module";
+  return { entry: "entry", unreached: notReached, cyclic: "in a cycle", faulty: "not analyzed" }[state];
+}
+
+/**
+ * A path in two parts.
+ * @param {string} path
+ * @returns {[string, string]} the folder with its slash, and the name
+ */
+export function partsOf(path) {
+  const at = path.lastIndexOf("/") + 1;
+  return [path.slice(0, at), path.slice(at)];
+}
+
+/**
+ * A path as a text in which each character is seen.
+ * @param {string} path
+ * @returns {string}
+ */
+export function visible(path) {
+  return nameParts(path).map(({ text, name }) => (name ? `[${name}]` : text)).join("");
+}
+
+/**
+ * @param {string} kind
+ * @returns {any} its title and how it is drawn
+ */
+export function kindNamed(kind) {
+  return report.kinds.find((each) => each.kind === kind);
+}

@@ -1,0 +1,53 @@
+/** Long lists, of which as much is made as is seen. */
+
+import { element } from "./elements.js";
+import { counted } from "./pieces.js";
+
+/** How many items are shown at first, and how many are added when the end is seen. */
+const SHOWN = 50;
+const ADDED = 100;
+
+/**
+ * A list whose first items are shown; a button shows the others, in a box that scrolls.
+ * @param {any[]} items
+ * @param {(item: any) => HTMLElement} view makes a list item
+ * @param {string} tag of the list
+ * @returns {HTMLElement}
+ */
+export function longList(items, view, tag = "ul") {
+  const list = element(tag, {}, ...items.slice(0, SHOWN).map(view));
+  if (items.length <= SHOWN) {
+    return list;
+  }
+  const button = element("button", { type: "button" }, `Show all ${counted(items.length, "item")}`);
+  const box = element("div", { class: "long" }, list, button);
+  button.addEventListener("click", () => {
+    button.remove();
+    box.classList.add("open");
+    revealAll(box, list, items.slice(SHOWN).values(), view);
+  });
+  return box;
+}
+
+/** Adds items as often as the end of the list comes into sight. */
+function revealAll(box, list, rest, view) {
+  const end = element("div", { class: "end" });
+  box.append(end);
+  const add = () => {
+    for (let added = 0; added < ADDED; added++) {
+      const { done, value } = rest.next();
+      if (done) {
+        observer.disconnect();
+        end.remove();
+        return;
+      }
+      list.append(view(value));
+    }
+    // An observer reports changes: where the end is still in sight it has to look anew.
+    observer.unobserve(end);
+    observer.observe(end);
+  };
+  const options = { root: box, rootMargin: "400px" };
+  const observer = new IntersectionObserver(([{ isIntersecting }]) => isIntersecting && add(), options);
+  observer.observe(end);
+}

@@ -1,0 +1,103 @@
+/** A module's text with its marks. */
+
+import { withControls } from "./controls.js";
+import { element } from "./elements.js";
+import { hashOf } from "./pieces.js";
+import { kindNamed } from "./report.js";
+import { lineSegments } from "./segments.js";
+
+/** Lines that a browser lays out together, once they are seen. */
+const BLOCK = 200;
+
+/** How long lines are made at a time, in milliseconds, before the browser gets its turn. */
+const SLICE = 20;
+
+/**
+ * @param {number} index of the module
+ * @param {any} details those of the module
+ * @returns {{ view: HTMLElement, whole: Promise<void> }} the first lines at once; `whole` is when
+ *   all are there, or the view is no longer shown
+ */
+export function sourceView(index, details) {
+  const code = element("code", { class: "source" });
+  const view = element("pre", { tabindex: 0, "aria-label": "source" }, code);
+  const lines = linesOf(index, details, code);
+  return { view, whole: addLines(lines, view) };
+}
+
+/** Makes lines, a slice of time after the other. */
+async function addLines(lines, view) {
+  for (let isDone = false; !isDone; ) {
+    const end = performance.now() + SLICE;
+    while (!isDone && performance.now() < end) {
+      isDone = lines.next().done;
+    }
+    if (!isDone) {
+      await new Promise((resolve) => setTimeout(resolve));
+      isDone = !view.isConnected;
+    }
+  }
+}
+
+/** Adds a line to the code with each step. */
+function* linesOf(index, details, code) {
+  const { source, marks } = details;
+  const numbers = lineNumbers(details);
+  let block;
+  let at = 0;
+  for (const segments of lineSegments(source, marks)) {
+    if (at % BLOCK === 0) {
+      block = element("span", { class: "block" });
+      code.append(block);
+    }
+    const { number, isAfterGap } = numbers(at);
+    const parts = segments.map((segment) => segmentView(index, source, segment));
+    const attributes = { class: isAfterGap ? "line after-gap" : "line", "data-number": number };
+    block.append(element("span", attributes, ...parts));
+    at++;
+    yield;
+  }
+}
+
+/**
+ * The numbers of lines, counted from one, of a text of which some may be left out.
+ * @param {{ pieces?: [number, number][] }} module
+ */
+function lineNumbers({ pieces = [[0, 0]] }) {
+  let next = 0;
+  return (at) => {
+    const isFirst = pieces[next]?.[0] === at;
+    next += isFirst ? 1 : 0;
+    const [start, number] = pieces[next - 1];
+    return { number: number + at - start + 1, isAfterGap: isFirst && number > 0 };
+  };
+}
+
+function segmentView(index, source, { from, to, marks }) {
+  const text = source.slice(from, to);
+  const mark = marks[marks.length - 1];
+  if (!mark) {
+    return characters(text);
+  }
+  const [, , row, kind] = mark;
+  const rows = [...new Set(marks.map((each) => each[2]))].join(" ");
+  const attributes = { class: `mark ${kind}`, "data-rows": rows, "data-kind": kind };
+  if (row < 0) {
+    return element("span", { ...attributes, title: "a syntax error" }, characters(text));
+  }
+  const title = kindNamed(kind).title;
+  return element("a", { ...attributes, title, href: hashOf(index, row) }, characters(text));
+}
+
+function characters(text) {
+  const fragment = document.createDocumentFragment();
+  const isEnd = text.endsWith("\r\n");
+  const parts = withControls(isEnd ? text.slice(0, -2) : text);
+  for (const { text: part, name } of parts) {
+    fragment.append(name ? element("span", { class: "control", "data-name": name }, part) : part);
+  }
+  if (isEnd) {
+    fragment.append(element("span", { class: "return" }, "\r"), "\n");
+  }
+  return fragment;
+}

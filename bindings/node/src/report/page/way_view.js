@@ -1,0 +1,48 @@
+/** Why a module is there: a shortest way to it, with the lines. */
+
+import { detailsOf } from "./details.js";
+import { element } from "./elements.js";
+import { kindLabel, moduleLink, nameLabel } from "./pieces.js";
+import { kindRuns, report } from "./report.js";
+import { wayTo } from "./ways.js";
+
+/**
+ * @param {number} module
+ * @returns {HTMLElement}
+ */
+export function wayView(module) {
+  const way = wayTo(module);
+  const title = element("h2", {}, "Why is it here?");
+  return element("section", { class: "why" }, title, ...contentOf(way));
+}
+
+function contentOf(way) {
+  const isOfEntries = report.entries.length > 0;
+  if (way === undefined) {
+    return [note(isOfEntries ? "No way leads to it from an entry." : "No way leads to it but a cycle.")];
+  }
+  if (way.length === 0) {
+    return [note(isOfEntries ? "It is an entry." : "No module of this report names it.")];
+  }
+  const runs = way.every(({ kind }) => kindRuns[kind]);
+  const kinds = runs ? "" : " It is named by types or in comments alone, which run nothing.";
+  const start = isOfEntries ? "an entry" : "a module that no other one names";
+  return [
+    note(`The shortest way from ${start}.${kinds}`),
+    element("ol", { class: "steps" }, ...way.map(stepView)),
+  ];
+}
+
+function note(text) {
+  return element("p", { class: "none" }, text);
+}
+
+function stepView({ from, kind, row, line }) {
+  const name = element("span", { class: "step-name" });
+  detailsOf(from).then(({ rows }) => name.append(nameLabel(rows[row].name)));
+  return element(
+    "li", {},
+    moduleLink(from, row), element("span", { class: "place" }, `:${line + 1}`), " ",
+    kindLabel({ kind: report.kinds[kind].kind, word: report.kinds[kind].says }), " ", name,
+  );
+}

@@ -1,0 +1,73 @@
+/** From the positions of a `ModuleInfo` to offsets in the text. */
+
+/** How TypeScript and the faults of the adapters count lines. */
+const LINE_BREAK = /\r\n|[\n\r\u2028\u2029]/gu;
+
+/**
+ * The offsets of positions, whose lines end at U+000A and whose characters are Unicode code points.
+ * It is quickest where positions ascend.
+ */
+export class Places {
+  #text;
+  #starts;
+  /** The last position that was asked for, and its offset. */
+  #last = { line: 0, character: 0, offset: 0 };
+
+  /** @param {string} text */
+  constructor(text) {
+    this.#text = text;
+    this.#starts = [0];
+    for (let at = text.indexOf("\n"); at >= 0; at = text.indexOf("\n", at + 1)) {
+      this.#starts.push(at + 1);
+    }
+  }
+
+  /**
+   * @param {[number, number]} position line and character, both from zero
+   * @returns {number} in UTF-16 units
+   * @throws {RangeError} where the text has no such place
+   */
+  offset([line, character]) {
+    const { length } = this.#text;
+    const end = (this.#starts[line + 1] ?? length + 1) - 1;
+    let at = this.#before(line, character);
+    while (at.character < character && at.offset < end) {
+      const units = Number(this.#text.codePointAt(at.offset)) > 0xffff ? 2 : 1;
+      at = { line, character: at.character + 1, offset: at.offset + units };
+    }
+    if (line >= this.#starts.length || at.character < character) {
+      throw new RangeError(`the text has no line ${line} with a character ${character}`);
+    }
+    this.#last = at;
+    return at.offset;
+  }
+
+  /**
+   * A place of a line whose offset is known.
+   * @param {number} line
+   * @param {number} character
+   */
+  #before(line, character) {
+    const isBehind = this.#last.line === line && this.#last.character <= character;
+    return isBehind ? this.#last : { line, character: 0, offset: this.#starts[line] };
+  }
+}
+
+/**
+ * The character at which a syntax error is, by the place that its fault has.
+ * @param {string} text
+ * @param {{ line?: number, column?: number }} fault counted from one, its characters code points
+ * @returns {[number, number] | undefined} offsets, equal at the end of a line; none without a place
+ */
+export function faultRange(text, { line, column = 1 }) {
+  if (!line) {
+    return undefined;
+  }
+  const breaks = [...text.matchAll(LINE_BREAK)];
+  const before = breaks[line - 2];
+  const start = before ? Number(before.index) + before[0].length : 0;
+  const end = breaks[line - 1]?.index ?? text.length;
+  const characters = [...text.slice(start, end)];
+  const from = start + characters.slice(0, column - 1).join("").length;
+  return [from, from + (characters[column - 1]?.length ?? 0)];
+}

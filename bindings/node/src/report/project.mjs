@@ -1,0 +1,99 @@
+/**
+ * The modules of a report.
+ *
+ * @typedef {object} Module
+ * @property {string} file the path of its file, absolute
+ * @property {string} path the same from the report's folder
+ * @property {string} key the canonical URL of its file
+ * @property {string} [source] none where it can't be read
+ * @property {import("./rows.mjs").Row[]} rows
+ * @property {import("./marks.mjs").Mark[]} marks
+ * @property {import("../runtime/faults.mjs").Fault} [fault] where it has no answer
+ *
+ * @typedef {import("../runtime/file_worker.mjs").FileResult & { path: string }} FileResult
+ */
+
+import { dirname, relative, resolve as absolute } from "node:path";
+
+import { faultOf, withoutExcerpt } from "../runtime/faults.mjs";
+import { isFolder } from "../files/find_files.mjs";
+import { readRegularFile } from "../files/regular_file.mjs";
+import { canonicalUrl } from "../graph/reach.mjs";
+import { decode } from "../files/document_of_file.mjs";
+import { faultMarks, marksOf } from "./marks.mjs";
+import { rowsOf } from "./rows.mjs";
+
+/** Takes the modules as they are read, each file once. */
+export class Project {
+  /** @type {Module[]} */
+  #modules = [];
+  #maxBytes;
+
+  /** @param {number} [maxBytes] the most bytes of a file */
+  constructor(maxBytes) {
+    this.#maxBytes = maxBytes;
+  }
+
+  /** @param {FileResult} result with the line that `--resolve` gives */
+  add({ path, line, fault }) {
+    const file = absolute(path);
+    const module = { file, path: "", key: canonicalUrl(file), rows: [], marks: [] };
+    this.#modules.push(module);
+    this.#read(module, line && JSON.parse(String(line)).info, fault && withoutExcerpt(fault));
+  }
+
+  /**
+   * @param {string[]} paths those of the words
+   * @returns {{ folder: string, modules: Module[] }} the folder is the deepest that has all of them
+   */
+  finish(paths) {
+    const modules = this.#modules;
+    const folders = paths.filter(isFolder).map((path) => absolute(path));
+    const folder = commonFolder([...folders, ...modules.map(({ file }) => dirname(file))]);
+    for (const module of modules) {
+      module.path = relative(folder, module.file);
+    }
+    return { folder, modules };
+  }
+
+  /**
+   * @param {Module} module
+   * @param {any} info
+   * @param {import("../runtime/faults.mjs").Fault | undefined} fault
+   */
+  #read(module, info, fault) {
+    try {
+      module.source = decode(readRegularFile(module.file, this.#maxBytes));
+      if (fault) {
+        module.fault = fault;
+        module.marks = faultMarks(module.source, fault);
+      } else {
+        module.rows = rowsOf(info);
+        module.marks = marksOf(module.source, module.rows);
+      }
+    } catch (error) {
+      module.fault = fault ?? changed(error);
+      module.rows = [];
+    }
+  }
+}
+
+/** @param {any} error */
+function changed(error) {
+  const message = "the file changed while the report was made";
+  return error instanceof RangeError ? { fault: "Input", message } : faultOf(error);
+}
+
+/**
+ * @param {string[]} folders absolute
+ * @returns {string} the deepest folder that they are in; the current one where there are none
+ */
+export function commonFolder(folders) {
+  const [first = process.cwd(), ...others] = folders;
+  let common = first;
+  const isIn = (/** @type {string} */ folder) => `${folder}/`.startsWith(common === "/" ? "/" : `${common}/`);
+  while (!others.every(isIn)) {
+    common = dirname(common);
+  }
+  return common;
+}

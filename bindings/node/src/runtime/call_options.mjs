@@ -1,0 +1,58 @@
+/** What the options of the calls have in common. */
+
+/**
+ * @param {unknown} options
+ * @param {string[]} names those that there are
+ * @throws {TypeError} it is no object, or has another member
+ */
+export function checkKnown(options, names) {
+  if (options === undefined) {
+    return;
+  }
+  if (typeof options !== "object" || options === null) {
+    throw new TypeError(`options are to be an object, and are ${String(options)}`);
+  }
+  const unknown = Object.keys(options).find((name) => !names.includes(name));
+  if (unknown !== undefined) {
+    throw new TypeError(`there is no option ${unknown}: there are ${names.join(", ")}`);
+  }
+}
+
+/**
+ * @param {{ signal?: unknown } | undefined} options
+ * @returns {AbortSignal | undefined}
+ * @throws {TypeError} it is no signal
+ */
+export function readSignal(options) {
+  const { signal } = options ?? {};
+  if (signal !== undefined && !(signal instanceof AbortSignal)) {
+    throw new TypeError("signal is to be an AbortSignal");
+  }
+  return /** @type {AbortSignal | undefined} */ (signal);
+}
+
+/**
+ * The result of a call, unless a signal is aborted before it is there.
+ * @template T
+ * @param {AbortSignal | undefined} signal
+ * @param {() => Promise<T>} call isn't made where the signal is aborted already
+ * @returns {Promise<T>} rejected with the reason of the signal once that is aborted
+ */
+export async function unlessAborted(signal, call) {
+  if (!signal) {
+    return call();
+  }
+  signal.throwIfAborted();
+  const result = call();
+  let stop = () => {};
+  /** @type {Promise<never>} */
+  const aborted = new Promise((_, reject) => {
+    stop = () => reject(signal.reason);
+    signal.addEventListener("abort", stop, { once: true });
+  });
+  try {
+    return await Promise.race([result, aborted]);
+  } finally {
+    signal.removeEventListener("abort", stop);
+  }
+}

@@ -1,0 +1,59 @@
+/** Documents that `modinfo check` reads, and what its reports say of places in them. */
+
+import { LONE_SURROGATE, isWellFormed } from "../document/source.mjs";
+
+/**
+ * @typedef {import("./check_report.mjs").Report} Report
+ * @typedef {import("./check_report.mjs").TextPlace} TextPlace
+ */
+
+/** No text in UTF-8 has this byte. */
+const NO_UTF8 = Buffer.of(0xff);
+
+/**
+ * What the program is handed of a document. A text ends with its first lone surrogate, in whose place
+ * is what is no UTF-8 either.
+ * @param {string | Uint8Array} json
+ * @returns {string | Buffer} no bytes that the caller may change
+ */
+export function checkedForm(json) {
+  if (typeof json !== "string") {
+    return Buffer.from(json);
+  }
+  if (isWellFormed(json)) {
+    return json;
+  }
+  return Buffer.concat([Buffer.from(json.slice(0, json.search(LONE_SURROGATE))), NO_UTF8]);
+}
+
+/**
+ * A report with the place in the document as it was handed over: the program reads it as one line.
+ * @param {Report} report
+ * @param {string | Buffer} document
+ * @returns {Report}
+ */
+export function withPlace(report, document) {
+  return report.fault && report.at
+    ? { ...report, at: placeAt(Buffer.from(document), report.at.offset) }
+    : report;
+}
+
+/**
+ * @param {Buffer} document
+ * @param {number} offset in bytes, behind a character
+ * @returns {TextPlace}
+ */
+function placeAt(document, offset) {
+  const lines = document.subarray(0, offset).toString().split("\n");
+  return { line: lines.length - 1, column: [...lines[lines.length - 1]].length, offset };
+}
+
+/**
+ * What a report says, for people.
+ * @param {import("./check_report.mjs").FaultReport} report
+ * @returns {string} one line, as `Tree at /program: expected a member `body``
+ */
+export function describeReport({ fault, pointer, at, expected }) {
+  const place = at ? `line ${at.line + 1}, column ${at.column + 1}` : pointer || "the whole document";
+  return `${fault} at ${place}: expected ${expected}`;
+}

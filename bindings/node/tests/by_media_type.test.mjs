@@ -1,0 +1,39 @@
+/** The documents of texts by the parser that is fastest. */
+
+import assert from "node:assert/strict";
+import { test } from "node:test";
+
+import { toDocument } from "../src/parsers/by_media_type.mjs";
+import { toDocument as byTypeScript } from "../src/parsers/typescript/index.mjs";
+
+/** What a function makes of a text: the document and the warnings, or the error. */
+function outcome(parse, text, mediaType) {
+  const warnings = [];
+  try {
+    const options = { specifier: "file:///module", mediaType, warn: (warning) => warnings.push(warning) };
+    return { document: parse(text, options), warnings };
+  } catch ({ name, message, line, column }) {
+    return { name, message, line, column };
+  }
+}
+
+const TEXTS = {
+  "a module": `#!/usr/bin/env node\n/** @jsx h */ import a from "a" with { type: "json" }; await import("b");\n`,
+  "a script": `const a = require("a"); with (a) { require(b); } // c\n`,
+  JSX: `import a from "a"; <a>{require("b")}</a>;`,
+  Flow: `import type { A } from "a"; const b: A = require("b");`,
+  "an import type": `import type A from "a";`,
+  decorators: `@a class B { @c d = require("e"); }`,
+  "a sum of many": `require("a" +${" b +".repeat(60)} require("c"));`,
+  "a syntax error": "let a = 1;\nlet b = ;\n",
+  "a lone surrogate": "let a = '\ud800';",
+  "a type": `type A = import("a").B; export {};`,
+};
+
+for (const [name, text] of Object.entries(TEXTS)) {
+  test(`${name} is to the fastest parser what it is to TypeScript's`, () => {
+    for (const mediaType of ["JavaScript", "Mjs", "Jsx", "TypeScript"]) {
+      assert.deepEqual(outcome(toDocument, text, mediaType), outcome(byTypeScript, text, mediaType), mediaType);
+    }
+  });
+}

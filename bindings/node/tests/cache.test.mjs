@@ -1,0 +1,134 @@
+/** A cache of what was found in files. */
+
+import assert from "node:assert/strict";
+import { chmodSync, existsSync, mkdirSync, readFileSync, utimesSync, writeFileSync } from "node:fs";
+import { join } from "node:path";
+import { test } from "node:test";
+
+import { AnalysisCache } from "../src/files/analysis_cache.mjs";
+import { STAND_IN, folderOf, linesOf, run } from "./run_commands.mjs";
+
+const PROJECT = {
+  "src/a.js": `import "./b.js";\n`, "src/b.js": `require("a" +${" b +".repeat(60)} c);\n`, "src/wrong.js": "let = ;",
+};
+
+/** A change long ago, since what was changed a moment ago isn't kept. */
+const LONG_AGO = new Date("2020-01-01");
+
+/** A project, and a program that counts the documents which it is asked for. */
+function project() {
+  const folder = folderOf({ ...PROJECT, modinfo: `#!/bin/sh
+test "$1 $2" = "analyze --lines" && exec 3>&1 && tee -a "$COUNTED" | "$NODE" "${STAND_IN}" "$@"
+test "$1 $2" = "analyze --lines" || exec "$NODE" "${STAND_IN}" "$@"
+` });
+  chmodSync(join(folder, "modinfo"), 0o755);
+  Object.keys(PROJECT).forEach((file) => utimesSync(join(folder, file), LONG_AGO, LONG_AGO));
+  return folder;
+}
+
+/** What a run prints, and for how many documents it asks. */
+function runIn(folder, words) {
+  const counted = join(folder, "counted");
+  writeFileSync(counted, "");
+  process.env.COUNTED = counted;
+  process.env.NODE = process.execPath;
+  const result = run("files.mjs", words, { cwd: folder, modinfo: join(folder, "modinfo") });
+  return { ...result, asked: readFileSync(counted, "utf8").split("\n").length - 1 };
+}
+
+test("a second run over the same files prints the same, and parses nothing", () => {
+  const folder = project();
+  const without = runIn(folder, ["src"]);
+  assert.equal(without.asked, 2);
+  const words = ["--cache", "cache", "src"];
+  assert.deepEqual(runIn(folder, words), without);
+  assert.deepEqual(runIn(folder, words), { ...without, asked: 0 });
+  for (const question of [["--resolve"], ["--json"]]) {
+    const asked = runIn(folder, [...question, "src"]);
+    assert.deepEqual(runIn(folder, [...question, ...words]), { ...asked, asked: 0 });
+  }
+});
+
+test("a file that has changed is parsed again, and so is each by another program", () => {
+  const folder = project();
+  const words = ["--cache", "cache", "src"];
+  runIn(folder, words);
+  writeFileSync(join(folder, "src/a.js"), `import "./c.js";\n`);
+  utimesSync(join(folder, "src/a.js"), LONG_AGO, new Date("2020-01-02"));
+  const changed = runIn(folder, words);
+  assert.deepEqual([changed.asked, linesOf(changed.stdout)[0].info.dependencies[0].specifier], [1, "./c.js"]);
+  writeFileSync(join(folder, "src/a.js"), "// shorter");
+  utimesSync(join(folder, "src/a.js"), LONG_AGO, new Date("2020-01-02"));
+  assert.equal(runIn(folder, words).asked, 1);
+  assert.equal(runIn(folder, words).asked, 0);
+  writeFileSync(join(folder, "modinfo"), `${readFileSync(join(folder, "modinfo"))}# another version\n`);
+  assert.equal(runIn(folder, words).asked, 2);
+  assert.equal(runIn(folder, words).asked, 0);
+});
+
+test("a file that was changed a moment ago isn't kept", () => {
+  const folder = project();
+  const soon = new Date(Date.now() + 3_600_000);
+  utimesSync(join(folder, "src/a.js"), soon, soon);
+  const words = ["--cache", "cache", "src/a.js"];
+  assert.deepEqual([runIn(folder, words).asked, existsSync(join(folder, "cache"))], [1, false]);
+});
+
+/** A cache of a folder with what is found in two files of it, which it knows. */
+async function cacheOf(folder) {
+  const cache = new AnalysisCache(join(folder, "cache"), STAND_IN);
+  for (const name of ["a", "b"]) {
+    const path = join(folder, `src/${name}.js`);
+    cache.add(path, cache.find(path).state, { info: `{"script":true,"name":"${name}"}` });
+  }
+  await cache.save();
+}
+
+/** What a cache knows of the two files. */
+function knownIn(folder) {
+  const cache = new AnalysisCache(join(folder, "cache"), STAND_IN);
+  return ["a", "b"].map((name) => cache.find(join(folder, `src/${name}.js`)).analysis?.info);
+}
+
+test("lines of a cache that are broken are passed over", async () => {
+  const folder = project();
+  await cacheOf(folder);
+  const [first, second] = ["a", "b"].map((name) => `{"script":true,"name":"${name}"}`);
+  assert.deepEqual(knownIn(folder), [first, second]);
+  const cache = join(folder, "cache");
+  const whole = readFileSync(cache, "utf8");
+  const broken = [
+    [whole.replace('"name":"a"', '"name":"x"'), [undefined, second]], [whole.slice(0, -20), [first, undefined]],
+    [whole.replaceAll("\n", ""), [undefined, undefined]], ["", [undefined, undefined]],
+    ["\0\n\n\t\t\t\n", [undefined, undefined]], [whole.replaceAll("\t", " "), [undefined, undefined]],
+    [whole.slice(1), [undefined, second]], [`${whole}${whole.slice(0, 100)}`, [first, second]],
+  ];
+  for (const [text, expected] of broken) {
+    writeFileSync(cache, text);
+    assert.deepEqual(knownIn(folder), expected);
+  }
+});
+
+test("a cache that can't be read is an error, one that can't be written a warning", () => {
+  const folder = project();
+  mkdirSync(join(folder, "folder"));
+  const unread = runIn(folder, ["--cache", "folder", "src"]);
+  assert.deepEqual([unread.stdout, unread.status], ["", 1]);
+  assert.match(unread.stderr, /^modinfo-files: --cache folder: EISDIR/);
+  const unwritten = runIn(folder, ["--cache", "none/cache", "src/a.js"]);
+  assert.deepEqual([linesOf(unwritten.stdout).length, unwritten.status], [1, 0]);
+  assert.match(unwritten.stderr, /^modinfo-files: warning: the cache is not written: none\/cache: ENOENT/);
+});
+
+test("of two runs at once nothing is lost", async () => {
+  const folder = project();
+  const caches = ["a", "b"].map((name) => {
+    const cache = new AnalysisCache(join(folder, "cache"), STAND_IN);
+    const path = join(folder, `src/${name}.js`);
+    cache.add(path, cache.find(path).state, { info: `"${name}"` });
+    return cache;
+  });
+  await Promise.all(caches.map((cache) => cache.save()));
+  assert.deepEqual(knownIn(folder), [`"a"`, `"b"`]);
+  assert.equal(existsSync(join(folder, "cache.lock")), false);
+});

@@ -1,0 +1,72 @@
+/** What several tests share. */
+
+import { toDocument as fromEstree } from "../src/parsers/estree/index.mjs";
+import { toDocument as fromTypeScript } from "../src/parsers/typescript/index.mjs";
+import { fault, readSchema } from "./schema.mjs";
+import { analyze } from "./analysis.mjs";
+import { invalidity } from "./validity.mjs";
+
+/** Each of the two adapters by its name, for what both read. */
+export const ADAPTERS = Object.entries({ estree: fromEstree, typescript: fromTypeScript });
+
+const schemas = { document: readSchema("document"), info: readSchema("module-info") };
+
+/**
+ * The document of a text by an adapter. It keeps the schema, and is a valid source.
+ * @param {typeof fromEstree} adapter
+ * @param {string} text
+ * @param {string} mediaType
+ * @param {object} [options]
+ */
+export function documentOf(adapter, text, mediaType, options = {}) {
+  const document = adapter(text, { specifier: "file:///module", mediaType, ...options });
+  const wrong = invalidity(document);
+  if (wrong) {
+    throw new Error(wrong);
+  }
+  return checked(document, schemas.document);
+}
+
+/**
+ * The answer to a document. It keeps the schema.
+ * @param {object} document
+ */
+export function answerTo(document) {
+  return checked(analyze(document), schemas.info);
+}
+
+/**
+ * What both adapters' documents of a JavaScript text answer, which are the same document.
+ * @param {string} text
+ * @param {string} [mediaType]
+ */
+export function answerOf(text, mediaType = "JavaScript") {
+  const documents = ADAPTERS.map(([, adapter]) => JSON.stringify(documentOf(adapter, text, mediaType)));
+  if (documents[0] !== documents[1]) {
+    throw new Error(`the documents differ: ${documents.join("\n")}`);
+  }
+  return answerTo(JSON.parse(documents[0]));
+}
+
+/**
+ * @param {string} text
+ * @param {string} [mediaType]
+ */
+export function typescriptAnswer(text, mediaType = "TypeScript") {
+  return answerTo(documentOf(fromTypeScript, text, mediaType));
+}
+
+/**
+ * A value that keeps a schema.
+ * @template T
+ * @param {T} value
+ * @param {object} schema
+ * @returns {T}
+ */
+function checked(value, schema) {
+  const found = fault(value, schema);
+  if (found) {
+    throw new Error(found);
+  }
+  return value;
+}

@@ -1,0 +1,143 @@
+/** Trees of other parsers, handed in. */
+
+import assert from "node:assert/strict";
+import { test } from "node:test";
+
+import { toDocument } from "../src/parsers/estree/index.mjs";
+import { loadParser } from "../src/parsers/installed_parsers.mjs";
+import { answerTo, documentOf } from "./documents.mjs";
+
+const acorn = loadParser("acorn");
+
+/** A node at the first place of its text in a source. */
+function maker(source) {
+  return (type, text, members = {}) => {
+    const start = source.indexOf(text);
+    return { type, range: [start, start + text.length], ...members };
+  };
+}
+
+/** The answer to a tree whose body is these nodes. */
+function answerToTree(source, body, mediaType = "TypeScript") {
+  const tree = { type: "Program", range: [0, source.length], body, comments: [] };
+  return answerTo(documentOf(toDocument, source, mediaType, { tree }));
+}
+
+function dependencies(source, body) {
+  return answerToTree(source, body).dependencies.map(({ type, specifierRange, argumentRange, ...others }) => others);
+}
+
+test("acorn's own tree, without nodes for parentheses", () => {
+  const source = `#!/a\n/* b */ import((("c")) + d); require(("f")); (require)("g"); require("h", ({}));`;
+  const comments = [];
+  const tree = acorn.parse(source, { ecmaVersion: "latest", sourceType: "module", onComment: comments, allowHashBang: true });
+  const document = documentOf(toDocument, source, "JavaScript", { tree, comments });
+  assert.deepEqual(answerTo(document), answerTo(documentOf(toDocument, source, "JavaScript")));
+  assert.deepEqual(document.leading.length, 1);
+});
+
+test("typescript-estree's imports and exports", () => {
+  const source = `import type a from "a"; import b = require("b"); export import c = require("c"); export type * from "d"; export = e;`;
+  const node = maker(source);
+  const external = (name) => node("TSExternalModuleReference", `require("${name}")`, { expression: node("Literal", `"${name}"`, { value: name }) });
+  assert.deepEqual(
+    dependencies(source, [
+      node("ImportDeclaration", `import type a from "a";`, {
+        importKind: "type", specifiers: [node("ImportDefaultSpecifier", "a")], attributes: [],
+        source: node("Literal", `"a"`, { value: "a" }),
+      }),
+      node("TSImportEqualsDeclaration", `import b = require("b");`, { importKind: "value", moduleReference: external("b") }),
+      node("ExportNamedDeclaration", `export import c = require("c");`, {
+        source: null, specifiers: [],
+        declaration: node("TSImportEqualsDeclaration", `import c = require("c");`, { importKind: "value", moduleReference: external("c") }),
+      }),
+      node("ExportAllDeclaration", `export type * from "d";`, {
+        exportKind: "type", exported: null, attributes: [], source: node("Literal", `"d"`, { value: "d" }),
+      }),
+      node("TSExportAssignment", "export = e;", { expression: node("Identifier", "e", { name: "e" }) }),
+    ]),
+    [
+      { kind: "importType", specifier: "a" },
+      { kind: "importEquals", specifier: "b" },
+      { kind: "exportEquals", specifier: "c" },
+      { kind: "exportType", specifier: "d" },
+    ],
+  );
+});
+
+test("typescript-estree's import types and modules", () => {
+  const source = `declare module "a" { let b: import("c", { with: { d: "e" } }).F<import("g")>; }`;
+  const node = maker(source);
+  const string = (value) => node("Literal", `"${value}"`, { value });
+  const property = (text, name, value) => node("Property", text, {
+    kind: "init", key: node("Identifier", name, { name }), value, computed: false, shorthand: false, method: false,
+  });
+  const inner = node("TSImportType", `import("g")`, { source: string("g"), options: null });
+  const clause = node("ObjectExpression", `{ d: "e" }`, { properties: [property(`d: "e"`, "d", string("e"))] });
+  const type = node("TSImportType", `import("c", { with: { d: "e" } }).F<import("g")>`, {
+    source: string("c"),
+    options: node("ObjectExpression", `{ with: { d: "e" } }`, { properties: [property(`with: { d: "e" }`, "with", clause)] }),
+    typeArguments: node("TSTypeParameterInstantiation", `<import("g")>`, { params: [inner] }),
+  });
+  assert.deepEqual(
+    dependencies(source, [
+      node("TSModuleDeclaration", source, { id: string("a"), body: node("TSModuleBlock", source.slice(19), { body: [type] }) }),
+    ]),
+    [
+      { kind: "maybeTsModuleAugmentation", specifier: "a" },
+      { kind: "importType", specifier: "c", importAttributes: { known: { d: "e" } } },
+      { kind: "importType", specifier: "g" },
+    ],
+  );
+});
+
+test("phases, await using, Babel's imports and methods", () => {
+  const source = `import defer * as a from "a"; import.source("b"); await using c = d; f = { async g() { await import("h"); } }`;
+  const node = maker(source);
+  const string = (value) => node("StringLiteral", `"${value}"`, { value });
+  const awaiting = node("AwaitExpression", `await import("h")`, {
+    argument: node("CallExpression", `import("h")`, {
+      callee: node("Import", "import"), arguments: [string("h")],
+    }),
+  });
+  awaiting.argument.callee.range = [source.lastIndexOf("import"), source.lastIndexOf("import") + 6];
+  const items = [
+    node("ImportDeclaration", `import defer * as a from "a";`, {
+      phase: "defer", specifiers: [node("ImportNamespaceSpecifier", "* as a")], attributes: [], source: string("a"),
+    }),
+    node("ImportExpression", `import.source("b")`, { phase: "source", source: string("b"), options: null }),
+    node("VariableDeclaration", "await using c = d;", { kind: "await using", declarations: [] }),
+    node("ObjectMethod", `async g() { await import("h"); }`, {
+      computed: false, key: node("Identifier", "g"), params: [], body: node("BlockStatement", `{ await import("h"); }`, { body: [awaiting] }),
+    }),
+  ];
+  assert.deepEqual(dependencies(source, items), [
+    { kind: "importDefer", specifier: "a" }, { kind: "importSource", argument: "b" }, { argument: "h" },
+  ]);
+  assert.equal(answerToTree(source, items.slice(1)).script, undefined);
+  assert.equal(answerToTree(source, [items[3]]).script, true);
+});
+
+test("links to parents, tokens and comments are no children", () => {
+  const source = `import("a") // b`;
+  const comments = [];
+  const tokens = [];
+  const tree = acorn.parse(source, { ecmaVersion: "latest", onComment: comments, onToken: tokens });
+  tree.body[0].parent = tree;
+  tree.body[0].expression.parent = tree.body[0];
+  const plain = documentOf(toDocument, source, "JavaScript");
+  assert.deepEqual(documentOf(toDocument, source, "JavaScript", { tree: Object.assign(tree, { comments, tokens }) }), plain);
+  assert.throws(() => toDocument(source, { specifier: "file:///a.js", mediaType: "JavaScript", tree: { ...tree, comments: undefined } }), TypeError);
+});
+
+test("a tree or a comment without its place is refused", () => {
+  const tree = { type: "Program", start: 0, end: 0, body: [], comments: [] };
+  const refuse = (more) => assert.throws(
+    () => toDocument("", { specifier: "file:///a.js", tree: { ...tree, ...more } }),
+    { name: "TypeError", message: "a tree and its comments are to have start and end, or range" },
+  );
+  toDocument("", { specifier: "file:///a.js", tree });
+  refuse({ end: undefined });
+  refuse({ start: null });
+  refuse({ comments: [{ type: "Line", value: "a" }] });
+});

@@ -1,0 +1,279 @@
+/** From files and folders to answers, as a user would. */
+
+import assert from "node:assert/strict";
+import { spawn, spawnSync } from "node:child_process";
+import { once } from "node:events";
+import { chmodSync, existsSync, truncateSync, writeFileSync } from "node:fs";
+import { join } from "node:path";
+import { createInterface } from "node:readline";
+import { test } from "node:test";
+import { pathToFileURL } from "node:url";
+
+import { readJobs } from "../src/cli/common/command_line.mjs";
+import { decode } from "../src/files/document_of_file.mjs";
+import { MODINFO, STAND_IN, folderOf, linesOf, programOf, run, shell } from "./run_commands.mjs";
+import { fault, readSchema } from "./schema.mjs";
+
+const NAME = "modinfo-files";
+
+/** A project: `src/main.ts` reaches two modules, and one only through JSDoc. */
+const PROJECT = {
+  "src/main.ts": `import { b } from "./b.ts";\nimport("./c.js");\nimport(name);\n`,
+  "src/b.ts": `import "../lib/d";\nexport const b = 1;\n`,
+  "src/c.js": `/** @type {import("./only_types.ts").T} */\nexport const c = 1;\n`,
+  "src/only_types.ts": "export type T = 1;\n",
+  "src/lonely.js": `require("./c.js");\n`,
+  "src/wrong.ts": "let a = 1;\nlet b = ;\n",
+  "src/node_modules/e/index.js": "",
+  "lib/d.js": `require("./f");\n`,
+  "lib/d.d.ts": "export {};\n",
+  "lib/f.js": "",
+};
+
+function project() {
+  return folderOf(PROJECT);
+}
+
+/** The lines of files.mjs in a folder; its error output and status have to be these. */
+function answers(words, cwd, { stderr = "", status = 0, ...options } = {}) {
+  const result = run("files.mjs", words, { cwd, ...options });
+  assert.deepEqual([result.stderr, result.status], [stderr, status]);
+  return linesOf(result.stdout);
+}
+
+const urlOf = (folder, path) => pathToFileURL(join(folder, path)).href;
+const wrongLine = (path) => `${NAME}: ${path}:2:9: Expression expected.\nlet b = ;\n        ^\n`;
+
+test("each file's answer, in the order of the files, a fault among them", () => {
+  const folder = project();
+  const found = answers(["src"], folder, { stderr: wrongLine("src/wrong.ts"), status: 1 });
+  const names = ["b.ts", "c.js", "lonely.js", "main.ts", "only_types.ts", "wrong.ts"];
+  assert.deepEqual(
+    found.map(({ specifier }) => specifier),
+    names.map((name) => urlOf(folder, `src/${name}`)),
+  );
+  assert.deepEqual(found[5], {
+    specifier: urlOf(folder, "src/wrong.ts"),
+    fault: "Syntax", message: "Expression expected.", line: 2, column: 9,
+  });
+  assert.deepEqual(found[3].info.dependencies.map((each) => each.specifier ?? each.argument), [
+    "./b.ts", "./c.js", undefined,
+  ]);
+  const schema = readSchema("module-info");
+  assert.deepEqual(found.slice(0, 5).map(({ info }) => fault(info, schema)), Array(5).fill(undefined));
+});
+
+test("the output is the same for any number of threads", () => {
+  const files = Array.from({ length: 300 }, (_, at) => [
+    `${String(at).padStart(3, "0")}.js`, `import "./${at}.js";\n${"a;\n".repeat((at * 37) % 500)}`,
+  ]);
+  const folder = folderOf(Object.fromEntries(files));
+  const outputs = ["1", "2", "5"].map((jobs) => run("files.mjs", ["--jobs", jobs, folder]).stdout);
+  const specifiers = linesOf(outputs[0]).map(({ info }) => info.dependencies[0].specifier);
+  assert.deepEqual(specifiers, files.map((_, at) => `./${at}.js`));
+  assert.deepEqual(outputs, Array(3).fill(outputs[0]));
+});
+
+test("where there is nothing to read, that is said", () => {
+  const folder = folderOf({ "empty/.keep": "", "text/a.txt": "" });
+  for (const words of [["empty"], ["--cycles", "text"]]) {
+    const { stdout, stderr, status } = run("files.mjs", words, { cwd: folder });
+    assert.deepEqual([stdout, status], ["", 2]);
+    assert.match(stderr, new RegExp(`^${NAME}: ${words.at(-1)}: no file that can be read: .*\\.tsx\n$`));
+  }
+  const [none] = answers(["none"], folder, { stderr: `${NAME}: none: no such file or folder\n`, status: 1 });
+  assert.deepEqual([none.fault, none.message], ["Input", "no such file or folder"]);
+});
+
+test("there are at most as many threads as processors", () => {
+  assert.equal(readJobs("9999"), readJobs());
+  assert.equal(readJobs("1"), 1);
+});
+
+test("what has no answer is a fault, and the others go on", () => {
+  const folder = folderOf({
+    "bytes.js": Buffer.of(0xff), "text.txt": "", "good.js": "", "deep.js": "(".repeat(100_000),
+    "large.js": "",
+  });
+  truncateSync(join(folder, "large.js"), 2 ** 31);
+  const files = ["none.js", "bytes.js", "text.txt", "deep.js", "large.js", "good.js"];
+  const messages = {
+    "none.js": ["Input", "no such file or folder"],
+    "bytes.js": ["Input", "the file is not UTF-8"],
+    "text.txt": ["MediaType", "the name doesn't end as that of a file which is read"],
+    "deep.js": ["Depth", "the text nests too deep for the parser"],
+    "large.js": ["Input", "the file has more than 67108864 bytes (--max-bytes allows more)"],
+  };
+  const said = Object.entries(messages).map(([file, [, text]]) => `${NAME}: ${file}: ${text}\n`);
+  const found = answers(files, folder, { stderr: said.join(""), status: 1 });
+  const expected = files.map((file) => {
+    const [name, message] = messages[file] ?? [];
+    const specifier = urlOf(folder, file);
+    return name ? { specifier, fault: name, message } : { specifier, info: { script: true } };
+  });
+  assert.deepEqual(found, expected);
+});
+
+test("bytes that are too many for a text aren't said to be no UTF-8", () => {
+  const refused = (message) => ({ name: "FileFault", fault: "Input", message });
+  assert.throws(() => decode(Buffer.of(0xff)), refused("the file is not UTF-8"));
+  assert.throws(() => decode(new Uint8Array(2 ** 29)), refused("the file is longer than a text can be"));
+});
+
+test("warnings are said, and the file has its answer", () => {
+  const folder = folderOf({ "a.js": `require("a" +${" b +".repeat(60)} require("c"));\n` });
+  const warning = "warning: a sum of more than 59 operands is left as unknown";
+  const [{ info }] = answers(["a.js"], folder, { stderr: `${NAME}: a.js:1:9: ${warning}\n` });
+  assert.deepEqual(info.dependencies.map(({ argument }) => argument), ["c", undefined]);
+});
+
+test("paths come from the standard input", () => {
+  const folder = folderOf({ "a.js": "", "b c.js": "", "d\ne.js": "", "f.js": "" });
+  const specifiers = (words, input) => answers(words, folder, { input })
+    .map(({ specifier }) => decodeURIComponent(specifier.slice(pathToFileURL(folder).href.length + 1)));
+  assert.deepEqual(specifiers(["-"], "a.js\nb c.js\n"), ["a.js", "b c.js"]);
+  assert.deepEqual(specifiers(["f.js", "-", "a.js"], "b c.js"), ["f.js", "b c.js", "a.js"]);
+  assert.deepEqual(specifiers(["-0", "-"], "d\ne.js\0a.js\0"), ["d\ne.js", "a.js"]);
+  assert.deepEqual(specifiers(["-"], ""), []);
+  assert.deepEqual(specifiers(["--", "a.js"], ""), ["a.js"]);
+});
+
+test("a partner that waits for each answer gets it", async (t) => {
+  const folder = folderOf({ "a.js": "", "b.js": "" });
+  const env = { ...process.env, MODINFO: STAND_IN };
+  const child = spawn(process.execPath, [programOf("files.mjs"), "-"], { cwd: folder, env });
+  t.after(() => child.kill());
+  const lines = createInterface({ input: child.stdout })[Symbol.asyncIterator]();
+  for (const name of ["a.js", "b.js", "a.js"]) {
+    child.stdin.write(`${name}\n`);
+    assert.equal(JSON.parse((await lines.next()).value).specifier, urlOf(folder, name));
+  }
+  child.stdin.end();
+  assert.deepEqual(await once(child, "close"), [0, null]);
+});
+
+test("--all goes into node_modules", () => {
+  const folder = project();
+  const options = { stderr: wrongLine("src/wrong.ts"), status: 1 };
+  const found = answers(["--all", "src"], folder, options).map(({ specifier }) => specifier);
+  assert.ok(found.includes(urlOf(folder, "src/node_modules/e/index.js")));
+  assert.equal(found.length, 7);
+});
+
+test("--resolve gives all that names a module what its name resolves to", () => {
+  const folder = project();
+  const found = answers(["--resolve", "src/main.ts", "src/b.ts", "src/only_types.ts"], folder);
+  const resolved = found.map(({ info }) => info.dependencies?.map((each) => each.resolved));
+  const file = (path) => ({ class: "file", file: urlOf(folder, path) });
+  assert.deepEqual(resolved, [
+    [file("src/b.ts"), file("src/c.js"), { class: "unknown" }],
+    [{ ...file("lib/d.js"), types: urlOf(folder, "lib/d.d.ts") }],
+    undefined,
+  ]);
+  const inCommonJs = folderOf({ "a.cts": `import b = require("./b");`, "b/index.ts": "" });
+  const [{ info }] = answers(["--resolve", "a.cts"], inCommonJs);
+  assert.deepEqual(info.dependencies[0].resolved, { class: "file", file: urlOf(inCommonJs, "b/index.ts") });
+});
+
+test("what is wrong with a configuration is said once", () => {
+  const folder = folderOf({ "tsconfig.json": "{", "a.ts": "", "b.ts": "", "c.ts": "" });
+  const { stderr, status } = run("files.mjs", ["--resolve", "--jobs", "3", "."], { cwd: folder });
+  assert.equal(stderr, `${NAME}: warning: ${folder}/tsconfig.json: '}' expected.\n`);
+  assert.equal(status, 0);
+});
+
+test("other words are answered by the usage", () => {
+  const folder = folderOf({ "a.js": "" });
+  for (const words of [
+    [], ["--none", "a.js"], ["--unreached", "a.js"], ["--jobs", "0", "a.js"], ["--jobs", "a", "a.js"],
+    ["--entry", "."], ["--entry", "a.js", "--unreached"], ["--why", "a.js", "a.js"], ["--jobs"], ["-x", "a.js"],
+    ["--cycles", "--missing", "a.js"], ["--dot", "--json", "a.js"], ["--resolve", "--cycles", "a.js"],
+  ]) {
+    const { stdout, stderr, status } = run("files.mjs", words, { cwd: folder });
+    assert.deepEqual([stdout, status], ["", 2], words.join(" "));
+    assert.match(stderr, new RegExp(`^${NAME}: .+`));
+  }
+});
+
+test("--help and --version", () => {
+  const help = run("files.mjs", ["--help"]);
+  assert.deepEqual([help.stderr, help.status], ["", 0]);
+  assert.match(help.stdout, /^usage: modinfo-files /);
+  assert.deepEqual(run("files.mjs", ["-h"]), help);
+  const { stdout, status } = run("files.mjs", ["--version"]);
+  assert.equal(status, 0);
+  assert.match(stdout, /^modinfo-files \d+\.\d+\.\d+, typescript \d+\.\d+\.\d+\n$/);
+});
+
+test("a full disk is an error, a reader that ends isn't", () => {
+  const folder = folderOf({ "a.js": "", "b.js": "" });
+  for (const words of [".", "--entry a.js"]) {
+    const full = shell(`$node $cli/files.mjs ${words} > /dev/full`, folder);
+    const message = "the standard output: ENOSPC: no space left on device";
+    assert.deepEqual([full.stderr, full.status], [`${NAME}: ${message}\n`, 1]);
+    const ended = shell(`{ $node $cli/files.mjs ${words} || echo $? >&2; } | true`, folder);
+    assert.deepEqual([ended.stderr, ended.status], ["", 0]);
+  }
+});
+
+test("a program that doesn't answer lines is named", () => {
+  const folder = folderOf({ "a.js": "", old: "#!/bin/sh\necho usage >&2\nexit 2\n" });
+  const old = join(folder, "old");
+  chmodSync(old, 0o755);
+  const hint = "(./modinfo --prove makes it in the repository, MODINFO names another)";
+  for (const [modinfo, message] of [
+    [old, `usage\n${NAME}: ${old} doesn't run with analyze --lines: status 2 ${hint}\n`],
+    ["/none", `${NAME}: /none doesn't run with analyze --lines: spawn /none ENOENT ${hint}\n`],
+    // This error of node's is thrown, those above come later.
+    [`${old}/x`, `${NAME}: ${old}/x doesn't run with analyze --lines: spawn ENOTDIR ${hint}\n`],
+  ]) {
+    const result = run("files.mjs", ["a.js"], { cwd: folder, modinfo });
+    assert.deepEqual(result, { stdout: "", stderr: message, status: 1 });
+  }
+});
+
+test("where modinfo ends over a document, that file alone has no answer", () => {
+  const folder = folderOf({ "a.js": "", "b.js": "kill", "c.js": "" });
+  const modinfo = join(folder, "modinfo");
+  writeFileSync(modinfo, `#!/bin/sh
+while read -r line; do
+  case $line in *'"kill"'*) exit 3 ;; esac
+  echo '{"answer":{}}'
+done
+`);
+  chmodSync(modinfo, 0o755);
+  const found = answers(["."], folder, {
+    modinfo, status: 1, stderr: `${NAME}: b.js: ${modinfo} ended with status 3\n`,
+  });
+  assert.deepEqual(found.map(({ info, fault: name }) => info ?? name), [{}, "Program", {}]);
+});
+
+/** Whether the program is built, and answers lines. */
+function hasLines() {
+  return existsSync(MODINFO) && spawnSync(MODINFO, ["analyze", "--lines"]).status === 0;
+}
+
+test("through modinfo itself", { skip: !hasLines() && "build/modinfo isn't made, or has no --lines" }, () => {
+  const folder = folderOf({ ...PROJECT, "src/b.ts": `import "../lib/d.js";\n` });
+  const answersBy = (modinfo, words) => run("files.mjs", words, { cwd: folder, modinfo });
+  const own = answersBy(MODINFO, ["."]);
+  const withoutJsdoc = linesOf(own.stdout).map(({ info, ...others }) => {
+    const { jsdocImports, ...rest } = info ?? {};
+    return { ...others, ...(info && { info: rest }) };
+  });
+  assert.deepEqual(withoutJsdoc, linesOf(answersBy(STAND_IN, ["."]).stdout));
+  const [{ info }] = linesOf(answersBy(MODINFO, ["src/c.js"]).stdout);
+  assert.deepEqual(info.jsdocImports.map(({ text }) => text), ["./only_types.ts"]);
+  for (const words of [["--resolve", "lib"], ["--entry", "src/main.ts", "."]]) {
+    const { stdout, status } = answersBy(STAND_IN, words);
+    assert.deepEqual(
+      [answersBy(MODINFO, words).status, normal(answersBy(MODINFO, words).stdout)],
+      [status, normal(stdout)],
+    );
+  }
+});
+
+/** Lines of JSON whatever the order of their members, other lines as they are. */
+function normal(text) {
+  return text.startsWith("{") ? linesOf(text) : text;
+}

@@ -1,0 +1,156 @@
+/** From files and folders to a page, as a user would. */
+
+import assert from "node:assert/strict";
+import { existsSync, mkdirSync, readFileSync } from "node:fs";
+import { join } from "node:path";
+import { test } from "node:test";
+import { inflateSync } from "node:zlib";
+
+import { readLibraries } from "../src/report/libraries.mjs";
+import { pageOf } from "../src/report/page.mjs";
+import { folderOf, run } from "./run_commands.mjs";
+
+const NAME = "modinfo-report";
+
+/** Two modules, of which one imports the other, and something that isn't there. */
+const PROJECT = {
+  "src/main.ts": `import "./b.js";\nimport "./none.js";\nimport("fs");\n`,
+  "src/b.ts": "export const b = 1;\n",
+  "src/lonely.js": "",
+};
+
+/** Runs the command in a folder. */
+function make(folder, words) {
+  return run("report.mjs", words, { cwd: folder });
+}
+
+/** What is written into a page: its index, and of each module its path and what is compressed. */
+function dataOf(file) {
+  const page = readFileSync(file, "utf8");
+  const [, json] = /<script type="application\/json" id="data">(.*?)<\/script>/s.exec(page);
+  const index = JSON.parse(json);
+  const parts = [...page.matchAll(/<script type="text\/plain" id="part-\d+">(.*?)<\/script>/gs)];
+  const details = parts.flatMap(([, text]) => JSON.parse(String(inflateSync(Buffer.from(text, "base64")))));
+  const modules = index.modules.map((name, at) => {
+    const folder = index.folders[index.inFolder[at]];
+    return { ...details[at], path: folder === "." ? name : `${folder}/${name}`, fault: index.faults[at] };
+  });
+  return { ...index, modules };
+}
+
+test("the page has the modules, their edges and the lists", () => {
+  const folder = folderOf(PROJECT);
+  const result = make(folder, ["--entry", "src/main.ts", "src"]);
+  assert.deepEqual(result, { stdout: "", stderr: "", status: 0 });
+  const { title, modules, edges, edgeCount, entries, lists, bytes } = dataOf(join(folder, "report.html"));
+  assert.deepEqual([title, edgeCount, entries, bytes], ["src", 1, [2], [20, 0, 51]]);
+  assert.deepEqual(modules.map(({ path }) => path), ["b.ts", "lonely.js", "main.ts"]);
+  assert.deepEqual(modules[2].rows.map(({ name, to }) => [name, to]), [
+    ["./b.js", { module: 0 }], ["./none.js", { class: "missing" }], ["fs", { class: "builtin" }],
+  ]);
+  // The target, the kind, the row and the line.
+  assert.deepEqual(edges, [[], [], [0, 0, 0, 0]]);
+  assert.deepEqual(lists.missing, [{ module: 2, row: 1, line: 1, kind: "static", name: "./none.js" }]);
+  assert.deepEqual(lists.unreached, [1]);
+});
+
+test("without an entry it has what no module leads to", () => {
+  const folder = folderOf({
+    ...PROJECT, "src/d.js": "", "src/d.d.ts": "export {};\n", "src/e.ts": `import "./d.js";\nimport "./e.js";\n`,
+  });
+  make(folder, ["src"]);
+  const { modules, lists } = dataOf(join(folder, "report.html"));
+  assert.deepEqual(lists.unreached.map((at) => modules[at].path), ["e.ts", "lonely.js", "main.ts"]);
+});
+
+test("no path from outside of the folder is in the page", () => {
+  const folder = folderOf({ ...PROJECT, "src/f.ts": `import "../other/g.js";\n`, "other/g.ts": "" });
+  make(folder, ["src"]);
+  const data = dataOf(join(folder, "report.html"));
+  assert.ok(!readFileSync(join(folder, "report.html"), "utf8").includes(folder));
+  assert.ok(!JSON.stringify(data).includes(folder));
+  const { modules } = data;
+  assert.deepEqual(modules[1].rows[0].to, { class: "file", file: "../other/g.ts" });
+});
+
+test("a file that is named twice is there once, and so is what is said of it", () => {
+  const folder = folderOf({ ...PROJECT, "src/wrong.ts": "let b = ;\n" });
+  const words = ["src", "src/b.ts", "--entry", "src/wrong.ts"];
+  const { stderr } = make(folder, words);
+  const excerpt = "let b = ;\n        ^";
+  assert.equal(stderr, `${NAME}: src/wrong.ts:1:9: Expression expected.\n${excerpt}\n`);
+  const { modules, entries } = dataOf(join(folder, "report.html"));
+  assert.deepEqual([modules.length, entries], [4, [3]]);
+});
+
+test("the page is the same each time", () => {
+  const folder = folderOf(PROJECT);
+  for (const [name, jobs] of [["one.html", "1"], ["two.html", "3"]]) {
+    make(folder, ["-o", name, "--jobs", jobs, "src"]);
+  }
+  assert.equal(readFileSync(join(folder, "one.html"), "utf8"), readFileSync(join(folder, "two.html"), "utf8"));
+});
+
+test("a file without an answer is said, is in the page with its place, and the status is 1", () => {
+  const folder = folderOf({ "a.ts": "let a = 1;\nlet b = ;\n", "b.ts": Buffer.of(0xff), "c.ts": "" });
+  const { stderr, status } = make(folder, ["."]);
+  const excerpt = "let b = ;\n        ^";
+  assert.equal(
+    stderr, `${NAME}: a.ts:2:9: Expression expected.\n${excerpt}\n${NAME}: b.ts: the file is not UTF-8\n`,
+  );
+  assert.equal(status, 1);
+  const { modules, lists } = dataOf(join(folder, "report.html"));
+  assert.deepEqual(lists.faults, [0, 1]);
+  assert.deepEqual([modules[0].fault.fault, modules[0].fault.line, modules[0].fault.column], ["Syntax", 2, 9]);
+  assert.deepEqual(modules[0].marks, [[19, 20, -1, "fault"]]);
+  assert.deepEqual([modules[1].fault.fault, modules[1].source], ["Input", undefined]);
+});
+
+test("without a library the page is made without what it draws, and says which package has it", () => {
+  const [layout, sizes] = readLibraries([folderOf()]);
+  assert.equal(layout.fault, "dagre is not installed: npm install dagre, or Debian's node-dagre-layout");
+  assert.equal(sizes.fault, "d3-hierarchy is not installed: npm install d3-hierarchy, or Debian's node-d3-hierarchy");
+  const page = pageOf({ title: "a" }, [], [layout, sizes]);
+  assert.ok(page.includes(`"absent":{"dagre":"dagre is not installed`));
+  assert.ok(!page.includes('id="layout"'));
+});
+
+test("--dot writes the graph for Graphviz", () => {
+  const folder = folderOf(PROJECT);
+  make(folder, ["--dot", "graph.dot", "src"]);
+  const dot = readFileSync(join(folder, "graph.dot"), "utf8");
+  assert.match(dot, /m2 \[label="main\.ts"/);
+  assert.match(dot, /m2 -> m0 /);
+});
+
+test("what can't be written is an error", () => {
+  const folder = folderOf(PROJECT);
+  mkdirSync(join(folder, "page"));
+  for (const [file, says] of [["page", "EISDIR: illegal operation on a directory"], ["none/a.html", "ENOENT: no such file or directory"]]) {
+    const { stderr, status } = make(folder, ["-o", file, "src"]);
+    assert.deepEqual([stderr, status], [`${NAME}: ${file}: ${says}\n`, 1]);
+  }
+});
+
+test("other words are answered by the usage, and nothing is written", () => {
+  const folder = folderOf(PROJECT);
+  for (const words of [[], ["--none", "src"], ["--jobs", "0", "src"], ["--entry", "src", "src"], ["--entry"], ["-o"]]) {
+    const { stdout, stderr, status } = run("report.mjs", words, { cwd: folder });
+    assert.deepEqual([stdout, status], ["", 2], words.join(" "));
+    assert.match(stderr, new RegExp(`^${NAME}: .+`));
+  }
+  assert.ok(!existsSync(join(folder, "report.html")));
+  assert.match(run("report.mjs", ["--help"]).stdout, /^usage: modinfo-report /);
+});
+
+test("no text ends an element of the page", () => {
+  const evil = `</script><script>x</script><!--<script>]]>&lt;\u2028`;
+  const page = pageOf({ title: "<b>&\"", evil }, [{ evil }], readLibraries([folderOf()]));
+  assert.deepEqual(page.match(/<\/?(?:script|style|title|b)\b/g), [
+    "<title", "</title", "<style", "</style",
+    "<script", "</script", "<script", "</script", "<script", "</script",
+  ]);
+  assert.ok(page.includes("<title>Dependencies of &lt;b&gt;&amp;\"</title>"));
+  const [, json] = /id="data">(.*?)<\/script>/s.exec(page);
+  assert.equal(JSON.parse(json).evil, evil);
+});

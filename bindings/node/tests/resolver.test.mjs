@@ -1,0 +1,197 @@
+/** What specifiers resolve to, as the documentation of node and of TypeScript says. */
+
+import assert from "node:assert/strict";
+import { symlinkSync } from "node:fs";
+import { join, relative } from "node:path";
+import { test } from "node:test";
+import { fileURLToPath } from "node:url";
+
+import { resolverThread } from "./resolver_thread.mjs";
+import { folderOf } from "./run_commands.mjs";
+
+const imported = (specifier, more) => ({ type: "static", kind: "import", specifier, ...more });
+const required = (argument) => ({ type: "dynamic", kind: "require", argument });
+const dynamic = (argument) => ({ type: "dynamic", argument });
+
+const resolve = resolverThread();
+
+/** A resolution in few words: its class, unless that is `file`, its files by their paths in a folder. */
+function brief(folder, { class: name, package: own, file, types }) {
+  const pathOf = (url) => relative(folder, fileURLToPath(url));
+  const words = [name === "file" ? [] : name, own ?? [], file ? pathOf(file) : []].flat();
+  return [...words, ...(types ? [`types ${pathOf(types)}`] : [])].join(" ");
+}
+
+/** What some dependencies of a module resolve to, in few words. */
+async function resolved(folder, module, dependencies, { by = resolve, ...more } = {}) {
+  const { info } = await by({ dependencies, ...more }, join(folder, module));
+  return info.dependencies.map((each) => brief(folder, each.resolved));
+}
+
+test("a require runs the JavaScript, and its types are those beside it", async () => {
+  const folder = folderOf({ "a.js": "", "b.js": "", "b.d.ts": "", "c/index.js": "", "d.cjs": "" });
+  assert.deepEqual(
+    await resolved(folder, "a.js", ["./b", "./b.js", "./c", "./d", "./d.cjs"].map(required)),
+    ["b.js types b.d.ts", "b.js types b.d.ts", "c/index.js", "missing", "d.cjs"],
+  );
+});
+
+test("a package without exports runs its main, and has the types that it names", async () => {
+  const folder = folderOf({
+    "packages/w/package.json": `{"name":"w","main":"src/index.js","types":"types/index.d.ts"}`,
+    "packages/w/src/index.js": "", "packages/w/types/index.d.ts": "",
+    "node_modules/p/package.json": `{"name":"p","main":"lib/main"}`, "node_modules/p/lib/main.js": "",
+    "node_modules/p/other.js": "", "a.js": "",
+  });
+  symlinkSync("../packages/w", join(folder, "node_modules/w"));
+  assert.deepEqual(await resolved(folder, "a.js", ["w", "p", "p/other", "p/none", "q"].map(required)), [
+    "packages/w/src/index.js types packages/w/types/index.d.ts",
+    "package p node_modules/p/lib/main.js", "package p node_modules/p/other.js",
+    "missing", "package q",
+  ]);
+});
+
+test("exports and imports by conditions, and a package that names itself", async () => {
+  const folder = folderOf({
+    "package.json": JSON.stringify({
+      name: "own", type: "module", exports: { "./x": "./lib/x.js" }, imports: { "#y": "./lib/y.js" },
+    }),
+    "lib/x.js": "", "lib/y.js": "", "a.js": "", "b.cjs": "",
+    "node_modules/p/package.json": JSON.stringify({
+      name: "p",
+      exports: {
+        ".": { special: "./s.js", types: "./t.d.ts", import: "./i.mjs", require: "./r.cjs" },
+        "./q/*": "./*.js", "./q/hidden": null,
+      },
+    }),
+    "node_modules/p/s.js": "", "node_modules/p/t.d.ts": "", "node_modules/p/i.mjs": "",
+    "node_modules/p/r.cjs": "", "node_modules/p/hidden.js": "",
+  });
+  const names = ["p", "p/q/s", "p/q/hidden", "p/s.js", "own/x", "#y", "#z", "own/lib/x.js"];
+  const rest = [
+    "package p node_modules/p/s.js", "missing", "missing", "lib/x.js", "lib/y.js", "missing", "missing",
+  ];
+  const types = "types node_modules/p/t.d.ts";
+  assert.deepEqual(await resolved(folder, "a.js", names.map((name) => imported(name))), [
+    `package p node_modules/p/i.mjs ${types}`, ...rest,
+  ]);
+  assert.deepEqual(await resolved(folder, "b.cjs", names.map(required), { script: true }), [
+    `package p node_modules/p/r.cjs ${types}`, ...rest,
+  ]);
+  const by = resolverThread({ conditions: ["special"] });
+  const both = [imported("p"), required("p")];
+  assert.deepEqual((await resolved(folder, "a.js", both, { by })).map((each) => each.split(" ")[2]), [
+    "node_modules/p/s.js", "node_modules/p/s.js",
+  ]);
+});
+
+test("the classes of what is no module of the project", async () => {
+  const folder = folderOf({
+    "a.js": "", "style.css": "", "package.json": "{}", "bin/run": "",
+    "node_modules/@types/only/index.d.ts": "export {};",
+  });
+  const names = [
+    "fs", "node:fs", "node:test", "node:none", "./package.json", "./style.css", "./bin/run", "", "..",
+    "https://a.test/b.js", "npm:b", "only", "./none.js",
+  ];
+  const expected = [
+    "builtin", "builtin", "builtin", "missing", "package.json", "asset style.css", "bin/run", "missing",
+    "missing", "url", "url", "package only types node_modules/@types/only/index.d.ts", "missing",
+  ];
+  assert.deepEqual(await resolved(folder, "a.js", names.map(required), { script: true }), expected);
+  assert.deepEqual(await resolved(folder, "a.js", names.map((name) => imported(name))), expected);
+});
+
+test("an argument is its parts together, where all of them are known", async () => {
+  const folder = folderOf({ "a.js": "", "b.js": "" });
+  const text = (value) => ({ type: "string", value });
+  const dependencies = [
+    required([text("./b"), text(".js")]), required([text("./b"), { type: "expr" }]), required(undefined),
+  ];
+  assert.deepEqual(await resolved(folder, "a.js", dependencies), ["b.js", "unknown", "unknown"]);
+});
+
+test("an import asks for a file by its whole name, where node takes the file for an ES module", async () => {
+  const folder = folderOf({
+    "esm/package.json": `{"type":"module"}`, "esm/a.js": "", "esm/b.js": "", "esm/c/index.js": "",
+    "none/a.js": "", "none/b.js": "", "none/c/index.js": "", "none/x.mjs": "", "none/d e.js": "",
+  });
+  const names = ["./b", "./b.js", "./c", "./b.js?x", "./d%20e.js"].map((name) => imported(name));
+  assert.deepEqual(await resolved(folder, "esm/a.js", names), [
+    "missing", "esm/b.js", "missing", "esm/b.js", "missing",
+  ]);
+  assert.deepEqual((await resolved(folder, "none/x.mjs", names))[0], "missing");
+  // What node refuses is compiled or bundled first.
+  assert.deepEqual(await resolved(folder, "none/a.js", names), [
+    "none/b.js", "none/b.js", "none/c/index.js", "none/b.js", "none/d e.js",
+  ]);
+  // A script is run by node as it is.
+  assert.deepEqual(await resolved(folder, "none/a.js", [dynamic("./b")], { script: true }), ["missing"]);
+});
+
+test("a TypeScript file names the TypeScript files of its project, also by their JavaScript", async () => {
+  const folder = folderOf({
+    "package.json": `{"type":"module"}`,
+    "a.ts": "", "b.ts": "", "b.js": "", "c.tsx": "", "d.mts": "", "f.d.ts": "", "g.js": "", "g.d.ts": "",
+    "h.js": "", "i.js": "",
+  });
+  const names = ["./b.js", "./b.ts", "./c.js", "./d.mjs", "./f.js", "./g.js", "./h.js", "./c.tsx"];
+  const sources = ["b.ts", "b.ts", "c.tsx", "d.mts", "types f.d.ts", "g.js types g.d.ts", "h.js", "c.tsx"];
+  assert.deepEqual(await resolved(folder, "a.ts", names.map((name) => imported(name))), sources);
+  // JavaScript runs what is there, and else what is compiled to it.
+  const [first, ...others] = await resolved(folder, "i.js", names.map((name) => imported(name)));
+  assert.deepEqual([first, others], ["b.js types b.ts", sources.slice(1)]);
+});
+
+test("the options of the nearest tsconfig.json, and of the project that includes a file", async () => {
+  const paths = (target) => ({ baseUrl: ".", paths: { "@/*": [target] }, moduleResolution: "node" });
+  const folder = folderOf({
+    "tsconfig.json": `{"files":[],"references":[{"path":"./app"},{"path":"./tsconfig.test.json"}]}`,
+    "app/tsconfig.json": JSON.stringify({ compilerOptions: paths("src/*"), include: ["src"] }),
+    "tsconfig.test.json": JSON.stringify({ compilerOptions: paths("app/src/*"), include: ["test"] }),
+    "app/src/a.ts": "", "app/src/b.ts": "", "test/c.ts": "", "test/d.js": "", "other/e.ts": "",
+  });
+  const names = [imported("@/b")];
+  assert.deepEqual(await resolved(folder, "app/src/a.ts", names), ["app/src/b.ts"]);
+  assert.deepEqual(await resolved(folder, "test/c.ts", names), ["app/src/b.ts"]);
+  assert.deepEqual(await resolved(folder, "test/d.js", names), ["app/src/b.ts"]);
+  assert.deepEqual(await resolved(folder, "other/e.ts", names), ["missing"]);
+  const by = resolverThread({ tsconfig: join(folder, "tsconfig.test.json") });
+  assert.deepEqual(await resolved(folder, "other/e.ts", names, { by }), ["app/src/b.ts"]);
+});
+
+test("what comments name", async () => {
+  const folder = folderOf({
+    "a.js": "", "b.js": "", "t.d.ts": "", "c.ts": "",
+    "node_modules/jsx/package.json": `{"name":"jsx","exports":{"./jsx-runtime":"./r.js"}}`,
+    "node_modules/jsx/r.js": "", "node_modules/@types/n/index.d.ts": "",
+  });
+  const info = {
+    dependencies: [imported("./b.js", { typesSpecifier: { text: "./t.d.ts" } })],
+    tsReferences: [{ type: "path", text: "t.d.ts" }, { type: "path", text: "no.d.ts" }, { type: "types", text: "n" }],
+    jsxImportSource: { text: "jsx" }, selfTypesSpecifier: { text: "./t.d.ts" },
+    jsdocImports: [{ text: "./c.ts" }, { text: "./c" }],
+  };
+  const { info: found } = await resolve(info, join(folder, "a.js"));
+  const named = [
+    found.dependencies[0].typesSpecifier, ...found.tsReferences, found.jsxImportSource,
+    found.selfTypesSpecifier, ...found.jsdocImports,
+  ];
+  assert.deepEqual(named.map((each) => brief(folder, each.resolved)), [
+    "t.d.ts", "t.d.ts", "missing", "package n types node_modules/@types/n/index.d.ts",
+    "package jsx node_modules/jsx/r.js", "t.d.ts", "c.ts", "c.ts",
+  ]);
+});
+
+test("what is wrong with a configuration is said once", async () => {
+  const folder = folderOf({
+    "a/tsconfig.json": `{ "compilerOptions": { "module": "none such" }`, "a/b.ts": "", "a/c.ts": "",
+  });
+  const by = resolverThread();
+  const noticesOf = async (path) => (await by({}, join(folder, path))).notices;
+  const [first, second, ...others] = await noticesOf("a/b.ts");
+  assert.match(first, /^\/.*a\/tsconfig\.json: '}' expected\.$/);
+  assert.match(second, /^\/.*a\/tsconfig\.json: Argument for '--module' option must be: /);
+  assert.deepEqual(others, []);
+  assert.deepEqual(await noticesOf("a/c.ts"), []);
+});

@@ -1,0 +1,97 @@
+/** Runs the commands of the package as their users do. */
+
+import { spawnSync } from "node:child_process";
+import { mkdirSync, mkdtempSync, rmSync, writeFileSync } from "node:fs";
+import { tmpdir } from "node:os";
+import { dirname, join } from "node:path";
+import { after } from "node:test";
+import { fileURLToPath } from "node:url";
+
+/** The second `modinfo`, which is there without a build. */
+export const STAND_IN = fileURLToPath(new URL("./stand_in.mjs", import.meta.url));
+
+/** The program itself, where it is made. */
+export const MODINFO = process.env.MODINFO ?? fileURLToPath(new URL("../../build/modinfo", import.meta.url));
+
+/**
+ * A folder that is gone after the tests.
+ * @param {Record<string, string | Uint8Array>} [files] by their paths in it
+ * @returns {string} its path
+ */
+export function folderOf(files = {}) {
+  const folder = mkdtempSync(join(tmpdir(), "modinfo-node-"));
+  after(() => rmSync(folder, { recursive: true }));
+  for (const [name, content] of Object.entries(files)) {
+    mkdirSync(dirname(join(folder, name)), { recursive: true });
+    writeFileSync(join(folder, name), content);
+  }
+  return folder;
+}
+
+/**
+ * @param {string} name of a file in src/cli/
+ * @returns {string} its path
+ */
+export function programOf(name) {
+  return fileURLToPath(new URL(`../src/cli/${name}`, import.meta.url));
+}
+
+/**
+ * @param {string} name of a file in src/cli/
+ * @param {string[]} words
+ * @param {object} [options]
+ * @param {string} [options.cwd]
+ * @param {string | Uint8Array} [options.input]
+ * @param {string} [options.modinfo] the path of the program; else the second `modinfo`
+ * @returns {{ stdout: string, stderr: string, status: number | null }}
+ */
+export function run(name, words, { cwd, input = "", modinfo = STAND_IN } = {}) {
+  const command = [programOf(name), ...threadsFor(name, words), ...words];
+  const { stdout, stderr, status } = spawnSync(process.execPath, command, {
+    cwd,
+    input,
+    env: { ...process.env, MODINFO: modinfo },
+    maxBuffer: 1e9,
+  });
+  return { stdout: String(stdout), stderr: String(stderr), status };
+}
+
+/**
+ * Two threads, where the words don't say how many: each loads a parser, and the files of a test are few.
+ * @param {string} name
+ * @param {string[]} words
+ * @returns {string[]}
+ */
+export function threadsFor(name, words) {
+  const hasThreads = ["files.mjs", "report.mjs"].includes(name);
+  return hasThreads && !words.includes("--jobs") ? ["--jobs", "2"] : [];
+}
+
+/**
+ * Runs a line of the shell, in which `$node` and `$cli` are there.
+ * @param {string} line
+ * @param {string} cwd
+ * @returns {{ stdout: string, stderr: string, status: number | null }}
+ */
+export function shell(line, cwd) {
+  const env = { ...process.env, MODINFO: STAND_IN, node: process.execPath, cli: programOf(".") };
+  const { stdout, stderr, status } = spawnSync("bash", ["-c", line], { cwd, env });
+  return { stdout: String(stdout), stderr: String(stderr), status };
+}
+
+/**
+ * The values of some lines of JSON.
+ * @param {string} text
+ * @returns {any[]}
+ */
+export function linesOf(text) {
+  assertEnded(text);
+  return text.split("\n").slice(0, -1).map((line) => JSON.parse(line));
+}
+
+/** @param {string} text */
+function assertEnded(text) {
+  if (text !== "" && !text.endsWith("\n")) {
+    throw new Error(`the last line is cut: ${text.slice(-100)}`);
+  }
+}
