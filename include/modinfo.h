@@ -1,35 +1,35 @@
 /* modinfo in a process of your own: what one JavaScript or TypeScript module depends on.
  *
- * `pkg-config --cflags --libs modinfo` says what to compile and link with. FORMATS.md, in docs/ of the
- * repository and below share/doc/modinfo where it is installed, describes documents and answers.
+ * `pkg-config --cflags --libs modinfo` prints what to compile and link with. FORMATS.md, in docs/ of the
+ * repository and below share/doc where it is installed, describes documents and answers.
  *
  * modinfo_analyze, modinfo_convert and modinfo_reach each read one JSON document from memory, and
- * write one line into memory that you lend; modinfo_check, modinfo_check_convert and
+ * write one line, the answer, into memory of the caller. modinfo_check, modinfo_check_convert and
  * modinfo_check_reach read a document of these three, and write a report on it. Nothing is kept
  * between calls, and nothing is printed.
  *
  *     document         the document, in UTF-8
- *     document_length  its length in bytes; no zero byte is needed behind it
- *     answer           room for what is written
- *     room             the length of that room in bytes
- *     length           gets how many bytes were written or, with MODINFO_TOO_SMALL, would have been
+ *     document_length  its length in bytes; no zero byte is needed after it
+ *     answer           memory that is written to
+ *     room             the length of this memory in bytes
+ *     length           gets the number of bytes that were written or, with MODINFO_TOO_SMALL, are needed
  *
- * They answer one of these:
+ * Each returns one of these:
  *
- *     MODINFO_ANSWERED   the answer is at the front of `answer`: one line of JSON in UTF-8, with its
+ *     MODINFO_ANSWERED   The answer is at the front of `answer`: one line of JSON in UTF-8, with its
  *                        line feed.
- *     MODINFO_FAULT      the document was refused, or memory for it was. The fault's name is at the
+ *     MODINFO_FAULT      The document is refused, or an allocation failed. The fault's name is at the
  *                        front of `answer`, in ASCII and without a line feed. A check refuses no
  *                        document: its only fault is OutOfMemory.
- *     MODINFO_TOO_SMALL  `room` is too small for what would be written, the answer or the name.
- *                        Nothing is written to `answer`: call again with room for `*length` bytes.
+ *     MODINFO_TOO_SMALL  `room` is too small for the answer or the name. Nothing is written to
+ *                        `answer`: call again with room for `*length` bytes.
  *
- * Bytes of `answer` behind the first `*length` are left as they were, and there is no zero byte at the
- * end. Most answers are shorter than their documents, so room for as many bytes as the document has
- * makes one call the rule; a report on a small document may be longer, and few have more than 4,096
- * bytes. No bound is promised.
+ * Bytes of `answer` after the first `*length` are left as they were, and there is no zero byte at the
+ * end. Most answers are shorter than their documents, so that room for as many bytes as the document
+ * has is mostly enough. A report on a small document may be longer; few have more than 4,096 bytes. No
+ * bound is promised.
  *
- * The faults are looked for in this order, but for OutOfMemory, which may come at any point:
+ * The faults are looked for in this order. OutOfMemory may come at any point:
  *
  *     Input             the document isn't UTF-8
  *     Json              it is no JSON, nests deeper than 127, or has a number too large for a float
@@ -44,33 +44,33 @@
  *                       document, or a module's part of it, doesn't have the form that is read
  *     Float             convert, and reach for a module: a number isn't held as a whole number
  *     ColumnOverflow    convert: a column is above 2^64 - 1
- *     OutOfMemory       memory was refused
+ *     OutOfMemory       an allocation failed
  *
- * Of those from RangeReversed to Shape any one is named where analyze meets several.
+ * Where several of those from RangeReversed to Shape are in a document of analyze, any one is named.
  *
  * A report is one of these JSON objects, which report.schema.json describes beside FORMATS.md:
  *
- *     {"valid":true}    the command answers the document. With "warnings" where something in it may
- *                       not be what was meant: an array of {"pointer":POINTER,"says":TEXT}, at most
- *                       100, and "more", the number of those beyond them, where there are any.
- *     {"fault":NAME,..} the command refuses the document, with this fault. "expected" is a text for
+ *     {"valid":true}    The command has an answer for the document. With "warnings" where something in
+ *                       it may not be what was meant: an array of {"pointer":POINTER,"says":TEXT}, at
+ *                       most 100, and "more", the number of those beyond them, where there are any.
+ *     {"fault":NAME,..} The command refuses the document, with this fault. "expected" is a text for
  *                       people, and always there. "pointer":POINTER leads to the value that is at
  *                       fault; "range":[START,END] is the range of the source that this value is or
  *                       has, where there is one, in bytes from zero. With CommentsOverlap "other"
  *                       leads to the first of the two comments. With Input and Json there is no
- *                       pointer, but "at":{"line":N,"column":N,"offset":N}, the place behind which
+ *                       pointer, but "at":{"line":N,"column":N,"offset":N}, the position after which
  *                       the document stops being UTF-8 or JSON: in lines and characters from zero,
  *                       and in bytes.
  *
- * A POINTER is a JSON Pointer (RFC 6901) into the document. That to the whole document is empty.
+ * A POINTER is a JSON Pointer (RFC 6901) into the document. The pointer to the whole document is empty.
  *
- * What you owe: `document` and `answer` point to `document_length` and `room` bytes, also where these
+ * What a caller has to do: `document` and `answer` point to `document_length` and `room` bytes, also where these
  * are zero (then to any byte): a null pointer isn't tested for. The document, the room and `*length`
  * don't overlap, and no other thread writes to them during the call. Calls may run side by side in
  * many threads, but not in a signal handler, nor in the forked child of a process with threads.
  * Memory comes from the process's `malloc`, `realloc` and `free`, and is given back before the call
  * returns. Trees use the stack: 192 KiB were enough for the deepest documents, whose JSON nests 127
- * deep. The processor has to have x86-64-v2 (SSE4.2 and POPCNT).
+ * deep. On x86-64 the processor has to have x86-64-v2 (SSE4.2 and POPCNT).
  */
 #ifndef MODINFO_H
 #define MODINFO_H
@@ -90,38 +90,39 @@
 extern "C" {
 #endif
 
-/* What a call answers. */
+/* What a call returns. */
 enum {
     MODINFO_ANSWERED = 0,
     MODINFO_FAULT = 1,
-    MODINFO_TOO_SMALL = 2,
+    MODINFO_TOO_SMALL = 2
 };
 
-/* The version of the library that is loaded, as MODINFO_VERSION is that of the header:
- * major * 10000 + minor * 100 + patch. */
+/* Returns the version of the library that is loaded, major * 10000 + minor * 100 + patch. MODINFO_VERSION
+ * is that of the header. */
 uint32_t modinfo_version(void);
 
-/* From a module's source, tree and comments to its ModuleInfo. */
+/* Reads a module's source, tree and comments, and writes its ModuleInfo. */
 uint8_t modinfo_analyze(const uint8_t *document, size_t document_length,
                         uint8_t *answer, size_t room, size_t *length);
 
-/* From the information of one module, as version 1 stored it, to that of version 2. */
+/* Reads the information of one module in version 1, and writes that in version 2. */
 uint8_t modinfo_convert(const uint8_t *document, size_t document_length,
                         uint8_t *answer, size_t room, size_t *length);
 
-/* From a root and the ModuleInfo of many modules to the keys that the root reaches, ascending. */
+/* Reads a root and the ModuleInfo of many modules, and writes the keys that the root reaches, ascending. */
 uint8_t modinfo_reach(const uint8_t *document, size_t document_length,
                       uint8_t *answer, size_t room, size_t *length);
 
-/* From a document of modinfo_analyze to a report on it: MODINFO_ANSWERED whether it is valid or not. */
+/* Reads a document of modinfo_analyze, and writes a report on it. Returns MODINFO_ANSWERED whether the
+ * document is valid or not. */
 uint8_t modinfo_check(const uint8_t *document, size_t document_length,
                       uint8_t *answer, size_t room, size_t *length);
 
-/* The same for a document of modinfo_convert. */
+/* Like modinfo_check, but reads a document of modinfo_convert. */
 uint8_t modinfo_check_convert(const uint8_t *document, size_t document_length,
                               uint8_t *answer, size_t room, size_t *length);
 
-/* The same for a document of modinfo_reach. */
+/* Like modinfo_check, but reads a document of modinfo_reach. */
 uint8_t modinfo_check_reach(const uint8_t *document, size_t document_length,
                             uint8_t *answer, size_t room, size_t *length);
 

@@ -18,8 +18,9 @@ class Schema:
     def described(self, schema: Any = None) -> Any:
         """What the schema says, or what a part of it does."""
         schema = self._resolved(self.whole if schema is None else schema)
-        if "oneOf" in schema:
-            return frozenset().union(*(self.described(part) for part in schema["oneOf"]))
+        for several in "oneOf", "anyOf":
+            if several in schema:
+                return frozenset().union(*(self.described(part) for part in schema[several]))
         if "const" in schema or "enum" in schema:
             return frozenset(schema.get("enum") or [schema["const"]])
         if schema["type"] == "array":

@@ -6,6 +6,7 @@ import pytest
 from repository import EXAMPLES, ROWS, check_rows, examples
 
 import modinfo
+from modinfo import _library
 
 SIDE_EFFECT_IMPORT: dict[str, Any] = json.loads((EXAMPLES / "side-effect-import.json").read_text())
 UNREAD = "nothing reads a member of this name here"
@@ -85,8 +86,10 @@ def test_a_document_with_a_fault(command: modinfo.Command, document: modinfo.Doc
     report = modinfo.check(document, command)
     assert "fault" in report and report["expected"] != ""
     assert {name: value for name, value in report.items() if name != "expected"} == wanted
-    with pytest.raises(modinfo.Fault, match=f"^{report['fault']}$"):
+    with pytest.raises(modinfo.Fault) as refused:
         getattr(modinfo, command)(document)
+    assert refused.value.name == report["fault"]
+    assert refused.value.report == report
 
 
 def test_that_each_fault_has_a_document() -> None:
@@ -152,11 +155,15 @@ def test_another_command(command: Any) -> None:
 
 
 def test_that_memory_is_refused(monkeypatch: pytest.MonkeyPatch) -> None:
-    def refuse(document: bytes, document_length: int, answer: Any, room: int, length: Any) -> int:
-        ctypes.memmove(answer, b"OutOfMemory", 11)
-        length._obj.value = 11
-        return 1
+    """A stand-in for the library's function, to which memory is refused."""
 
-    monkeypatch.setitem(modinfo._CHECKS, "analyze", refuse)
-    with pytest.raises(modinfo.Fault, match="^OutOfMemory$"):
-        modinfo.check({})
+    def refuse(document: bytes, document_length: int, answer: int, room: int, length: int) -> int:
+        ctypes.memmove(answer, b"OutOfMemory", 11)
+        ctypes.c_size_t.from_address(length).value = 11
+        return _library.FAULT
+
+    monkeypatch.setitem(_library.COMMANDS, "analyze", _library.Command(refuse, refuse))
+    for function in modinfo.check, modinfo.analyze:
+        with pytest.raises(modinfo.Fault, match="^OutOfMemory$") as refused:
+            function({})
+        assert refused.value.report is None

@@ -1,5 +1,4 @@
 import json
-import pickle
 from typing import Any
 
 import pytest
@@ -19,7 +18,7 @@ FUNCTIONS = [modinfo.analyze, modinfo.convert, modinfo.reach]
 
 
 @pytest.mark.parametrize("function", FUNCTIONS)
-@pytest.mark.parametrize("document", [None, 1, True, [], (), bytearray(b"{}"), memoryview(b"{}"), object()], ids=repr)
+@pytest.mark.parametrize("document", [None, 1, True, [], (), {1}, object()], ids=repr)
 def test_a_document_of_another_type(function: Any, document: Any) -> None:
     with pytest.raises(TypeError, match=f"not {type(document).__name__}$"):
         function(document)
@@ -58,7 +57,7 @@ def nested(depth: int) -> dict[str, Any]:
 
 def test_how_deep_a_document_nests() -> None:
     assert modinfo.convert(nested(127)) == nested(127)
-    with pytest.raises(modinfo.Fault, match="^Json$"):
+    with pytest.raises(modinfo.Fault, match="^Json at "):
         modinfo.convert(nested(128))
     with pytest.raises(RecursionError):
         modinfo.convert(nested(100_000))
@@ -79,7 +78,7 @@ def test_characters_outside_ascii() -> None:
 
 
 def test_a_null_byte_inside_a_document() -> None:
-    with pytest.raises(modinfo.Fault, match="^Json$"):
+    with pytest.raises(modinfo.Fault, match="^Json at line 1, column 3 \\(offset 2\\): expected "):
         modinfo.convert(b"{}\0")
     assert modinfo.convert(b"{}") == {}
 
@@ -108,8 +107,3 @@ def test_that_a_call_leaves_its_document_as_it_was() -> None:
     document = json.loads(json.dumps(SIDE_EFFECT_IMPORT))
     modinfo.analyze(document)
     assert document == SIDE_EFFECT_IMPORT
-
-
-def test_that_a_fault_can_be_pickled() -> None:
-    again = pickle.loads(pickle.dumps(modinfo.Fault("Tree")))
-    assert isinstance(again, modinfo.Fault) and again.name == "Tree"

@@ -1,36 +1,60 @@
 """Many documents, one a line, against the rows of docs/ROWS.md that run `modinfo analyze --lines`."""
 
 import io
-from collections.abc import Iterator
+from collections.abc import Callable, Iterable, Iterator
 
 import pytest
-from repository import ROWS, blocks, examples, program_rows
+from repository import ROWS, blocks, check_rows, examples, program_rows
 
 import modinfo
+from modinfo._lines import BATCH_LINES
 
 
-def rows_of_lines() -> Iterator[tuple[bytes, bytes]]:
-    """The input and the output of each such row whose input is text."""
-    for block in blocks((ROWS / "program.rows").read_text()):
-        lines = {word: [rest for other, rest in block if other == word] for word, _ in block}
-        if lines["call"] == ["serve analyze --lines"] and "bytes" not in lines:
-            output = "".join(line + "\n" for line in lines.get("output", []))
-            yield "\n".join(lines.get("input", [])).encode(), output.encode()
+def rows_of_lines(command: str) -> Iterator[tuple[bytes, bytes]]:
+    """The input and the output of each row that runs a command with --lines on text. --strict changes no line."""
+    for name in "program.rows", "check.rows":
+        for block in blocks((ROWS / name).read_text()):
+            lines = {word: [rest for other, rest in block if other == word] for word, _ in block}
+            words = lines["call"][0].removeprefix("serve ").replace(" --strict", "")
+            if words == f"{command} --lines" and "bytes" not in lines:
+                output = "".join(line + "\n" for line in lines.get("output", []))
+                yield "\n".join(lines.get("input", [])).encode(), output.encode()
 
 
-ROWS_OF_LINES = list(rows_of_lines())
+Function = Callable[[Iterable[bytes], int], Iterator[bytes]]
+
+FUNCTIONS: dict[str, Function] = {
+    "analyze": modinfo.analyze_lines,
+    "convert": modinfo.convert_lines,
+    "check": lambda lines, jobs: modinfo.check_lines(lines, jobs=jobs),
+    "check analyze": lambda lines, jobs: modinfo.check_lines(lines, "analyze", jobs),
+    "check convert": lambda lines, jobs: modinfo.check_lines(lines, "convert", jobs),
+    "check reach": lambda lines, jobs: modinfo.check_lines(lines, "reach", jobs),
+}
+ALL_ROWS = [(call, *row) for call in FUNCTIONS for row in rows_of_lines(call)]
 
 
-def test_that_there_are_rows() -> None:
-    assert any(output.count(b"\n") > 1 for _, output in ROWS_OF_LINES)
+@pytest.mark.parametrize("jobs", [1, 3])
+@pytest.mark.parametrize("call, lines, wanted", ALL_ROWS)
+def test_a_row_of_lines(call: str, lines: bytes, wanted: bytes, jobs: int) -> None:
+    assert b"".join(FUNCTIONS[call](io.BytesIO(lines), jobs)) == wanted
 
 
-@pytest.mark.parametrize("lines, wanted", ROWS_OF_LINES)
-def test_a_row_of_lines(lines: bytes, wanted: bytes) -> None:
-    assert b"".join(modinfo.analyze_lines(io.BytesIO(lines))) == wanted
+def test_that_there_are_rows_of_several_lines() -> None:
+    assert {call for call, _, output in ALL_ROWS if output.count(b"\n") > 1} >= {"analyze", "convert", "check"}
 
 
-def test_each_row_and_example_of_one_document() -> None:
+@pytest.mark.parametrize("jobs", [1, 2])
+@pytest.mark.parametrize("command", ["analyze", "convert", "reach"])
+def test_each_row_of_a_check(command: modinfo.Command, jobs: int) -> None:
+    rows = [(document, report) for _, other, document, report in check_rows(ROWS) if other == command]
+    assert rows
+    documents = [document for document, _ in rows]
+    assert list(modinfo.check_lines(documents, command, jobs)) == [report for _, report in rows]
+
+
+@pytest.mark.parametrize("jobs", [1, 2, 8])
+def test_each_row_and_example_of_one_document(jobs: int) -> None:
     documents, wanted = [], []
     for _, command, document, status, answer in program_rows(ROWS):
         if command == "analyze":
@@ -40,14 +64,45 @@ def test_each_row_and_example_of_one_document() -> None:
         if command == "analyze":
             documents.append(path.read_bytes())
             wanted.append(b'{"answer":%b}\n' % expected.read_bytes().strip())
-    assert list(modinfo.analyze_lines(documents)) == wanted
+    assert len(documents) > 2 * BATCH_LINES
+    assert list(modinfo.analyze_lines(documents, jobs)) == wanted
 
 
-def test_a_line_that_is_no_bytes() -> None:
-    answers = modinfo.analyze_lines([b"{", "{}"])  # type: ignore[list-item]
-    assert next(answers) == b'{"fault":"Json"}\n'
+@pytest.mark.parametrize("jobs", [1, 2])
+@pytest.mark.parametrize("before", [1, 1000])
+def test_a_line_that_is_no_bytes(before: int, jobs: int) -> None:
+    """The lines before it have their answers."""
+    answers = modinfo.analyze_lines([*[b"{"] * before, "{}"], jobs)  # type: ignore[list-item]
+    for _ in range(before):
+        assert next(answers) == b'{"fault":"Json"}\n'
     with pytest.raises(TypeError, match="a line is bytes, not str"):
         next(answers)
+    assert list(answers) == []
+
+
+@pytest.mark.parametrize("jobs", [0, -1])
+def test_a_number_of_jobs_that_is_none(jobs: int) -> None:
+    with pytest.raises(ValueError, match="jobs is a number above zero"):
+        modinfo.analyze_lines([], jobs)
+
+
+def test_another_command() -> None:
+    with pytest.raises(ValueError, match="^a command is analyze, convert or reach, not 'check'$"):
+        modinfo.check_lines([], "check")  # type: ignore[arg-type]
+
+
+def test_that_threads_read_no_more_than_a_few_batches_ahead() -> None:
+    read = 0
+
+    def lines() -> Iterator[bytes]:
+        nonlocal read
+        for read in range(1, 100_000):
+            yield b"{"
+
+    answers = modinfo.analyze_lines(lines(), jobs=2)
+    next(answers)
+    assert read <= 2 * 2 * BATCH_LINES
+    del answers
 
 
 def test_that_lines_are_read_as_answers_are_asked_for() -> None:

@@ -8,6 +8,7 @@ from typing import Any
 from repository import ROWS, examples, program_rows
 
 import modinfo
+from modinfo import _library
 
 THREADS = 8
 CALLS = 1000
@@ -21,7 +22,9 @@ def outcome(command: str, document: bytes) -> Any:
 
 
 def test_eight_threads_at_once() -> None:
-    calls = [(command, document.read_bytes(), json.loads(answer.read_text())) for command, document, answer in examples()]
+    calls = [
+        (command, document.read_bytes(), json.loads(answer.read_text())) for command, document, answer in examples()
+    ]
     for _, command, document, status, wanted in program_rows(ROWS):
         calls.append((command, document, json.loads(wanted) if status == 0 else wanted.decode()))
     together = threading.Barrier(THREADS)
@@ -43,9 +46,10 @@ def test_that_python_s_lock_is_free_during_a_call() -> None:
 
     def call(function: Any) -> None:
         nonlocal inside
+        room = _library.Room()
         for _ in range(CALLS):
             inside = True
-            modinfo._library.call(function, document)
+            room.call(function, document)
             inside = False
             if seen:
                 return
@@ -53,7 +57,7 @@ def test_that_python_s_lock_is_free_during_a_call() -> None:
     interval = sys.getswitchinterval()
     sys.setswitchinterval(1_000_000)
     try:
-        thread = threading.Thread(target=call, args=[modinfo._library.CONVERT])
+        thread = threading.Thread(target=call, args=[_library.COMMANDS["convert"].function])
         thread.start()
         while thread.is_alive() and not seen:
             seen = inside

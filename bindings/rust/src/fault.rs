@@ -8,13 +8,14 @@ macro_rules! faults {
         #[non_exhaustive]
         pub enum Fault {
             $($(#[$meaning])* $name,)*
-            /// A name that this crate doesn't list. Never that of a library of this version, but the
-            /// archive that is linked may be a later one.
+            /// A name that this crate doesn't list. A library of this version has no such name, but the library
+            /// that is linked may be a later one.
             Unknown(String),
         }
 
         impl Fault {
             /// The name, as the program `modinfo` prints it.
+            #[must_use]
             pub fn name(&self) -> &str {
                 match self {
                     $(Fault::$name => stringify!($name),)*
@@ -22,10 +23,10 @@ macro_rules! faults {
                 }
             }
 
-            pub(crate) fn from_name(name: &str) -> Fault {
-                match name {
+            pub(crate) fn from_name(name: String) -> Fault {
+                match name.as_str() {
                     $(stringify!($name) => Fault::$name,)*
-                    _ => Fault::Unknown(name.to_owned()),
+                    _ => Fault::Unknown(name),
                 }
             }
         }
@@ -35,7 +36,7 @@ macro_rules! faults {
 faults! {
     /// The document isn't UTF-8.
     Input,
-    /// It is no JSON, nests deeper than 127, or has a number too large for a float.
+    /// The document is no JSON, nests deeper than 127, or has a number too large for a float.
     Json,
     /// `analyze`: the JSON isn't in the notation.
     Tree,
@@ -58,7 +59,7 @@ faults! {
     Float,
     /// `convert`: a column is above 2^64 - 1.
     ColumnOverflow,
-    /// Memory was refused.
+    /// An allocation failed.
     OutOfMemory,
 }
 
@@ -76,14 +77,17 @@ mod tests {
 
     #[test]
     fn a_name_that_is_not_listed_is_kept() {
-        let fault = Fault::from_name("Later");
+        let fault = Fault::from_name("Later".to_owned());
         assert_eq!(fault, Fault::Unknown("Later".to_owned()));
         assert_eq!(fault.to_string(), "Later");
     }
 
     #[test]
     fn a_listed_name_is_its_fault() {
-        assert_eq!(Fault::from_name("OutOfMemory"), Fault::OutOfMemory);
+        assert_eq!(
+            Fault::from_name("OutOfMemory".to_owned()),
+            Fault::OutOfMemory
+        );
         assert_eq!(Fault::OutOfMemory.to_string(), "OutOfMemory");
     }
 }

@@ -1,50 +1,31 @@
-//! The functions that include/modinfo.h declares, behind a safe one.
+//! Safe calls of the functions that include/modinfo.h declares.
+
+use std::collections::TryReserveError;
 
 type CFunction = unsafe extern "C" fn(*const u8, usize, *mut u8, usize, *mut usize) -> u8;
 
-unsafe extern "C" {
-    fn modinfo_analyze(
-        document: *const u8,
-        document_length: usize,
-        answer: *mut u8,
-        room: usize,
-        length: *mut usize,
-    ) -> u8;
-    fn modinfo_convert(
-        document: *const u8,
-        document_length: usize,
-        answer: *mut u8,
-        room: usize,
-        length: *mut usize,
-    ) -> u8;
-    fn modinfo_reach(
-        document: *const u8,
-        document_length: usize,
-        answer: *mut u8,
-        room: usize,
-        length: *mut usize,
-    ) -> u8;
-    fn modinfo_check(
-        document: *const u8,
-        document_length: usize,
-        answer: *mut u8,
-        room: usize,
-        length: *mut usize,
-    ) -> u8;
-    fn modinfo_check_convert(
-        document: *const u8,
-        document_length: usize,
-        answer: *mut u8,
-        room: usize,
-        length: *mut usize,
-    ) -> u8;
-    fn modinfo_check_reach(
-        document: *const u8,
-        document_length: usize,
-        answer: *mut u8,
-        room: usize,
-        length: *mut usize,
-    ) -> u8;
+macro_rules! declare {
+    ($($name:ident)*) => {
+        extern "C" {
+            $(fn $name(
+                document: *const u8,
+                document_length: usize,
+                answer: *mut u8,
+                room: usize,
+                length: *mut usize,
+            ) -> u8;)*
+            fn modinfo_version() -> u32;
+        }
+    };
+}
+
+declare! {
+    modinfo_analyze
+    modinfo_convert
+    modinfo_reach
+    modinfo_check
+    modinfo_check_convert
+    modinfo_check_reach
 }
 
 /// One of the functions of the library.
@@ -58,34 +39,56 @@ pub const CHECK: Function = Function(modinfo_check);
 pub const CHECK_CONVERT: Function = Function(modinfo_check_convert);
 pub const CHECK_REACH: Function = Function(modinfo_check_reach);
 
-pub enum Status {
-    /// The answer is at the front of the room.
-    Answered,
-    /// The fault's name is at the front of the room.
-    Fault,
-    /// The room is as it was, and too small.
-    TooSmall,
+/// What a call wrote.
+pub enum Written {
+    Answer(Vec<u8>),
+    FaultName(Vec<u8>),
 }
 
-/// Calls a function with a document and room for the answer. With the status comes how many bytes
-/// were written or, where the room is too small, would have been.
-pub fn call(function: Function, document: &[u8], room: &mut [u8]) -> (Status, usize) {
+/// Most answers are not longer than their document and a line feed, and most reports not longer than this.
+const LEAST_ROOM: usize = 4096;
+
+/// Calls a function, with more room where the first was too small.
+pub fn call(function: Function, document: &[u8]) -> Result<Written, TryReserveError> {
+    let mut needed = LEAST_ROOM.max(document.len() + 1);
+    loop {
+        let mut room = Vec::new();
+        room.try_reserve_exact(needed)?;
+        let (status, length) = call_once(function, document, &mut room);
+        match status {
+            0 => return Ok(Written::Answer(room)),
+            1 => return Ok(Written::FaultName(room)),
+            2 => needed = length,
+            other => unreachable!("the header has no status {other}"),
+        }
+    }
+}
+
+/// Calls a function, and sets the length of the room to what was written. Returns the status and that length or,
+/// with status 2, the length that is needed.
+fn call_once(function: Function, document: &[u8], room: &mut Vec<u8>) -> (u8, usize) {
     let mut length = 0;
-    // SAFETY: both slices are as long as is said, no pointer of a slice is null, `length` is written
-    // alone, and a mutable borrow overlaps with no other. The header asks for nothing else.
+    // SAFETY: `document` and the spare capacity of `room` are as long as the call says, no pointer of a slice or a
+    // vector is null, only the call writes to `length`, and a mutable borrow overlaps with no other. The header
+    // requires nothing else.
     let status = unsafe {
         (function.0)(
             document.as_ptr(),
             document.len(),
             room.as_mut_ptr(),
-            room.len(),
+            room.capacity(),
             &mut length,
         )
     };
-    match status {
-        0 => (Status::Answered, length),
-        1 => (Status::Fault, length),
-        2 => (Status::TooSmall, length),
-        other => unreachable!("the header has no status {other}"),
+    if status != 2 {
+        // SAFETY: with any other status the call has written `length` bytes, and `length` is at most the capacity.
+        unsafe { room.set_len(length) };
     }
+    (status, length)
+}
+
+/// The version of the linked library, as one number.
+pub fn version() -> u32 {
+    // SAFETY: the function takes nothing and reads nothing.
+    unsafe { modinfo_version() }
 }

@@ -2,45 +2,50 @@
 #![deny(unsafe_code)]
 #![warn(missing_docs)]
 
+mod error;
 mod fault;
 #[allow(unsafe_code)]
 mod ffi;
+mod report;
+mod version;
 
+pub use error::Error;
 pub use fault::Fault;
+pub use version::Version;
 
-use ffi::{Function, Status};
+use ffi::{Function, Written};
 
-/// What a module depends on, from its source, tree and comments: the JSON of its `ModuleInfo`.
+/// Returns what a module depends on, from its source, tree and comments: the JSON of its `ModuleInfo`.
 ///
 /// # Errors
 ///
-/// The fault for which the document is refused.
-pub fn analyze(document: &[u8]) -> Result<String, Fault> {
-    answer(ffi::ANALYZE, document)
+/// The fault for which the document is refused, with the report on it.
+pub fn analyze(document: &[u8]) -> Result<String, Error> {
+    answer_or_report(ffi::ANALYZE, ffi::CHECK, document)
 }
 
-/// The information of one module, as version 1 stored it, in version 2. Other JSON than such
-/// information stays as it is.
+/// Returns the information of one module in version 2, from that which version 1 stored. Any other JSON
+/// stays as it is.
 ///
 /// # Errors
 ///
-/// The fault for which the document is refused.
-pub fn convert(document: &[u8]) -> Result<String, Fault> {
-    answer(ffi::CONVERT, document)
+/// The fault for which the document is refused, with the report on it.
+pub fn convert(document: &[u8]) -> Result<String, Error> {
+    answer_or_report(ffi::CONVERT, ffi::CHECK_CONVERT, document)
 }
 
-/// The keys that a root reaches among modules, ascending, as a JSON array. The document is
+/// Returns the keys that a root reaches among modules, ascending, as a JSON array. The document is
 /// `{"root":KEY,"modules":{KEY:INFO ..}}`.
 ///
 /// # Errors
 ///
-/// The fault for which the document is refused.
-pub fn reach(document: &[u8]) -> Result<String, Fault> {
-    answer(ffi::REACH, document)
+/// The fault for which the document is refused, with the report on it.
+pub fn reach(document: &[u8]) -> Result<String, Error> {
+    answer_or_report(ffi::REACH, ffi::CHECK_REACH, document)
 }
 
-/// What is wrong with a document of [`analyze`], and where; or that it is valid, with warnings: the
-/// JSON of the report. It is one of
+/// Returns the report on a document of [`analyze`], as JSON: what is wrong with the document and where, or
+/// that it is valid, with warnings. It is one of
 ///
 /// ```json
 /// {"valid":true}
@@ -58,7 +63,7 @@ pub fn check(document: &[u8]) -> Result<String, Fault> {
     answer(ffi::CHECK, document)
 }
 
-/// The report on a document of [`convert`], as [`check`] gives it.
+/// Returns the report on a document of [`convert`], as [`check`] does.
 ///
 /// # Errors
 ///
@@ -67,7 +72,7 @@ pub fn check_convert(document: &[u8]) -> Result<String, Fault> {
     answer(ffi::CHECK_CONVERT, document)
 }
 
-/// The report on a document of [`reach`], as [`check`] gives it.
+/// Returns the report on a document of [`reach`], as [`check`] does.
 ///
 /// # Errors
 ///
@@ -76,22 +81,41 @@ pub fn check_reach(document: &[u8]) -> Result<String, Fault> {
     answer(ffi::CHECK_REACH, document)
 }
 
-/// Nearly every answer is no longer than its document, but for the line feed, and nearly every report
-/// than this.
-const LEAST_ROOM: usize = 4096;
+/// Returns the version of the library that is linked.
+#[must_use]
+pub fn version() -> Version {
+    Version::from_number(ffi::version())
+}
+
+fn answer_or_report(function: Function, check: Function, document: &[u8]) -> Result<String, Error> {
+    answer(function, document).map_err(|fault| {
+        let report = match fault {
+            Fault::OutOfMemory => None,
+            _ => answer(check, document).ok(),
+        };
+        Error::new(fault, report)
+    })
+}
 
 fn answer(function: Function, document: &[u8]) -> Result<String, Fault> {
-    let mut room = vec![0; LEAST_ROOM.max(document.len() + 1)];
-    loop {
-        let (status, length) = ffi::call(function, document, &mut room);
-        match status {
-            Status::TooSmall => room = vec![0; length],
-            Status::Answered => return Ok(text(&room[..length]).trim_end_matches('\n').to_owned()),
-            Status::Fault => return Err(Fault::from_name(text(&room[..length]))),
-        }
+    match ffi::call(function, document) {
+        Ok(Written::Answer(line)) => Ok(without_spare_room(text(line))),
+        Ok(Written::FaultName(name)) => Err(Fault::from_name(text(name))),
+        Err(_) => Err(Fault::OutOfMemory),
     }
 }
 
-fn text(written: &[u8]) -> &str {
-    std::str::from_utf8(written).expect("the library writes UTF-8")
+/// Removes the line feed. The room was as long as the document, so the text is copied where there is memory for it.
+fn without_spare_room(mut line: String) -> String {
+    line.truncate(line.trim_end_matches('\n').len());
+    let mut copy = String::new();
+    if copy.try_reserve_exact(line.len()).is_err() {
+        return line;
+    }
+    copy.push_str(&line);
+    copy
+}
+
+fn text(written: Vec<u8>) -> String {
+    String::from_utf8(written).expect("the library writes UTF-8")
 }

@@ -2,7 +2,7 @@
 
 mod repository;
 
-use modinfo::{analyze, check, check_convert, check_reach, Fault};
+use modinfo::{analyze, check, check_convert, check_reach, convert, reach, Fault};
 use repository::{blocks, examples, field, root, rows};
 use std::collections::BTreeSet;
 use std::sync::Barrier;
@@ -106,7 +106,7 @@ fn an_answer_longer_than_its_document() {
 
 #[test]
 fn an_empty_document_is_no_json() {
-    assert_eq!(analyze(b""), Err(Fault::Json));
+    assert_eq!(analyze(b"").map_err(Fault::from), Err(Fault::Json));
 }
 
 #[test]
@@ -116,7 +116,7 @@ fn bytes_that_are_no_utf_8() {
         b"{\"source\":\"\xff\"}",
         b"{\"source\":\"\xed\xa0\x80\"}",
     ] {
-        assert_eq!(analyze(document), Err(Fault::Input));
+        assert_eq!(analyze(document).map_err(Fault::from), Err(Fault::Input));
     }
 }
 
@@ -133,10 +133,43 @@ fn the_version_is_the_program_s() {
         printed,
         Some(format!("modinfo {}", env!("CARGO_PKG_VERSION")))
     );
+    assert_eq!(modinfo::version().to_string(), env!("CARGO_PKG_VERSION"));
 }
 
 #[test]
 fn a_fault_is_an_error() {
     let fault: Box<dyn std::error::Error + Send + Sync> = Box::new(Fault::Tree);
     assert_eq!(fault.to_string(), "Tree");
+}
+
+#[test]
+fn an_error_has_the_report_on_its_document() {
+    let document = br#"{"specifier":"file:///a.js","mediaType":"JavaScript","source":"","program":{"range":[0,16],"body":[]}}"#;
+    let error = analyze(document).expect_err("a fault");
+    assert_eq!(error.fault(), &Fault::RangeOutside);
+    assert_eq!(error.report(), check(document).ok().as_deref());
+    assert_eq!(
+        error.to_string(),
+        "RangeOutside at /program/range (bytes 0 to 16): expected an end of at most 0, the source's length"
+    );
+    let error: Box<dyn std::error::Error + Send + Sync> = Box::new(error);
+    assert!(error.to_string().lines().count() == 1);
+}
+
+#[test]
+fn the_report_in_an_error_is_that_of_the_command() {
+    for row in rows().into_iter().filter(|row| row.wanted.is_err()) {
+        let (error, report) = match row.command.as_str() {
+            "analyze" => (analyze(&row.document), check(&row.document)),
+            "convert" => (convert(&row.document), check_convert(&row.document)),
+            "reach" => (reach(&row.document), check_reach(&row.document)),
+            _ => continue,
+        };
+        let error = error.expect_err(&row.name);
+        assert_eq!(error.report(), report.ok().as_deref(), "{}", row.name);
+        assert!(
+            error.to_string().starts_with(error.fault().name()),
+            "{error}"
+        );
+    }
 }

@@ -1,13 +1,14 @@
 //! A report of each kind.
 
-use modinfo::{analyze, check, check_convert, check_reach, convert, reach, Fault};
+use modinfo::{analyze, check, check_convert, check_reach, convert, reach, Error, Fault};
 
-type Function = fn(&[u8]) -> Result<String, Fault>;
+type Check = fn(&[u8]) -> Result<String, Fault>;
+type Command = fn(&[u8]) -> Result<String, Error>;
 
 /// Each command's check, and the command itself.
-const ANALYZE: (Function, Function) = (check, analyze);
-const CONVERT: (Function, Function) = (check_convert, convert);
-const REACH: (Function, Function) = (check_reach, reach);
+const ANALYZE: (Check, Command) = (check, analyze);
+const CONVERT: (Check, Command) = (check_convert, convert);
+const REACH: (Check, Command) = (check_reach, reach);
 
 /// A module with one import, a line comment or neither, as its tree and comments have it.
 fn document(specifier: &str, source: &str, program: &str, leading: &str) -> String {
@@ -40,7 +41,7 @@ fn comments(filed: &[(&str, &str)]) -> String {
 }
 
 /// A command, a document of it, and what the report says of its fault, but for what was expected.
-fn faults() -> Vec<((Function, Function), Vec<u8>, &'static str)> {
+fn faults() -> Vec<((Check, Command), Vec<u8>, &'static str)> {
     let of_program = |program| document("file:///a.ts", "é", program, "").into_bytes();
     let of_import = |members| import(members).into_bytes();
     let of_comments = |filed| comments(filed).into_bytes();
@@ -125,10 +126,11 @@ fn a_document_with_a_fault() {
         let report = check(&document).expect("a report");
         let expected = report.strip_prefix(&format!(r#"{{"fault":{wanted},"expected":""#));
         assert!(
-            expected.is_some_and(|text| text.len() > 2 && text.ends_with("\"}")),
+            expected.map_or(false, |text| text.len() > 2 && text.ends_with("\"}")),
             "{report}"
         );
-        let fault = command(&document).expect_err("a fault");
+        let error = command(&document).expect_err("a fault");
+        let fault = error.fault();
         assert!(
             report.starts_with(&format!(r#"{{"fault":"{fault}""#)),
             "{report}"

@@ -5,111 +5,159 @@ formats. Nothing is kept between calls, and calls may run in many threads at onc
 """
 
 import json
-from collections.abc import Iterable, Iterator
-from typing import Any, Literal
+from collections.abc import Iterable, Iterator, Mapping
+from typing import Any, Literal, cast
 
 from . import _library
+from ._buffers import Buffer, is_buffer
 from ._fault import DocumentFault, Fault, FaultName
+from ._lines import answer_lines
+from .document import ModuleDocument
 from .information import ModuleInfo
-from .report import Report
+from .parser import Parser, ParserError
+from .report import FaultReport, Report, ValidReport
 
 __version__ = "0.1.0"
 __all__ = [
+    "Buffer",
     "Command",
     "Document",
     "DocumentFault",
     "Fault",
     "FaultName",
+    "FaultReport",
+    "ModuleDocument",
     "ModuleInfo",
+    "Parser",
+    "ParserError",
     "Report",
+    "ValidReport",
     "analyze",
     "analyze_lines",
     "check",
+    "check_lines",
     "convert",
+    "convert_lines",
     "reach",
+    "version",
 ]
 
-Document = dict[str, Any] | str | bytes
+Document = Mapping[str, object] | str | Buffer
 Command = Literal["analyze", "convert", "reach"]
-
-_CHECKS = {"analyze": _library.CHECK, "convert": _library.CHECK_CONVERT, "reach": _library.CHECK_REACH}
 
 
 def analyze(document: Document) -> ModuleInfo:
-    """What a module depends on, from its source, tree and comments.
+    """Returns what a module depends on, from its source, tree and comments.
 
-    Raises Fault where the document is refused, TypeError where it is none of the three types. A dict that
-    json.dumps can't write raises what that raises: TypeError, ValueError or RecursionError.
+    Raises Fault where the document is refused or an allocation fails, and TypeError where the document has another
+    type. A dict that json.dumps can't write raises what that raises: TypeError, ValueError or RecursionError.
     """
-    information: ModuleInfo = _answer(_library.ANALYZE, document)
+    information: ModuleInfo = _answer("analyze", document)
     return information
 
 
-def analyze_lines(lines: Iterable[bytes]) -> Iterator[bytes]:
-    """Each line's answer, in the bytes that `modinfo analyze --lines` prints for it, with a line feed.
-
-    A line is the JSON of one document, with or without a line feed behind it. A refused one is answered
-    by `{"fault":NAME}`, and the next line is read all the same. Raises TypeError where a line isn't bytes.
-    """
-    for line in lines:
-        if not isinstance(line, bytes):
-            raise TypeError(f"a line is bytes, not {type(line).__name__}")
-        try:
-            yield b'{"answer":%b}\n' % _library.call(_library.ANALYZE, line).removesuffix(b"\n")
-        except Fault as fault:
-            yield b'{"fault":"%b"}\n' % fault.name.encode()
-
-
-def check(document: Document, command: Command = "analyze") -> Report:
-    """What is wrong with a document of a command, and where; or that it is valid, with warnings.
-
-    `at` in the report of a dict is a place in what json.dumps makes of it, without white space. Raises Fault
-    only where memory was refused, its name OutOfMemory; TypeError where the document is none of the three types,
-    ValueError where there is no such command, and for a dict as analyze does.
-    """
-    if command not in _CHECKS:
-        raise ValueError(f"a command is analyze, convert or reach, not {command!r}")
-    # What a lone surrogate is encoded as is no UTF-8, and is reported as such.
-    written = _bytes_of(document, surrogates="surrogatepass")
-    report: Report = json.loads(_library.call(_CHECKS[command], written))
-    return report
-
-
 def convert(document: Document) -> Any:
-    """The information of one module, as version 1 stored it, in version 2.
+    """Returns the information of one module in version 2, from that which version 1 stored.
 
-    Other JSON than such information stays as it is. Raises as analyze does.
+    Any other JSON stays as it is. Raises as analyze does.
     """
-    return _answer(_library.CONVERT, document)
+    return _answer("convert", document)
 
 
 def reach(document: Document) -> list[str]:
-    """The keys that a root reaches among modules, ascending: `{"root": KEY, "modules": {KEY: INFO}}`.
+    """Returns the keys that a root reaches among modules, ascending: `{"root": KEY, "modules": {KEY: INFO}}`.
 
     Raises as analyze does.
     """
-    keys: list[str] = _answer(_library.REACH, document)
+    keys: list[str] = _answer("reach", document)
     return keys
 
 
-def _answer(function: _library.Function, document: Document) -> Any:
-    return json.loads(_library.call(function, _bytes_of(document)))
+def check(document: Document, command: Command = "analyze") -> Report:
+    """Returns a report on a document of a command: what is wrong with it and where, or that it is valid.
+
+    `at` in the report of a dict is a place in what json.dumps makes of it, without white space. Raises Fault
+    only where an allocation fails, its name OutOfMemory; ValueError where there is no such command; and TypeError
+    and others as analyze does.
+    """
+    function = _command(command).check
+    return cast(Report, json.loads(_call(function, _bytes_of(document))))
 
 
-def _bytes_of(document: Document, surrogates: str = "strict") -> bytes:
-    match document:
-        case bytes():
-            return document
-        case str():
-            return _encoded(document, surrogates)
-        case dict():
-            return _encoded(json.dumps(document, ensure_ascii=False, separators=(",", ":")), surrogates)
-    raise TypeError(f"a document is a dict, a str or bytes, not {type(document).__name__}")
+def analyze_lines(lines: Iterable[Buffer], jobs: int = 1) -> Iterator[bytes]:
+    """Returns for each line what `modinfo analyze --lines` prints for it, with a line feed.
+
+    A line is the JSON of one document, with or without a line feed after it. For one that is refused, also for
+    want of memory, `{"fault":NAME}` is returned, and the next line is read. `jobs` threads work side by side; with more
+    than one, lines are read ahead. Raises TypeError where a line isn't bytes.
+    """
+    return answer_lines(_library.COMMANDS["analyze"].function, _in_answer, lines, jobs)
 
 
-def _encoded(text: str, surrogates: str) -> bytes:
-    """The text in UTF-8, which has no lone surrogates: the error handler `surrogates` says what they are."""
+def convert_lines(lines: Iterable[Buffer], jobs: int = 1) -> Iterator[bytes]:
+    """Returns for each line what `modinfo convert --lines` prints for it, as analyze_lines does."""
+    return answer_lines(_library.COMMANDS["convert"].function, _in_answer, lines, jobs)
+
+
+def check_lines(lines: Iterable[Buffer], command: Command = "analyze", jobs: int = 1) -> Iterator[bytes]:
+    """Returns for each line the report that `modinfo check COMMAND --lines` prints for it, as analyze_lines does."""
+    return answer_lines(_command(command).check, _as_it_is, lines, jobs)
+
+
+def version() -> str:
+    """Returns the version of the library."""
+    return _library.version()
+
+
+def _in_answer(line: bytes) -> bytes:
+    return b'{"answer":%b}\n' % line[:-1]
+
+
+def _as_it_is(line: bytes) -> bytes:
+    return line
+
+
+def _command(name: str) -> _library.Command:
+    if name not in _library.COMMANDS:
+        raise ValueError(f"a command is analyze, convert or reach, not {name!r}")
+    return _library.COMMANDS[name]
+
+
+def _answer(name: Command, document: Document) -> Any:
+    return json.loads(_answer_line(name, _bytes_of(document)))
+
+
+def _answer_line(name: Command, document: Buffer) -> bytes:
+    command = _library.COMMANDS[name]
     try:
-        return text.encode(errors=surrogates)
-    except UnicodeEncodeError as error:
-        raise Fault("Input") from error
+        return _call(command.function, document)
+    except Fault as fault:
+        raise Fault(fault.name, _report(command, fault, document)) from None
+
+
+def _report(command: _library.Command, fault: Fault, document: Buffer) -> FaultReport | None:
+    """The report on a document that was refused. None where an allocation failed."""
+    if fault.name == "OutOfMemory":
+        return None
+    try:
+        return cast(FaultReport, json.loads(_call(command.check, document)))
+    except Fault:
+        return None
+
+
+def _call(function: _library.Function, document: Buffer) -> bytes:
+    try:
+        return _library.Room().call(function, document)
+    except _library.Refused as refused:
+        raise Fault(refused.name) from None
+
+
+def _bytes_of(document: Document) -> Buffer:
+    """The document's JSON. A lone surrogate becomes bytes that aren't UTF-8, which the library refuses as such."""
+    if isinstance(document, dict):
+        document = json.dumps(document, ensure_ascii=False, separators=(",", ":"))
+    if isinstance(document, str):
+        return document.encode(errors="surrogatepass")
+    if isinstance(document, bytes) or is_buffer(document):
+        return cast(Buffer, document)
+    raise TypeError(f"a document is a dict, a str or bytes, not {type(document).__name__}")

@@ -1,55 +1,110 @@
-"""The functions of libmodinfo.so, which lies beside this file. A call leaves Python's lock free."""
+"""The functions of libmodinfo.so, which is in the folder of this file. Python's lock is free during a call."""
 
 import ctypes
 from collections.abc import Callable
+from dataclasses import dataclass
 from pathlib import Path
 from typing import cast
 
-from ._fault import Fault, FaultName
+from ._buffers import Buffer, Memory
+from ._fault import FaultName
 
 Function = Callable[..., int]
 
-FAULT, TOO_SMALL = 1, 2
+ANSWERED, FAULT, TOO_SMALL = 0, 1, 2
 
-# Nearly every answer is no longer than its document, but for the line feed, and nearly every report than this.
+# Most answers are not longer than their document and a line feed, and most reports not longer than this.
 LEAST_ROOM = 4096
 
-_library = ctypes.CDLL(str(Path(__file__).with_name("libmodinfo.so")))
+
+def _load() -> ctypes.CDLL:
+    path = Path(__file__).with_name("libmodinfo.so")
+    if not path.exists():
+        raise ImportError(
+            f"{path} isn't there: modinfo is used from its sources, or was installed without its library. "
+            "Install the wheel that bindings/python/make_wheel of the repository makes"
+        )
+    return ctypes.CDLL(str(path))
+
+
+_library = _load()
 
 
 def _function(name: str) -> Function:
     function = getattr(_library, name)
     function.restype = ctypes.c_uint8
     function.argtypes = [
-        ctypes.c_char_p,
+        ctypes.c_void_p,
         ctypes.c_size_t,
-        ctypes.c_char_p,
+        ctypes.c_void_p,
         ctypes.c_size_t,
-        ctypes.POINTER(ctypes.c_size_t),
+        ctypes.c_void_p,
     ]
     return cast(Function, function)
 
 
-ANALYZE = _function("modinfo_analyze")
-CONVERT = _function("modinfo_convert")
-REACH = _function("modinfo_reach")
-CHECK = _function("modinfo_check")
-CHECK_CONVERT = _function("modinfo_check_convert")
-CHECK_REACH = _function("modinfo_check_reach")
+@dataclass(frozen=True)
+class Command:
+    """A command, and the check of its documents."""
 
-# The beginning of a room of any length. An array type of its own for each length costs more than a call.
-_Beginning = ctypes.c_char * 0
+    function: Function
+    check: Function
 
 
-def call(function: Function, document: bytes) -> bytes:
-    """The answer's line, with its line feed; a Fault where the document is refused."""
-    length = ctypes.c_size_t(max(len(document) + 1, LEAST_ROOM))
-    status = TOO_SMALL
-    while status == TOO_SMALL:
-        room = bytearray(length.value)
-        beginning = _Beginning.from_buffer(room)
-        status = function(document, len(document), beginning, len(room), ctypes.byref(length))
-    written = bytes(memoryview(room)[: length.value])
-    if status == FAULT:
-        raise Fault(cast(FaultName, written.decode()))
-    return written
+COMMANDS = {
+    "analyze": Command(_function("modinfo_analyze"), _function("modinfo_check")),
+    "convert": Command(_function("modinfo_convert"), _function("modinfo_check_convert")),
+    "reach": Command(_function("modinfo_reach"), _function("modinfo_check_reach")),
+}
+
+
+def version() -> str:
+    number = _library.modinfo_version()
+    return f"{number // 10_000}.{number // 100 % 100}.{number % 100}"
+
+
+class Refused(Exception):
+    """The function has a fault."""
+
+    def __init__(self, name: FaultName) -> None:
+        super().__init__(name)
+        self.name: FaultName = name
+
+
+class Room:
+    """Memory that functions write to. One thread uses it at a time, for any number of calls."""
+
+    def __init__(self) -> None:
+        self._resize(LEAST_ROOM)
+        self._length = ctypes.c_size_t()
+        self._length_address = ctypes.addressof(self._length)
+
+    def _resize(self, size: int) -> None:
+        self._bytes = bytearray(size)
+        self._address = ctypes.addressof(ctypes.c_char.from_buffer(self._bytes))
+        self._view = memoryview(self._bytes)
+
+    def call(self, function: Function, document: Buffer) -> bytes:
+        """The answer's line, with its line feed.
+
+        Raises Refused with the fault's name, which is OutOfMemory where an allocation fails here too.
+        """
+        try:
+            if type(document) is bytes:
+                return self._call(function, document, len(document))
+            with Memory(document) as (address, length):
+                return self._call(function, address, length) if address else self._call(function, b"", 0)
+        except MemoryError:
+            raise Refused("OutOfMemory") from None
+
+    def _call(self, function: Function, address: int | bytes, length: int) -> bytes:
+        if len(self._bytes) <= length:
+            self._resize(length + 1)
+        status = function(address, length, self._address, len(self._bytes), self._length_address)
+        while status == TOO_SMALL:
+            self._resize(self._length.value)
+            status = function(address, length, self._address, len(self._bytes), self._length_address)
+        written = bytes(self._view[: self._length.value])
+        if status == FAULT:
+            raise Refused(cast(FaultName, written.decode()))
+        return written

@@ -17,9 +17,9 @@ impl Call {
     /// What the crate answers.
     pub fn answer(&self) -> Result<String, Fault> {
         match self.command.as_str() {
-            "analyze" => modinfo::analyze(&self.document),
-            "convert" => modinfo::convert(&self.document),
-            "reach" => modinfo::reach(&self.document),
+            "analyze" => modinfo::analyze(&self.document).map_err(Fault::from),
+            "convert" => modinfo::convert(&self.document).map_err(Fault::from),
+            "reach" => modinfo::reach(&self.document).map_err(Fault::from),
             "check" | "check analyze" => modinfo::check(&self.document),
             "check convert" => modinfo::check_convert(&self.document),
             "check reach" => modinfo::check_reach(&self.document),
@@ -79,7 +79,7 @@ fn files(folder: &Path, ending: &str) -> Vec<PathBuf> {
     let mut found: Vec<_> = fs::read_dir(folder)
         .expect("the repository's folder")
         .map(|entry| entry.expect("an entry").path())
-        .filter(|path| path.to_str().is_some_and(|name| name.ends_with(ending)))
+        .filter(|path| path.to_str().map_or(false, |name| name.ends_with(ending)))
         .collect();
     found.sort();
     found

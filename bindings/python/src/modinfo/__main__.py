@@ -1,0 +1,103 @@
+"""The commands of the program modinfo, by the library: `python -m modinfo analyze < DOCUMENT`."""
+
+import argparse
+import json
+import os
+import sys
+from collections.abc import Iterable, Iterator, Sequence
+
+import modinfo
+
+from . import _library
+
+DESCRIPTION = """\
+Reads one JSON document from the standard input, and prints one line of JSON."""
+
+EPILOG = """\
+Status 0; 1 where the document is refused, with one line on the error output, and where a checked document
+has a fault; 2 for words that aren't the usage."""
+
+COMMANDS = {
+    "analyze": "what a module depends on, from its source, tree and comments",
+    "convert": "the information of one module in version 2, from that of version 1",
+    "reach": "the keys that a root reaches among modules",
+    "check": "a report on a document of analyze, or of the command that OF names",
+}
+
+
+def parser() -> argparse.ArgumentParser:
+    words = argparse.ArgumentParser(prog="python -m modinfo", description=DESCRIPTION, epilog=EPILOG)
+    words.add_argument("--version", action="version", version=f"modinfo {modinfo.version()}")
+    commands = words.add_subparsers(dest="command", metavar="COMMAND", required=True)
+    for name, meaning in COMMANDS.items():
+        command = commands.add_parser(name, help=meaning, description=f"Prints {meaning}.")
+        if name == "check":
+            command.add_argument("of", metavar="OF", nargs="?", default="analyze", choices=list(_library.COMMANDS))
+            command.add_argument("--strict", action="store_true", help="a warning counts as a fault does")
+        if name != "reach":
+            command.add_argument("--lines", action="store_true", help="each line of the input is a document")
+            command.add_argument(
+                "--jobs", metavar="N", type=positive, default=1, help="threads, with --lines (%(default)s)"
+            )
+    return words
+
+
+def positive(word: str) -> int:
+    number = int(word)
+    if number < 1:
+        raise argparse.ArgumentTypeError(f"{word} is not above zero")
+    return number
+
+
+def print_one(words: argparse.Namespace) -> int:
+    document = sys.stdin.buffer.read()
+    if words.command == "check":
+        function = _library.COMMANDS[words.of].check
+        return print_reports([modinfo._call(function, document)], words.strict)
+    sys.stdout.buffer.write(modinfo._answer_line(words.command, document))
+    return 0
+
+
+def print_lines(words: argparse.Namespace) -> int:
+    lines = sys.stdin.buffer
+    if words.command == "check":
+        return print_reports(modinfo.check_lines(lines, words.of, words.jobs), words.strict)
+    function = modinfo.analyze_lines if words.command == "analyze" else modinfo.convert_lines
+    sys.stdout.buffer.writelines(function(lines, words.jobs))
+    return 0
+
+
+def print_reports(reports: Iterable[bytes], is_strict: bool) -> int:
+    failed = False
+
+    def looked_at() -> Iterator[bytes]:
+        nonlocal failed
+        for line in reports:
+            failed |= not passes(json.loads(line), is_strict)
+            yield line
+
+    sys.stdout.buffer.writelines(looked_at())
+    return 1 if failed else 0
+
+
+def passes(report: modinfo.Report, is_strict: bool) -> bool:
+    return "valid" in report and not (is_strict and "warnings" in report)
+
+
+def main(arguments: Sequence[str] | None = None) -> int:
+    words = parser().parse_args(arguments)
+    try:
+        status = print_lines(words) if getattr(words, "lines", False) else print_one(words)
+        sys.stdout.buffer.flush()
+        return status
+    except BrokenPipeError:
+        # The reader of the output has ended. Nothing more is written, not even at the exit.
+        os.dup2(os.open(os.devnull, os.O_WRONLY), sys.stdout.fileno())
+        return 0
+    except (modinfo.Fault, OSError) as error:
+        print(f"modinfo: {error}", file=sys.stderr)
+        return 1
+
+
+if __name__ == "__main__":
+    sys.exit(main())

@@ -1,0 +1,72 @@
+"""`python -m modinfo`, against the rows of docs/ROWS.md that run the program."""
+
+import subprocess
+import sys
+from pathlib import Path
+
+import pytest
+from repository import EXAMPLES, ROWS, check_rows, examples, program_rows
+
+import modinfo
+
+
+def run(*words: str, input: bytes = b"") -> tuple[int, bytes, str]:
+    done = subprocess.run([sys.executable, "-m", "modinfo", *words], input=input, capture_output=True, check=False)
+    return done.returncode, done.stdout, done.stderr.decode()
+
+
+@pytest.mark.parametrize(
+    "command, document, expected", list(examples())[::4], ids=lambda part: getattr(part, "name", part)
+)
+def test_an_example(command: str, document: Path, expected: Path) -> None:
+    assert run(command, input=document.read_bytes()) == (0, expected.read_bytes(), "")
+
+
+@pytest.mark.parametrize("row", [row for row in program_rows(ROWS) if row[3] == 1][::20], ids=lambda row: row[0])
+def test_a_refused_row(row: tuple[str, str, bytes, int, bytes]) -> None:
+    status, output, errors = run(row[1], input=row[2])
+    assert (status, output) == (1, b"")
+    assert errors.startswith(f"modinfo: {row[4].decode()} ") and errors.count("\n") == 1
+
+
+@pytest.mark.parametrize("row", list(check_rows(ROWS))[::20], ids=lambda row: row[0])
+def test_a_check(row: tuple[str, str, bytes, bytes]) -> None:
+    _, command, document, report = row
+    assert run("check", command, input=document) == (0 if b'"valid"' in report else 1, report, "")
+
+
+@pytest.mark.parametrize("jobs", ["1", "2"])
+def test_lines(jobs: str) -> None:
+    document, answer = ((EXAMPLES / f"side-effect-import{ending}").read_bytes() for ending in (".json", ".out.json"))
+    line = b" ".join(document.splitlines())
+    wanted = b'{"answer":%b}\n{"fault":"Json"}\n' % answer.strip()
+    assert run("analyze", "--lines", "--jobs", jobs, input=line + b"\n{\n") == (0, wanted, "")
+
+
+@pytest.mark.parametrize("words, status", [([], 0), (["--strict"], 1)])
+def test_warnings(words: list[str], status: int) -> None:
+    document = (EXAMPLES / "side-effect-import.json").read_bytes().replace(b'"program":', b'"child":[],"program":')
+    line = b" ".join(document.splitlines())
+    for more in [], ["--lines"]:
+        code, output, _ = run("check", *words, *more, input=line)
+        assert (code, b'"warnings"' in output) == (status, True)
+
+
+@pytest.mark.parametrize("words", [[], ["analyse"], ["analyze", "x"], ["reach", "--lines"], ["analyze", "--jobs", "0"]])
+def test_words_that_are_no_usage(words: list[str]) -> None:
+    status, output, errors = run(*words)
+    assert (status, output) == (2, b"")
+    assert errors.startswith("usage: python -m modinfo ")
+
+
+def test_the_version_and_the_help() -> None:
+    assert run("--version") == (0, f"modinfo {modinfo.__version__}\n".encode(), "")
+    status, output, _ = run("--help")
+    assert status == 0 and b"the keys that a root reaches" in output
+
+
+def test_a_reader_that_ends(tmp_path: Path) -> None:
+    (tmp_path / "lines").write_bytes(b"{\n" * 20_000)
+    words = f"{sys.executable} -m modinfo analyze --lines < {tmp_path}/lines | head -n 1; exit ${{PIPESTATUS[0]}}"
+    done = subprocess.run(["bash", "-c", words], capture_output=True, check=False)
+    assert (done.returncode, done.stdout, done.stderr) == (0, b'{"fault":"Json"}\n', b"")

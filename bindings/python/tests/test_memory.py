@@ -1,0 +1,50 @@
+"""What happens where memory is refused to this package: a process that may have little more than it has."""
+
+import subprocess
+import sys
+from typing import get_args
+
+import pytest
+
+import modinfo
+
+# A line, and less room than its answer is given.
+LIMITED = """
+import resource
+import modinfo
+
+LINE = b" " * 200_000_000
+with open("/proc/self/statm") as file:
+    size = int(file.read().split()[0]) * resource.getpagesize()
+resource.setrlimit(resource.RLIMIT_AS, (size + 100_000_000, -1))
+"""
+
+
+def printed(program: str) -> str:
+    run = subprocess.run(
+        [sys.executable, "-I", "-c", LIMITED + program], capture_output=True, text=True, timeout=60, check=False
+    )
+    assert (run.stderr, run.returncode) == ("", 0)
+    return run.stdout
+
+
+@pytest.mark.parametrize("jobs", [1, 2])
+def test_a_line_without_memory_among_others(jobs: int) -> None:
+    program = f"print(list(modinfo.analyze_lines([b'{{', LINE, b'{{'], jobs={jobs})))"
+    fault = b'{"fault":"%b"}\n'
+    assert printed(program) == f"{[fault % b'Json', fault % b'OutOfMemory', fault % b'Json']}\n"
+
+
+@pytest.mark.parametrize("function", ["analyze", "check", "convert", "reach"])
+def test_a_document_without_memory(function: str) -> None:
+    program = f"""
+try:
+    modinfo.{function}(LINE)
+except modinfo.Fault as fault:
+    print(fault.name, fault.report)
+"""
+    assert printed(program) == "OutOfMemory None\n"
+
+
+def test_that_the_fault_has_a_name() -> None:
+    assert "OutOfMemory" in get_args(modinfo.FaultName)

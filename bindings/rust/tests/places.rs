@@ -1,0 +1,187 @@
+//! Where the crate finds the library: each in a copy of the crate, in a folder of its own.
+
+use std::env;
+use std::fs;
+use std::path::{Path, PathBuf};
+use std::process::{Command, Output};
+
+/// The folder with the library that these tests are linked with.
+fn library() -> PathBuf {
+    match env::var_os("MODINFO_LIB_DIR").filter(|folder| !folder.is_empty()) {
+        Some(folder) => folder.into(),
+        None => Path::new(env!("CARGO_MANIFEST_DIR")).join("../../build"),
+    }
+}
+
+/// A copy of the crate, and a program over it that prints the library's version.
+struct Room(PathBuf);
+
+impl Room {
+    fn new(name: &str) -> Room {
+        let room = Path::new(env!("CARGO_TARGET_TMPDIR"))
+            .join("places")
+            .join(name);
+        let _ = fs::remove_dir_all(&room);
+        let here = Path::new(env!("CARGO_MANIFEST_DIR"));
+        copy_files(
+            here,
+            &room.join("modinfo"),
+            &["Cargo.toml", "build.rs", "README.md"],
+        );
+        let sources: Vec<_> = names(&here.join("src"));
+        let sources: Vec<_> = sources.iter().map(String::as_str).collect();
+        copy_files(&here.join("src"), &room.join("modinfo/src"), &sources);
+        write(
+            &room.join("program/Cargo.toml"),
+            "[package]\nname = \"program\"\nversion = \"0.1.0\"\nedition = \"2021\"\n\n[dependencies]\nmodinfo = { path = \"../modinfo\" }\n\n[workspace]\n",
+        );
+        write(
+            &room.join("program/src/main.rs"),
+            "fn main() {\n    print!(\"{} {}\", modinfo::version(), modinfo::analyze(b\"\").unwrap_err().fault());\n}\n",
+        );
+        Room(room)
+    }
+
+    fn cargo(&self, folder: &str, words: &[&str], environment: &[(&str, &Path)]) -> Output {
+        Command::new(env!("CARGO"))
+            .args(words)
+            .args(["--offline", "--target-dir", "target"])
+            .current_dir(self.0.join(folder))
+            .env_remove("MODINFO_LIB_DIR")
+            .env_remove("CARGO_TARGET_DIR")
+            .env("PKG_CONFIG_LIBDIR", self.0.join("none"))
+            .env("PKG_CONFIG_PATH", self.0.join("pkgconfig"))
+            .envs(environment.iter().copied())
+            .output()
+            .expect("cargo")
+    }
+
+    fn runs(&self, environment: &[(&str, &Path)]) {
+        let output = self.cargo("program", &["run"], environment);
+        let printed = String::from_utf8_lossy(&output.stdout);
+        let wanted = format!("{} Json", env!("CARGO_PKG_VERSION"));
+        assert_eq!(
+            printed,
+            wanted,
+            "{}",
+            String::from_utf8_lossy(&output.stderr)
+        );
+    }
+}
+
+fn names(folder: &Path) -> Vec<String> {
+    let entries = fs::read_dir(folder).expect("a folder");
+    entries
+        .map(|entry| {
+            entry
+                .expect("an entry")
+                .file_name()
+                .into_string()
+                .expect("a name in UTF-8")
+        })
+        .collect()
+}
+
+fn write(path: &Path, text: &str) {
+    fs::create_dir_all(path.parent().expect("a folder")).expect("a folder");
+    fs::write(path, text).expect("a file");
+}
+
+fn copy_files(from: &Path, to: &Path, names: &[&str]) {
+    fs::create_dir_all(to).expect("a folder");
+    for name in names {
+        fs::copy(from.join(name), to.join(name)).unwrap_or_else(|error| panic!("{name}: {error}"));
+    }
+}
+
+#[test]
+fn a_folder_that_the_environment_names() {
+    Room::new("environment").runs(&[("MODINFO_LIB_DIR", &library())]);
+}
+
+#[test]
+fn a_folder_of_the_crate() {
+    let room = Room::new("own");
+    copy_files(&library(), &room.0.join("modinfo/lib"), &["libmodinfo.a"]);
+    room.runs(&[]);
+}
+
+/// What make_crate makes, unpacked in the place of the copy.
+#[test]
+fn the_crate_as_one_file() {
+    let room = Room::new("file");
+    let here = Path::new(env!("CARGO_MANIFEST_DIR"));
+    let made = Command::new(here.join("make_crate"))
+        .arg(&room.0)
+        .env(
+            "MODINFO_LIB_DIR",
+            fs::canonicalize(library()).expect("a library"),
+        )
+        .output()
+        .expect("make_crate");
+    assert!(
+        made.status.success(),
+        "{}",
+        String::from_utf8_lossy(&made.stderr)
+    );
+    let file = format!("modinfo-{}.crate", env!("CARGO_PKG_VERSION"));
+    fs::remove_dir_all(room.0.join("modinfo")).expect("the copy");
+    let unpacked = Command::new("tar")
+        .args(["-xzf", &file])
+        .current_dir(&room.0)
+        .status();
+    assert!(unpacked.expect("tar").success());
+    fs::rename(
+        room.0.join(file.trim_end_matches(".crate")),
+        room.0.join("modinfo"),
+    )
+    .expect("a crate");
+    room.runs(&[]);
+}
+
+#[test]
+fn a_folder_that_pkg_config_names() {
+    if Command::new("pkg-config")
+        .arg("--version")
+        .output()
+        .is_err()
+    {
+        eprintln!("pkg-config isn't on the path, so this isn't tested");
+        return;
+    }
+    let room = Room::new("pkg-config");
+    copy_files(&library(), &room.0.join("somewhere"), &["libmodinfo.a"]);
+    let libdir = room.0.join("somewhere");
+    write(
+        &room.0.join("pkgconfig/modinfo.pc"),
+        &format!(
+            "libdir={}\nName: modinfo\nDescription: modinfo\nVersion: 0.1.0\n",
+            libdir.display()
+        ),
+    );
+    room.runs(&[]);
+}
+
+#[test]
+fn a_folder_with_the_shared_library_alone() {
+    let room = Room::new("shared");
+    let folder = room.0.join("somewhere");
+    copy_files(&library(), &folder, &["libmodinfo.so"]);
+    fs::copy(folder.join("libmodinfo.so"), folder.join("libmodinfo.so.0")).expect("a copy");
+    room.runs(&[("MODINFO_LIB_DIR", &folder), ("LD_LIBRARY_PATH", &folder)]);
+}
+
+#[test]
+fn no_library() {
+    let room = Room::new("none");
+    for words in [&["doc", "--no-deps"][..], &["check"]] {
+        let output = room.cargo("modinfo", words, &[]);
+        let said = String::from_utf8_lossy(&output.stderr);
+        assert!(output.status.success(), "{said}");
+        assert!(said.contains("set MODINFO_LIB_DIR to its folder"), "{said}");
+    }
+    let output = room.cargo("program", &["build"], &[]);
+    let said = String::from_utf8_lossy(&output.stderr);
+    assert!(!output.status.success());
+    assert!(said.contains("set MODINFO_LIB_DIR to its folder"), "{said}");
+}
