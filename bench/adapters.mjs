@@ -1,7 +1,7 @@
 #!/usr/bin/env node
 /**
- * Measures adapters/files.mjs beside the parser alone and beside tools that list dependencies, on
- * the same files, and compares the dependencies that each finds.
+ * Measures bindings/node/src/cli/files.mjs beside the parser alone and beside tools that list
+ * dependencies, on the same files, and compares the dependencies that each finds.
  *
  *     bench/adapters_setup
  *     node bench/adapters.mjs [--files N] [--rounds N] [--folder PATH]
@@ -18,9 +18,9 @@ import { join } from "node:path";
 import { fileURLToPath } from "node:url";
 import { parseArgs } from "node:util";
 
-import { mediaTypeOf } from "../adapters/media_types.mjs";
+import { mediaTypeOf } from "../bindings/node/src/document/media_types.mjs";
 
-const FILES = fileURLToPath(new URL("../adapters/files.mjs", import.meta.url));
+const FILES = fileURLToPath(new URL("../bindings/node/src/cli/files.mjs", import.meta.url));
 const TOOLS = fileURLToPath(new URL("adapters_tools.mjs", import.meta.url));
 const THREADS = [1, 2, 4];
 

@@ -13,10 +13,10 @@ import { createRequire } from "node:module";
 import { fileURLToPath } from "node:url";
 import { Worker, isMainThread, workerData } from "node:worker_threads";
 
-import { mediaTypeOf } from "../adapters/media_types.mjs";
-import { loadParser } from "../adapters/parsers.mjs";
-import { Source } from "../adapters/source.mjs";
-import { parseWithTypeScript } from "../adapters/typescript/parse.mjs";
+import { mediaTypeOf } from "../bindings/node/src/document/media_types.mjs";
+import { loadParser } from "../bindings/node/src/parsers/installed_parsers.mjs";
+import { Source } from "../bindings/node/src/document/source.mjs";
+import { parseWithTypeScript } from "../bindings/node/src/parsers/typescript/parse.mjs";
 
 const require = createRequire("/usr/share/nodejs/");
 

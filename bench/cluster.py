@@ -34,7 +34,7 @@ NODE_FILES = Path("/usr/share/nodejs")
 ENDINGS = {".ts", ".tsx", ".mts", ".cts", ".js", ".jsx", ".mjs", ".cjs"}
 MODINFO = ROOT / "build/modinfo"
 ANALYZE = f"{MODINFO} analyze --lines"
-FILES = f"MODINFO={MODINFO} node {ROOT}/adapters/files.mjs --jobs 1 - 2> /dev/null || true"
+FILES = f"MODINFO={MODINFO} node {ROOT}/bindings/node/src/cli/files.mjs --jobs 1 - 2> /dev/null || true"
 COUNTS = [1, 2, 4]
 BYTES = [1 << 16, 1 << 18, 1 << 20, 1 << 22]
 LINES = [50, 250, 1000]
@@ -118,7 +118,9 @@ def measure(title: str, source: Path, ways: list[Way], rounds: int) -> None:
 
 def choose_files(most: int) -> list[str]:
     every = sorted(
-        str(path) for path in NODE_FILES.rglob("*") if path.suffix in ENDINGS and not path.is_symlink() and path.is_file()
+        str(path)
+        for path in NODE_FILES.rglob("*")
+        if path.suffix in ENDINGS and not path.is_symlink() and path.is_file()
     )
     most = min(most, len(every))
     return [every[at * len(every) // most] for at in range(most)]
@@ -129,37 +131,45 @@ def count_lines(path: Path) -> int:
 
 
 def make_documents(paths: Path, target: Path) -> None:
-    adapter = ["node", str(ROOT / "adapters/typescript.mjs"), "--lines", "-"]
+    adapter = ["node", str(ROOT / "bindings/node/src/cli/typescript.mjs"), "--lines", "-"]
     with open(paths, "rb") as stdin, open(target, "wb") as stdout:
         subprocess.run(adapter, stdin=stdin, stdout=stdout, stderr=subprocess.DEVNULL)
 
 
 def document_ways(clusters: dict[int, Local]) -> list[Way]:
-    package = f"{sys.executable} -c 'import modinfo, sys; sys.stdout.buffer.writelines(modinfo.analyze_lines(sys.stdin.buffer))'"
+    program = "import modinfo, sys; sys.stdout.buffer.writelines(modinfo.analyze_lines(sys.stdin.buffer))"
+    package = f"{sys.executable} -c '{program}'"
     return [
         Way("one `modinfo analyze --lines`", shell(ANALYZE)),
         Way("the package for Python, one process", shell(package)),
-        *(Way(f"`parallel --pipe`, {jobs(n)}", shell(f"parallel --pipe --block 4M -k -j {n} {ANALYZE}")) for n in COUNTS),
+        *(
+            Way(f"`parallel --pipe`, {jobs(n)}", shell(f"parallel --pipe --block 4M -k -j {n} {ANALYZE}"))
+            for n in COUNTS
+        ),
         *(Way(f"Dask, {workers(n)}", dask(cluster)) for n, cluster in clusters.items()),
     ]
 
 
 def file_ways(clusters: dict[int, Local]) -> list[Way]:
-    one = "MODINFO={} node {}/adapters/files.mjs --jobs {} - 2> /dev/null || true"
+    one = "MODINFO={} node {}/bindings/node/src/cli/files.mjs --jobs {} - 2> /dev/null || true"
     return [
         *(Way(f"one `files.mjs`, `--jobs {n}`", shell(one.format(MODINFO, ROOT, n))) for n in COUNTS),
-        *(Way(f"`parallel --pipe`, {jobs(n)}", shell(f"parallel --pipe -N 250 -k -j {n} {quoted(FILES)}")) for n in COUNTS),
-        *(Way(f"Dask, {workers(n)}", dask(cluster, "--pipe", FILES, "--partition-lines", "250"))
-          for n, cluster in clusters.items()),
+        *(
+            Way(f"`parallel --pipe`, {jobs(n)}", shell(f"parallel --pipe -N 250 -k -j {n} {quoted(FILES)}"))
+            for n in COUNTS
+        ),
+        *(
+            Way(f"Dask, {workers(n)}", dask(cluster, "--pipe", FILES, "--partition-lines", "250"))
+            for n, cluster in clusters.items()
+        ),
     ]
 
 
 def partition_ways(cluster: Local) -> tuple[list[Way], list[Way]]:
-    by_bytes = [
-        Way(f"{size >> 10} KiB a partition", dask(cluster, "--partition-bytes", str(size))) for size in BYTES
-    ]
+    by_bytes = [Way(f"{size >> 10} KiB a partition", dask(cluster, "--partition-bytes", str(size))) for size in BYTES]
     by_lines = [
-        Way(f"{lines} files a partition", dask(cluster, "--pipe", FILES, "--partition-lines", str(lines))) for lines in LINES
+        Way(f"{lines} files a partition", dask(cluster, "--pipe", FILES, "--partition-lines", str(lines)))
+        for lines in LINES
     ]
     return by_bytes, by_lines
 

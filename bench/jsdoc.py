@@ -45,18 +45,18 @@ def long_attributes(count):
 
 def lists_in_lists(count):
     """Dynamic imports in the attributes of those before them, so that the lists of all go to the end."""
-    return jsdoc('{import("a",{with:{' + "a{import(':\"',{with:{x\",y:\"v\"," * count + 'k:"v"}})}')
+    return jsdoc('{import("a",{with:{' + 'a{import(\':"\',{with:{x",y:"v",' * count + 'k:"v"}})}')
 
 
 def declared_lists(count):
     """Declarations in the attributes of those before them."""
-    return jsdoc("@import a from 'b' with {" + "k:\"@import x from 'q' with {z\",y:\"v\"," * count + 'k:"v"}')
+    return jsdoc("@import a from 'b' with {" + 'k:"@import x from \'q\' with {z",y:"v",' * count + 'k:"v"}')
 
 
 def space_behind_lists(count):
     """Such dynamic imports, and much white space before each mark that closes their lists."""
     space = " " * (10 * count)
-    lists = '{import("a",{with:{' + "a{import(':\"',{with:{x\",y:\"v\"," * count + 'k:"v"'
+    lists = '{import("a",{with:{' + 'a{import(\':"\',{with:{x",y:"v",' * count + 'k:"v"'
     return jsdoc(lists + space + "}" + space + "}" + space + ")}")
 
 

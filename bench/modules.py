@@ -21,7 +21,7 @@ from urllib.parse import unquote, urlsplit
 ROOT = Path(__file__).resolve().parent.parent
 MODINFO = ROOT / "build/modinfo"
 ANALYZE = [str(MODINFO), "analyze", "--lines"]
-ADAPTER = ["node", str(ROOT / "adapters/typescript.mjs"), "--lines", "--jobs", "1", "-"]
+ADAPTER = ["node", str(ROOT / "bindings/node/src/cli/typescript.mjs"), "--lines", "--jobs", "1", "-"]
 NODE_FILES = Path("/usr/share/nodejs")
 ENDINGS = {".ts", ".tsx", ".mts", ".cts", ".js", ".jsx", ".mjs", ".cjs"}
 # Files of a new process, and of one that is warm.
@@ -54,7 +54,9 @@ class Costs:
 
 def choose_files(most: int | None) -> list[str]:
     every = sorted(
-        str(path) for path in NODE_FILES.rglob("*") if path.suffix in ENDINGS and not path.is_symlink() and path.is_file()
+        str(path)
+        for path in NODE_FILES.rglob("*")
+        if path.suffix in ENDINGS and not path.is_symlink() and path.is_file()
     )
     most = min(most or len(every), len(every))
     return [every[at * len(every) // most] for at in range(most)]
@@ -132,9 +134,15 @@ def costs_of(modules: list[Module], sample: int) -> Costs:
 
 def row(name: str, costs: Costs) -> str:
     cells = [
-        f"{costs.modules:,}", f"{costs.source:,.0f}", f"{costs.document:,.0f}", f"{costs.answer:,.0f}",
-        f"{costs.instructions / 1e6:.3f}", f"{costs.instructions_per_byte:.0f}", f"{costs.analysis_ms:.3f}",
-        f"{costs.megabytes:.1f}", f"{costs.parser_ms:.1f}",
+        f"{costs.modules:,}",
+        f"{costs.source:,.0f}",
+        f"{costs.document:,.0f}",
+        f"{costs.answer:,.0f}",
+        f"{costs.instructions / 1e6:.3f}",
+        f"{costs.instructions_per_byte:.0f}",
+        f"{costs.analysis_ms:.3f}",
+        f"{costs.megabytes:.1f}",
+        f"{costs.parser_ms:.1f}",
     ]
     return f"| {name} | {' | '.join(cells)} |"
 

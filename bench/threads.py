@@ -42,7 +42,7 @@ def took(call: Callable[[], object], calls: int, threads: int) -> tuple[float, f
 def main() -> None:
     document = Path(sys.argv[1] if len(sys.argv) > 1 else DEFAULT).read_bytes()
     forms: dict[str, Callable[[], object]] = {
-        "library": lambda: modinfo._library.call(modinfo._library.ANALYZE, document),
+        "library": lambda: modinfo._library.Room().call(modinfo._library.COMMANDS["analyze"].function, document),
         "analyze": lambda: modinfo.analyze(document),
     }
     print(f"{len(document)} bytes")
@@ -50,8 +50,10 @@ def main() -> None:
         calls = max(1, int(SECONDS * 100 / took(call, 100, 1)[0]))
         alone, _ = took(call, calls, 1)
         together, used = took(call, calls, THREADS)
-        print(f"{name}: {calls} calls in one thread {alone:.2f} s; in each of {THREADS} threads {together:.2f} s, "
-              f"{used / together:.1f} processors")
+        print(
+            f"{name}: {calls} calls in one thread {alone:.2f} s; in each of {THREADS} threads {together:.2f} s, "
+            f"{used / together:.1f} processors"
+        )
 
 
 main()

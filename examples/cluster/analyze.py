@@ -42,31 +42,49 @@ def parser() -> argparse.ArgumentParser:
     where.add_argument("--scheduler", metavar="ADDRESS", help="the scheduler's, as tcp://127.0.0.1:8786")
     where.add_argument("--scheduler-file", metavar="FILE", help="what the scheduler wrote its address into")
     words.add_argument(
-        "--pipe", metavar="COMMAND",
-        help="run by a shell on the workers, once for each partition, as 'node adapters/files.mjs -' on paths",
+        "--pipe",
+        metavar="COMMAND",
+        help="run by a shell on the workers, once for each partition, "
+        "as 'node bindings/node/src/cli/files.mjs -' on paths",
     )
     words.add_argument(
-        "--partition-bytes", metavar="N", type=positive, default=PARTITION_BYTES,
+        "--partition-bytes",
+        metavar="N",
+        type=positive,
+        default=PARTITION_BYTES,
         help="the most bytes of a partition, but for a line that is longer (%(default)s)",
     )
     words.add_argument(
-        "--partition-lines", metavar="N", type=positive, default=PARTITION_LINES,
+        "--partition-lines",
+        metavar="N",
+        type=positive,
+        default=PARTITION_LINES,
         help="the most lines of a partition (%(default)s)",
     )
     words.add_argument(
-        "--window", metavar="N", type=positive,
+        "--window",
+        metavar="N",
+        type=positive,
         help=f"the most partitions that are held at once ({AHEAD} for each thread of a worker at the start)",
     )
     words.add_argument(
-        "--retries", metavar="N", type=int, default=2,
+        "--retries",
+        metavar="N",
+        type=int,
+        default=2,
         help="how often a partition is tried again that raised an error (%(default)s)",
     )
     words.add_argument(
-        "--wait", metavar="SECONDS", type=positive, default=60,
+        "--wait",
+        metavar="SECONDS",
+        type=positive,
+        default=60,
         help="how long the scheduler and a first worker are waited for (%(default)s)",
     )
     words.add_argument(
-        "paths", metavar="PATH", nargs="+",
+        "paths",
+        metavar="PATH",
+        nargs="+",
         help="a file of JSON Lines, - for the standard input, or a folder of .json and .jsonl files",
     )
     return words

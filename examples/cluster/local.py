@@ -22,7 +22,9 @@ class Local:
         self.processes: list[subprocess.Popen[bytes]] = []
         self._folder = folder
         self._stack = stack
-        self._start("dask_scheduler", "--host", "127.0.0.1", "--port", "0", "--scheduler-file", str(self.scheduler_file))
+        self._start(
+            "dask_scheduler", "--host", "127.0.0.1", "--port", "0", "--scheduler-file", str(self.scheduler_file)
+        )
         ends = time.monotonic() + PATIENCE
         while not self.scheduler_file.exists():
             if time.monotonic() > ends:
@@ -32,8 +34,16 @@ class Local:
     def add_worker(self) -> None:
         name = f"worker-{len(self.workers) + 1}"
         worker = self._start(
-            "dask_worker", "--scheduler-file", str(self.scheduler_file), "--name", name,
-            "--nthreads", "1", "--no-nanny", "--local-directory", str(self._folder / name),
+            "dask_worker",
+            "--scheduler-file",
+            str(self.scheduler_file),
+            "--name",
+            name,
+            "--nthreads",
+            "1",
+            "--no-nanny",
+            "--local-directory",
+            str(self._folder / name),
         )
         self.workers.append(worker)
         self.names.append(name)

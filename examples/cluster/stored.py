@@ -9,53 +9,86 @@ import sqlite3
 import subprocess
 import sys
 import tempfile
+import time
 from collections.abc import Iterator, Sequence
 from contextlib import closing
 from pathlib import Path
 from urllib.parse import quote
 
-# The media types by the ends of names, the longer ones first, as in adapters/media_types.mjs.
+# The media types by the ends of names, the longer ones first, as in bindings/node/src/document/media_types.mjs.
 MEDIA_TYPES = {
-    ".d.ts": "Dts", ".d.mts": "Dmts", ".d.cts": "Dcts",
-    ".ts": "TypeScript", ".mts": "Mts", ".cts": "Cts", ".tsx": "Tsx",
-    ".js": "JavaScript", ".jsx": "Jsx", ".mjs": "Mjs", ".cjs": "Cjs",
+    ".d.ts": "Dts",
+    ".d.mts": "Dmts",
+    ".d.cts": "Dcts",
+    ".ts": "TypeScript",
+    ".mts": "Mts",
+    ".cts": "Cts",
+    ".tsx": "Tsx",
+    ".js": "JavaScript",
+    ".jsx": "Jsx",
+    ".mjs": "Mjs",
+    ".cjs": "Cjs",
 }
-# An answer of adapters/files.mjs. What is behind the specifier doesn't depend on the file's name.
+# An answer of bindings/node/src/cli/files.mjs. What is behind the specifier doesn't depend on the file's name.
 ANSWER = re.compile(rb'\{"specifier":"(?:[^"\\]|\\.)*",("info":.*\n)')
 # The characters of a path that a URL has as they are, beside letters, digits and `-._`.
 PLAIN = "/!$&'()*+,:;=@"
 # Answers that are written to the store together.
 TOGETHER = 1000
+# How long a run waits while another one writes to the store.
+WAIT_SECONDS = 60.0
 
 DESCRIPTION = """\
 Reads paths of files from the standard input, one a line, and writes a line for each, in their order, as
-adapters/files.mjs does. Only the files without a stored answer go through COMMAND, which reads their
+bindings/node/src/cli/files.mjs does. Only the files without a stored answer go through COMMAND, which reads their
 paths and writes a line for each. An answer is stored under a hash of the file's bytes, its media type
 and VERSION, so a file with another name has it too. A fault isn't stored.
+
+Several runs may use one store at a time.
 
 Status 0; 1 where COMMAND doesn't write a line for each path, or the store or the output can't be
 written: what was stored until then is kept."""
 
 
 class Store:
-    """Answers by their keys, in a file of SQLite."""
+    """Answers by their keys, in a file of SQLite that several runs may use at once.
+
+    A transaction is open only while answers that are there are written. Another run waits for its end.
+    """
 
     def __init__(self, path: str) -> None:
-        self._connection = sqlite3.connect(path)
-        self._connection.execute("CREATE TABLE IF NOT EXISTS answers (key BLOB PRIMARY KEY, answer BLOB)")
+        self._connection = sqlite3.connect(path, timeout=WAIT_SECONDS, isolation_level=None)
+        self._open()
+
+    def _open(self) -> None:
+        """Makes the table, and lets runs read while another writes. SQLite itself doesn't wait with that change."""
+        ends = time.monotonic() + WAIT_SECONDS
+        while True:
+            try:
+                self._connection.execute("PRAGMA journal_mode = WAL")
+                self._connection.execute("CREATE TABLE IF NOT EXISTS answers (key BLOB PRIMARY KEY, answer BLOB)")
+                return
+            except sqlite3.OperationalError as error:
+                if error.sqlite_errorcode & 0xFF != sqlite3.SQLITE_BUSY or time.monotonic() > ends:
+                    raise
+                time.sleep(0.01)
 
     def answer(self, key: bytes | None) -> bytes | None:
         row = self._connection.execute("SELECT answer FROM answers WHERE key = ?", (key,)).fetchone()
         return row and bytes(row[0])
 
-    def keep(self, key: bytes, answer: bytes) -> None:
-        self._connection.execute("INSERT OR REPLACE INTO answers VALUES (?, ?)", (key, answer))
-
-    def commit(self) -> None:
+    def keep(self, answers: list[tuple[bytes, bytes]]) -> None:
+        if not answers:
+            return
+        self._connection.execute("BEGIN IMMEDIATE")
+        try:
+            self._connection.executemany("INSERT OR REPLACE INTO answers VALUES (?, ?)", answers)
+        except BaseException:
+            self._connection.rollback()
+            raise
         self._connection.commit()
 
     def close(self) -> None:
-        self._connection.commit()
         self._connection.close()
 
 
@@ -87,43 +120,64 @@ def lines_of(command: str, paths: list[str]) -> Iterator[bytes]:
         raise RuntimeError(f"{command} read {len(paths)} lines and wrote {count}, status {process.returncode}")
 
 
-def answered(store: Store, version: str, command: str, paths: list[str]) -> Iterator[bytes]:
+def lines_by_path(store: Store, version: str, command: str, paths: list[str]) -> Iterator[bytes]:
     """A line for each path."""
     keys = {path: key_of(path, version) for path in paths}
-    missing = [path for path in paths if store.answer(keys[path]) is None]
-    faults = {}
-    for number, (path, line) in enumerate(zip(missing, lines_of(command, missing), strict=True) if missing else [], 1):
-        answer, key = ANSWER.fullmatch(line), keys[path]
-        # The file may have been changed meanwhile.
-        if answer and key and key == key_of(path, version):
-            store.keep(key, answer[1])
+    faults = analyze_missing(store, version, command, keys)
+    for path, key in ((path, keys[path]) for path in paths):
+        if path in faults:
+            yield faults[path]
+        elif answer := store.answer(key):
+            yield b'{"specifier":"%b",%b' % (url_of(path), answer)
         else:
-            faults[path] = line
-        if number % TOGETHER == 0:
-            store.commit()
-    for path in paths:
-        yield faults.get(path) or b'{"specifier":"%b",%b' % (url_of(path).encode(), store.answer(keys[path]) or b"")
+            raise RuntimeError(f"{path}: its answer was removed from the store during the run")
 
 
-def url_of(path: str) -> str:
-    """As pathToFileURL of node 20 has it. Python's quote leaves each tilde."""
-    return "file://" + quote(str(Path(path).absolute()), safe=PLAIN).replace("~", "%7E")
+def analyze_missing(store: Store, version: str, command: str, keys: dict[str, bytes | None]) -> dict[str, bytes]:
+    """Stores the answers that are missing, and returns the lines of the paths that have a fault."""
+    missing = [path for path, key in keys.items() if store.answer(key) is None]
+    found: list[tuple[bytes, bytes]] = []
+    faults = {}
+    try:
+        for path, line in zip(missing, lines_of(command, missing), strict=True) if missing else []:
+            answer, key = ANSWER.fullmatch(line), keys[path]
+            # The file may have been changed meanwhile.
+            if answer and key and key == key_of(path, version):
+                found.append((key, answer[1]))
+            else:
+                faults[path] = line
+            if len(found) == TOGETHER:
+                store.keep(found)
+                found = []
+    finally:
+        store.keep(found)
+    return faults
+
+
+def url_of(path: str) -> bytes:
+    """As pathToFileURL of node 20 has it, of the path's bytes. Python's quote leaves each tilde."""
+    return b"file://" + quote(os.fsencode(Path(path).absolute()), safe=PLAIN).replace("~", "%7E").encode()
+
+
+def shown(text: str) -> str:
+    """The text with its control characters and undecodable bytes escaped, for a terminal."""
+    return "".join(character if character.isprintable() else ascii(character)[1:-1] for character in text)
 
 
 def main(arguments: Sequence[str] | None = None) -> int:
     words = argparse.ArgumentParser(description=DESCRIPTION, formatter_class=argparse.RawDescriptionHelpFormatter)
     words.add_argument("--version", metavar="VERSION", required=True, help="of the program, the adapter and its parser")
     words.add_argument("store", metavar="STORE", help="a file, which is made where it isn't there")
-    words.add_argument("command", metavar="COMMAND", help="run by a shell, as 'node adapters/files.mjs -'")
+    words.add_argument("command", metavar="COMMAND", help="run by a shell, as 'node bindings/node/src/cli/files.mjs -'")
     options = words.parse_args(arguments)
     paths = [os.fsdecode(path) for path in sys.stdin.buffer.read().split(b"\n") if path]
     try:
         with closing(Store(options.store)) as store:
-            for line in answered(store, options.version, options.command, paths):
+            for line in lines_by_path(store, options.version, options.command, paths):
                 sys.stdout.buffer.write(line)
             sys.stdout.buffer.flush()
     except (OSError, RuntimeError, sqlite3.Error) as error:
-        print(f"stored.py: {error}", file=sys.stderr)
+        print(f"stored.py: {shown(str(error))}", file=sys.stderr)
         return 1
     return 0
 

@@ -33,9 +33,7 @@ class Modinfo:
         length = ctypes.c_size_t()
         while True:
             answer = ctypes.create_string_buffer(room)
-            status = getattr(self.library, name)(
-                document, len(document), answer, room, ctypes.byref(length)
-            )
+            status = getattr(self.library, name)(document, len(document), answer, room, ctypes.byref(length))
             if status != TOO_SMALL:
                 break
             room = length.value

@@ -30,7 +30,9 @@ def files(pytestconfig: pytest.Config) -> list[str]:
     """Paths of files, evenly spread over all that there are."""
     most: int = pytestconfig.getoption("--files")
     every = sorted(
-        str(path) for path in NODE_FILES.rglob("*") if path.suffix in ENDINGS and not path.is_symlink() and path.is_file()
+        str(path)
+        for path in NODE_FILES.rglob("*")
+        if path.suffix in ENDINGS and not path.is_symlink() and path.is_file()
     )
     if len(every) < most:
         pytest.skip(f"{NODE_FILES} has {len(every)} files, not {most}: bench/adapters_setup installs more")
@@ -46,8 +48,10 @@ def folder(tmp_path_factory: pytest.TempPathFactory) -> Path:
 def documents(files: list[str], folder: Path) -> Path:
     """A file with a document for each of the files, with broken ones among them and no line feed at the end."""
     run = subprocess.run(
-        ["node", ROOT / "adapters/typescript.mjs", "--lines", "-"],
-        input="".join(path + "\n" for path in files).encode(), stdout=subprocess.PIPE, stderr=subprocess.PIPE,
+        ["node", ROOT / "bindings/node/src/cli/typescript.mjs", "--lines", "-"],
+        input="".join(path + "\n" for path in files).encode(),
+        stdout=subprocess.PIPE,
+        stderr=subprocess.PIPE,
     )
     lines = run.stdout.splitlines(keepends=True)
     # A file with a syntax error has no document, and two more lines with the place. A warning takes none away.

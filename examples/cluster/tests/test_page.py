@@ -10,7 +10,7 @@ import pytest
 from conftest import ROOT, analyzed
 
 BLOCK = re.compile(r"^```bash\n(.*?)^```$", re.DOTALL | re.MULTILINE)
-PARTS = ["adapters", "bench", "build", "docs", "examples"]
+PARTS = ["bench", "bindings", "build", "docs", "examples"]
 # In the place of ssh: what it would run on the machine that is named, behind the options, runs here, with
 # the environment variable SHELL, which sshd sets and the machine of these tests may lack.
 SSH = """#!/bin/sh
@@ -48,7 +48,7 @@ def path_with_stand_ins(tmp_path: Path) -> str:
     folder.mkdir()
     (folder / "ssh").write_text(SSH)
     (folder / "ssh").chmod(0o755)
-    (folder / "modinfo").symlink_to(ROOT / "build/modinfo")
+    (folder / "module-info").symlink_to(ROOT / "build/modinfo")
     return f"{folder}:{os.environ['PATH']}"
 
 

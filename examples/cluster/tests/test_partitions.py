@@ -50,5 +50,14 @@ def test_files_folders_and_the_standard_input(tmp_path: Path, monkeypatch: pytes
     file.write_bytes(b"2\n\n3")
     monkeypatch.setattr("sys.stdin", io.TextIOWrapper(io.BytesIO(b"4\xff\x0b\n5")))
     assert list(read_lines([str(folder), str(file), "-"])) == [
-        b'{  "a":1 } \n', b"{}\n", b"\r\n", b"[]\n", b"1\n", b"2\n", b"\n", b"3\n", b"4\xff\x0b\n", b"5\n",
+        b'{  "a":1 } \n',
+        b"{}\n",
+        b"\r\n",
+        b"[]\n",
+        b"1\n",
+        b"2\n",
+        b"\n",
+        b"3\n",
+        b"4\xff\x0b\n",
+        b"5\n",
     ]

@@ -56,11 +56,13 @@ def test_lines_through_a_command(cluster: Local, documents: Path, answers: bytes
     assert run(cluster, *words, documents).stdout == answers
 
 
-def test_files_through_the_adapter(cluster: Local, files: list[str], environment: dict[str, str], tmp_path: Path) -> None:
+def test_files_through_the_adapter(
+    cluster: Local, files: list[str], environment: dict[str, str], tmp_path: Path
+) -> None:
     some = files[:20]
     paths = tmp_path / "paths"
     paths.write_text("".join(path + "\n" for path in some))
-    adapter = ["node", str(ROOT / "adapters/files.mjs")]
+    adapter = ["node", str(ROOT / "bindings/node/src/cli/files.mjs")]
     wanted = subprocess.run([*adapter, *some], env=environment, stdout=subprocess.PIPE, stderr=subprocess.DEVNULL)
     through = f"MODINFO={environment['MODINFO']} {' '.join(adapter)} --jobs 1 - 2>&-"
     assert run(cluster, "--pipe", through, "--partition-lines", "9", paths).stdout == wanted.stdout
@@ -76,7 +78,14 @@ def test_a_command_that_answers_other_than_line_by_line(cluster: Local, through:
 def test_a_command_that_ends_its_worker_again_and_again(tmp_path: Path) -> None:
     """Dask gives a task up that was there when four workers ended."""
     with local_cluster(tmp_path, 5) as cluster:
-        words = ("--pipe", "read line; [ $line = a ] || kill -9 $PPID; echo b", "--partition-lines", "1", "--window", "1")
+        words = (
+            "--pipe",
+            "read line; [ $line = a ] || kill -9 $PPID; echo b",
+            "--partition-lines",
+            "1",
+            "--window",
+            "1",
+        )
         done = run(cluster, *words, "-", input=b"a\nc\na\n")
     assert (done.returncode, done.stdout) == (FAILED, b"b\n")
     assert done.stderr.startswith(b"analyze.py: lines 2 to 2: KilledWorker: ")
@@ -119,7 +128,9 @@ def test_that_help_says_what_is_read_and_written() -> None:
 def test_that_no_scheduler_answers(tmp_path: Path) -> None:
     done = subprocess.run(
         [sys.executable, PROGRAM, "--wait", "1", "--scheduler", "tcp://127.0.0.1:1", "-"],
-        input=b"", stdout=subprocess.PIPE, stderr=subprocess.PIPE,
+        input=b"",
+        stdout=subprocess.PIPE,
+        stderr=subprocess.PIPE,
     )
     assert (done.returncode, done.stdout) == (FAILED, b"")
     assert done.stderr.startswith(b"analyze.py: ") and b"127.0.0.1:1" in done.stderr

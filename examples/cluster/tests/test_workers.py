@@ -5,6 +5,8 @@ import signal
 import subprocess
 import threading
 import time
+from collections.abc import Iterator
+from contextlib import contextmanager
 from pathlib import Path
 from typing import IO
 
@@ -34,21 +36,32 @@ def test_a_worker_that_is_killed_with_work_in_its_hands(documents: Path, answers
     beginning, rest = lines[: len(lines) // 3], lines[len(lines) // 3 :]
     with local_cluster(tmp_path, 2) as cluster, Client(scheduler_file=str(cluster.scheduler_file)) as client:
         client.wait_for_workers(2, timeout=PATIENCE)
-        program = subprocess.Popen(command(cluster, *SMALL, "-"), stdin=subprocess.PIPE, stdout=subprocess.PIPE)
-        assert program.stdin is not None and program.stdout is not None
-        written = Written(program.stdout)
-        program.stdin.writelines(beginning)
-        program.stdin.flush()
-        written.wait_for_a_line()
-        os.kill(cluster.workers[0].pid, signal.SIGSTOP)
-        feeder = threading.Thread(target=feed, args=(program.stdin, rest))
-        feeder.start()
-        wait_until_held(client, cluster, program)
-        os.kill(cluster.workers[0].pid, signal.SIGKILL)
-        feeder.join()
-        assert program.wait() == 0
-        assert len(client.nthreads()) == 1
-        assert written.whole() == answers
+        with killed_at_the_end(
+            subprocess.Popen(command(cluster, *SMALL, "-"), stdin=subprocess.PIPE, stdout=subprocess.PIPE)
+        ) as program:
+            assert program.stdin is not None and program.stdout is not None
+            written = Written(program.stdout)
+            program.stdin.writelines(beginning)
+            program.stdin.flush()
+            written.wait_for_a_line()
+            os.kill(cluster.workers[0].pid, signal.SIGSTOP)
+            feeder = threading.Thread(target=feed, args=(program.stdin, rest), daemon=True)
+            feeder.start()
+            wait_until_held(client, cluster, program)
+            os.kill(cluster.workers[0].pid, signal.SIGKILL)
+            feeder.join()
+            assert program.wait(timeout=PATIENCE) == 0
+            assert len(client.nthreads()) == 1
+            assert written.whole() == answers
+
+
+@contextmanager
+def killed_at_the_end(program: subprocess.Popen[bytes]) -> Iterator[subprocess.Popen[bytes]]:
+    """So that a test that fails doesn't wait for the program."""
+    try:
+        yield program
+    finally:
+        program.kill()
 
 
 class Written:
@@ -74,12 +87,14 @@ def feed(stream: IO[bytes], lines: list[bytes]) -> None:
 
 
 def wait_until_held(client: Client, cluster: Local, program: subprocess.Popen[bytes]) -> None:
-    """Waits until the first worker was given a partition."""
+    """Waits until the first worker was given a partition, or has the answers of one that nobody took yet."""
     [address] = [
         address for address, worker in client.scheduler_info()["workers"].items() if worker["name"] == cluster.names[0]
     ]
-    while not client.processing()[address]:
+    end = time.monotonic() + PATIENCE
+    while not client.processing()[address] and not client.has_what()[address]:
         assert program.poll() is None
+        assert time.monotonic() < end, "the worker was given nothing"
         time.sleep(0.01)
 
 

@@ -1,0 +1,88 @@
+#!/usr/bin/env node
+/**
+ * Measures what reports cost: to make, and in a browser.
+ *
+ *     node bench/report.mjs [--jobs N] [--program FILE] FOLDER ..
+ *
+ * `--program` names another report.mjs, as that of an older clone. In the place of a folder there
+ * may be a page that is made already, whose name ends in .html, with an address in it after `#`.
+ */
+
+import { spawn } from "node:child_process";
+import { mkdtempSync, readFileSync, rmSync, statSync } from "node:fs";
+import { tmpdir } from "node:os";
+import { basename, join, resolve } from "node:path";
+import { fileURLToPath, pathToFileURL } from "node:url";
+import { parseArgs } from "node:util";
+
+import { Browser } from "../bindings/node/tests/browser/browser.mjs";
+import { pageCost } from "./report_page.mjs";
+
+const PROGRAM = fileURLToPath(new URL("../bindings/node/src/cli/report.mjs", import.meta.url));
+
+const COLUMNS = [
+  "", "made in, s", "memory, MB", "page, MB", "opens in, s", "longest task then, ms",
+  "key in the filter, ms", "of that the script, ms", "longest task at the graph, ms",
+];
+
+const { values, positionals } = parseArgs({
+  options: { jobs: { type: "string" }, program: { type: "string", default: PROGRAM } },
+  allowPositionals: true,
+});
+const temporary = mkdtempSync(join(tmpdir(), "bench-report-"));
+const browser = await Browser.start({ width: 1400, height: 760 });
+try {
+  print(COLUMNS);
+  print(COLUMNS.map(() => "---"));
+  for (const path of positionals) {
+    const [file, hash = ""] = path.split("#");
+    const made = file.endsWith(".html") ? { page: resolve(file) } : await make(file);
+    const url = `${pathToFileURL(made.page).href}#${hash}`;
+    const { open, openTask, key, keyWork, hoverTask } = await pageCost(browser, url);
+    print([
+      basename(path), made.seconds?.toFixed(1) ?? "", made.memory?.toFixed(0) ?? "",
+      (statSync(made.page).size / 1e6).toFixed(2), (open / 1000).toFixed(2),
+      openTask.toFixed(0), key.toFixed(0), keyWork.toFixed(0), hoverTask.toFixed(0),
+    ]);
+  }
+} finally {
+  await browser.close();
+  rmSync(temporary, { recursive: true });
+}
+
+/** @param {string[]} cells */
+function print(cells) {
+  process.stdout.write(`| ${cells.join(" | ")} |\n`);
+}
+
+/**
+ * Makes a report.
+ * @param {string} folder
+ * @returns {Promise<{ page: string, seconds: number, memory: number }>} the memory is the largest
+ *   resident set, in MB
+ */
+async function make(folder) {
+  const page = join(temporary, `${basename(folder)}.html`);
+  const jobs = values.jobs ? ["--jobs", values.jobs] : [];
+  const start = performance.now();
+  const words = [values.program, ...jobs, "-o", page, folder];
+  const child = spawn(process.execPath, words, { stdio: ["ignore", "ignore", "inherit"] });
+  let memory = 0;
+  const watch = setInterval(() => (memory = Math.max(memory, peakOf(child.pid))), 100);
+  await new Promise((end) => child.once("close", end));
+  clearInterval(watch);
+  return { page, seconds: (performance.now() - start) / 1000, memory };
+}
+
+/**
+ * @param {number | undefined} pid
+ * @returns {number} the largest resident set of a process so far, in MB; 0 where it has ended
+ */
+function peakOf(pid) {
+  try {
+    const [, kilobytes] = /^VmHWM:\s+(\d+)/m.exec(readFileSync(`/proc/${pid}/status`, "utf8")) ?? [];
+    return Number(kilobytes ?? 0) / 1000;
+  } catch {
+    return 0;
+  }
+}

@@ -1,0 +1,324 @@
+"""Builds crates of the repository with the kit's prover, each once those below it are built."""
+
+import fcntl
+import os
+import shutil
+import signal
+import subprocess
+import sys
+from collections.abc import Callable, Iterator
+from contextlib import contextmanager
+from dataclasses import dataclass
+from pathlib import Path
+from types import FrameType
+
+from sources import ROOT, BuildError, Closure, Crate, set_time
+
+# Where builds log, and where what was built of each crate is: of a library its statements without their proofs, which
+# is all that the crates above it load.
+STAGE = ROOT / "build/unfinished"
+BUILT = ROOT / "build/crates"
+
+# A crate takes time for its code and for loading the crates below: for a byte of code about as much as for so many
+# bytes below.
+WEIGHT_OF_CODE = 30
+KILOBYTES_FOR_A_CRATE = 4_000_000
+ENDING_SIGNALS = (signal.SIGHUP, signal.SIGINT, signal.SIGTERM)
+
+
+@dataclass(frozen=True)
+class Kit:
+    folder: Path
+    version: str
+
+    @staticmethod
+    def find() -> "Kit":
+        return Kit(Path(printed("rt", "doc")).parent, printed("rt", "version"))
+
+
+def printed(*command: str) -> str:
+    """What a command prints, without its last line feed."""
+    try:
+        return subprocess.run(command, stdout=subprocess.PIPE, check=True, text=True).stdout.rstrip("\n")
+    except OSError as error:
+        raise BuildError(f"{command[0]} can't be run: {error.strerror}") from error
+    except subprocess.CalledProcessError as error:
+        raise BuildError(f"{' '.join(command)} ended with status {error.returncode}") from error
+
+
+@dataclass(frozen=True)
+class Target:
+    """A processor to build for: the prover's name of it, what the names of its tools begin with, and its folder below
+    build/. Those of this machine's processor are empty."""
+
+    name: str | None
+    prefix: str
+    folder: str
+
+    def tool(self, name: str) -> str:
+        return "cc" if name == "gcc" and not self.prefix else self.prefix + name
+
+    def compiled(self, *names: str) -> list[Path]:
+        """Object files of C files of tools/, which have the functions that the kit has an archive of for x86-64."""
+        objects = []
+        for name in names:
+            objects.append(STAGE / f"{name}.o")
+            run(self.tool("gcc"), "-O2", "-fPIC", "-c", "-o", objects[-1], ROOT / f"tools/{name}.c")
+        return objects
+
+
+TARGETS = {
+    "x86_64": Target(None, "", ""),
+    "aarch64": Target("aarch64-unknown-linux-gnu", "aarch64-linux-gnu-", "aarch64/"),
+}
+
+
+def run(*words: str | Path) -> None:
+    """Runs a command that has to succeed."""
+    status = subprocess.run(words, check=False).returncode
+    if status != 0:
+        raise BuildError(f"{words[0]} ended with status {status}")
+
+
+def need(*tools: str) -> None:
+    for tool in tools:
+        if not shutil.which(tool):
+            raise BuildError(f"{tool} is not on the path")
+
+
+@contextmanager
+def locked(script: str) -> Iterator[None]:
+    """One build at a time: waits for another one."""
+    BUILT.mkdir(parents=True, exist_ok=True)
+    lock = os.open(BUILT, os.O_RDONLY)
+    try:
+        try:
+            fcntl.flock(lock, fcntl.LOCK_EX | fcntl.LOCK_NB)
+        except BlockingIOError:
+            print(f"{script}: waiting for another build", file=sys.stderr, flush=True)
+            fcntl.flock(lock, fcntl.LOCK_EX)
+        yield
+    finally:
+        os.close(lock)
+
+
+@contextmanager
+def staged() -> Iterator[None]:
+    """A folder for what isn't finished, which goes at the end, also where a signal ends the script."""
+
+    def end(number: int, _: FrameType | None) -> None:
+        sys.exit(128 + number)
+
+    for number in ENDING_SIGNALS:
+        if signal.getsignal(number) != signal.SIG_IGN:
+            signal.signal(number, end)
+    shutil.rmtree(STAGE, ignore_errors=True)
+    STAGE.mkdir(parents=True)
+    start = STAGE / "start"
+    start.touch()
+    # What is built counts as as old as the beginning of the build, or as the file that BEGUN names.
+    if os.environ.get("BEGUN"):
+        set_time(start, Path(os.environ["BEGUN"]))
+    try:
+        yield
+    finally:
+        shutil.rmtree(STAGE, ignore_errors=True)
+
+
+def keep(made: Path, name: str, closure: Closure) -> None:
+    """Puts what was built into build/, as new as the sources were that it is built from."""
+    (STAGE / "sources").write_bytes(closure.listing())
+    shutil.copy(made, STAGE / "made")
+    set_time(STAGE / "made", STAGE / "start")
+    os.replace(STAGE / "sources", ROOT / f"build/{name}.sources")
+    os.replace(STAGE / "made", ROOT / f"build/{name}")
+
+
+def inputs(kit: Kit, closure: Closure, crate: Crate, built: Path = BUILT) -> list[str]:
+    """The words that the prover needs for each command on a crate: its root, and what it is checked over."""
+    words = ["--crate-name", crate.name, "--links", f"{crate.name}="]
+    words += ["--antt-project", f"{kit.folder}/rattle/logic/antt-project.json"]
+    words += ["--logic-built", f"{kit.folder}/logic_built", "--extern", f"std={kit.folder}/rlibs/std.rlib"]
+    words += ["-L", f"dependency={kit.folder}/rlibs", "-L", f"dependency={built}"]
+    for library in crate.libraries:
+        folder = built if closure.is_own(library) else kit.folder / "rlibs"
+        words += ["--extern", f"{library}={folder}/{library}.rlib"]
+    if crate.is_static_library:
+        words += ["--crate-type", "staticlib"]
+    return [*words, "src/main.rt" if crate.is_program else "src/lib.rt"]
+
+
+def prover(
+    kit: Kit, closure: Closure, crate: Crate, jobs: int, built: Path = BUILT, target: str | None = None
+) -> list[str]:
+    """The command that builds a crate, in its folder. `target` is that of a program or a static library."""
+    words = [str(kit.folder / "bin/rattle"), "build", *inputs(kit, closure, crate, built), "--jobs", str(jobs)]
+    compiled = [
+        *(["--target", target] if target else []),
+        "--toolchain",
+        f"{kit.folder}/toolchain",
+        "--backend",
+        "llvm",
+    ]
+    if crate.is_program:
+        return [*words, *compiled, "-o", str(object_of(crate.name, target, built))]
+    if crate.is_static_library:
+        return [*words, *compiled, "-o", str(archive_of(crate.name, target, built))]
+    return [*words, "--statements", "-o", f"{built}/{crate.name}.rlib"]
+
+
+def archive_of(name: str, target: str | None, built: Path = BUILT) -> Path:
+    """The archive of a static library, for the processor of this machine or for another target."""
+    return built / (f"lib{name}.{target}.a" if target else f"lib{name}.a")
+
+
+def object_of(name: str, target: str | None, built: Path = BUILT) -> Path:
+    """The object file of a program."""
+    return built / (f"{name}.{target}.o" if target else f"{name}.o")
+
+
+class Build:
+    """A build of the crates of a closure that aren't built yet: of all, or of those that are named. `target` is that of
+    a program or a static library; what other libraries are built to is the same for each."""
+
+    def __init__(
+        self, closure: Closure, kit: Kit, script: str, names: set[str] | None = None, target: str | None = None
+    ) -> None:
+        self._closure = closure
+        self._target = target
+        self._kit = kit
+        self._script = script
+        self._crates = [crate for crate in by_work_left(closure) if names is None or crate.name in names]
+        self._checksums = {crate.name: crate.checksum() for crate in self._crates}
+        self._state: dict[str, str] = {}
+        self._running: dict[int, tuple[Crate, subprocess.Popen[bytes], int]] = {}
+        self._idle = int(printed("nproc"))
+        self._limit = crates_at_once(self._idle)
+
+    def run(self) -> None:
+        """Raises BuildError where a crate isn't built, after what its build printed."""
+        try:
+            while len(self._state) < len(self._crates) or self._running:
+                self._start_crates()
+                if self._running or len(self._state) < len(self._crates):
+                    self._end_crate()
+        finally:
+            self._end_all()
+
+    def _start_crates(self) -> None:
+        """The more crates with more left to build run already, the fewer processors a crate takes from them. It has two
+        jobs, which take more processor time in all than one, where a processor is left that no other crate that is
+        ready needs."""
+        self._find_built()
+        waiting = sum(self._is_waiting(crate) for crate in self._crates)
+        ahead = 0
+        for crate in self._crates:
+            if self._state.get(crate.name) == "running":
+                ahead += 1
+            elif len(self._running) < self._limit and self._is_waiting(crate):
+                waiting -= 1
+                self._start(crate, niceness=5 * ahead, jobs=2 if self._idle - waiting > 1 else 1)
+                ahead += 1
+
+    def _find_built(self) -> None:
+        """Passes over the libraries that an earlier build has left."""
+        for crate in self._crates:
+            if self._is_waiting(crate) and self._is_built(crate):
+                self._state[crate.name] = "built"
+
+    def _is_waiting(self, crate: Crate) -> bool:
+        lower = self._closure.below(crate)
+        return crate.name not in self._state and all(self._state.get(other.name) == "built" for other in lower)
+
+    def _is_built(self, crate: Crate) -> bool:
+        stamp = stamp_of(crate)
+        return (BUILT / f"{crate.name}.rlib").is_dir() and stamp.exists() and stamp.read_text() == self._stamp(crate)
+
+    def _stamp(self, crate: Crate) -> str:
+        """What a library is built from: the kit, and each crate with its line of crates.txt."""
+        lines = [f"{each.line} {self._checksums[each.name]}" for each in [*self._closure.below(crate), crate]]
+        return "".join(f"{line}\n" for line in [self._kit.version, *lines])
+
+    def _start(self, crate: Crate, niceness: int, jobs: int) -> None:
+        self._state[crate.name] = "running"
+        print(
+            f"{self._script}: building crate {len(self._state)} of {len(self._crates)}, {crate.name}",
+            file=sys.stderr,
+            flush=True,
+        )
+        stamp_of(crate).unlink(missing_ok=True)
+        command = ["nice", "-n", str(niceness), *prover(self._kit, self._closure, crate, jobs, target=self._target)]
+        with open(log_of(crate), "wb") as log:
+            process = subprocess.Popen(command, cwd=crate.folder, stdin=subprocess.DEVNULL, stdout=log, stderr=log)
+        self._running[process.pid] = (crate, process, jobs)
+        self._idle -= jobs
+
+    def _end_crate(self) -> None:
+        """A library counts as built from its sources only where they, and those below, are still what they were."""
+        if not self._running:
+            raise BuildError("crates.txt has crates that need one another")
+        ended = os.waitid(os.P_ALL, 0, os.WEXITED | os.WNOWAIT)
+        assert ended is not None
+        crate, process, jobs = self._running.pop(ended.si_pid)
+        status = process.wait()
+        self._idle += jobs
+        if status != 0:
+            sys.stderr.write(log_of(crate).read_text(errors="backslashreplace"))
+            # As a shell counts them, with 128 for a signal.
+            status = status if status > 0 else 128 - status
+            raise BuildError(f"crate {crate.name} isn't built: the prover ended with status {status}")
+        self._state[crate.name] = "built"
+        lower = self._closure.below(crate)
+        if crate.checksum() == self._checksums[crate.name] and all(stamp_of(other).exists() for other in lower):
+            written = STAGE / f"{crate.name}.stamp"
+            written.write_text(self._stamp(crate))
+            os.replace(written, stamp_of(crate))
+
+    def not_built(self) -> list[Crate]:
+        """The crates that aren't built from their sources as they are, and those below them."""
+        return [crate for crate in self._crates if not self._is_built(crate)]
+
+    def _end_all(self) -> None:
+        for _, process, _ in self._running.values():
+            process.terminate()
+        for _, process, _ in self._running.values():
+            process.wait()
+        self._running.clear()
+
+
+def stamp_of(crate: Crate) -> Path:
+    return BUILT / f"{crate.name}.stamp"
+
+
+def log_of(crate: Crate) -> Path:
+    return STAGE / f"{crate.name}.log"
+
+
+def crates_at_once(processors: int) -> int:
+    """At most a crate for each processor, and for each four gigabytes of memory."""
+    with open("/proc/meminfo") as file:
+        [kilobytes] = [int(line.split()[1]) for line in file if line.startswith("MemTotal")]
+    return max(1, min(processors, kilobytes // KILOBYTES_FOR_A_CRATE))
+
+
+def by_work_left(closure: Closure) -> list[Crate]:
+    """First the crate that the most is left to build with, up to the last one."""
+    left: dict[str, int] = {}
+    for crate in reversed(closure.crates):
+        if not crate.folder.is_dir():
+            raise BuildError(f"crates.txt names {crate.name}, and there is no folder crates/{crate.name}")
+        below = closure.below(crate)
+        work = left.get(crate.name, 0) + WEIGHT_OF_CODE * crate.size("src")
+        left[crate.name] = work + sum(lower.size("src", "specs", "proofs") for lower in below)
+        for lower in below:
+            left[lower.name] = max(left.get(lower.name, 0), left[crate.name])
+    return sorted(closure.crates, key=lambda crate: (-left[crate.name], crate.name))
+
+
+def run_script(script: str, main: Callable[[], int]) -> int:
+    """The status of a script. Errors are one line on the error output."""
+    try:
+        return main()
+    except (BuildError, OSError) as error:
+        print(f"{script}: {error}", file=sys.stderr)
+        return 1

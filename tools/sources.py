@@ -1,0 +1,171 @@
+"""The crates of the repository, their sources, and whether what was built from them is as new as they are.
+
+    python3 tools/sources.py is-current CRATE NAME
+
+has status 0 where build/NAME was made from the sources of the crate as they are, and else 1.
+"""
+
+import hashlib
+import os
+import re
+import sys
+from collections.abc import Iterator
+from contextlib import suppress
+from dataclasses import dataclass
+from pathlib import Path
+
+ROOT = Path(__file__).resolve().parent.parent
+CRATES_FILE = "crates.txt"
+PARTS = ("src", "specs", "proofs")
+
+
+class BuildError(Exception):
+    """Nothing can be built. The message says why."""
+
+
+@dataclass(frozen=True)
+class Crate:
+    """A crate of the repository, and the libraries that its line of crates.txt names after the colon."""
+
+    name: str
+    line: str
+    libraries: tuple[str, ...]
+
+    @property
+    def folder(self) -> Path:
+        return ROOT / "crates" / self.name
+
+    @property
+    def is_program(self) -> bool:
+        return (self.folder / "src/main.rt").exists()
+
+    @property
+    def is_static_library(self) -> bool:
+        return re.match(r"\w+ +staticlib\b", self.line) is not None
+
+    def parts(self) -> list[str]:
+        """Its folders of sources, relative to the repository."""
+        return [f"crates/{self.name}/{part}" for part in PARTS if (self.folder / part).is_dir()]
+
+    def size(self, *parts: str) -> int:
+        """The bytes of the files in some of its folders."""
+        paths = [path for part in parts for path in walk(f"crates/{self.name}/{part}")]
+        return sum(os.lstat(ROOT / path).st_size for path in paths if is_file(path))
+
+    def checksum(self) -> str:
+        """A checksum of the names and the bytes of its sources."""
+        files = sorted((path for part in self.parts() for path in walk(part) if is_file(path)), key=os.fsencode)
+        whole = hashlib.sha256()
+        for path in files:
+            digest = hashlib.sha256((ROOT / path).read_bytes()).hexdigest()
+            whole.update(digest.encode() + b"  " + os.fsencode(path) + b"\n")
+        return f"{whole.hexdigest()}  -"
+
+
+def walk(part: str) -> Iterator[str]:
+    """A folder and all that is in it, or a file, relative to the repository. Links aren't followed."""
+    yield part
+    for folder, folders, files in os.walk(ROOT / part):
+        below = os.path.relpath(folder, ROOT)
+        yield from (f"{below}/{name}" for name in [*folders, *files])
+
+
+def is_file(path: str) -> bool:
+    return os.path.isfile(ROOT / path) and not os.path.islink(ROOT / path)
+
+
+def read_crates() -> dict[str, Crate]:
+    crates = {}
+    for text in (ROOT / CRATES_FILE).read_text().splitlines():
+        line = text.strip().partition("#")[0]
+        before, colon, after = line.partition(":")
+        if colon:
+            name = before.split(" ")[0]
+            crates[name] = Crate(name, line, tuple(after.split()))
+    return crates
+
+
+class Closure:
+    """The crates that one is built from: itself and all below it, each after those below it."""
+
+    def __init__(self, target: str) -> None:
+        self._known = read_crates()
+        self._below: dict[str, list[Crate]] = {}
+        self._add(target)
+        self.crates = [self._known[name] for name in self._below]
+
+    def _add(self, name: str) -> None:
+        if name in self._below:
+            return
+        if name not in self._known:
+            raise BuildError(f"{CRATES_FILE} has no crate {name}")
+        below: dict[str, Crate] = {}
+        self._below[name] = []
+        for library in self._known[name].libraries:
+            if self.is_own(library):
+                self._add(library)
+                below |= {crate.name: crate for crate in [*self._below[library], self._known[library]]}
+        # In its place after those below it.
+        del self._below[name]
+        self._below[name] = list(below.values())
+
+    def is_own(self, library: str) -> bool:
+        """Whether a library is one of the repository, and not of the kit."""
+        return library in self._known
+
+    def below(self, crate: Crate) -> list[Crate]:
+        """All crates that one needs, directly or not."""
+        return self._below[crate.name]
+
+    def parts(self) -> list[str]:
+        return [CRATES_FILE, *(part for crate in self.crates for part in crate.parts())]
+
+    def listing(self) -> bytes:
+        """The folders and files that it is built from, relative to the repository, each with a zero byte."""
+        paths = [
+            *(f"crates/{crate.name}" for crate in self.crates),
+            *(path for part in self.parts() for path in walk(part)),
+        ]
+        return b"".join(path + b"\0" for path in sorted(map(os.fsencode, paths)))
+
+    def is_current(self, name: str) -> bool:
+        """Whether build/NAME was made from the sources as they are.
+
+        It then counts as new again where only something beside them has changed, so that `modinfo` needs one look at
+        each.
+        """
+        made, sources, looked = (ROOT / f"build/{name}{ending}" for ending in ("", ".sources", ".looked"))
+        if not made.exists() or not sources.exists():
+            return False
+        with suppress(OSError):
+            looked.touch()
+        if sources.read_bytes() != self.listing() or self._has_newer(made):
+            return False
+        with suppress(OSError):
+            set_time(made, looked)
+        return True
+
+    def _has_newer(self, made: Path) -> bool:
+        time = made.stat().st_mtime_ns
+        return any(os.lstat(ROOT / path).st_mtime_ns > time for part in self.parts() for path in walk(part))
+
+
+def set_time(path: Path, reference: Path) -> None:
+    """Gives a file the time of another one."""
+    time = reference.stat()
+    os.utime(path, ns=(time.st_atime_ns, time.st_mtime_ns))
+
+
+def main() -> int:
+    if len(sys.argv) != 4 or sys.argv[1] != "is-current":
+        print("usage: tools/sources.py is-current CRATE NAME", file=sys.stderr)
+        return 2
+    try:
+        return 0 if Closure(sys.argv[2]).is_current(sys.argv[3]) else 1
+    except (BuildError, OSError) as error:
+        print(f"tools/sources.py: {error}", file=sys.stderr)
+        return 1
+
+
+if __name__ == "__main__":
+    sys.exit(main())
