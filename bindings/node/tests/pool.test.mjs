@@ -1,6 +1,7 @@
 /** Worker threads and their tasks. */
 
 import assert from "node:assert/strict";
+import { spawnSync } from "node:child_process";
 import { join } from "node:path";
 import { test } from "node:test";
 import { pathToFileURL } from "node:url";
@@ -214,4 +215,21 @@ test("closing ends a worker that is at work, and rejects its task", async () => 
   await pool.close();
   await lost;
   await assert.rejects(pool.run(0), { name: "WorkerEnd", message: "the pool is closed" });
+});
+
+test("node doesn't end while a pool closes to which a late result comes", () => {
+  const worker = workerOf(`async (task) => (await sleep(10 * task), task)`);
+  const pool = new URL("../src/runtime/pool.mjs", import.meta.url).href;
+  // The second result comes while this thread is busy, so it is there, unread, when the pool closes.
+  const { stdout, stderr, status } = spawnSync(process.execPath, ["--input-type=module", "--eval", `
+    import { Pool } from ${JSON.stringify(pool)};
+    const pool = new Pool(new URL(${JSON.stringify(worker.href)}), { jobs: 1 });
+    const late = pool.run(1).catch(() => {});
+    await pool.run(0);
+    Atomics.wait(new Int32Array(new SharedArrayBuffer(4)), 0, 0, 300);
+    await pool.close();
+    await late;
+    console.log("closed");
+  `]);
+  assert.deepEqual([String(stdout), String(stderr), status], ["closed\n", "", 0]);
 });

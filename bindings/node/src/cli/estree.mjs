@@ -9,7 +9,7 @@ import { ACORN_MEDIA_TYPES } from "../parsers/estree/acorn.mjs";
 import { toDocument } from "../parsers/estree/index.mjs";
 import { run } from "./common/document_command.mjs";
 
-run({
+await run({
   name: "modinfo-estree",
   url: new URL("../parsers/estree/index.mjs", import.meta.url).href,
   parser: "acorn",

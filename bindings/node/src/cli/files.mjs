@@ -156,7 +156,7 @@ async function writeInfo({ path, line, fault }) {
   await writeOutput(line ?? `${JSON.stringify({ specifier: pathToFileURL(path), ...said })}\n`);
 }
 
-runProgram({
+await runProgram({
   name: NAME,
   parser: "typescript",
   help: HELP,

@@ -184,7 +184,7 @@ async function write(path, text) {
   }
 }
 
-runProgram({
+await runProgram({
   name: NAME,
   parser: "typescript",
   help: HELP,

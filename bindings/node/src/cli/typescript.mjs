@@ -9,7 +9,7 @@ import { TYPESCRIPT_MEDIA_TYPES } from "../parsers/typescript/parse.mjs";
 import { toDocument } from "../parsers/typescript/index.mjs";
 import { run } from "./common/document_command.mjs";
 
-run({
+await run({
   name: "modinfo-typescript",
   url: new URL("../parsers/typescript/index.mjs", import.meta.url).href,
   parser: "typescript",

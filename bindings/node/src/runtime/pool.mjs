@@ -194,6 +194,7 @@ export class Pool {
 /** One worker and its tasks; while there are none, it doesn't keep node from ending. */
 class Lane {
   isReady = false;
+  #isClosing = false;
   /** @type {Map<number, Job>} */
   #jobs = new Map();
   /**
@@ -254,7 +255,9 @@ class Lane {
     }
   }
 
+  /** Ends the worker. Until it has ended it keeps node from ending, also where a late result comes. */
   async close() {
+    this.#isClosing = true;
     this.#worker.ref();
     if (this.held > 0) {
       await this.#worker.terminate();
@@ -277,7 +280,7 @@ class Lane {
     this.#timer = undefined;
     this.#onRoom();
     this.#watch();
-    if (this.held === 0) {
+    if (this.held === 0 && !this.#isClosing) {
       this.#worker.unref();
     }
   }
