@@ -101,7 +101,10 @@ fn print_usage<E: Write>(errors: &mut E, unexpected: Option<&str>) {
         None => write_front(errors, b"a command is missing"),
     };
     if is_printed {
-        print_line(errors, "; modinfo --help describes each command, check among them");
+        print_line(
+            errors,
+            "; modinfo --help describes each command, check among them",
+        );
     }
 }
 

@@ -126,7 +126,10 @@ modinfo: unexpected argument "\u{1b}[2J\n"; modinfo --help describes each comman
 
 #[test]
 fn a_failed_write_to_errors_is_passed_over(rt: HostRuntime) {
-    for (word, status, whole) in [("analyze", 1, "modinfo: Json\n"), ("\u{1b}[2J\n", 2, UNEXPECTED)] {
+    for (word, status, whole) in [
+        ("analyze", 1, "modinfo: Json\n"),
+        ("\u{1b}[2J\n", 2, UNEXPECTED),
+    ] {
         for room in 0..=whole.len() {
             let mut errors = FailingWriter {
                 kept: Vec::new(rt.alloc()),
@@ -134,7 +137,13 @@ fn a_failed_write_to_errors_is_passed_over(rt: HostRuntime) {
             };
             let mut output = Vec::new(rt.alloc());
             let mut input = b"".as_slice();
-            let answered = modinfo::serve(rt.alloc(), &[word], &mut input, &mut output, &mut errors);
+            let answered = modinfo::serve(
+                rt.alloc(),
+                &[word],
+                &mut input,
+                &mut output,
+                &mut errors,
+            );
             assert_eq!(rt; answered, status);
             assert!(rt; output.is_empty());
             assert!(rt; whole.as_bytes().starts_with(errors.kept.as_slice()));
