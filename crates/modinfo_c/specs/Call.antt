@@ -1,5 +1,21 @@
 -- What a call leaves in the memory of its caller.
-use Rattle.std.specs.Prelude.{◌≡◌, ℕ, List, ◌++◌, ◌<◌, ◌≤◌, length, drop, Bool, false, Option, None, Some}
+use Rattle.std.specs.Prelude.{
+  ◌≡◌,
+  ◌++◌,
+  ◌<◌,
+  ◌≤◌,
+  ◌==◌,
+  ℕ,
+  List,
+  length,
+  drop,
+  Bool,
+  false,
+  Option,
+  None,
+  Some,
+  if◌then◌else◌,
+}
 use Rattle.modinfo.specs.Fault.{name_of_fault}
 use Rattle.modinfo.specs.Lines.{PrintsLines, lines_of}
 use Rattle.modinfo.specs.declared.fault.Fault.{Fault}
@@ -41,13 +57,14 @@ IsReport line = Unit {0}
 
 -- The command that a number stands for, if it stands for one.
 abbrev pub task_of : ℕ → Option Task
-task_of 0 = Some (Answer Analyze)
-task_of 1 = Some (Answer Convert)
-task_of 2 = Some (Answer Reach)
-task_of 3 = Some (Check Analyze false)
-task_of 4 = Some (Check Convert false)
-task_of 5 = Some (Check Reach false)
-task_of (suc (suc (suc (suc (suc (suc n)))))) = None
+task_of command =
+    if command == 0 then Some (Answer Analyze)
+    else if command == 1 then Some (Answer Convert)
+    else if command == 2 then Some (Answer Reach)
+    else if command == 3 then Some (Check Analyze false)
+    else if command == 4 then Some (Check Convert false)
+    else if command == 5 then Some (Check Reach false)
+    else None
 
 -- The text has what is printed for each line of the documents, in their order.
 abbrev pub IsLinesText : Task → List ℕ → List ℕ → Type 0
