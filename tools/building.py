@@ -87,10 +87,10 @@ def need(*tools: str) -> None:
 
 
 @contextmanager
-def locked(script: str) -> Iterator[None]:
-    """One build at a time: waits for another one."""
-    BUILT.mkdir(parents=True, exist_ok=True)
-    lock = os.open(BUILT, os.O_RDONLY)
+def locked(script: str, folder: Path = BUILT) -> Iterator[None]:
+    """One build in a folder at a time: waits for another one."""
+    folder.mkdir(parents=True, exist_ok=True)
+    lock = os.open(folder, os.O_RDONLY)
     try:
         try:
             fcntl.flock(lock, fcntl.LOCK_EX | fcntl.LOCK_NB)
@@ -102,9 +102,8 @@ def locked(script: str) -> Iterator[None]:
         os.close(lock)
 
 
-@contextmanager
-def staged() -> Iterator[None]:
-    """A folder for what isn't finished, which goes at the end, also where a signal ends the script."""
+def end_at_signals() -> None:
+    """Lets a signal end the script as `sys.exit` does, so that what is to be done at its end is done."""
 
     def end(number: int, _: FrameType | None) -> None:
         sys.exit(128 + number)
@@ -112,6 +111,12 @@ def staged() -> Iterator[None]:
     for number in ENDING_SIGNALS:
         if signal.getsignal(number) != signal.SIG_IGN:
             signal.signal(number, end)
+
+
+@contextmanager
+def staged() -> Iterator[None]:
+    """A folder for what isn't finished. It is removed at the end, also where a signal ends the script."""
+    end_at_signals()
     shutil.rmtree(STAGE, ignore_errors=True)
     STAGE.mkdir(parents=True)
     start = STAGE / "start"

@@ -9,7 +9,7 @@ import hashlib
 import os
 import re
 import sys
-from collections.abc import Iterator
+from collections.abc import Iterable, Iterator
 from contextlib import suppress
 from dataclasses import dataclass
 from pathlib import Path
@@ -43,18 +43,18 @@ class Crate:
     def is_static_library(self) -> bool:
         return re.match(r"\w+ +staticlib\b", self.line) is not None
 
-    def parts(self) -> list[str]:
-        """Its folders of sources, relative to the repository."""
-        return [f"crates/{self.name}/{part}" for part in PARTS if (self.folder / part).is_dir()]
+    def parts(self, names: Iterable[str] = PARTS) -> list[str]:
+        """Its folders of sources, or those of these names, relative to the repository."""
+        return [f"crates/{self.name}/{name}" for name in names if (self.folder / name).is_dir()]
 
     def size(self, *parts: str) -> int:
         """The bytes of the files in some of its folders."""
         paths = [path for part in parts for path in walk(f"crates/{self.name}/{part}")]
         return sum(os.lstat(ROOT / path).st_size for path in paths if is_file(path))
 
-    def checksum(self) -> str:
-        """A checksum of the names and the bytes of its sources."""
-        files = sorted((path for part in self.parts() for path in walk(part) if is_file(path)), key=os.fsencode)
+    def checksum(self, *names: str) -> str:
+        """A checksum of the names and the bytes of its sources, or of those in the folders of these names."""
+        files = sorted((path for part in self.parts(names or PARTS) for path in walk(part) if is_file(path)), key=os.fsencode)
         whole = hashlib.sha256()
         for path in files:
             digest = hashlib.sha256((ROOT / path).read_bytes()).hexdigest()

@@ -43,7 +43,7 @@ make_repository() {
     mkdir -p "$repository/tools" "$ROOM/asked"
     cd "$repository" || exit
     cp "$tools/../modinfo" .
-    cp "$tools"/{building.py,sources.py,build_library,check,prove_modinfo,try_modinfo} tools
+    cp "$tools"/{building.py,linking.py,sources.py,build_library,check,prove_modinfo,try_modinfo} tools
     cat > crates.txt << 'LINES'
 # The program needs all but one.
 modinfo_cli: modinfo
