@@ -162,7 +162,8 @@ def test_that_memory_is_refused(monkeypatch: pytest.MonkeyPatch) -> None:
         ctypes.c_size_t.from_address(length).value = 11
         return _library.FAULT
 
-    monkeypatch.setitem(_library.COMMANDS, "analyze", _library.Command(refuse, refuse))
+    call = _library.Call(refuse, refuse)
+    monkeypatch.setitem(_library.COMMANDS, "analyze", _library.Command(call, call))
     for function in modinfo.check, modinfo.analyze:
         with pytest.raises(modinfo.Fault, match="^OutOfMemory$") as refused:
             function({})

@@ -7,6 +7,7 @@ import pytest
 from repository import ROWS, blocks, check_rows, examples, program_rows
 
 import modinfo
+from modinfo import _library
 from modinfo._lines import BATCH_LINES
 
 
@@ -117,3 +118,19 @@ def test_that_lines_are_read_as_answers_are_asked_for() -> None:
     assert next(answers) == b'{"fault":"Json"}\n'
     assert read == [b"{"]
     assert list(answers) == [b'{"fault":"Input"}\n', b'{"fault":"Json"}\n']
+
+
+@pytest.mark.parametrize("jobs", [1, 2])
+def test_a_document_of_several_lines(jobs: int) -> None:
+    lines = [b"1", b"[\n1,\n2]\n", b"", b"\n"]
+    answers = [b'{"answer":1}\n', b'{"answer":[1,2]}\n', b'{"fault":"Json"}\n', b'{"fault":"Json"}\n']
+    assert list(modinfo.convert_lines(lines, jobs)) == answers
+
+
+def test_that_a_batch_is_one_call(monkeypatch: pytest.MonkeyPatch) -> None:
+    """Where the function of one document would fail, those of many answer."""
+    command = _library.COMMANDS["convert"]
+    one = _library.Call(lambda *arguments: _library.FAULT, command.answer.lines)
+    monkeypatch.setitem(_library.COMMANDS, "convert", _library.Command(one, command.check))
+    lines = [b"%d" % number for number in range(3 * BATCH_LINES)]
+    assert list(modinfo.convert_lines(lines, 2)) == [b'{"answer":%b}\n' % line for line in lines]

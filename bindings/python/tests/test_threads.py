@@ -57,7 +57,7 @@ def test_that_python_s_lock_is_free_during_a_call() -> None:
     interval = sys.getswitchinterval()
     sys.setswitchinterval(1_000_000)
     try:
-        thread = threading.Thread(target=call, args=[_library.COMMANDS["convert"].function])
+        thread = threading.Thread(target=call, args=[_library.COMMANDS["convert"].answer.one])
         thread.start()
         while thread.is_alive() and not seen:
             seen = inside
