@@ -1,5 +1,6 @@
 """Many documents, one a line."""
 
+import threading
 from collections import deque
 from collections.abc import Callable, Iterable, Iterator
 from concurrent.futures import Future, ThreadPoolExecutor
@@ -16,12 +17,15 @@ BATCH_BYTES = 1 << 20
 # Batches under way for each thread: one is worked on, another waits.
 AHEAD = 2
 
+# Each thread's room, since new memory costs more than the analysis of a small document.
+_OF_THREAD = threading.local()
+
 
 def answer_lines(call: Call, frame: Frame, lines: Iterable[Buffer], jobs: int) -> Iterator[bytes]:
     if jobs < 1:
         raise ValueError(f"jobs is a number above zero, not {jobs}")
     if jobs == 1:
-        return _answer_batch(call, frame, _checked(lines))
+        return _answer_batch(call, frame, _checked(lines), Room())
     return _answer_in_threads(call, frame, _batches(_checked(lines)), jobs)
 
 
@@ -32,8 +36,7 @@ def _checked(lines: Iterable[Buffer]) -> Iterator[Buffer]:
         yield line
 
 
-def _answer_batch(call: Call, frame: Frame, lines: Iterable[Buffer]) -> Iterator[bytes]:
-    room = Room()
+def _answer_batch(call: Call, frame: Frame, lines: Iterable[Buffer], room: Room) -> Iterator[bytes]:
     return (_answer(room, call, frame, line) for line in lines)
 
 
@@ -97,16 +100,18 @@ def _next(batches: Iterator[list[Buffer]]) -> list[Buffer] | Exception | None:
 
 def _answer_list(call: Call, frame: Frame, batch: list[Buffer]) -> list[bytes]:
     """The answers to a batch: by one call, or where that can't be by a call for each line."""
-    return _answer_at_once(call, batch) or list(_answer_batch(call, frame, batch))
+    if not hasattr(_OF_THREAD, "room"):
+        _OF_THREAD.room = Room()
+    room: Room = _OF_THREAD.room
+    return _answer_at_once(call, batch, room) or list(_answer_batch(call, frame, batch, room))
 
 
-def _answer_at_once(call: Call, batch: list[Buffer]) -> list[bytes] | None:
+def _answer_at_once(call: Call, batch: list[Buffer], room: Room) -> list[bytes] | None:
     """The answers to a batch. None where a document takes several lines, and where an allocation fails."""
     try:
         lines = [bytes(line).removesuffix(b"\n") for line in batch]
         if any(b"\n" in line for line in lines):
             return None
-        answers = Room().call(call.lines, b"\n".join([*lines, b""])).splitlines(keepends=True)
+        return room.call(call.lines, b"\n".join([*lines, b""])).splitlines(keepends=True)
     except (MemoryError, Refused):
         return None
-    return answers

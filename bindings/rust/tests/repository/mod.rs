@@ -4,7 +4,8 @@ use modinfo::Fault;
 use std::fs;
 use std::path::{Path, PathBuf};
 
-/// One call of one of the functions, and what it has to answer.
+/// One call of one of the functions, and what it has to answer. Each test uses some of its parts.
+#[allow(dead_code)]
 pub struct Call {
     pub name: String,
     pub command: String,
@@ -13,6 +14,7 @@ pub struct Call {
     pub wanted: Result<String, String>,
 }
 
+#[allow(dead_code)]
 impl Call {
     /// What the crate answers.
     pub fn answer(&self) -> Result<String, Fault> {
