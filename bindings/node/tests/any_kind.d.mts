@@ -4,7 +4,7 @@
  */
 
 import type {
-  ByteRange, DynamicTemplatePart, FiledComments, ImportAttributes, JsDocImportInfo, JsString, MediaType, PositionRange,
+  ByteRange, DynamicTemplatePart, FiledComments, ImportAttributes, JsString, MediaType, ModuleInfo, PositionRange,
   Resolution, SpecifierWithRange, StringLiteral,
 } from "../src/index.mjs";
 
@@ -49,15 +49,10 @@ export interface AnyArgument {
   spread?: boolean;
 }
 
-export interface AnyInfo {
+export interface AnyInfo extends Omit<Required<ModuleInfo>, "script" | "dependencies" | "tsReferences"> {
   script?: boolean;
   dependencies: AnyDependency[];
   tsReferences: AnyReference[];
-  selfTypesSpecifier: SpecifierWithRange;
-  jsxImportSource: SpecifierWithRange;
-  jsxImportSourceTypes: SpecifierWithRange;
-  jsdocImports: JsDocImportInfo[];
-  sourceMapUrl: SpecifierWithRange;
 }
 
 export interface AnyReference {

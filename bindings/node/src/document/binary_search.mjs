@@ -5,7 +5,7 @@
  * the count.
  * @param {number} count how many indexes there are
  * @param {(index: number) => boolean} isBefore true of the first indexes, maybe none or all, and
- *   false of all behind them
+ *   false of all after them
  * @returns {number} the count where all are before
  */
 export function firstIndex(count, isBefore) {

@@ -43,7 +43,7 @@ export function isAbsoluteUrl(text) {
 }
 
 /**
- * The options that say what a text is.
+ * The options that describe a text.
  * @param {unknown} text
  * @param {{ specifier?: any, mediaType?: any } | undefined} options
  * @param {string[]} mediaTypes those that are read

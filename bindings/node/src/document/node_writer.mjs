@@ -58,7 +58,7 @@ export class NodeWriter {
    * @param {View} view
    * @param {RelevantNodes} relevant
    * @param {boolean} flat whether the nodes inside another are to be beside it, where the
-   *   analysis comes to them in the same order: those inside a call before it, all others behind
+   *   analysis comes to them in the same order: those inside a call before it, all others after it
    */
   constructor(source, view, relevant, flat) {
     this.source = source;

@@ -44,7 +44,7 @@ export class RelevantNodes {
     this.relevant = relevant;
     this.starts = relevant.map(({ node }) => view.from(node));
     this.ends = relevant.map(({ node }) => view.end(node));
-    this.behind = this.#placesBehind();
+    this.following = this.#placesOfFollowing();
   }
 
   /**
@@ -79,14 +79,14 @@ export class RelevantNodes {
         at++;
       } else {
         found.push(this.relevant[at]);
-        at = this.behind[at];
+        at = this.following[at];
       }
     }
     return found;
   }
 
   /**
-   * The place of the first that starts at or behind an offset.
+   * The place of the first that starts at or after an offset.
    * @param {number} offset
    */
   #firstFrom(offset) {
@@ -94,16 +94,16 @@ export class RelevantNodes {
   }
 
   /** For each the place of the next that isn't below it. */
-  #placesBehind() {
-    const behind = new Array(this.relevant.length).fill(this.relevant.length);
+  #placesOfFollowing() {
+    const following = new Array(this.relevant.length).fill(this.relevant.length);
     /** @type {number[]} */
     const open = [];
     this.starts.forEach((start, at) => {
       while (open.length > 0 && this.ends[open[open.length - 1]] <= start) {
-        behind[Number(open.pop())] = at;
+        following[Number(open.pop())] = at;
       }
       open.push(at);
     });
-    return behind;
+    return following;
   }
 }

@@ -1,4 +1,4 @@
-/** Documents that `modinfo check` reads, and what its reports say of places in them. */
+/** Documents that `modinfo check` reads, and the positions in them that its reports have. */
 
 import { LONE_SURROGATE, isWellFormed } from "../document/source.mjs";
 
@@ -40,7 +40,7 @@ export function withPlace(report, document) {
 
 /**
  * @param {Buffer} document
- * @param {number} offset in bytes, behind a character
+ * @param {number} offset in bytes, after a character
  * @returns {TextPlace}
  */
 function placeAt(document, offset) {
@@ -49,7 +49,7 @@ function placeAt(document, offset) {
 }
 
 /**
- * What a report says, for people.
+ * A report in one line, for people.
  * @param {import("./check_report.mjs").FaultReport} report
  * @returns {string} one line, as `Tree at /program: expected a member `body``
  */
