@@ -50,7 +50,7 @@ a line, which \`modinfo analyze --lines\` reads. Example:
   FILE               a file, or - for the standard input
   --specifier URL    the module's; else the file's URL
   --media-type NAME  ${mediaTypes.join(", ")};
-                     else by the file's name, for the standard input ${standard}
+                     else by the file's name, of the standard input by the URL's, else ${standard}
   PATH               a file, a folder, or - for paths from the standard input, one a line
 ${LINE_HELP}  -0, --null         paths from the standard input end with zero bytes
   -h, --help, --version
