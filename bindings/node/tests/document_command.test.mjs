@@ -92,7 +92,7 @@ for (const adapter of ["estree", "typescript"]) {
     ]) {
       const { stdout, stderr, status } = runIn(words);
       assert.deepEqual([stdout, status], ["", 2], words.join(" "));
-      assert.match(stderr, new RegExp(`^${name}: .*(?:usage: ${name} |--[a-z-]+ is )`, "s"));
+      assert.match(stderr, new RegExp(`^${name}: .*(?:usage: ${name} |--[a-z-]+ (?:is|must be) )`, "s"));
     }
   });
 

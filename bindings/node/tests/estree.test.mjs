@@ -164,7 +164,7 @@ test("a tree or a comment without its place is refused", () => {
   /** @param {object} more */
   const refuse = (more) => assert.throws(
     () => toDocument("", { specifier: "file:///a.js", tree: { ...tree, ...more } }),
-    { name: "TypeError", message: "a tree and its comments are to have start and end, or range" },
+    { name: "TypeError", message: "a tree and its comments must have start and end, or range" },
   );
   toDocument("", { specifier: "file:///a.js", tree });
   refuse({ end: undefined });

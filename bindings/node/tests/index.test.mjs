@@ -253,14 +253,14 @@ test("what is no document, no text or no option", async () => {
   const circle = {};
   circle.circle = circle;
   await refused(modinfo.convert(circle), /circular/);
-  await refused(modinfo.moduleInfo(unchecked(1), { specifier: "file:///a.js" }), "the text is to be a string, and is 1");
-  await refused(modinfo.moduleInfo("", unchecked(undefined)), "specifier is to be an absolute URL, and is undefined");
-  await refused(modinfo.moduleInfo("", { specifier: "file:///a.json" }), /^mediaType is to be one of /);
+  await refused(modinfo.moduleInfo(unchecked(1), { specifier: "file:///a.js" }), "the text must be a string, and is 1");
+  await refused(modinfo.moduleInfo("", unchecked(undefined)), "specifier must be an absolute URL, and is undefined");
+  await refused(modinfo.moduleInfo("", { specifier: "file:///a.json" }), /^mediaType must be one of /);
   await modinfo.close();
   for (const options of [
     { program: "" }, { program: 1 }, { jobs: 0 }, { jobs: 1.5 }, { jobs: "2" }, { jobs: Infinity },
   ]) {
-    assert.throws(() => new Modinfo(unchecked(options)), { name: "TypeError", message: /^(program|jobs) is to be / });
+    assert.throws(() => new Modinfo(unchecked(options)), { name: "TypeError", message: /^(program|jobs) must be / });
   }
 });
 

@@ -265,16 +265,16 @@ test("the options are checked", () => {
       // @ts-expect-error a text is a string
       assert.throws(() => adapter(text, { ...options, ...more }), { name: "TypeError", message });
     };
-    refuse(Buffer.from("a"), {}, "the text is to be a string, and is a");
-    refuse("", { specifier: "./a.js" }, 'specifier is to be an absolute URL, and is "./a.js"');
-    refuse("", { specifier: undefined }, "specifier is to be an absolute URL, and is undefined");
-    refuse("", { mediaType: "javascript" }, /^mediaType is to be one of JavaScript, .*, and is "javascript"$/);
+    refuse(Buffer.from("a"), {}, "the text must be a string, and is a");
+    refuse("", { specifier: "./a.js" }, 'specifier must be an absolute URL, and is "./a.js"');
+    refuse("", { specifier: undefined }, "specifier must be an absolute URL, and is undefined");
+    refuse("", { mediaType: "javascript" }, /^mediaType must be one of JavaScript, .*, and is "javascript"$/);
     const unnamed = { specifier: "file:///a", mediaType: undefined };
-    refuse("", unnamed, /^mediaType is to be one of .*, and is undefined$/);
-    refuse("", { mediaType: "Json" }, /^mediaType is to be one of .*, and is "Json"$/);
-    refuse("", { mediaType: "toString" }, /^mediaType is to be one of .*, and is "toString"$/);
+    refuse("", unnamed, /^mediaType must be one of .*, and is undefined$/);
+    refuse("", { mediaType: "Json" }, /^mediaType must be one of .*, and is "Json"$/);
+    refuse("", { mediaType: "toString" }, /^mediaType must be one of .*, and is "toString"$/);
     // @ts-expect-error the options are needed
-    assert.throws(() => adapter(""), { name: "TypeError", message: /^specifier is to be .* undefined$/ });
+    assert.throws(() => adapter(""), { name: "TypeError", message: /^specifier must be .* undefined$/ });
     assert.equal(adapter("", { specifier: "file:///a.mjs?b.cjs" }).mediaType, "Mjs");
   }
 });

@@ -145,7 +145,7 @@ test("a tree is that of the text", () => {
   assert.equal(toDocument("a", options).source, "a");
   const noTree = { ...options, tree: unchecked({}) };
   for (const wrong of [() => toDocument("b", options), () => toDocument("a", noTree)]) {
-    assert.throws(wrong, { name: "TypeError", message: "the tree is to be a SourceFile of the text" });
+    assert.throws(wrong, { name: "TypeError", message: "the tree must be a SourceFile of the text" });
   }
 });
 

@@ -128,7 +128,7 @@ function checkWords(values, paths, question) {
   }
   const folder = entries.find(isFolder);
   if (folder) {
-    throw new UsageFault(`an entry is to be a file, and ${printable(folder)} is a folder`);
+    throw new UsageFault(`an entry must be a file, and ${printable(folder)} is a folder`);
   }
   if (values.resolve && (question || entries.length > 0)) {
     throw new UsageFault("--resolve is for the lines of files; the graph has it by --json");

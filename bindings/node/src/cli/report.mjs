@@ -69,7 +69,7 @@ async function main({ values, positionals }) {
   readJobs(values.jobs);
   const folder = entries.find(isFolder);
   if (folder) {
-    throw new UsageFault(`an entry is to be a file, and ${printable(folder)} is a folder`);
+    throw new UsageFault(`an entry must be a file, and ${printable(folder)} is a folder`);
   }
   checkOutputs(output, dot);
   // The parser's threads take a quarter less memory so, and a sixth more time.
@@ -87,7 +87,7 @@ async function main({ values, positionals }) {
   const found = await reachedOf(project.modules, links, edges, { entries, program });
   const libraries = readLibraries();
   await write(output, drawPage(project, { links, edges, ...found }, libraries));
-  return tellAbsent(libraries) ? 1 : status;
+  return reportAbsent(libraries) ? 1 : status;
 }
 
 /**
@@ -163,11 +163,11 @@ async function reachedOf(modules, links, edges, { entries: paths, program }) {
 }
 
 /**
- * Reports what isn't drawn for want of a library.
+ * Reports what isn't drawn since a library is missing.
  * @param {import("../report/libraries.mjs").Library[]} libraries
  * @returns {boolean} whether there is any
  */
-function tellAbsent(libraries) {
+function reportAbsent(libraries) {
   const absent = libraries.filter(({ fault }) => fault !== undefined);
   for (const { draws, fault } of absent) {
     process.stderr.write(`${NAME}: no ${draws}: ${printableLines(String(fault))}\n`);

@@ -44,7 +44,7 @@ export class RelevantNodes {
     this.relevant = relevant;
     this.starts = relevant.map(({ node }) => view.from(node));
     this.ends = relevant.map(({ node }) => view.end(node));
-    this.following = this.#placesOfFollowing();
+    this.following = this.#indexesOfFollowing();
   }
 
   /**
@@ -86,15 +86,15 @@ export class RelevantNodes {
   }
 
   /**
-   * The place of the first that starts at or after an offset.
+   * The index of the first that starts at or after an offset.
    * @param {number} offset
    */
   #firstFrom(offset) {
     return firstIndex(this.starts.length, (at) => this.starts[at] < offset);
   }
 
-  /** For each the place of the next that isn't below it. */
-  #placesOfFollowing() {
+  /** For each the index of the next that isn't below it. */
+  #indexesOfFollowing() {
     const following = new Array(this.relevant.length).fill(this.relevant.length);
     /** @type {number[]} */
     const open = [];

@@ -59,7 +59,7 @@ export type TypeKind =
 
 export type ReferenceKind = RunKind | TypeKind;
 
-/** A place in a module that names another module. */
+/** A range of a module that names another module. */
 export interface Reference {
   kind: ReferenceKind;
   /** Missing where the text isn't known as a whole. */

@@ -85,6 +85,6 @@ export function withoutExcerpt({ excerpt, ...fault }) {
  *   terminal obeys
  */
 export function describeFault(file, { message, line, column, excerpt }) {
-  const place = line ? `:${line}:${column}` : "";
-  return `${printable(file)}${place}: ${printable(message)}${excerpt ? `\n${excerpt}` : ""}`;
+  const position = line ? `:${line}:${column}` : "";
+  return `${printable(file)}${position}: ${printable(message)}${excerpt ? `\n${excerpt}` : ""}`;
 }

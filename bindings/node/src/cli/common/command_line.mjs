@@ -133,7 +133,7 @@ export function readTimeout(word) {
 function readNumber(option, word, most) {
   const number = /^[1-9]\d{0,15}$/.test(word) ? Number(word) : Infinity;
   if (number > most) {
-    throw new UsageFault(`${option} is to be a number from 1 to ${most}`);
+    throw new UsageFault(`${option} must be a number from 1 to ${most}`);
   }
   return number;
 }

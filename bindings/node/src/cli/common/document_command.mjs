@@ -127,12 +127,12 @@ function readOptions(adapter, { values, positionals: [file, ...others] }) {
   }
   const { specifier = pathToFileURL(file === "-" ? "stdin" : file).href } = values;
   if (!isAbsoluteUrl(specifier)) {
-    throw new UsageFault(`--specifier is to be an absolute URL, and is ${specifier}`);
+    throw new UsageFault(`--specifier must be an absolute URL, and is ${specifier}`);
   }
   const named = mediaTypeOf(file === "-" ? values.specifier : file);
   const mediaType = values["media-type"] ?? named ?? (file === "-" ? adapter.standard : undefined);
   if (!adapter.mediaTypes.includes(mediaType)) {
-    throw new UsageFault(`${file}: --media-type is to be one of ${adapter.mediaTypes.join(", ")}`);
+    throw new UsageFault(`${file}: --media-type must be one of ${adapter.mediaTypes.join(", ")}`);
   }
   return { file, specifier, mediaType, maxBytes: readMaxBytes(maxBytes) };
 }

@@ -159,7 +159,7 @@ function missing({ graph }) {
 
 /** @param {Context} context */
 function why({ graph, entries, values }) {
-  const steps = graph.way(entries, keyOf(values.why));
+  const steps = graph.chain(entries, keyOf(values.why));
   const note = steps.length > 0 ? undefined : `no entry reaches ${values.why}`;
   const data = steps.map(({ module, by }) => ({ module, ...(by && { by: mentionData(by) }) }));
   return { lines: steps.map(stepLine), data: { why: data }, note, status: note ? 1 : 0 };

@@ -129,7 +129,7 @@ export function withoutRemains(compiler, file) {
 
 /**
  * @param {{ statements: Node[] }} file
- * @returns {number} the place of the first statement that was left, below 0 where there is none
+ * @returns {number} the index of the first statement that was left, below 0 where there is none
  */
 function firstRemain({ statements }) {
   return statements.findIndex(({ pos }, at) => at > 0 && pos < statements[at - 1].end);
