@@ -1,4 +1,4 @@
-"""Builds crates of the repository with the kit's prover, each once those below it are built."""
+"""Builds crates of the repository with the kit's prover, each after those below it."""
 
 import fcntl
 import os
@@ -14,13 +14,13 @@ from types import FrameType
 
 from sources import ROOT, BuildError, Closure, Crate, set_time
 
-# Where builds log, and where what was built of each crate is: of a library its statements without their proofs, which
-# is all that the crates above it load.
+# The folder of logs and unfinished files, and the folder of built crates. A built library has its statements without
+# their proofs: the crates above it load nothing else.
 STAGE = ROOT / "build/unfinished"
 BUILT = ROOT / "build/crates"
 
-# A crate takes time for its code and for loading the crates below: for a byte of code about as much as for so many
-# bytes below.
+# The build of a crate takes time for its code, and for loading the crates below it. A byte of code costs as much as so
+# many bytes of the crates below.
 WEIGHT_OF_CODE = 30
 KILOBYTES_FOR_A_CRATE = 4_000_000
 ENDING_SIGNALS = (signal.SIGHUP, signal.SIGINT, signal.SIGTERM)
@@ -37,19 +37,19 @@ class Kit:
 
 
 def printed(*command: str) -> str:
-    """What a command prints, without its last line feed."""
+    """Returns what a command prints, without the last line feed."""
     try:
         return subprocess.run(command, stdout=subprocess.PIPE, check=True, text=True).stdout.rstrip("\n")
     except OSError as error:
-        raise BuildError(f"{command[0]} can't be run: {error.strerror}") from error
+        raise BuildError(f"can't run {command[0]}: {error.strerror}") from error
     except subprocess.CalledProcessError as error:
         raise BuildError(f"{' '.join(command)} ended with status {error.returncode}") from error
 
 
 @dataclass(frozen=True)
 class Target:
-    """A processor to build for: the prover's name of it, what the names of its tools begin with, and its folder below
-    build/. Those of this machine's processor are empty."""
+    """A processor to build for: the prover's name for it, the prefix of the names of its tools, and its folder below
+    build/. All three are empty for this machine's processor."""
 
     name: str | None
     prefix: str
@@ -59,7 +59,7 @@ class Target:
         return "cc" if name == "gcc" and not self.prefix else self.prefix + name
 
     def compiled(self, *names: str) -> list[Path]:
-        """Object files of C files of tools/, which have the functions that the kit has an archive of for x86-64."""
+        """Compiles C files of tools/, and returns the object files. The kit has their functions for x86-64 alone."""
         objects = []
         for name in names:
             objects.append(STAGE / f"{name}.o")
@@ -74,7 +74,7 @@ TARGETS = {
 
 
 def run(*words: str | Path) -> None:
-    """Runs a command that has to succeed."""
+    """Runs a command, and raises BuildError where it fails."""
     status = subprocess.run(words, check=False).returncode
     if status != 0:
         raise BuildError(f"{words[0]} ended with status {status}")
@@ -87,10 +87,10 @@ def need(*tools: str) -> None:
 
 
 @contextmanager
-def locked(script: str) -> Iterator[None]:
-    """One build at a time: waits for another one."""
-    BUILT.mkdir(parents=True, exist_ok=True)
-    lock = os.open(BUILT, os.O_RDONLY)
+def locked(script: str, folder: Path = BUILT) -> Iterator[None]:
+    """One build in a folder at a time: waits for another one."""
+    folder.mkdir(parents=True, exist_ok=True)
+    lock = os.open(folder, os.O_RDONLY)
     try:
         try:
             fcntl.flock(lock, fcntl.LOCK_EX | fcntl.LOCK_NB)
@@ -102,9 +102,8 @@ def locked(script: str) -> Iterator[None]:
         os.close(lock)
 
 
-@contextmanager
-def staged() -> Iterator[None]:
-    """A folder for what isn't finished, which goes at the end, also where a signal ends the script."""
+def end_at_signals() -> None:
+    """Lets a signal end the script as `sys.exit` does, so that what is to be done at its end is done."""
 
     def end(number: int, _: FrameType | None) -> None:
         sys.exit(128 + number)
@@ -112,11 +111,17 @@ def staged() -> Iterator[None]:
     for number in ENDING_SIGNALS:
         if signal.getsignal(number) != signal.SIG_IGN:
             signal.signal(number, end)
+
+
+@contextmanager
+def staged() -> Iterator[None]:
+    """A folder for what isn't finished. It is removed at the end, also where a signal ends the script."""
+    end_at_signals()
     shutil.rmtree(STAGE, ignore_errors=True)
     STAGE.mkdir(parents=True)
     start = STAGE / "start"
     start.touch()
-    # What is built counts as as old as the beginning of the build, or as the file that BEGUN names.
+    # What is built gets the time at which the build began, or that of the file that BEGUN names.
     if os.environ.get("BEGUN"):
         set_time(start, Path(os.environ["BEGUN"]))
     try:
@@ -126,7 +131,7 @@ def staged() -> Iterator[None]:
 
 
 def keep(made: Path, name: str, closure: Closure) -> None:
-    """Puts what was built into build/, as new as the sources were that it is built from."""
+    """Puts a built file into build/, with the time at which the build began."""
     (STAGE / "sources").write_bytes(closure.listing())
     shutil.copy(made, STAGE / "made")
     set_time(STAGE / "made", STAGE / "start")
@@ -135,7 +140,7 @@ def keep(made: Path, name: str, closure: Closure) -> None:
 
 
 def inputs(kit: Kit, closure: Closure, crate: Crate, built: Path = BUILT) -> list[str]:
-    """The words that the prover needs for each command on a crate: its root, and what it is checked over."""
+    """The arguments of each command of the prover on a crate: its root, and the libraries below it."""
     words = ["--crate-name", crate.name, "--links", f"{crate.name}="]
     words += ["--antt-project", f"{kit.folder}/rattle/logic/antt-project.json"]
     words += ["--logic-built", f"{kit.folder}/logic_built", "--extern", f"std={kit.folder}/rlibs/std.rlib"]
@@ -178,8 +183,8 @@ def object_of(name: str, target: str | None, built: Path = BUILT) -> Path:
 
 
 class Build:
-    """A build of the crates of a closure that aren't built yet: of all, or of those that are named. `target` is that of
-    a program or a static library; what other libraries are built to is the same for each."""
+    """Builds the crates of a closure that aren't built yet: all, or the named ones. `target` is that of a program or a
+    static library; other libraries are built to the same files for each target."""
 
     def __init__(
         self, closure: Closure, kit: Kit, script: str, names: set[str] | None = None, target: str | None = None
@@ -196,7 +201,7 @@ class Build:
         self._limit = crates_at_once(self._idle)
 
     def run(self) -> None:
-        """Raises BuildError where a crate isn't built, after what its build printed."""
+        """Builds the crates. Where a build fails, prints its output and raises BuildError."""
         try:
             while len(self._state) < len(self._crates) or self._running:
                 self._start_crates()
@@ -206,9 +211,8 @@ class Build:
             self._end_all()
 
     def _start_crates(self) -> None:
-        """The more crates with more left to build run already, the fewer processors a crate takes from them. It has two
-        jobs, which take more processor time in all than one, where a processor is left that no other crate that is
-        ready needs."""
+        """Starts the crates that are ready. A crate is nicer than those with more left to build. It has two jobs only
+        where a processor is left that no other ready crate needs: two jobs take more processor time than one."""
         self._find_built()
         waiting = sum(self._is_waiting(crate) for crate in self._crates)
         ahead = 0
@@ -221,7 +225,7 @@ class Build:
                 ahead += 1
 
     def _find_built(self) -> None:
-        """Passes over the libraries that an earlier build has left."""
+        """Marks the libraries that an earlier build has built."""
         for crate in self._crates:
             if self._is_waiting(crate) and self._is_built(crate):
                 self._state[crate.name] = "built"
@@ -254,7 +258,7 @@ class Build:
         self._idle -= jobs
 
     def _end_crate(self) -> None:
-        """A library counts as built from its sources only where they, and those below, are still what they were."""
+        """Waits for a crate. Its stamp is written only where its sources, and those below, didn't change meanwhile."""
         if not self._running:
             raise BuildError("crates.txt has crates that need one another")
         ended = os.waitid(os.P_ALL, 0, os.WEXITED | os.WNOWAIT)
@@ -264,7 +268,7 @@ class Build:
         self._idle += jobs
         if status != 0:
             sys.stderr.write(log_of(crate).read_text(errors="backslashreplace"))
-            # As a shell counts them, with 128 for a signal.
+            # A signal as a shell returns it.
             status = status if status > 0 else 128 - status
             raise BuildError(f"crate {crate.name} isn't built: the prover ended with status {status}")
         self._state[crate.name] = "built"
@@ -275,7 +279,7 @@ class Build:
             os.replace(written, stamp_of(crate))
 
     def not_built(self) -> list[Crate]:
-        """The crates that aren't built from their sources as they are, and those below them."""
+        """The crates that aren't built, or whose sources have changed since."""
         return [crate for crate in self._crates if not self._is_built(crate)]
 
     def _end_all(self) -> None:
@@ -302,7 +306,7 @@ def crates_at_once(processors: int) -> int:
 
 
 def by_work_left(closure: Closure) -> list[Crate]:
-    """First the crate that the most is left to build with, up to the last one."""
+    """The crates, in descending order of the work that is left from each to the end of the build."""
     left: dict[str, int] = {}
     for crate in reversed(closure.crates):
         if not crate.folder.is_dir():
@@ -316,7 +320,7 @@ def by_work_left(closure: Closure) -> list[Crate]:
 
 
 def run_script(script: str, main: Callable[[], int]) -> int:
-    """The status of a script. Errors are one line on the error output."""
+    """Returns the exit status of a script. Prints an error as one line on the error output."""
     try:
         return main()
     except (BuildError, OSError) as error:

@@ -1,7 +1,7 @@
 # shellcheck shell=bash
 # Installs packages of Debian, for the setup scripts.
 
-# The status where they can't be had.
+# The status where a package can't be installed.
 unavailable=69
 
 as_root() {
@@ -15,8 +15,9 @@ apt() {
 
 # provide SCRIPT IS_READY COMMAND PACKAGE ..
 #
-# Installs the packages, by `install` or `satisfy` of apt-get, unless the command IS_READY says that all is there: as the
-# lists are, or else by new ones. Where that fails it ends with status 69, and says so in the name of the script.
+# Installs the packages by apt-get's COMMAND, `install` or `satisfy`, unless the function IS_READY returns 0. Tries it with
+# the package lists as they are, and then with new ones. Where both fail, prints an error that begins with SCRIPT, and
+# returns status 69.
 provide() {
     local script=$1 is_ready=$2 command=$3 log status=0
     shift 3
@@ -24,7 +25,7 @@ provide() {
     log=$(mktemp)
     if ! { install_packages "$command" "$@" && "$is_ready"; } > "$log" 2>&1; then
         tail -n 5 "$log" >&2
-        echo "$script: $* can't be had from Debian's packages here" >&2
+        echo "$script: $* can't be installed from Debian's packages" >&2
         status=$unavailable
     fi
     rm -f "$log"

@@ -1,6 +1,6 @@
-/* The three functions by which the library takes memory, from malloc. The kit has an archive of them for x86-64; this
- * file is for the other processors. A request for no bytes takes as many as its alignment, so that each address is one
- * of its own. */
+/* The three functions by which the library allocates memory, with malloc. The kit has an archive of them for x86-64; this
+ * file is for the other processors. A request for no bytes allocates as many as its alignment, so that each address is
+ * different. */
 #include <stdint.h>
 #include <stdlib.h>
 
@@ -14,7 +14,7 @@ struct memory rattle_alloc(size_t size, size_t alignment);
 struct memory rattle_realloc(void *address, size_t old_size, size_t size, size_t alignment);
 void rattle_dealloc(void *address);
 
-/* What an address is where memory is refused. */
+/* The address that is returned where an allocation fails. */
 static char nothing;
 
 static struct memory memory_at(void *address)

@@ -1,17 +1,17 @@
-// Refuses each request for memory of the program that it is loaded into, all in one run.
+// Lets each allocation of the program that it is loaded into fail, all in one run.
 //
-// At each request the program is forked. The child is refused that request (where REFUSE_ALL is set,
-// every later one too) and runs to its end; what it answers is noted, and the parent goes on with the
-// request granted. Where PARTS is set, this is done at those requests alone whose number leaves the
-// rest PART when it is divided by PARTS. At the end of the parent a line with the number of requests
-// goes to the file descriptor that REPORT numbers, and then each answer that a child gave, once:
+// At each allocation the program is forked. In the child the allocation fails (where REFUSE_ALL is set,
+// every later one too), and the child runs to its end. Its output is kept, and the parent goes on with
+// the memory. Where PARTS is set, only the allocations fail whose number modulo PARTS is PART. When the
+// parent ends, it writes to the file descriptor REPORT a line with the number of allocations, and then
+// each different output of a child, once:
 //
 //     requests NUMBER
 //     answer REQUEST COUNT STATUS LENGTH LENGTH
 //
-// REQUEST is the first that had this answer, COUNT how many had it, STATUS the exit status, or 128
-// and the signal. Behind the line are so many bytes of output and of error output. The program's
-// output and error output have to be files.
+// REQUEST is the number of the first allocation with this output, COUNT the number of allocations with
+// it, STATUS the exit status, or 128 plus the signal. The line is followed by the output and the error
+// output, of these lengths. The program's output and error output have to be files.
 #define _GNU_SOURCE
 #include <dlfcn.h>
 #include <fcntl.h>
@@ -120,7 +120,7 @@ static void note(int status, const int copies[2]) {
         }
     }
     if (answer_count == ANSWERS)
-        stop("there are too many answers");
+        stop("there are too many different outputs");
     struct answer *a = &answers[answer_count++];
     *a = (struct answer){.request = requests, .count = 1, .status = status};
     for (int stream = 0; stream < 2; stream++) {
@@ -129,7 +129,7 @@ static void note(int status, const int copies[2]) {
     }
 }
 
-// Whether this process is a child that is refused the request.
+// Whether the allocation fails in this process.
 static int is_refused(void) {
     if (is_granted)
         return 0;

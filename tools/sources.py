@@ -1,15 +1,15 @@
-"""The crates of the repository, their sources, and whether what was built from them is as new as they are.
+"""The crates of the repository, their sources, and whether a built file is as new as its sources.
 
     python3 tools/sources.py is-current CRATE NAME
 
-has status 0 where build/NAME was made from the sources of the crate as they are, and else 1.
+exits with status 0 where build/NAME was made from the current sources of the crate, and else with 1.
 """
 
 import hashlib
 import os
 import re
 import sys
-from collections.abc import Iterator
+from collections.abc import Iterable, Iterator
 from contextlib import suppress
 from dataclasses import dataclass
 from pathlib import Path
@@ -20,7 +20,7 @@ PARTS = ("src", "specs", "proofs")
 
 
 class BuildError(Exception):
-    """Nothing can be built. The message says why."""
+    """An error of a build, with its reason as the message."""
 
 
 @dataclass(frozen=True)
@@ -43,18 +43,20 @@ class Crate:
     def is_static_library(self) -> bool:
         return re.match(r"\w+ +staticlib\b", self.line) is not None
 
-    def parts(self) -> list[str]:
-        """Its folders of sources, relative to the repository."""
-        return [f"crates/{self.name}/{part}" for part in PARTS if (self.folder / part).is_dir()]
+    def parts(self, names: Iterable[str] = PARTS) -> list[str]:
+        """Its folders of sources, or those of these names, relative to the repository."""
+        return [f"crates/{self.name}/{name}" for name in names if (self.folder / name).is_dir()]
 
     def size(self, *parts: str) -> int:
         """The bytes of the files in some of its folders."""
         paths = [path for part in parts for path in walk(f"crates/{self.name}/{part}")]
         return sum(os.lstat(ROOT / path).st_size for path in paths if is_file(path))
 
-    def checksum(self) -> str:
-        """A checksum of the names and the bytes of its sources."""
-        files = sorted((path for part in self.parts() for path in walk(part) if is_file(path)), key=os.fsencode)
+    def checksum(self, *names: str) -> str:
+        """A checksum of the names and the bytes of its sources, or of those in the folders of these names."""
+        files = sorted(
+            (path for part in self.parts(names or PARTS) for path in walk(part) if is_file(path)), key=os.fsencode
+        )
         whole = hashlib.sha256()
         for path in files:
             digest = hashlib.sha256((ROOT / path).read_bytes()).hexdigest()
@@ -63,7 +65,7 @@ class Crate:
 
 
 def walk(part: str) -> Iterator[str]:
-    """A folder and all that is in it, or a file, relative to the repository. Links aren't followed."""
+    """Yields a folder and all that is in it, or a file, relative to the repository. Follows no links."""
     yield part
     for folder, folders, files in os.walk(ROOT / part):
         below = os.path.relpath(folder, ROOT)
@@ -86,7 +88,7 @@ def read_crates() -> dict[str, Crate]:
 
 
 class Closure:
-    """The crates that one is built from: itself and all below it, each after those below it."""
+    """A crate and all crates below it, each after those below it."""
 
     def __init__(self, target: str) -> None:
         self._known = read_crates()
@@ -105,23 +107,23 @@ class Closure:
             if self.is_own(library):
                 self._add(library)
                 below |= {crate.name: crate for crate in [*self._below[library], self._known[library]]}
-        # In its place after those below it.
+        # Moves it after those below it.
         del self._below[name]
         self._below[name] = list(below.values())
 
     def is_own(self, library: str) -> bool:
-        """Whether a library is one of the repository, and not of the kit."""
+        """Whether a library is of the repository, not of the kit."""
         return library in self._known
 
     def below(self, crate: Crate) -> list[Crate]:
-        """All crates that one needs, directly or not."""
+        """All crates that a crate needs, directly or not."""
         return self._below[crate.name]
 
     def parts(self) -> list[str]:
         return [CRATES_FILE, *(part for crate in self.crates for part in crate.parts())]
 
     def listing(self) -> bytes:
-        """The folders and files that it is built from, relative to the repository, each with a zero byte."""
+        """The folders and files of the sources, relative to the repository, each followed by a zero byte."""
         paths = [
             *(f"crates/{crate.name}" for crate in self.crates),
             *(path for part in self.parts() for path in walk(part)),
@@ -129,10 +131,9 @@ class Closure:
         return b"".join(path + b"\0" for path in sorted(map(os.fsencode, paths)))
 
     def is_current(self, name: str) -> bool:
-        """Whether build/NAME was made from the sources as they are.
+        """Whether build/NAME was made from the current sources.
 
-        It then counts as new again where only something beside them has changed, so that `modinfo` needs one look at
-        each.
+        Where it was, sets its time to now, so that `modinfo` only needs to compare times.
         """
         made, sources, looked = (ROOT / f"build/{name}{ending}" for ending in ("", ".sources", ".looked"))
         if not made.exists() or not sources.exists():
@@ -151,7 +152,7 @@ class Closure:
 
 
 def set_time(path: Path, reference: Path) -> None:
-    """Gives a file the time of another one."""
+    """Sets the time of a file to that of another one."""
     time = reference.stat()
     os.utime(path, ns=(time.st_atime_ns, time.st_mtime_ns))
 

@@ -1,6 +1,6 @@
-/* Calls the library as the standard input says, for tests on another processor. A call is a line with the function's
- * name and the document's length, and then the document; what comes of it a line with the status and the length, and
- * then what was written. */
+/* Calls the library, for tests on another processor. The standard input has calls: a line with the function's name and
+ * the document's length, and then the document. For each it prints a line with the status and the length, and then what
+ * the function wrote. */
 #include <stdio.h>
 #include <stdlib.h>
 #include <string.h>

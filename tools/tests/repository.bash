@@ -9,7 +9,7 @@ ROOM=$(mktemp -d)
 export ROOM
 trap 'rm -rf "$ROOM"' EXIT
 repository=$ROOM/repository
-notice="modinfo: this answer comes from a trial without proofs, which takes about a minute; \
+notice="modinfo: this output comes from an unchecked run, without proofs, which takes about a minute; \
 ./modinfo --prove makes the proved program, in about N minutes on two processors"
 passed=0
 
@@ -33,7 +33,7 @@ exit 7
 PROGRAM
     chmod +x "$ROOM"/bin/* "$ROOM/program"
     PATH=$ROOM/bin:$PATH
-    # Of crates that run side by side none can say which was first.
+    # The order of crates that are built side by side isn't known.
     export PROCESSORS=1
 }
 
@@ -43,7 +43,7 @@ make_repository() {
     mkdir -p "$repository/tools" "$ROOM/asked"
     cd "$repository" || exit
     cp "$tools/../modinfo" .
-    cp "$tools"/{building.py,sources.py,build_library,check,prove_modinfo,try_modinfo} tools
+    cp "$tools"/{building.py,linking.py,sources.py,build_library,check,prove_modinfo,try_modinfo} tools
     cat > crates.txt << 'LINES'
 # The program needs all but one.
 modinfo_cli: modinfo
@@ -68,7 +68,7 @@ LINES
     head -c 100000 /dev/zero | tr '\0' '-' > crates/apart/specs/Apart.antt
 }
 
-# Runs a command, and compares its status, its output and its error lines with what has to come.
+# expect NAME STATUS OUTPUT ERRORS COMMAND ..: runs a command, and compares its status, output and error output.
 expect() {
     local name=$1 status=$2 output=$3 errors=$4 came=0
     shift 4
@@ -81,7 +81,7 @@ expect() {
     passed=$((passed + 1))
 }
 
-# Runs a command that has to end with this status, print nothing and say something.
+# expect_refusal NAME STATUS COMMAND ..: the command has to end with this status, print nothing, and print an error.
 expect_refusal() {
     local name=$1 status=$2 came=0
     shift 2
@@ -104,12 +104,12 @@ fail() {
     exit 1
 }
 
-# The lines that a script says while it builds crates in this order.
+# steps SCRIPT CRATE ..: what a script prints while it builds crates in this order.
 steps() {
-    local said=$1 crate number=0
+    local script=$1 crate number=0
     for crate in "${@:2}"; do
         number=$((number + 1))
-        printf '%s' "$said: building crate $number of 6, $crate\n"
+        printf '%s' "$script: building crate $number of 6, $crate\n"
     done
 }
 
@@ -124,12 +124,12 @@ expect_proved() {
     check "$1: no run of rt" [ ! -s "$ROOM/runs" ]
 }
 
-expect_trial() {
+expect_unchecked() {
     printf '%s\n' 'echo tried' 'tried 0' > "$ROOM/asked/try"
     expect "$1" 0 'tried\n' "$notice\n" ./modinfo analyze < /dev/null
 }
 
-# Waits until the stand-in has noted its process, which the process that was started runs.
+# Waits until the stand-in, which the process $1 has started, has written its process number.
 wait_for_process() {
     local i
     for ((i = 0; i < 600; i++)); do
@@ -140,7 +140,7 @@ wait_for_process() {
     fail "it never began"
 }
 
-# Whether the process that the stand-in has noted ends.
+# Whether the process of the stand-in ends.
 has_ended() {
     local process i
     process=$(< "$ROOM/process")

@@ -1,0 +1,38 @@
+"""Links programs and the library for C from what the prover, or a build without proofs, has compiled."""
+
+import subprocess
+from pathlib import Path
+
+from building import Kit, Target, run
+from sources import BuildError
+
+COMMANDS = ("analyze", "convert", "reach", "check", "check_convert", "check_reach")
+EXPORTED = ["modinfo_version", *(f"modinfo_{command}" for command in COMMANDS)]
+
+
+def link_program(target: Target, kit: Kit, main: Path, program: Path) -> None:
+    words: list[str | Path]
+    if target.name:
+        words = [target.tool("gcc"), "-o", program, main, *target.compiled("heap", "arguments"), "-Wl,-z,relro,-z,now"]
+    else:
+        words = [kit.folder / "bin/rattle-link", "--target", "x86_64-unknown-linux-gnu"]
+        words += ["--toolchain", kit.folder / "toolchain", "-o", program, main]
+        words += [kit.folder / "c/libos_c.a", kit.folder / "c/liblibc_c.a"]
+    linked = subprocess.run(words, stdout=subprocess.PIPE, stderr=subprocess.STDOUT, text=True, check=False)
+    if linked.returncode != 0:
+        raise BuildError(f"the program isn't linked: {linked.stdout.rstrip()}")
+
+
+def link_library(target: Target, kit: Kit, compiled: Path, folder: Path) -> None:
+    """Puts libmodinfo.a and libmodinfo.so into a folder. They are one object, in which all but the exported functions
+    are local, so that a program may link other libraries of the kit beside it. The section that names symbols by their
+    numbers isn't true of the new object."""
+    whole = folder / "libmodinfo.o"
+    # The three functions that hand requests for memory on to malloc.
+    heap = target.compiled("heap") if target.name else [kit.folder / "c/liblibc_c.a"]
+    run(target.tool("ld"), "-r", "-o", whole, "--whole-archive", compiled, "--no-whole-archive", *heap)
+    kept = (f"--keep-global-symbol={name}" for name in EXPORTED)
+    run(target.tool("objcopy"), *kept, "--remove-section=.llvm_addrsig", whole)
+    run(target.tool("ar"), "rcsD", folder / "libmodinfo.a", whole)
+    options = ["-Wl,-soname,libmodinfo.so.0", "-Wl,-z,defs,-z,relro,-z,now"]
+    run(target.tool("gcc"), "-shared", "-o", folder / "libmodinfo.so", *options, whole)
