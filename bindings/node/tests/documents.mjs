@@ -57,10 +57,10 @@ export function documentOf(adapter, text, mediaType, options = {}) {
 
 /**
  * The answer to a document. It keeps the schema.
- * @param {AnyDocument} document
+ * @param {object} document
  */
 export function answerTo(document) {
-  return /** @type {AnyInfo} */ (checked(analyze(document), schemas.info));
+  return /** @type {AnyInfo} */ (checked(analyze(/** @type {AnyDocument} */ (document)), schemas.info));
 }
 
 /**
