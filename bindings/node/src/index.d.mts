@@ -10,9 +10,10 @@ export * from "./graph/graph.mjs";
 
 export interface ModinfoOptions {
   /**
-   * The path of the program `modinfo`. Else that of the package modinfo-linux-x64, else what the
-   * environment variable MODINFO names, else, in the repository, the one that `./modinfo --prove`
-   * makes. What is called `modinfo` on the PATH is another program on most systems, and is not used.
+   * The path of the program `modinfo`. Else that of the package modinfo-linux-x64 or
+   * modinfo-linux-arm64, else what the environment variable MODINFO names, else, in the repository,
+   * the one that `./modinfo --prove` makes. A program `modinfo` on the PATH is not used, since most
+   * systems have another one of that name.
    */
   program?: string;
   /** How many threads parse for `moduleInfo`. With 1, the default, it is the caller's thread. */
@@ -21,7 +22,9 @@ export interface ModinfoOptions {
 
 /**
  * A process of `modinfo` for each command, and for the checks of each, started with its first
- * document.
+ * document. Any number of calls may be under way; documents wait while the pipe is full. While
+ * nothing is under way, neither process nor thread keeps node from ending. An option that there isn't
+ * is a `TypeError`.
  */
 export class Modinfo {
   /** @throws {ProgramEnd} no `program` is named, and none is found */
@@ -31,18 +34,18 @@ export class Modinfo {
    * What a module depends on, from its source, tree and comments.
    * @param document also as JSON, the bytes in UTF-8
    * @throws {ModinfoFault} the document is refused, with one of the faults in docs/FORMATS.md of
-   *   the repository: `Input` where it is no UTF-8, `Json` where it is no JSON, `Tree` where it
-   *   isn't in the notation, as null isn't, and so on. Or memory was refused: `OutOfMemory`
-   * @throws {ProgramEnd} the process ended before it had answered, it can't be started, or `close`
-   *   was called before
+   *   the repository: `Input` where it is no UTF-8, `Json` where it is no JSON, `Tree` where it is no
+   *   module document, as null isn't, and so on. Or `OutOfMemory`
+   * @throws {ProgramEnd} the process ended before its result, it can't be started, or `close` was
+   *   called before
    * @throws {TypeError} `JSON.stringify` can't write it: it is undefined, a function or a symbol, or
    *   has itself or a bigint in it
    */
   analyze(document: ModuleDocument | string | Uint8Array, options?: ReportOptions): Promise<ModuleInfo>;
 
   /**
-   * The information of one module, as version 1 stored it, in version 2. JSON that is no such
-   * information is answered as it is, and then is no `ModuleInfo`, though the type says so.
+   * The information of one module, as version 1 stored it, in version 2. Returns JSON that is no such
+   * information as it is, and then no `ModuleInfo`, though the type has it so.
    * @param information also as JSON, the bytes in UTF-8
    * @throws {ModinfoFault} it is refused: `Input` or `Json` as by `analyze`, `Float` where a number
    *   isn't held as a whole number, `ColumnOverflow` where a column is above 2^64 - 1. Or `OutOfMemory`
@@ -64,11 +67,11 @@ export class Modinfo {
   reach(graph: ModuleGraph | string | Uint8Array, options?: ReportOptions): Promise<string[]>;
 
   /**
-   * What is wrong with a document of a command, and where; or that it is valid, with warnings. A
-   * document with a fault is answered by its report too.
-   * @param document also as JSON, the bytes in UTF-8. Places in the text of an object are those in
+   * What is wrong with a document of a command, and where; or that it is valid, with warnings. Also
+   * resolves where the document has a fault.
+   * @param document also as JSON, the bytes in UTF-8. Positions in the text of an object are those in
    *   what `JSON.stringify` makes of it
-   * @throws {ModinfoFault} memory was refused: `OutOfMemory` alone
+   * @throws {ModinfoFault} `OutOfMemory` alone
    * @throws {ProgramEnd} as `analyze` does
    * @throws {TypeError} as `analyze` does, and where there is no such command
    */
@@ -77,9 +80,8 @@ export class Modinfo {
   /**
    * What a module depends on, from its text, which TypeScript's parser parses.
    * @throws {ModinfoFault} `Syntax`: the text has a syntax error, or a lone surrogate. `Depth`: it
-   *   nests too deep for the parser. `OutOfMemory`: memory was refused. `Parser`: TypeScript isn't
-   *   installed, or it or the adapter failed otherwise. Another one, with its report: a defect of the
-   *   adapter
+   *   nests too deep for the parser. `OutOfMemory`. `Parser`: TypeScript isn't installed, or it or the
+   *   adapter failed otherwise. Another one, with its report: a defect of the adapter
    * @throws {ProgramEnd} as `analyze` does
    * @throws {TypeError} a text or an option isn't what it has to be
    */
@@ -87,7 +89,7 @@ export class Modinfo {
 
   /**
    * What the specifiers of a module resolve to, in a copy of its `ModuleInfo`. Files are looked for
-   * when it is called; what a package.json says is read once for each `Modinfo`.
+   * when it is called; each package.json is read once for each `Modinfo`.
    * @throws {TypeError} an option isn't what it has to be
    */
   resolve(information: ModuleInfo, options: ResolveOptions): Promise<ResolvedModuleInfo>;
@@ -100,7 +102,7 @@ export class Modinfo {
    */
   graph(options: GraphOptions): Promise<Graph>;
 
-  /** Waits for all answers, and ends the processes and threads. No document is taken any more. */
+  /** Waits for the calls under way, and ends the processes and threads. Later calls are rejected. */
   close(): Promise<void>;
 
   [Symbol.asyncDispose](): Promise<void>;
@@ -151,11 +153,6 @@ export interface GraphOptions extends CallOptions, ResolverOptions {
   jobs?: number;
 }
 
-export interface ReportOptions extends CallOptions {
-  /** Whether the error of a document that is refused has a report: where the fault is, and what was expected there. */
-  report?: boolean;
-}
-
 export interface CheckOptions extends CallOptions {
   /** The command that would read the document; `"analyze"` where it is missing. */
   command?: "analyze" | "convert" | "reach";
@@ -176,7 +173,7 @@ export interface ModuleGraph {
   modules: Record<string, ModuleInfo>;
 }
 
-/** Why a document or a text is refused; docs/FORMATS.md of the repository and README.md say when each comes. */
+/** Why a document or a text is refused; docs/FORMATS.md of the repository and README.md have when each comes. */
 export type FaultName = DocumentFault | "OutOfMemory" | "Syntax" | "Depth" | "Parser";
 
 /** A document, or the text of a module, is refused. The message is one line for people. */
@@ -184,7 +181,7 @@ export class ModinfoFault extends Error {
   private constructor();
   readonly name: "ModinfoFault";
   readonly fault: FaultName;
-  /** Where the call asked for it, unless memory was refused. */
+  /** Where the call asked for it, but for `OutOfMemory`. */
   readonly report?: FaultReport;
   /** Of `Syntax`, from one. */
   readonly line?: number;
@@ -192,7 +189,7 @@ export class ModinfoFault extends Error {
   readonly column?: number;
 }
 
-/** The program ended, or couldn't be started, before it answered; or it was closed before. */
+/** The program ended before its result, or couldn't be started; or it was closed before. */
 export class ProgramEnd extends Error {
   private constructor();
   readonly name: "ProgramEnd";

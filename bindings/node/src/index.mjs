@@ -68,7 +68,7 @@ export class Modinfo {
     checkKnown(options, ["program", "jobs"]);
     const { jobs = 1 } = options;
     if (!Number.isInteger(jobs) || jobs < 1) {
-      throw new TypeError(`jobs is to be a whole number from 1 on, and is ${String(jobs)}`);
+      throw new TypeError(`jobs must be a whole number from 1 on, and is ${String(jobs)}`);
     }
     const program = pathOf(options.program);
     this.#program = program;
@@ -123,7 +123,7 @@ export class Modinfo {
     checkKnown(options, ["command", "signal"]);
     const { command = "analyze" } = options;
     if (!Object.hasOwn(this.#checks, command)) {
-      throw new TypeError(`command is to be analyze, convert or reach, and is ${String(command)}`);
+      throw new TypeError(`command must be analyze, convert or reach, and is ${String(command)}`);
     }
     const handed = checkedForm(jsonOf(document));
     return unlessAborted(readSignal(options), () => this.#report(command, handed));
@@ -281,7 +281,7 @@ export class Modinfo {
  */
 function pathOf(program = modinfoPath()) {
   if (typeof program !== "string" || program === "") {
-    throw new TypeError(`program is to be a path, and is ${String(program)}`);
+    throw new TypeError(`program must be a path, and is ${String(program)}`);
   }
   return absolute(program);
 }

@@ -3,12 +3,36 @@
  * in docs/FORMATS.md, for tests alone. It trusts the document.
  */
 
+/** @type {Part} */
+const EXPRESSION = { type: "expr" };
 const DECLARATIONS = ["ImportDecl", "NamedExport", "ExportAll"];
+const PHASES = { evaluation: "import", source: "importSource", defer: "importDefer" };
+const CALLEES = new Map(Object.entries({ expr: "require", importSource: "importSource", importDefer: "importDefer" }));
 const TYPED = ["TypeScript", "Mts", "Cts", "Dts", "Dmts", "Dcts", "Tsx"];
 
-/** @param {any} document */
+/**
+ * @typedef {import("./any_kind.mjs").AnyArgument} AnyArgument
+ * @typedef {import("./any_kind.mjs").AnyDocument} AnyDocument
+ * @typedef {import("./any_kind.mjs").AnyNode} AnyNode
+ * @typedef {import("../src/index.mjs").DocumentComment} DocumentComment
+ * @typedef {import("../src/index.mjs").DynamicTemplatePart} Part
+ * @typedef {import("../src/index.mjs").JsString} JsString
+ * @typedef {import("../src/index.mjs").Position} Position
+ */
+
+/**
+ * @typedef {object} Context
+ * @property {(offset: number) => Position} position
+ * @property {Map<number, DocumentComment[]>} leading the comments by the position under which they are filed
+ */
+
+/**
+ * @param {AnyDocument} document
+ * @returns {object}
+ */
 export function analyze(document) {
   const bytes = Buffer.from(document.source);
+  /** @type {Context} */
   const context = {
     position: (offset) => position(bytes, offset),
     leading: new Map((document.leading ?? []).map(({ pos, comments }) => [pos, comments])),
@@ -23,6 +47,11 @@ export function analyze(document) {
   });
 }
 
+/**
+ * @param {AnyNode} node
+ * @param {Context} context
+ * @returns {object[]}
+ */
 function list(node, context) {
   const { kind, children = [] } = node;
   const below = DECLARATIONS.includes(kind) || kind === "ImportEquals"
@@ -34,15 +63,20 @@ function list(node, context) {
   return found ? [statically(node, found, context), ...below] : below;
 }
 
+/** @param {AnyNode} node */
 function isListedCall({ callee, args, children }) {
   const isRequire = callee === "expr" && children[0].kind === "Ident" && children[0].value === "require";
   return args.length > 0 && (callee.startsWith("import") || isRequire);
 }
 
+/**
+ * @param {AnyNode} node
+ * @returns {string | false | null | undefined}
+ */
 function staticKind(node) {
   switch (node.kind) {
     case "ImportDecl":
-      return node.typeOnly ? "importType" : { source: "importSource", defer: "importDefer" }[node.phase] ?? "import";
+      return node.typeOnly ? "importType" : PHASES[node.phase ?? "evaluation"];
     case "NamedExport": case "ExportAll":
       return node.src && (node.typeOnly ? "exportType" : "export");
     case "ImportEquals":
@@ -56,12 +90,27 @@ function staticKind(node) {
   }
 }
 
+/** @param {string} name */
 function isPattern(name) {
   return name.includes("*") && !/^\.{0,2}\//.test(name);
 }
 
-function statically(node, kind, context) {
+/** @param {AnyNode} node of a declaration that names a module */
+function literalOf(node) {
   const literal = node.src ?? node.external ?? node.arg ?? node.name;
+  if (!literal) {
+    throw new TypeError(`${node.kind} names no module`);
+  }
+  return literal;
+}
+
+/**
+ * @param {AnyNode} node
+ * @param {string} kind
+ * @param {Context} context
+ */
+function statically(node, kind, context) {
+  const literal = literalOf(node);
   const clause = node.hasWith ? node.children[0] : undefined;
   return omitDefaults({
     type: "static",
@@ -75,12 +124,15 @@ function statically(node, kind, context) {
   });
 }
 
+/**
+ * @param {AnyNode} node
+ * @param {Context} context
+ */
 function dynamic(node, context) {
   const values = node.callee === "expr" ? node.children.slice(1) : node.children;
-  const kind = { expr: "require", importSource: "importSource", importDefer: "importDefer" }[node.callee];
   return omitDefaults({
     type: "dynamic",
-    kind,
+    kind: CALLEES.get(node.callee),
     typesSpecifier: typesSpecifier(node, context),
     argument: node.args[0].spread ? undefined : argument(values[0]),
     argumentRange: node.args[0].range.map(context.position),
@@ -88,6 +140,7 @@ function dynamic(node, context) {
   });
 }
 
+/** @param {AnyNode} node */
 function argument(node) {
   if (node.kind === "Str") {
     return lossy(node.value);
@@ -99,40 +152,52 @@ function argument(node) {
     }
     return quasis.flatMap((quasi, at) => [
       ...(quasi.length > 0 ? [stringPart(quasi)] : []),
-      ...(at < children.length ? [{ type: "expr" }] : []),
+      ...(at < children.length ? [EXPRESSION] : []),
     ]);
   }
   return node.kind === "Binary" ? sum(node) : undefined;
 }
 
+/**
+ * @param {AnyNode} node
+ * @returns {Part[] | undefined}
+ */
 function sum(node) {
   if (node.kind !== "Binary") {
     return node.kind === "Str" ? [stringPart(node.value)] : undefined;
   }
   const [left, right] = node.children;
   const parts = node.op === "add" ? sum(left) : undefined;
-  return parts && [...parts, right.kind === "Str" ? stringPart(right.value) : { type: "expr" }];
+  return parts && [...parts, right.kind === "Str" ? stringPart(right.value) : EXPRESSION];
 }
 
+/**
+ * @param {JsString} value
+ * @returns {Part}
+ */
 function stringPart(value) {
   return { type: "string", value: lossy(value) };
 }
 
+/** @param {AnyNode} node */
 function staticKey({ kind, key }) {
   const name = kind === "KeyValue" ? key.ident ?? key.str : undefined;
   return typeof name === "string" ? name : undefined;
 }
 
+/** @param {AnyNode} node */
 function staticValue({ children }) {
   const value = children.at(-1);
-  return value.kind === "Str" && typeof value.value === "string" ? value.value : null;
+  return value?.kind === "Str" && typeof value.value === "string" ? value.value : null;
 }
 
+/** @param {AnyNode} node */
 function declarationAttributes({ children = [] }) {
   const known = children.filter((each) => staticKey(each) !== undefined && staticValue(each) !== null);
   return { known: Object.fromEntries(known.map((each) => [staticKey(each), staticValue(each)])) };
 }
 
+/** @param {AnyNode} node */
 function objectAttributes({ children = [] }) {
   if (children.some((each) => staticKey(each) === undefined)) {
     return "unknown";
@@ -140,6 +205,10 @@ function objectAttributes({ children = [] }) {
   return { known: Object.fromEntries(children.map((each) => [staticKey(each), staticValue(each)])) };
 }
 
+/**
+ * @param {AnyArgument | undefined} arg
+ * @param {AnyNode} node
+ */
 function callAttributes(arg, node) {
   if (!arg) {
     return undefined;
@@ -154,7 +223,7 @@ function callAttributes(arg, node) {
     if (key === "with" || (key === "assert" && !hadWith)) {
       hadWith ||= key === "with";
       const value = property.children.at(-1);
-      found = value.kind === "Object" ? objectAttributes(value) : "unknown";
+      found = value?.kind === "Object" ? objectAttributes(value) : "unknown";
       if (found === "unknown") {
         return found;
       }
@@ -163,16 +232,27 @@ function callAttributes(arg, node) {
   return found;
 }
 
+/** @param {AnyDocument["program"]} program */
 function isScript({ body }) {
+  /** @param {AnyNode} node */
   const isModuleItem = ({ kind }) => [...DECLARATIONS, "ExportOther"].includes(kind);
   return !body.some(isModuleItem) && !body.some((node) => isModuleOnly(node, false));
 }
 
+/**
+ * @param {AnyNode} node
+ * @param {boolean} inFunction
+ * @returns {boolean}
+ */
 function isModuleOnly({ kind, children = [] }, inFunction) {
   return kind === "ImportMeta" || (kind === "Await" && !inFunction) ||
     children.some((child) => isModuleOnly(child, inFunction || kind === "Function"));
 }
 
+/**
+ * @param {AnyDocument} document
+ * @param {Context} context
+ */
 function head({ mediaType, program, trailing = [] }, context) {
   const { body: [first], shebang, range: [start, end] } = program;
   const comments = (first || !shebang
@@ -189,23 +269,36 @@ function head({ mediaType, program, trailing = [] }, context) {
   };
 }
 
+/**
+ * @param {AnyDocument} document
+ * @param {Context} context
+ */
 function tail({ program, trailing = [] }, context) {
   const comments = trailing.find(({ pos }) => pos === program.range[1])?.comments ?? [];
   return firstOf([...comments].reverse(), /^[#@]\s*sourceMappingURL\s*=\s*(?<text>\S+)/diu, 0, context);
 }
 
+/**
+ * @param {DocumentComment} comment
+ * @param {Context} context
+ */
 function reference(comment, context) {
   if (!/^\/\s*<reference\s.*\/>/iu.test(comment.text)) {
     return [];
   }
+  /** @param {string} name */
   const find = (name) => findIn(comment, new RegExp(`\\s${name}\\s*=\\s*["'](?<text>[^"']*)["']`, "diu"), 1, context);
   const path = find("path");
   const types = find("types");
   const mode = find("resolution-mode")?.text;
-  const resolutionMode = ["import", "require"].includes(mode) ? mode : undefined;
+  const resolutionMode = mode === "import" || mode === "require" ? mode : undefined;
   return path ? [{ type: "path", ...path }] : types ? [omitDefaults({ type: "types", ...types, resolutionMode })] : [];
 }
 
+/**
+ * @param {AnyNode} node
+ * @param {Context} context
+ */
 function typesSpecifier(node, context) {
   const comment = context.leading.get(node.range[0])?.at(-1);
   return comment &&
@@ -214,31 +307,64 @@ function typesSpecifier(node, context) {
       findIn(comment, /^\s*@deno-types\s*=\s*(?<text>\S+)/diu, 0, context));
 }
 
+/**
+ * @param {DocumentComment[]} comments
+ * @param {RegExp} pattern
+ * @param {number} quote
+ * @param {Context} context
+ */
 function firstOf(comments, pattern, quote, context) {
   return comments.map((each) => findIn(each, pattern, quote, context)).find(Boolean);
 }
 
+/**
+ * @param {DocumentComment} comment
+ * @param {RegExp} pattern with the flag `d` and the group `text`
+ * @param {number} quote
+ * @param {Context} context
+ */
 function findIn({ range, text }, pattern, quote, context) {
-  const match = pattern.exec(text);
-  if (!match) {
+  const units = groupIn(pattern, text);
+  if (!units) {
     return undefined;
   }
-  const [start, end] = match.indices.groups.text.map((unit) => range[0] + 2 + Buffer.byteLength(text.slice(0, unit)));
-  return { text: match.groups.text, range: [start - quote, end + quote].map(context.position) };
+  const [start, end] = units.map((unit) => range[0] + 2 + Buffer.byteLength(text.slice(0, unit)));
+  return { text: text.slice(...units), range: [start - quote, end + quote].map(context.position) };
 }
 
+/**
+ * Where the group `text` of a pattern is in a text.
+ * @param {RegExp} pattern
+ * @param {string} text
+ * @returns {[start: number, end: number] | undefined}
+ */
+function groupIn(pattern, text) {
+  // TypeScript 4.8 doesn't know the flag `d`.
+  /** @typedef {RegExpExecArray & { indices?: { groups?: { text: [number, number] } } }} MatchWithIndices */
+  const match = /** @type {MatchWithIndices | null} */ (pattern.exec(text));
+  return match?.indices?.groups?.text;
+}
+
+/**
+ * @param {Uint8Array} bytes
+ * @param {number} offset
+ * @returns {Position}
+ */
 function position(bytes, offset) {
   const before = bytes.subarray(0, offset).toString();
-  const line = before.split("\n");
-  return [line.length - 1, [...line.at(-1)].length];
+  const lines = before.split("\n");
+  return [lines.length - 1, [...lines[lines.length - 1]].length];
 }
 
+/** @param {JsString} value */
 function lossy(value) {
   const text = typeof value === "string" ? value : String.fromCharCode(...value);
   return text.replace(/\p{Surrogate}/gu, "\uFFFD");
 }
 
+/** @param {Record<string, unknown>} members */
 function omitDefaults(members) {
+  /** @param {unknown} value */
   const isDefault = (value) => value === undefined || value === false || (Array.isArray(value) && value.length === 0);
   return Object.fromEntries(Object.entries(members).filter(([, value]) => !isDefault(value)));
 }

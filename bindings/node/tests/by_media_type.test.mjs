@@ -4,15 +4,23 @@ import assert from "node:assert/strict";
 import { test } from "node:test";
 
 import { toDocument } from "../src/parsers/by_media_type.mjs";
-import { toDocument as byTypeScript } from "../src/parsers/typescript/index.mjs";
+import { SourceFault, toDocument as byTypeScript } from "../src/parsers/typescript/index.mjs";
 
-/** What a function makes of a text: the document and the warnings, or the error. */
+/**
+ * What a function makes of a text: the document and the warnings, or the error.
+ * @param {typeof toDocument | typeof byTypeScript} parse
+ * @param {string} text
+ * @param {import("../src/index.mjs").ParsedMediaType} mediaType
+ */
 function outcome(parse, text, mediaType) {
+  /** @type {unknown[]} */
   const warnings = [];
   try {
-    const options = { specifier: "file:///module", mediaType, warn: (warning) => warnings.push(warning) };
+    const options = { specifier: "file:///module", mediaType, warn: (/** @type {unknown} */ warning) => warnings.push(warning) };
     return { document: parse(text, options), warnings };
-  } catch ({ name, message, line, column }) {
+  } catch (error) {
+    assert.ok(error instanceof SourceFault);
+    const { name, message, line, column } = error;
     return { name, message, line, column };
   }
 }
@@ -32,7 +40,7 @@ const TEXTS = {
 
 for (const [name, text] of Object.entries(TEXTS)) {
   test(`${name} is to the fastest parser what it is to TypeScript's`, () => {
-    for (const mediaType of ["JavaScript", "Mjs", "Jsx", "TypeScript"]) {
+    for (const mediaType of /** @type {const} */ (["JavaScript", "Mjs", "Jsx", "TypeScript"])) {
       assert.deepEqual(outcome(toDocument, text, mediaType), outcome(byTypeScript, text, mediaType), mediaType);
     }
   });

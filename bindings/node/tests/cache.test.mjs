@@ -26,7 +26,11 @@ test "$1 $2" = "analyze --lines" || exec "$NODE" "${STAND_IN}" "$@"
   return folder;
 }
 
-/** What a run prints, and for how many documents it asks. */
+/**
+ * What a run prints, and for how many documents it asks.
+ * @param {string} folder
+ * @param {string[]} words
+ */
 function runIn(folder, words) {
   const counted = join(folder, "counted");
   writeFileSync(counted, "");
@@ -74,7 +78,10 @@ test("a file that was changed a moment ago isn't kept", () => {
   assert.deepEqual([runIn(folder, words).asked, existsSync(join(folder, "cache"))], [1, false]);
 });
 
-/** A cache of a folder with what is found in two files of it, which it knows. */
+/**
+ * A cache of a folder with what is found in two files of it, which it knows.
+ * @param {string} folder
+ */
 async function cacheOf(folder) {
   const cache = new AnalysisCache(join(folder, "cache"), STAND_IN);
   for (const name of ["a", "b"]) {
@@ -84,7 +91,10 @@ async function cacheOf(folder) {
   await cache.save();
 }
 
-/** What a cache knows of the two files. */
+/**
+ * What a cache knows of the two files.
+ * @param {string} folder
+ */
 function knownIn(folder) {
   const cache = new AnalysisCache(join(folder, "cache"), STAND_IN);
   return ["a", "b"].map((name) => cache.find(join(folder, `src/${name}.js`)).analysis?.info);
@@ -97,6 +107,7 @@ test("lines of a cache that are broken are passed over", async () => {
   assert.deepEqual(knownIn(folder), [first, second]);
   const cache = join(folder, "cache");
   const whole = readFileSync(cache, "utf8");
+  /** @type {[text: string, known: (string | undefined)[]][]} */
   const broken = [
     [whole.replace('"name":"a"', '"name":"x"'), [undefined, second]], [whole.slice(0, -20), [first, undefined]],
     [whole.replaceAll("\n", ""), [undefined, undefined]], ["", [undefined, undefined]],

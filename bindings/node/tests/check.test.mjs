@@ -6,23 +6,48 @@ import { join } from "node:path";
 import { test } from "node:test";
 
 import { Modinfo, ModinfoFault, ProgramEnd } from "../src/index.mjs";
+import { settled } from "./promises.mjs";
 import { MODINFO, STAND_IN, folderOf } from "./run_commands.mjs";
 import { fault, readSchema } from "./schema.mjs";
+import { unchecked } from "./unchecked.mjs";
 
+/**
+ * @typedef {"analyze" | "convert" | "reach"} Command
+ * @typedef {import("../src/index.mjs").FaultReport} FaultReport
+ */
+
+/** @type {Command[]} */
+const COMMANDS = ["analyze", "convert", "reach"];
 const EXAMPLES = new URL("../../../examples/", import.meta.url);
 const skip = !existsSync(MODINFO) && "build/modinfo isn't made";
 
+/** @param {string} name */
 const read = (name) => JSON.parse(readFileSync(new URL(name, EXAMPLES), "utf8"));
 const SIDE_EFFECT_IMPORT = read("side-effect-import.json");
 const UNREAD = "nothing reads a member of this name here";
 
-/** The document whose import has these members too. */
+/**
+ * The document whose import has these members too.
+ * @param {Record<string, unknown>} members
+ */
 function withItem(members) {
   const [item] = SIDE_EFFECT_IMPORT.program.body;
   return { ...SIDE_EFFECT_IMPORT, program: { range: [0, 16], body: [{ ...item, ...members }] } };
 }
 
-/** A document of nothing but a line comment, with these filed, each by its range and text. */
+/**
+ * A report that has to be one of a fault.
+ * @param {import("../src/index.mjs").Report} report
+ */
+function asFault(report) {
+  assert.ok(!report.valid);
+  return report;
+}
+
+/**
+ * A document of nothing but a line comment, with these filed, each by its range and text.
+ * @param {[range: [number, number], text: string][]} comments
+ */
 function withComments(...comments) {
   const filed = comments.map(([range, text]) => ({ kind: "line", range, text }));
   return {
@@ -31,11 +56,18 @@ function withComments(...comments) {
   };
 }
 
+/**
+ * @param {string} source
+ * @param {[number, number]} range
+ */
 const withProgram = (source, range) => ({ ...SIDE_EFFECT_IMPORT, source, program: { range, body: [] } });
 const OVERFLOWING = `{"dependencies":[{"leadingComments":[
   {"range":[[0,18446744073709551615],[0,0]],"text":"@deno-types=a"}]}]}`;
 
-/** A command, a document, and the report on it, but for what was expected. */
+/**
+ * A command, a document, and the report on it, but for what was expected.
+ * @type {[command: Command, document: any, report: Partial<FaultReport>][]}
+ */
 const FAULTS = [
   ["analyze", Buffer.from('{"gr\xf6\xdfe"', "latin1"), { fault: "Input", at: { line: 0, column: 4, offset: 4 } }],
   ["analyze", '{\n "größe": 1,\n "ä": ]\n}', { fault: "Json", at: { line: 2, column: 6, offset: 24 } }],
@@ -62,23 +94,25 @@ const FAULTS = [
 test("a document with a fault", { skip }, async () => {
   const modinfo = new Modinfo({ program: MODINFO });
   const reports = await Promise.all(FAULTS.map(([command, document]) => modinfo.check(document, { command })));
-  for (const [at, { expected, ...others }] of reports.entries()) {
+  for (const [at, report] of reports.entries()) {
     const [command, document, wanted] = FAULTS[at];
+    const { expected, ...others } = asFault(report);
     assert.deepEqual(others, wanted);
     assert.ok(expected.length > 0);
-    assert.equal(fault(reports[at], readSchema("report")), undefined);
+    assert.equal(fault(report, readSchema("report")), undefined);
     await assert.rejects(modinfo[command](document), { name: "ModinfoFault", fault: wanted.fault });
   }
   const { enum: names } = readSchema("report").$defs.documentFault;
   assert.deepEqual([...new Set(reports.map((report) => report.fault))].sort(), [...names].sort());
-  assert.equal((await modinfo.check({ ...SIDE_EFFECT_IMPORT, source: "" })).expected,
-    "an end of at most 0, the source's length");
+  const { expected } = asFault(await modinfo.check({ ...SIDE_EFFECT_IMPORT, source: "" }));
+  assert.equal(expected, "an end of at most 0, the source's length");
   await modinfo.close();
 });
 
 test("warnings", { skip }, async () => {
   const modinfo = new Modinfo({ program: MODINFO });
   assert.deepEqual(await modinfo.check(SIDE_EFFECT_IMPORT), { valid: true });
+  /** @param {string} name */
   const warning = (name) => ({ pointer: `/program/body/0/${name}`, says: UNREAD });
   assert.deepEqual(await modinfo.check(withItem({ child: [] })), { valid: true, warnings: [warning("child")] });
   const names = Array.from({ length: 103 }, (_, number) => `child${number}`);
@@ -102,10 +136,12 @@ test("a document may be an object, its JSON or bytes", { skip }, async () => {
 
 test("each example is valid", { skip }, async () => {
   const modinfo = new Modinfo({ program: MODINFO });
-  for (const [command, document, answer] of [
+  /** @type {[command: Command, document: string, answer: string][]} */
+  const endings = [
     ["analyze", ".json", ".out.json"], ["convert", ".convert.json", ".converted.json"],
     ["reach", ".reach.json", ".reached.json"],
-  ]) {
+  ];
+  for (const [command, document, answer] of endings) {
     for (const name of readdirSync(EXAMPLES).filter((each) => each.endsWith(answer))) {
       const report = await modinfo.check(read(name.replace(answer, document)), { command });
       assert.deepEqual(report, { valid: true }, name);
@@ -167,11 +203,13 @@ function echoing() {
 
 test("a place is that in the document as it was handed over", async () => {
   const modinfo = new Modinfo({ program: echoing() });
-  for (const [document, line, column] of [
+  /** @type {[document: string, line: number, column: number][]} */
+  const documents = [
     ["{", 0, 1], ["", 0, 0], ["\n", 1, 0], ["\n\n", 2, 0], ['{"😀é": \n"日本', 1, 3], ["{\r\n\t", 1, 1],
-  ]) {
+  ];
+  for (const [document, line, column] of documents) {
     for (const form of [document, new TextEncoder().encode(document)]) {
-      const { at } = await modinfo.check(form);
+      const { at } = asFault(await modinfo.check(form));
       assert.deepEqual(at, { line, column, offset: Buffer.byteLength(document) });
     }
   }
@@ -181,16 +219,16 @@ test("a place is that in the document as it was handed over", async () => {
 test("a document with a lone surrogate is no UTF-8", async () => {
   const modinfo = new Modinfo({ program: echoing() });
   for (const [text, before] of [["\udc00", ""], ['"a\ud800"', '"a'], ['"\ud83d\ude00\ude00"', '"\ud83d\ude00']]) {
-    const { at, expected } = await modinfo.check(text);
+    const { at, expected } = asFault(await modinfo.check(text));
     assert.equal(expected, `check analyze --lines ${Buffer.from(before).toString("latin1")}\xff`);
-    assert.equal(at.offset, Buffer.byteLength(before) + 1);
+    assert.equal(at?.offset, Buffer.byteLength(before) + 1);
   }
   await modinfo.close();
 });
 
 test("what modinfo says of a lone surrogate", { skip }, async () => {
   const modinfo = new Modinfo({ program: MODINFO });
-  const { expected, ...report } = await modinfo.check('{\n"größe":"\ud800"}');
+  const { expected, ...report } = asFault(await modinfo.check('{\n"größe":"\ud800"}'));
   assert.deepEqual(report, { fault: "Input", at: { line: 1, column: 9, offset: 13 } });
   assert.equal((await modinfo.check({ größe: "\ud800" })).fault, "Json");
   await modinfo.close();
@@ -201,18 +239,18 @@ test("bytes may be changed once they are handed over", async () => {
   const bytes = new TextEncoder().encode("a\nb");
   const report = modinfo.check(bytes);
   bytes.fill(0x0a);
-  const { at, expected } = await report;
-  assert.deepEqual([at.line, at.column, expected], [1, 1, "check analyze --lines a\rb"]);
+  const { at, expected } = asFault(await report);
+  assert.deepEqual([at?.line, at?.column, expected], [1, 1, "check analyze --lines a\rb"]);
   await modinfo.close();
 });
 
 test("the checks of each command have a process of their own", async () => {
   const modinfo = new Modinfo({ program: echoing() });
-  for (const command of ["analyze", "convert", "reach"]) {
-    assert.equal((await modinfo.check("{}", { command })).expected, `check ${command} --lines {}`);
+  for (const command of COMMANDS) {
+    assert.equal(asFault(await modinfo.check("{}", { command })).expected, `check ${command} --lines {}`);
   }
   const reports = await Promise.all(Array.from({ length: 2000 }, (_, number) => modinfo.check(String(number))));
-  assert.deepEqual(reports.map(({ expected }) => Number(expected.split(" ")[3])), [...reports.keys()]);
+  assert.deepEqual(reports.map((each) => Number(asFault(each).expected.split(" ")[3])), [...reports.keys()]);
   const last = modinfo.check("1");
   await modinfo.close();
   assert.equal((await last).fault, "Json");
@@ -222,10 +260,10 @@ test("the checks of each command have a process of their own", async () => {
 test("what is no document or no command", async () => {
   const modinfo = new Modinfo({ program: STAND_IN });
   for (const command of ["", "check", "Analyze", "toString", null, 1]) {
-    const message = `command is to be analyze, convert or reach, and is ${command}`;
-    await assert.rejects(modinfo.check("{}", { command }), { name: "TypeError", message });
+    const message = `command must be analyze, convert or reach, and is ${command}`;
+    await assert.rejects(modinfo.check("{}", unchecked({ command })), { name: "TypeError", message });
   }
-  await assert.rejects(modinfo.check(), { name: "TypeError", message: /^a document is an object, or its JSON, and is / });
+  await assert.rejects(modinfo.check(unchecked(undefined)), { name: "TypeError", message: /^a document is an object, or its JSON, and is / });
   await modinfo.close();
 });
 
@@ -233,16 +271,17 @@ test("a program that knows no checks", async () => {
   const modinfo = new Modinfo({ program: STAND_IN });
   await assert.rejects(modinfo.check("{}"), (error) => {
     assert.ok(error instanceof ProgramEnd);
-    return assert.match(error.message, / ended with status 2: modinfo: usage: /) ?? true;
+    assert.match(error.message, / ended with status 2: modinfo: usage: /);
+    return true;
   });
   await modinfo.close();
 });
 
-test("memory that is refused", async () => {
+test("out of memory", async () => {
   const folder = folderOf({ modinfo: `#!/bin/sh\nread line\necho '{"fault":"OutOfMemory"}'\nread line\necho '{"valid":true}'` });
   chmodSync(join(folder, "modinfo"), 0o755);
   const modinfo = new Modinfo({ program: join(folder, "modinfo") });
-  const [refused, valid] = await Promise.allSettled([modinfo.check("1"), modinfo.check("2")]);
+  const [refused, valid] = await settled([modinfo.check("1"), modinfo.check("2")]);
   assert.ok(refused.reason instanceof ModinfoFault);
   assert.equal(refused.reason.fault, "OutOfMemory");
   assert.deepEqual(valid.value, { valid: true });

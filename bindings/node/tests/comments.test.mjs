@@ -6,6 +6,8 @@ import { test } from "node:test";
 import { Trivia, fileComments, readComments } from "../src/document/comments.mjs";
 import { ADAPTERS, answerOf, documentOf, typescriptAnswer } from "./documents.mjs";
 
+/** @typedef {import("../src/index.mjs").FiledComments} FiledComments */
+
 /**
  * The comments of a text, each as `>` (leading) or `<` (trailing), the position, and its text.
  * @param {string} text in ASCII
@@ -13,6 +15,10 @@ import { ADAPTERS, answerOf, documentOf, typescriptAnswer } from "./documents.mj
 function filed(text, mediaType = "JavaScript") {
   const [one, other] = ADAPTERS.map(([, adapter]) => {
     const { leading = [], trailing = [] } = documentOf(adapter, text, mediaType);
+    /**
+     * @param {FiledComments[]} entries
+     * @param {string} mark
+     */
     const all = (entries, mark) => entries.flatMap(({ pos, comments }) =>
       comments.map(({ range, text: its }) => ({ start: range[0], shown: `${mark}${pos}${its}` })));
     return [...all(leading, ">"), ...all(trailing, "<")]
@@ -48,7 +54,10 @@ test("a line comment trails any token but a binary operator", () => {
   assert.deepEqual(filed("x = a in //a\ny"), ["<8a"]);
 });
 
-/** Whether the line comment of a text that needs be no program trails, by the rule alone. */
+/**
+ * Whether the line comment of a text that needs be no program trails, by the rule alone.
+ * @param {string} text
+ */
 function trails(text) {
   const range = { start: text.indexOf("//"), end: text.indexOf("\n") };
   return fileComments(new Trivia(text, readComments(text, [range], 0)), 0, () => false).leading.size === 0;
@@ -113,6 +122,7 @@ test("the head's comments", () => {
 });
 
 test("the tail's comments", () => {
+  /** @param {string} text */
   const map = (text) => answerOf(text).sourceMapUrl?.text;
   assert.equal(map("x;\n\n\n\n//# sourceMappingURL=a.map\n// b"), "a.map");
   assert.equal(map("x; //# sourceMappingURL=a.map"), "a.map");
@@ -121,6 +131,7 @@ test("the tail's comments", () => {
 });
 
 test("a dependency's types", () => {
+  /** @param {string} text */
   const types = (text) => answerOf(text).dependencies.map(({ typesSpecifier }) => typesSpecifier?.text);
   assert.deepEqual(types(`// @deno-types="a"\nimport "b"; // @ts-types="c"\nimport "d";`), ["a", undefined]);
   assert.deepEqual(types(`x = /* @ts-types="a" */ require("b");\nx = await /* @ts-types="c" */ import("d");`), ["a", "c"]);

@@ -46,7 +46,11 @@ export function compile(folder, files, options = {}) {
  * @returns {string} nothing where all is right
  */
 export function check(configuration) {
-  const words = [join(parserFolder("typescript"), "bin/tsc"), "--project", configuration];
+  const folder = parserFolder("typescript");
+  if (!folder) {
+    throw new Error("there is no TypeScript");
+  }
+  const words = [join(folder, "bin/tsc"), "--project", configuration];
   const { stdout, stderr } = spawnSync(process.execPath, words);
   return String(stdout) + String(stderr);
 }

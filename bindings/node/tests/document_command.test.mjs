@@ -24,6 +24,10 @@ const FOLDER = folderOf({
 for (const adapter of ["estree", "typescript"]) {
   const program = `${adapter}.mjs`;
   const name = `modinfo-${adapter}`;
+  /**
+   * @param {string[]} words
+   * @param {string} [input]
+   */
   const runIn = (words, input) => run(program, words, { cwd: FOLDER, input });
 
   test(`${adapter} reads a file`, () => {
@@ -88,7 +92,7 @@ for (const adapter of ["estree", "typescript"]) {
     ]) {
       const { stdout, stderr, status } = runIn(words);
       assert.deepEqual([stdout, status], ["", 2], words.join(" "));
-      assert.match(stderr, new RegExp(`^${name}: .*(?:usage: ${name} |--[a-z-]+ is )`, "s"));
+      assert.match(stderr, new RegExp(`^${name}: .*(?:usage: ${name} |--[a-z-]+ (?:is|must be) )`, "s"));
     }
   });
 
@@ -126,6 +130,7 @@ for (const adapter of ["estree", "typescript"]) {
 
 test("estree reads no TypeScript, typescript does", () => {
   const folder = folderOf({ "a.ts": "let a: B;", "b.js": "" });
+  /** @param {string} program */
   const specifiers = (program) => linesOf(run(program, ["--lines", folder]).stdout)
     .map(({ specifier }) => specifier.split("/").at(-1));
   assert.deepEqual(specifiers("estree.mjs"), ["b.js"]);

@@ -6,20 +6,48 @@ import { fault, readSchema } from "./schema.mjs";
 import { analyze } from "./analysis.mjs";
 import { invalidity } from "./validity.mjs";
 
-/** Each of the two adapters by its name, for what both read. */
-export const ADAPTERS = Object.entries({ estree: fromEstree, typescript: fromTypeScript });
+/**
+ * @typedef {import("./any_kind.mjs").AnyDocument} AnyDocument
+ * @typedef {import("./any_kind.mjs").AnyInfo} AnyInfo
+ */
+
+/**
+ * What either adapter takes, so that a test can hand the same to both.
+ * @typedef {object} AdapterOptions
+ * @property {string} specifier
+ * @property {string} [mediaType]
+ * @property {unknown} [tree]
+ * @property {unknown} [comments]
+ * @property {unknown} [typescript]
+ * @property {(warning: import("../src/parsers/options.mjs").Warning) => void} [warn]
+ */
+
+/**
+ * @typedef {(text: string, options: AdapterOptions) => import("../src/index.mjs").ModuleDocument} Adapter
+ * @typedef {Adapter | typeof fromEstree | typeof fromTypeScript} TypedAdapter
+ */
+
+/**
+ * Each of the two adapters by its name, for what both read.
+ * @type {[name: string, adapter: Adapter][]}
+ */
+export const ADAPTERS = [
+  ["estree", /** @type {Adapter} */ (fromEstree)],
+  ["typescript", /** @type {Adapter} */ (fromTypeScript)],
+];
 
 const schemas = { document: readSchema("document"), info: readSchema("module-info") };
 
 /**
  * The document of a text by an adapter. It keeps the schema, and is a valid source.
- * @param {typeof fromEstree} adapter
+ * @param {TypedAdapter} adapter
  * @param {string} text
  * @param {string} mediaType
- * @param {object} [options]
+ * @param {Partial<AdapterOptions>} [options]
  */
 export function documentOf(adapter, text, mediaType, options = {}) {
-  const document = adapter(text, { specifier: "file:///module", mediaType, ...options });
+  const toDocument = /** @type {Adapter} */ (adapter);
+  const document = /** @type {AnyDocument} */ (toDocument(text, { specifier: "file:///module", mediaType, ...options }));
   const wrong = invalidity(document);
   if (wrong) {
     throw new Error(wrong);
@@ -32,7 +60,7 @@ export function documentOf(adapter, text, mediaType, options = {}) {
  * @param {object} document
  */
 export function answerTo(document) {
-  return checked(analyze(document), schemas.info);
+  return /** @type {AnyInfo} */ (checked(analyze(/** @type {AnyDocument} */ (document)), schemas.info));
 }
 
 /**

@@ -9,26 +9,46 @@ import { answerTo, documentOf } from "./documents.mjs";
 
 const acorn = loadParser("acorn");
 
-/** A node at the first place of its text in a source. */
+/** @typedef {{ type: string, range: [number, number], [member: string]: unknown }} Node */
+
+/**
+ * A node at the first place of its text in a source.
+ * @param {string} source
+ */
 function maker(source) {
+  /**
+   * @param {string} type
+   * @param {string} text
+   * @param {Record<string, unknown>} [members]
+   * @returns {Node}
+   */
   return (type, text, members = {}) => {
     const start = source.indexOf(text);
     return { type, range: [start, start + text.length], ...members };
   };
 }
 
-/** The answer to a tree whose body is these nodes. */
+/**
+ * The answer to a tree whose body is these nodes.
+ * @param {string} source
+ * @param {Node[]} body
+ */
 function answerToTree(source, body, mediaType = "TypeScript") {
   const tree = { type: "Program", range: [0, source.length], body, comments: [] };
   return answerTo(documentOf(toDocument, source, mediaType, { tree }));
 }
 
+/**
+ * @param {string} source
+ * @param {Node[]} body
+ */
 function dependencies(source, body) {
   return answerToTree(source, body).dependencies.map(({ type, specifierRange, argumentRange, ...others }) => others);
 }
 
 test("acorn's own tree, without nodes for parentheses", () => {
   const source = `#!/a\n/* b */ import((("c")) + d); require(("f")); (require)("g"); require("h", ({}));`;
+  /** @type {unknown[]} */
   const comments = [];
   const tree = acorn.parse(source, { ecmaVersion: "latest", sourceType: "module", onComment: comments, allowHashBang: true });
   const document = documentOf(toDocument, source, "JavaScript", { tree, comments });
@@ -39,6 +59,7 @@ test("acorn's own tree, without nodes for parentheses", () => {
 test("typescript-estree's imports and exports", () => {
   const source = `import type a from "a"; import b = require("b"); export import c = require("c"); export type * from "d"; export = e;`;
   const node = maker(source);
+  /** @param {string} name */
   const external = (name) => node("TSExternalModuleReference", `require("${name}")`, { expression: node("Literal", `"${name}"`, { value: name }) });
   assert.deepEqual(
     dependencies(source, [
@@ -68,7 +89,13 @@ test("typescript-estree's imports and exports", () => {
 test("typescript-estree's import types and modules", () => {
   const source = `declare module "a" { let b: import("c", { with: { d: "e" } }).F<import("g")>; }`;
   const node = maker(source);
+  /** @param {string} value */
   const string = (value) => node("Literal", `"${value}"`, { value });
+  /**
+   * @param {string} text
+   * @param {string} name
+   * @param {Node} value
+   */
   const property = (text, name, value) => node("Property", text, {
     kind: "init", key: node("Identifier", name, { name }), value, computed: false, shorthand: false, method: false,
   });
@@ -94,13 +121,13 @@ test("typescript-estree's import types and modules", () => {
 test("phases, await using, Babel's imports and methods", () => {
   const source = `import defer * as a from "a"; import.source("b"); await using c = d; f = { async g() { await import("h"); } }`;
   const node = maker(source);
+  /** @param {string} value */
   const string = (value) => node("StringLiteral", `"${value}"`, { value });
+  const start = source.lastIndexOf("import");
+  const callee = { type: "Import", range: [start, start + "import".length] };
   const awaiting = node("AwaitExpression", `await import("h")`, {
-    argument: node("CallExpression", `import("h")`, {
-      callee: node("Import", "import"), arguments: [string("h")],
-    }),
+    argument: node("CallExpression", `import("h")`, { callee, arguments: [string("h")] }),
   });
-  awaiting.argument.callee.range = [source.lastIndexOf("import"), source.lastIndexOf("import") + 6];
   const items = [
     node("ImportDeclaration", `import defer * as a from "a";`, {
       phase: "defer", specifiers: [node("ImportNamespaceSpecifier", "* as a")], attributes: [], source: string("a"),
@@ -120,7 +147,9 @@ test("phases, await using, Babel's imports and methods", () => {
 
 test("links to parents, tokens and comments are no children", () => {
   const source = `import("a") // b`;
+  /** @type {unknown[]} */
   const comments = [];
+  /** @type {unknown[]} */
   const tokens = [];
   const tree = acorn.parse(source, { ecmaVersion: "latest", onComment: comments, onToken: tokens });
   tree.body[0].parent = tree;
@@ -132,9 +161,10 @@ test("links to parents, tokens and comments are no children", () => {
 
 test("a tree or a comment without its place is refused", () => {
   const tree = { type: "Program", start: 0, end: 0, body: [], comments: [] };
+  /** @param {object} more */
   const refuse = (more) => assert.throws(
     () => toDocument("", { specifier: "file:///a.js", tree: { ...tree, ...more } }),
-    { name: "TypeError", message: "a tree and its comments are to have start and end, or range" },
+    { name: "TypeError", message: "a tree and its comments must have start and end, or range" },
   );
   toDocument("", { specifier: "file:///a.js", tree });
   refuse({ end: undefined });

@@ -10,21 +10,27 @@ import { MODINFO } from "./run_commands.mjs";
 import { fault, readSchema } from "./schema.mjs";
 
 const FOLDER = new URL("../../../examples/", import.meta.url);
+/** @typedef {import("./any_kind.mjs").AnyDocument} AnyDocument */
+
 const JAVASCRIPT = ["JavaScript", "Jsx", "Mjs", "Cjs"];
 
 const names = readdirSync(FOLDER)
   .filter((name) => name.endsWith(".out.json"))
   .map((name) => name.replace(/\.out\.json$/, ""));
 
+/** @param {string} name */
 function read(name) {
   return JSON.parse(readFileSync(new URL(name, FOLDER), "utf8"));
 }
 
-/** The answer of the program itself, where it is built. */
+/**
+ * The answer of the program itself, where it is built.
+ * @param {object} document
+ */
 function modinfo(document) {
   const { stdout, stderr, status } = spawnSync(MODINFO, ["analyze"], { input: JSON.stringify(document) });
   assert.equal(status, 0, String(stderr));
-  return JSON.parse(stdout);
+  return JSON.parse(String(stdout));
 }
 
 for (const name of names) {
@@ -53,7 +59,9 @@ for (const name of names) {
 
 test("the schemas refuse what is in neither notation", () => {
   const document = read("side-effect-import.json");
+  /** @param {(document: AnyDocument) => object} change */
   const broken = (change) => fault(change(structuredClone(document)), readSchema("document"));
+  /** @param {(item: any) => unknown} change */
   const inItem = (change) => broken((each) => (change(each.program.body[0]), each));
   assert.equal(broken((each) => each), undefined);
   assert.ok(broken(({ source, ...others }) => others));

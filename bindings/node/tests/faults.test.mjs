@@ -10,7 +10,7 @@ import { MODINFO } from "./run_commands.mjs";
 const isMissing = !existsSync(MODINFO) && "build/modinfo isn't made";
 
 const formats = readFileSync(new URL("../../../docs/FORMATS.md", import.meta.url), "utf8");
-const [, section] = /^## Faults\n(.*?)^## /ms.exec(formats);
+const [, section] = /^## Faults\n(.*?)^## /ms.exec(formats) ?? assert.fail("the page has no section Faults");
 const documents = [...section.matchAll(/^- `(\w+)`, `(\w+)`\n\n {6}(.*)\n {6}(.*)$/gm)];
 const named = [...section.matchAll(/^\| `(\w+)` \| [^|]* \|$/gm)].map(([, fault]) => fault);
 

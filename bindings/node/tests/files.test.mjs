@@ -11,10 +11,15 @@ import { pathToFileURL } from "node:url";
 
 import { readJobs } from "../src/cli/common/command_line.mjs";
 import { decode } from "../src/files/document_of_file.mjs";
-import { MODINFO, STAND_IN, folderOf, linesOf, programOf, run, shell } from "./run_commands.mjs";
+import { MODINFO, STAND_IN, folderOf, linesOf, programOf, run, shell, urlOf } from "./run_commands.mjs";
 import { fault, readSchema } from "./schema.mjs";
 
 const NAME = "modinfo-files";
+
+/**
+ * @typedef {import("./any_kind.mjs").AnyDependency} AnyDependency
+ * @typedef {import("../src/index.mjs").JsDocImportInfo} JsDocImportInfo
+ */
 
 /** A project: `src/main.ts` reaches two modules, and one only through JSDoc. */
 const PROJECT = {
@@ -34,14 +39,27 @@ function project() {
   return folderOf(PROJECT);
 }
 
-/** The lines of files.mjs in a folder; its error output and status have to be these. */
+/**
+ * @param {{ info: import("./any_kind.mjs").AnyInfo }} line
+ * @returns {AnyDependency[] | undefined}
+ */
+function dependenciesOf({ info }) {
+  return info.dependencies;
+}
+
+/**
+ * The lines of files.mjs in a folder; its error output and status have to be these.
+ * @param {string[]} words
+ * @param {string} cwd
+ * @param {import("./run_commands.mjs").RunOptions & { stderr?: string, status?: number }} options
+ */
 function answers(words, cwd, { stderr = "", status = 0, ...options } = {}) {
   const result = run("files.mjs", words, { cwd, ...options });
   assert.deepEqual([result.stderr, result.status], [stderr, status]);
   return linesOf(result.stdout);
 }
 
-const urlOf = (folder, path) => pathToFileURL(join(folder, path)).href;
+/** @param {string} path */
 const wrongLine = (path) => `${NAME}: ${path}:2:9: Expression expected.\nlet b = ;\n        ^\n`;
 
 test("each file's answer, in the order of the files, a fault among them", () => {
@@ -56,7 +74,7 @@ test("each file's answer, in the order of the files, a fault among them", () => 
     specifier: urlOf(folder, "src/wrong.ts"),
     fault: "Syntax", message: "Expression expected.", line: 2, column: 9,
   });
-  assert.deepEqual(found[3].info.dependencies.map((each) => each.specifier ?? each.argument), [
+  assert.deepEqual(dependenciesOf(found[3])?.map((each) => each.specifier ?? each.argument), [
     "./b.ts", "./c.js", undefined,
   ]);
   const schema = readSchema("module-info");
@@ -86,7 +104,7 @@ test("where there is nothing to read, that is said", () => {
 });
 
 test("there are at most as many threads as processors", () => {
-  assert.equal(readJobs("9999"), readJobs());
+  assert.equal(readJobs("9999"), readJobs(undefined));
   assert.equal(readJobs("1"), 1);
 });
 
@@ -97,6 +115,7 @@ test("what has no answer is a fault, and the others go on", () => {
   });
   truncateSync(join(folder, "large.js"), 2 ** 31);
   const files = ["none.js", "bytes.js", "text.txt", "deep.js", "large.js", "good.js"];
+  /** @type {Record<string, [fault: string, message: string]>} */
   const messages = {
     "none.js": ["Input", "no such file or folder"],
     "bytes.js": ["Input", "the file is not UTF-8"],
@@ -107,14 +126,18 @@ test("what has no answer is a fault, and the others go on", () => {
   const said = Object.entries(messages).map(([file, [, text]]) => `${NAME}: ${file}: ${text}\n`);
   const found = answers(files, folder, { stderr: said.join(""), status: 1 });
   const expected = files.map((file) => {
-    const [name, message] = messages[file] ?? [];
     const specifier = urlOf(folder, file);
-    return name ? { specifier, fault: name, message } : { specifier, info: { script: true } };
+    if (!(file in messages)) {
+      return { specifier, info: { script: true } };
+    }
+    const [name, message] = messages[file];
+    return { specifier, fault: name, message };
   });
   assert.deepEqual(found, expected);
 });
 
 test("bytes that are too many for a text aren't said to be no UTF-8", () => {
+  /** @param {string} message */
   const refused = (message) => ({ name: "FileFault", fault: "Input", message });
   assert.throws(() => decode(Buffer.of(0xff)), refused("the file is not UTF-8"));
   assert.throws(() => decode(new Uint8Array(2 ** 29)), refused("the file is longer than a text can be"));
@@ -124,11 +147,15 @@ test("warnings are said, and the file has its answer", () => {
   const folder = folderOf({ "a.js": `require("a" +${" b +".repeat(60)} require("c"));\n` });
   const warning = "warning: a sum of more than 59 operands is left as unknown";
   const [{ info }] = answers(["a.js"], folder, { stderr: `${NAME}: a.js:1:9: ${warning}\n` });
-  assert.deepEqual(info.dependencies.map(({ argument }) => argument), ["c", undefined]);
+  assert.deepEqual(dependenciesOf({ info })?.map(({ argument }) => argument), ["c", undefined]);
 });
 
 test("paths come from the standard input", () => {
   const folder = folderOf({ "a.js": "", "b c.js": "", "d\ne.js": "", "f.js": "" });
+  /**
+   * @param {string[]} words
+   * @param {string} input
+   */
   const specifiers = (words, input) => answers(words, folder, { input })
     .map(({ specifier }) => decodeURIComponent(specifier.slice(pathToFileURL(folder).href.length + 1)));
   assert.deepEqual(specifiers(["-"], "a.js\nb c.js\n"), ["a.js", "b c.js"]);
@@ -163,7 +190,8 @@ test("--all goes into node_modules", () => {
 test("--resolve gives all that names a module what its name resolves to", () => {
   const folder = project();
   const found = answers(["--resolve", "src/main.ts", "src/b.ts", "src/only_types.ts"], folder);
-  const resolved = found.map(({ info }) => info.dependencies?.map((each) => each.resolved));
+  const resolved = found.map((each) => dependenciesOf(each)?.map(({ resolved: to }) => to));
+  /** @param {string} path */
   const file = (path) => ({ class: "file", file: urlOf(folder, path) });
   assert.deepEqual(resolved, [
     [file("src/b.ts"), file("src/c.js"), { class: "unknown" }],
@@ -255,6 +283,10 @@ function hasLines() {
 
 test("through modinfo itself", { skip: !hasLines() && "build/modinfo isn't made, or has no --lines" }, () => {
   const folder = folderOf({ ...PROJECT, "src/b.ts": `import "../lib/d.js";\n` });
+  /**
+   * @param {string} modinfo
+   * @param {string[]} words
+   */
   const answersBy = (modinfo, words) => run("files.mjs", words, { cwd: folder, modinfo });
   const own = answersBy(MODINFO, ["."]);
   const withoutJsdoc = linesOf(own.stdout).map(({ info, ...others }) => {
@@ -263,7 +295,7 @@ test("through modinfo itself", { skip: !hasLines() && "build/modinfo isn't made,
   });
   assert.deepEqual(withoutJsdoc, linesOf(answersBy(STAND_IN, ["."]).stdout));
   const [{ info }] = linesOf(answersBy(MODINFO, ["src/c.js"]).stdout);
-  assert.deepEqual(info.jsdocImports.map(({ text }) => text), ["./only_types.ts"]);
+  assert.deepEqual(info.jsdocImports.map((/** @type {JsDocImportInfo} */ each) => each.text), ["./only_types.ts"]);
   for (const words of [["--resolve", "lib"], ["--entry", "src/main.ts", "."]]) {
     const { stdout, status } = answersBy(STAND_IN, words);
     assert.deepEqual(
@@ -273,7 +305,10 @@ test("through modinfo itself", { skip: !hasLines() && "build/modinfo isn't made,
   }
 });
 
-/** Lines of JSON whatever the order of their members, other lines as they are. */
+/**
+ * Lines of JSON whatever the order of their members, other lines as they are.
+ * @param {string} text
+ */
 function normal(text) {
   return text.startsWith("{") ? linesOf(text) : text;
 }

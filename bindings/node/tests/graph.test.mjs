@@ -7,11 +7,16 @@ import { join } from "node:path";
 import { test } from "node:test";
 import { pathToFileURL } from "node:url";
 
-import { folderOf, run } from "./run_commands.mjs";
+import { folderOf, run, urlOf } from "./run_commands.mjs";
 
 const NAME = "modinfo-files";
 
-/** What files.mjs prints in a folder, as lines; its error output and status have to be these. */
+/**
+ * What files.mjs prints in a folder, as lines; its error output and status have to be these.
+ * @param {string[]} words
+ * @param {string} cwd
+ * @param {{ stderr?: string, status?: number }} expected
+ */
 function lines(words, cwd, { stderr = "", status = 0 } = {}) {
   const result = run("files.mjs", words, { cwd });
   assert.deepEqual([result.stderr, result.status], [stderr, status]);
@@ -19,7 +24,15 @@ function lines(words, cwd, { stderr = "", status = 0 } = {}) {
   return result.stdout.split("\n").slice(0, -1);
 }
 
-const urlOf = (folder, path) => pathToFileURL(join(folder, path)).href;
+/**
+ * The modules that files.mjs prints as JSON.
+ * @param {string[]} words
+ * @param {string} cwd
+ * @returns {import("../src/index.mjs").GraphModule[]}
+ */
+function modulesOf(words, cwd) {
+  return JSON.parse(lines(["--json", ...words], cwd)[0]).modules;
+}
 
 /** `src/main.ts` reaches three modules, one of them by way of another folder. */
 const PROJECT = {
@@ -69,8 +82,8 @@ test("a cycle of what runs is one, whatever declarations lie beside", () => {
     "a.js": `require("./b");`, "b.js": `require("./a");`, "a.d.ts": "export {};", "b.d.ts": "export {};",
   });
   assert.deepEqual(lines(["--cycles", "."], folder, { status: 1 }), ["a.js -> b.js -> a.js"]);
-  const edges = JSON.parse(lines(["--json", "a.js"], folder)[0]).modules[0].references;
-  assert.deepEqual(edges[0].resolved, {
+  const [{ references: [edge] }] = modulesOf(["a.js"], folder);
+  assert.deepEqual(edge.resolved, {
     class: "file", file: urlOf(folder, "b.js"), types: urlOf(folder, "b.d.ts"),
   });
 });
@@ -124,9 +137,10 @@ test("JSON and arguments whose parts are known lead to their files", () => {
     "a.js": `require("./package.json"); require("./b" + ".js");`, "b.js": "", "package.json": "{}",
   });
   assert.deepEqual(lines(["--entry", "a.js"], folder), ["a.js", "b.js"]);
-  const { references } = JSON.parse(lines(["--json", "a.js"], folder)[0]).modules[0];
-  assert.deepEqual(references.map(({ specifier, resolved }) => [specifier, resolved.file]), [
-    ["./package.json", urlOf(folder, "package.json")], ["./b.js", urlOf(folder, "b.js")],
+  const [{ references }] = modulesOf(["a.js"], folder);
+  const file = (/** @type {string} */ path) => ({ class: "file", file: urlOf(folder, path) });
+  assert.deepEqual(references.map(({ specifier, resolved }) => [specifier, resolved]), [
+    ["./package.json", file("package.json")], ["./b.js", file("b.js")],
   ]);
 });
 
@@ -199,7 +213,8 @@ test("--exclude leaves out files and folders, named and followed", () => {
     "a.js": `import "./b.js"; import "./dist/c.js";`, "b.js": "", "b.test.js": "", "dist/c.js": "",
     "src/old/d.js": "", "src/e.js": "", "src/x/old/f.js": "",
   });
-  const files = (words) => JSON.parse(lines(["--json", ...words, "."], folder)[0]).modules
+  /** @param {string[]} words */
+  const files = (words) => modulesOf([...words, "."], folder)
     .map(({ specifier }) => specifier.slice(pathToFileURL(folder).href.length + 1));
   const all = ["a.js", "b.js", "b.test.js", "dist/c.js", "src/e.js", "src/old/d.js", "src/x/old/f.js"];
   assert.deepEqual(files([]), all);

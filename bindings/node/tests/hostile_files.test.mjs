@@ -12,6 +12,12 @@ import { STAND_IN, folderOf, linesOf, programOf, threadsFor } from "./run_comman
 /** More time than any of the commands needs, so that one that never ends is a failure. */
 const TIME = 60_000;
 
+/**
+ * @param {string} name
+ * @param {string[]} words
+ * @param {string} cwd
+ * @param {{ modinfo?: string, input?: string }} options
+ */
 function run(name, words, cwd, { modinfo = STAND_IN, input = "" } = {}) {
   const command = [programOf(name), ...threadsFor(name, words), ...words];
   const { stdout, stderr, status, signal } = spawnSync(process.execPath, command, {
@@ -29,6 +35,7 @@ function endless() {
   return folder;
 }
 
+/** @param {string} stdout */
 const namesOf = (stdout) => linesOf(stdout).map(({ specifier }) => specifier.split("/").at(-1));
 const LEFT = "warning: a link out of the given paths is not followed (--follow follows it)";
 
@@ -98,7 +105,9 @@ test("a link out of the given paths is followed only with --follow", () => {
   symlinkSync("../c/out.js", join(folder, "a/to_out.js"));
   symlinkSync("../secret", join(folder, "a/to_secret.js"));
   symlinkSync("a", join(folder, "link"));
+  /** @param {string} stdout */
   const sources = (stdout) => linesOf(stdout).map(({ source }) => source);
+  /** @param {string} file */
   const left = (file) => `modinfo-estree: ${file}: ${LEFT}\n`;
   const without = run("estree.mjs", ["--lines", "a"], folder);
   assert.deepEqual(without, {
@@ -180,12 +189,15 @@ test("names are shown with their control characters escaped", () => {
   const evil = "a\x1b[31m\nmodinfo-files: \u202e\x9b.js";
   const shown = "a\\x1b[31m\\nmodinfo-files: \\u{202e}\\x9b.js";
   const folder = folderOf({ [evil]: "(", "tsconfig.json": `{"compilerOptions":{"\x1b[32m":1}}`, "b.js": "" });
+  /** @param {string} stderr */
   const isClean = (stderr) => assert.doesNotMatch(stderr, /[^\P{Cc}\n]|\u202e/u);
-  for (const [name, words, label = shown] of [
+  /** @type {[name: string, words: string[], label?: string][]} */
+  const runs = [
     ["files.mjs", ["."]], ["files.mjs", [evil]], ["files.mjs", [`none${evil}`], `none${shown}`],
     ["typescript.mjs", [evil]], ["estree.mjs", ["--lines", evil]], ["estree.mjs", [`none${evil}`], `none${shown}`],
     ["report.mjs", ["."]], ["report.mjs", ["-o", `none/${evil}`, "."], `none/${shown}`],
-  ]) {
+  ];
+  for (const [name, words, label = shown] of runs) {
     const { stderr } = run(name, words, folder);
     isClean(stderr);
     assert.ok(stderr.includes(`: ${label}:`), stderr);

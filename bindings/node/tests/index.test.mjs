@@ -7,7 +7,14 @@ import { join } from "node:path";
 import { test } from "node:test";
 
 import { Modinfo, ModinfoFault, ProgramEnd } from "../src/index.mjs";
+import { settled } from "./promises.mjs";
 import { MODINFO, STAND_IN, folderOf } from "./run_commands.mjs";
+import { unchecked } from "./unchecked.mjs";
+
+/**
+ * @typedef {import("../src/index.mjs").ModuleDocument} ModuleDocument
+ * @typedef {import("../src/index.mjs").ModuleInfo} ModuleInfo
+ */
 
 const EXAMPLES = new URL("../../../examples/", import.meta.url);
 
@@ -17,7 +24,10 @@ const PROGRAMS = [
   { name: "modinfo", program: MODINFO, skip: isMissing },
 ];
 
-/** What the second modinfo doesn't find. */
+/**
+ * What the second modinfo doesn't find.
+ * @type {(info: object, program: string) => object}
+ */
 const found = (info, program) => (program === STAND_IN ? { ...info, jsdocImports: undefined } : info);
 
 /** @param {string} name */
@@ -28,16 +38,19 @@ function readExample(name) {
 /**
  * A document of its own for each number, and what has to be the answer to it.
  * @param {number} number
+ * @returns {{ document: ModuleDocument, info: ModuleInfo }}
  */
 function numbered(number) {
   const [line, name] = [number % 7, `./${number}.js`];
   const end = line + `import "${name}";`.length;
-  const src = { value: name, range: [line + 7, end - 1] };
   return {
     document: {
       specifier: "file:///a.js", mediaType: "JavaScript",
       source: `${"\n".repeat(line)}import "${name}";`,
-      program: { range: [line, end], body: [{ kind: "ImportDecl", range: [line, end], src }] },
+      program: {
+        range: [line, end],
+        body: [{ kind: "ImportDecl", range: [line, end], src: { value: name, range: [line + 7, end - 1] } }],
+      },
     },
     info: {
       dependencies: [{
@@ -94,6 +107,7 @@ for (const { name, program, skip } of PROGRAMS) {
 
   test(`100,000 documents by ${name}`, { skip }, async () => {
     const modinfo = new Modinfo({ program });
+    /** @param {number} number */
     const check = async (number) => {
       const { document, info } = numbered(number);
       assert.deepEqual(await modinfo.analyze(document), info);
@@ -108,11 +122,11 @@ for (const { name, program, skip } of PROGRAMS) {
     // More than the pipes and the program hold, so that some have no answer yet.
     const numbers = Array.from({ length: 20_000 }, (_, number) => number);
     const answers = numbers.map((number) => modinfo.analyze(numbered(number).document));
-    const settled = Promise.allSettled(answers);
+    const all = settled(answers);
     await answers[500];
     process.kill(starts()[0].process, "SIGKILL");
     // What is handed over now may go to the process before its end is noticed.
-    const found = await settled;
+    const found = await all;
     const lost = found.filter(({ reason }) => reason);
     assert.ok(lost.length > 0 && lost.length <= numbers.length - 501, `${lost.length} are lost`);
     lost.forEach(({ reason }) => assert.match(String(reason), /^ProgramEnd: .* ended by SIGKILL$/));
@@ -147,6 +161,10 @@ for (const { name, program, skip } of PROGRAMS) {
         return modinfo.moduleInfo(source, { specifier: "file:///a", mediaType: "TypeScript" });
       });
       assert.deepEqual(await Promise.all(texts), NUMBERS.slice(0, 300).map((number) => numbered(number).info));
+      /**
+       * @param {string} text
+       * @param {object} fault
+       */
       const refused = (text, fault) => {
         const options = { specifier: "file:///a.ts" };
         return assert.rejects(modinfo.moduleInfo(text, options), { name: "ModinfoFault", ...fault });
@@ -175,7 +193,8 @@ test("the faults of modinfo", { skip: isMissing }, async () => {
   const modinfo = new Modinfo({ program: MODINFO });
   const { document } = numbered(0);
   const [comment] = [{ kind: "line", range: [0, 2], text: "" }];
-  for (const [command, wrong, fault] of [
+  /** @type {[command: "analyze" | "convert" | "reach", document: any, fault: string][]} */
+  const faults = [
     ["analyze", "{", "Json"], ["analyze", '{"a":"\n"}', "Json"], ["analyze", "", "Json"],
     ["analyze", Buffer.of(0x22, 0xff, 0x22), "Input"], ["analyze", '"\ud800"', "Input"],
     ["analyze", {}, "Tree"], ["analyze", null, "Tree"], ["analyze", { ...document, mediaType: "js" }, "Tree"],
@@ -185,10 +204,12 @@ test("the faults of modinfo", { skip: isMissing }, async () => {
     ["analyze", { ...document, source: "é", program: { range: [1, 2], body: [] } }, "RangeOffBoundary"],
     ["analyze", { ...document, leading: [{ pos: 0, comments: [comment] }] }, "CommentText"],
     ["convert", { a: 0.5 }, "Float"], ["reach", {}, "Shape"], ["reach", { root: "a", modules: [] }, "Shape"],
-  ]) {
+  ];
+  for (const [command, wrong, fault] of faults) {
     await assert.rejects(modinfo[command](wrong), (error) => {
       assert.ok(error instanceof ModinfoFault);
-      return assert.equal(error.fault, fault) ?? true;
+      assert.equal(error.fault, fault);
+      return true;
     });
   }
   await modinfo.close();
@@ -212,8 +233,8 @@ test("a program that isn't there", async () => {
   for (const jobs of [1, 2]) {
     const modinfo = new Modinfo({ program: "/none/modinfo", jobs });
     const missing = { name: "ProgramEnd", message: /^\/none\/modinfo can't be started: spawn .* ENOENT \(the option / };
-    await assert.rejects(modinfo.analyze({}), missing);
-    await assert.rejects(modinfo.reach({}), missing);
+    await assert.rejects(modinfo.analyze("{}"), missing);
+    await assert.rejects(modinfo.reach("{}"), missing);
     await assert.rejects(modinfo.moduleInfo("", { specifier: "file:///a.js" }), missing);
     await modinfo.close();
   }
@@ -221,20 +242,25 @@ test("a program that isn't there", async () => {
 
 test("what is no document, no text or no option", async () => {
   const modinfo = new Modinfo({ program: STAND_IN });
+  /**
+   * @param {Promise<unknown>} call
+   * @param {string | RegExp} message
+   */
   const refused = (call, message) => assert.rejects(call, { name: "TypeError", message });
-  await refused(modinfo.analyze(), "a document is an object, or its JSON, and is undefined");
-  await refused(modinfo.reach(() => {}), /^a document is an object, or its JSON, and is /);
+  await refused(modinfo.analyze(unchecked(undefined)), "a document is an object, or its JSON, and is undefined");
+  await refused(modinfo.reach(unchecked(() => {})), /^a document is an object, or its JSON, and is /);
+  /** @type {Record<string, unknown>} */
   const circle = {};
   circle.circle = circle;
   await refused(modinfo.convert(circle), /circular/);
-  await refused(modinfo.moduleInfo(1, { specifier: "file:///a.js" }), "the text is to be a string, and is 1");
-  await refused(modinfo.moduleInfo(""), "specifier is to be an absolute URL, and is undefined");
-  await refused(modinfo.moduleInfo("", { specifier: "file:///a.json" }), /^mediaType is to be one of /);
+  await refused(modinfo.moduleInfo(unchecked(1), { specifier: "file:///a.js" }), "the text must be a string, and is 1");
+  await refused(modinfo.moduleInfo("", unchecked(undefined)), "specifier must be an absolute URL, and is undefined");
+  await refused(modinfo.moduleInfo("", { specifier: "file:///a.json" }), /^mediaType must be one of /);
   await modinfo.close();
   for (const options of [
     { program: "" }, { program: 1 }, { jobs: 0 }, { jobs: 1.5 }, { jobs: "2" }, { jobs: Infinity },
   ]) {
-    assert.throws(() => new Modinfo(options), { name: "TypeError", message: /^(program|jobs) is to be / });
+    assert.throws(() => new Modinfo(unchecked(options)), { name: "TypeError", message: /^(program|jobs) must be / });
   }
 });
 
@@ -246,7 +272,10 @@ test("disposing of it closes it", async () => {
   await assert.rejects(modinfo.analyze(numbered(1).document), ProgramEnd);
 });
 
-/** A program that refuses all documents of `analyze`, and reports this. */
+/**
+ * A program that refuses all documents of `analyze`, and reports this.
+ * @param {object} report
+ */
 function refusing(report) {
   const folder = folderOf({ report: `${JSON.stringify(report)}\n` });
   const path = join(folder, "modinfo");
@@ -259,39 +288,55 @@ done
   return path;
 }
 
+/**
+ * The fault of an error that has no report.
+ * @param {unknown} error
+ */
+function faultOf(error) {
+  return error instanceof ModinfoFault && !("report" in error) ? error.fault : undefined;
+}
+
 test("a fault has its report where the call asks for it", async () => {
   const report = { fault: "Tree", pointer: "/program", expected: "a member `body`" };
   await using(refusing(report), async (modinfo) => {
     const message = "Tree at /program: expected a member `body`";
-    await assert.rejects(modinfo.analyze({}, { report: true }), { name: "ModinfoFault", fault: "Tree", message, report });
-    await assert.rejects(modinfo.analyze({}), (error) => {
-      return /^Tree: .+ report .+/.test(error.message) && !("report" in error);
+    await assert.rejects(modinfo.analyze("{}", { report: true }), { name: "ModinfoFault", fault: "Tree", message, report });
+    await assert.rejects(modinfo.analyze("{}"), (error) => {
+      return faultOf(error) === "Tree" && /^ModinfoFault: Tree: .+ report .+/.test(String(error));
     });
-    const asked = modinfo.analyze({}, { report: true });
+    const asked = modinfo.analyze("{}", { report: true });
     await Promise.all([modinfo.close(), assert.rejects(asked, { report })]);
   });
   await using(STAND_IN, async (modinfo) => {
     // Its check ends with the usage: then the fault is that of the command alone.
-    await assert.rejects(modinfo.analyze("{", { report: true }), (error) => error.fault === "Json" && !("report" in error));
+    await assert.rejects(modinfo.analyze("{", { report: true }), (error) => faultOf(error) === "Json");
     assert.deepEqual(await modinfo.analyze(numbered(1).document, { report: true }), numbered(1).info);
   });
 });
 
 test("the reports of modinfo itself", { skip: isMissing }, async () => {
   await using(MODINFO, async (modinfo) => {
-    const refused = (document, message) => assert.rejects(modinfo.analyze(document, { report: true }), { message });
+    /**
+     * @param {unknown} document
+     * @param {string} message
+     */
+    const refused = (document, message) => assert.rejects(modinfo.analyze(unchecked(document), { report: true }), { message });
     await refused("{", "Json at line 1, column 2: expected one JSON value, at most 127 deep");
     await refused({}, "Tree at the whole document: expected a member `specifier`");
     await refused(
       { specifier: "a:b", mediaType: "JavaScript", source: "", program: { range: [0, 1], body: [] } },
       "RangeOutside at /program/range: expected an end of at most 0, the source's length",
     );
-    await assert.rejects(modinfo.reach({}, { report: true }), { fault: "Shape" });
+    await assert.rejects(modinfo.reach("{}", { report: true }), { fault: "Shape" });
     await assert.rejects(modinfo.convert("[0.5]", { report: true }), { fault: "Float" });
   });
 });
 
-/** Hands a service to a function, and closes it. */
+/**
+ * Hands a service to a function, and closes it.
+ * @param {string} program
+ * @param {(modinfo: Modinfo) => Promise<void>} run
+ */
 async function using(program, run) {
   const modinfo = new Modinfo({ program });
   try {

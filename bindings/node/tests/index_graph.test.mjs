@@ -4,10 +4,10 @@ import assert from "node:assert/strict";
 import { chmodSync, writeFileSync } from "node:fs";
 import { join } from "node:path";
 import { after, test } from "node:test";
-import { pathToFileURL } from "node:url";
 
 import { Modinfo } from "../src/index.mjs";
-import { STAND_IN, folderOf } from "./run_commands.mjs";
+import { STAND_IN, folderOf, urlOf } from "./run_commands.mjs";
+import { unchecked } from "./unchecked.mjs";
 
 const modinfo = new Modinfo({ program: STAND_IN });
 after(() => modinfo.close());
@@ -19,9 +19,13 @@ const PROJECT = {
   "node_modules/p/s.js": "", "node_modules/p/d.js": "",
 };
 
-const urlOf = (folder, path) => pathToFileURL(join(folder, path)).href;
+/** @typedef {(signal: AbortSignal) => Promise<unknown>} Call */
 
-/** The paths of a graph's modules. */
+/**
+ * The paths of a graph's modules.
+ * @param {string} folder
+ * @param {import("../src/index.mjs").Graph} graph
+ */
 const pathsOf = (folder, { modules }) => modules.map(({ specifier }) => specifier.slice(urlOf(folder, "src").length - 3));
 
 test("a graph of paths has the modules and what each names", async () => {
@@ -32,8 +36,8 @@ test("a graph of paths has the modules and what each names", async () => {
     kind: "static", specifier: "./b.js", range: [[0, 18], [0, 26]],
     resolved: { class: "file", file: urlOf(folder, "src/b.ts") },
   }]);
-  const { fault, line, column } = graph.modules[3].fault;
-  assert.deepEqual([fault, line, column, graph.entries], ["Syntax", 1, 7, undefined]);
+  const wrong = graph.modules[3].fault;
+  assert.deepEqual([wrong?.fault, wrong?.line, wrong?.column, graph.entries], ["Syntax", 1, 7, undefined]);
 });
 
 test("a graph of entries has what they lead to", async () => {
@@ -53,18 +57,27 @@ test("the specifiers of a ModuleInfo are resolved in a copy", async () => {
   const folder = folderOf(PROJECT);
   const specifier = new URL(urlOf(folder, "src/b.ts"));
   const info = await modinfo.moduleInfo(PROJECT["src/b.ts"], { specifier });
+  /** @param {object} [options] */
   const classes = async (options) => {
     const { dependencies } = await modinfo.resolve(info, { specifier, ...options });
-    return dependencies.map(({ resolved }) => resolved);
+    return dependencies?.map(({ resolved }) => resolved);
   };
   const file = { class: "file", file: urlOf(folder, "src/t.ts") };
+  /** @param {string} name */
   const inPackage = (name) => ({ class: "package", package: "p", file: urlOf(folder, `node_modules/p/${name}`) });
   assert.deepEqual(await classes(), [inPackage("d.js"), file]);
   assert.deepEqual(await classes({ conditions: ["special"] }), [inPackage("s.js"), file]);
-  assert.equal(info.dependencies[0].resolved, undefined);
+  assert.equal(info.dependencies?.some((each) => "resolved" in each), false);
   const text = await modinfo.resolve(info, { specifier: specifier.href, types: false });
-  assert.deepEqual(text.dependencies[1].resolved, file);
+  assert.deepEqual(text.dependencies?.[1].resolved, file);
 });
+
+/** @param {Error} reason */
+function abortedBy(reason) {
+  const controller = new AbortController();
+  controller.abort(reason);
+  return controller.signal;
+}
 
 test("an aborted signal rejects each call", async () => {
   const folder = folderOf({ "a.ts": "" });
@@ -72,12 +85,13 @@ test("an aborted signal rejects each call", async () => {
   writeFileSync(slow, "#!/bin/sh\ntest $# = 2 && read -r line && sleep 60\n");
   chmodSync(slow, 0o755);
   const waiting = new Modinfo({ program: slow });
-  const aborted = AbortSignal.abort(new Error("too late"));
+  const aborted = abortedBy(new Error("too late"));
   const specifier = "file:///a.ts";
+  /** @type {Record<string, Call>} */
   const calls = {
-    analyze: (signal) => waiting.analyze({}, { signal }),
+    analyze: (signal) => waiting.analyze("{}", { signal }),
     convert: (signal) => waiting.convert({}, { signal }),
-    reach: (signal) => waiting.reach({}, { signal }),
+    reach: (signal) => waiting.reach("{}", { signal }),
     moduleInfo: (signal) => waiting.moduleInfo("", { specifier, signal }),
   };
   for (const call of Object.values(calls)) {
@@ -87,6 +101,7 @@ test("an aborted signal rejects each call", async () => {
     controller.abort(new Error("enough"));
     await rejected;
   }
+  /** @type {Call[]} */
   const more = [
     (signal) => modinfo.graph({ paths: [folder], signal }),
     (signal) => modinfo.resolve({}, { specifier, signal }),
@@ -99,24 +114,25 @@ test("an aborted signal rejects each call", async () => {
 
 test("options that there aren't, and values that they can't have, are refused", async () => {
   const specifier = "file:///a.ts";
+  /** @type {[call: () => Promise<unknown>, message: RegExp][]} */
   const refused = [
-    [() => modinfo.moduleInfo("", { specifier, mediatype: "Jsx" }), /^there is no option mediatype: /],
-    [() => modinfo.analyze({}, { sginal: 1 }), /^there is no option sginal: /],
-    [() => modinfo.check({}, { commands: "reach" }), /^there is no option commands: /],
-    [() => modinfo.graph({ path: "." }), /^there is no option path: /],
+    [() => modinfo.moduleInfo("", unchecked({ specifier, mediatype: "Jsx" })), /^there is no option mediatype: /],
+    [() => modinfo.analyze("{}", unchecked({ sginal: 1 })), /^there is no option sginal: /],
+    [() => modinfo.check({}, unchecked({ commands: "reach" })), /^there is no option commands: /],
+    [() => modinfo.graph(unchecked({ path: "." })), /^there is no option path: /],
     [() => modinfo.graph({}), /^paths or entries are needed/],
-    [() => modinfo.graph({ paths: [1] }), /^a path is to be a path or the URL of a file, and is 1$/],
-    [() => modinfo.graph({ paths: ["."], types: "no" }), /^gitignore, all and types are to be true or false$/],
-    [() => modinfo.graph({ paths: ["."], jobs: 0 }), /^jobs is to be a whole number/],
-    [() => modinfo.resolve({}, { specifier: "a.ts" }), /^specifier is to be the URL of a file, and is a\.ts$/],
-    [() => modinfo.resolve(null, { specifier }), /^a ModuleInfo is to be an object, and is null$/],
-    [() => modinfo.resolve({}, { specifier, conditions: ["a b"] }), /^conditions are to be an array of names$/],
-    [() => modinfo.reach({}, { signal: 1 }), /^signal is to be an AbortSignal$/],
+    [() => modinfo.graph(unchecked({ paths: [1] })), /^a path must be a path or the URL of a file, and is 1$/],
+    [() => modinfo.graph(unchecked({ paths: ["."], types: "no" })), /^gitignore, all and types must be true or false$/],
+    [() => modinfo.graph({ paths: ["."], jobs: 0 }), /^jobs must be a whole number/],
+    [() => modinfo.resolve({}, { specifier: "a.ts" }), /^specifier must be the URL of a file, and is a\.ts$/],
+    [() => modinfo.resolve(unchecked(null), { specifier }), /^a ModuleInfo must be an object, and is null$/],
+    [() => modinfo.resolve({}, { specifier, conditions: ["a b"] }), /^conditions must be an array of names$/],
+    [() => modinfo.reach("{}", unchecked({ signal: 1 })), /^signal must be an AbortSignal$/],
   ];
   for (const [call, message] of refused) {
     await assert.rejects(async () => call(), { name: "TypeError", message });
   }
-  assert.throws(() => new Modinfo({ job: 2 }), { name: "TypeError", message: /^there is no option job: / });
+  assert.throws(() => new Modinfo(unchecked({ job: 2 })), { name: "TypeError", message: /^there is no option job: / });
 });
 
 test("where the program can't be started, a graph says so", async () => {

@@ -3,23 +3,35 @@
 import assert from "node:assert/strict";
 import { test } from "node:test";
 
+import { SourceFault, toDocument } from "../src/parsers/typescript/index.mjs";
 import { ADAPTERS, answerOf, answerTo, documentOf } from "./documents.mjs";
 
 const EXPR = { type: "expr" };
+/** @param {string} value */
 const string = (value) => ({ type: "string", value });
 
-/** The dependencies of a text without their places. */
+/**
+ * The dependencies of a text without their places.
+ * @param {string} text
+ * @param {string} [mediaType]
+ */
 function dependencies(text, mediaType) {
   return (answerOf(text, mediaType).dependencies ?? [])
     .map(({ type, specifierRange, argumentRange, ...others }) => others);
 }
 
-/** What is known of the first argument. */
+/**
+ * What is known of the first argument.
+ * @param {string} expression
+ */
 function argument(expression) {
   return dependencies(`import(${expression})`)[0].argument;
 }
 
-/** The attributes by the second argument. */
+/**
+ * The attributes by the second argument.
+ * @param {string} expression
+ */
 function attributes(expression) {
   return dependencies(`import("a", ${expression})`)[0].importAttributes;
 }
@@ -40,6 +52,7 @@ test("imports and exports", () => {
 });
 
 test("attributes of declarations", () => {
+  /** @param {string} text */
   const clause = (text) => dependencies(text)[0].importAttributes;
   assert.deepEqual(clause(`import a from "a" with { type: "json" };`), { known: { type: "json" } });
   assert.deepEqual(clause(`import a from "a" assert { "type": "json" };`), { known: { type: "json" } });
@@ -68,7 +81,7 @@ test("which calls are listed", () => {
   assert.deepEqual(dependencies("require`a`"), []);
 });
 
-test("calls come behind those inside them, wherever these are", () => {
+test("calls come after those inside them, wherever these are", () => {
   const found = dependencies(`
     require(f(require("a"), { b: [require(\`\${require("b")}\`)] }), { with: import("c"), [import("d")]: 1, ...import("e") }, import("f"));
     class A { [require("g")] = require("h"); static { require("i"); } #j = () => require("j"); }
@@ -90,6 +103,7 @@ test("what is known of an argument", () => {
 });
 
 test("an argument's place takes in its parentheses and dots", () => {
+  /** @param {string} text */
   const place = (text) => answerOf(text).dependencies[0].argumentRange;
   assert.deepEqual(place(`import( ( ("a") ) )`), [[0, 8], [0, 17]]);
   assert.deepEqual(place(`require(...("ab"))`), [[0, 8], [0, 17]]);
@@ -114,6 +128,7 @@ test("attributes of calls", () => {
 });
 
 test("what is a script", () => {
+  /** @param {string} text */
   const isScript = (text) => answerOf(text).script ?? false;
   for (const text of [
     "", ";", `"use strict"`, `require("a")`, `import("a")`, "async () => await a", "class A { async a() { await b; } }",
@@ -175,7 +190,12 @@ test("scripts that are no modules", () => {
   assert.deepEqual(dependencies(`return require("a"); `), [{ kind: "require", argument: "a" }]);
 });
 
-/** The arguments, from the inside to the outside, of calls that nest deeper than documents do. */
+/**
+ * The arguments, from the inside to the outside, of calls that nest deeper than documents do.
+ * @param {string} open
+ * @param {string} close
+ * @param {number} times
+ */
 function nestedCalls(open, close, times) {
   return answerOf(`${open.repeat(times)}require("a")${close.repeat(times)}`).dependencies
     .map((each) => each.argument);
@@ -198,7 +218,9 @@ test("calls nest as deep as they like", () => {
 });
 
 test("calls beside one another in calls that nest stay in order", () => {
+  /** @type {(times: number) => string} */
   const nested = (times) => `require(require("${times}a"), ${times > 0 ? nested(times - 1) : "b"}, require("${times}c"))`;
+  /** @type {(times: number) => (string | undefined)[]} */
   const order = (times) => [
     `${times}a`, ...(times > 0 ? order(times - 1) : []), `${times}c`, undefined,
   ];
@@ -213,10 +235,12 @@ test("what awaits nests as deep as it likes", () => {
 });
 
 test("of a sum of many operands nothing is known, which is said", () => {
+  /** @param {number} operands */
   const sum = (operands) => `require("a"${' + b + require("c")'.repeat(operands / 2)})`;
   for (const [, adapter] of ADAPTERS) {
+    /** @type {unknown[]} */
     const warnings = [];
-    const options = { warn: (warning) => warnings.push(warning) };
+    const options = { warn: (/** @type {unknown} */ warning) => warnings.push(warning) };
     const text = `\n  ${sum(58)}; ${sum(60)}`;
     const { dependencies: found } = answerTo(documentOf(adapter, text, "JavaScript", options));
     const [most, more] = found.filter((each) => each.argument !== "c");
@@ -232,23 +256,30 @@ test("of a sum of many operands nothing is known, which is said", () => {
 test("the options are checked", () => {
   const options = { specifier: "file:///a.js", mediaType: "JavaScript" };
   for (const [, adapter] of ADAPTERS) {
+    /**
+     * @param {unknown} text
+     * @param {object} more
+     * @param {string | RegExp} message
+     */
     const refuse = (text, more, message) => {
+      // @ts-expect-error a text is a string
       assert.throws(() => adapter(text, { ...options, ...more }), { name: "TypeError", message });
     };
-    refuse(Buffer.from("a"), {}, "the text is to be a string, and is a");
-    refuse("", { specifier: "./a.js" }, 'specifier is to be an absolute URL, and is "./a.js"');
-    refuse("", { specifier: undefined }, "specifier is to be an absolute URL, and is undefined");
-    refuse("", { mediaType: "javascript" }, /^mediaType is to be one of JavaScript, .*, and is "javascript"$/);
+    refuse(Buffer.from("a"), {}, "the text must be a string, and is a");
+    refuse("", { specifier: "./a.js" }, 'specifier must be an absolute URL, and is "./a.js"');
+    refuse("", { specifier: undefined }, "specifier must be an absolute URL, and is undefined");
+    refuse("", { mediaType: "javascript" }, /^mediaType must be one of JavaScript, .*, and is "javascript"$/);
     const unnamed = { specifier: "file:///a", mediaType: undefined };
-    refuse("", unnamed, /^mediaType is to be one of .*, and is undefined$/);
-    refuse("", { mediaType: "Json" }, /^mediaType is to be one of .*, and is "Json"$/);
-    refuse("", { mediaType: "toString" }, /^mediaType is to be one of .*, and is "toString"$/);
-    assert.throws(() => adapter(""), { name: "TypeError", message: /^specifier is to be .* undefined$/ });
+    refuse("", unnamed, /^mediaType must be one of .*, and is undefined$/);
+    refuse("", { mediaType: "Json" }, /^mediaType must be one of .*, and is "Json"$/);
+    refuse("", { mediaType: "toString" }, /^mediaType must be one of .*, and is "toString"$/);
+    // @ts-expect-error the options are needed
+    assert.throws(() => adapter(""), { name: "TypeError", message: /^specifier must be .* undefined$/ });
     assert.equal(adapter("", { specifier: "file:///a.mjs?b.cjs" }).mediaType, "Mjs");
   }
 });
 
-test("what is behind an await at the top is read once", () => {
+test("what follows an await at the top is read once", () => {
   const behind = `\nimport "a";\nrequire("b");\n/* c */`;
   for (const await_ of [
     "await { d };", "await [1, ...d];", "await [1,\n...(await d).e, f]; let g = await { h: [...i] };",
@@ -270,35 +301,43 @@ test("what is behind an await at the top is read once", () => {
 
 test("the error of a module is shown once its syntax was seen", () => {
   const [, estree] = ADAPTERS[0];
-  const placeOf = (text, mediaType = "JavaScript") => {
+  /** @param {string} text */
+  const errorOf = (text, mediaType = "JavaScript") => {
     try {
       estree(text, { specifier: "file:///a.js", mediaType });
-    } catch ({ message, line, column }) {
-      return [line, column, message];
+    } catch (error) {
+      assert.ok(error instanceof SourceFault);
+      return error;
     }
     return undefined;
   };
-  for (const [early, column, message] of [
+  /** @type {[early: string, column: number, message: RegExp][]} */
+  const errors = [
     ["function f(a, a) {}", 15, /name clash/], ["return;", 1, /'return' outside of function/],
     ["08;", 1, /Invalid number/], ["with (a) {}", 1, /'with' in strict mode/],
     ["await = 1;", 7, /Unexpected token/],
-  ]) {
+  ];
+  for (const [early, column, message] of errors) {
     for (const module of [
       `import "b";`, "export {};", "export default 1;", "a = import.meta;", "await b;", "await  b;",
       "for await (const b of c);", "await /* b */ /**/ c;", "(await (b), await c);",
     ]) {
-      const [line, place, said] = placeOf(`${early}\n${module}`);
-      assert.deepEqual([line, place], [1, column], `${early} ${module}`);
-      assert.match(said, message);
+      const error = errorOf(`${early}\n${module}`);
+      assert.deepEqual([error?.line, error?.column], [1, column], `${early} ${module}`);
+      assert.match(String(error?.message), message);
     }
-    assert.equal(placeOf(`${early}\nb;`), undefined, early);
+    assert.equal(errorOf(`${early}\nb;`), undefined, early);
   }
-  assert.deepEqual(placeOf("with (a) {}\nlet b = ;").slice(0, 2), [2, 9]);
-  assert.deepEqual(placeOf(`import "a";\nlet b = ;`).slice(0, 2), [2, 9]);
-  assert.deepEqual(placeOf(`import "a";\nwith (b) {}`).slice(0, 2), [2, 1]);
+  for (const [text, line, column] of [
+    ["with (a) {}\nlet b = ;", 2, 9], [`import "a";\nlet b = ;`, 2, 9], [`import "a";\nwith (b) {}`, 2, 1],
+  ]) {
+    const error = errorOf(String(text));
+    assert.deepEqual([error?.line, error?.column], [line, column], String(text));
+  }
 });
 
 test("long sums and comma expressions are no deep documents", () => {
+  /** @param {number} times */
   const long = (times) => `a = ${"b + ".repeat(times)} require("c")${", d".repeat(times)};`;
   assert.deepEqual(dependencies(long(1000)), [{ kind: "require", argument: "c" }]);
   const { program } = documentOf(ADAPTERS[1][1], long(20000), "JavaScript");
@@ -306,9 +345,8 @@ test("long sums and comma expressions are no deep documents", () => {
 });
 
 test("JSX in TypeScript's, comments in it", () => {
-  const typescript = ADAPTERS.find(([name]) => name === "typescript")[1];
   const text = `const a = <b c="// d" e={/* f */ require("g")}>// h {"/* i */"} {require("j") /* k */}</b>; // l`;
-  const document = documentOf(typescript, text, "Jsx");
+  const document = documentOf(toDocument, text, "Jsx");
   const texts = [...document.leading, ...document.trailing].flatMap(({ comments }) => comments).map((each) => each.text);
   assert.deepEqual(texts.sort(), [" f ", " k ", " l"]);
 });

@@ -5,12 +5,14 @@ import { spawnSync } from "node:child_process";
 import {
   chmodSync, existsSync, mkdirSync, readFileSync, readdirSync, symlinkSync, writeFileSync,
 } from "node:fs";
-import { delimiter, dirname, join } from "node:path";
+import { basename, delimiter, dirname, join } from "node:path";
 import { before, describe, test } from "node:test";
 import { fileURLToPath, pathToFileURL } from "node:url";
 
-import { MODINFO, STAND_IN, folderOf, linesOf } from "./run_commands.mjs";
+import { MODINFO, STAND_IN, folderOf, linesOf, urlOf } from "./run_commands.mjs";
 import { compile, parserFolder } from "./compile.mjs";
+
+/** @typedef {import("./run_commands.mjs").RunOptions} RunOptions */
 
 const PACKAGE = fileURLToPath(new URL("..", import.meta.url));
 const TEXT = `import { b } from "./b.ts";\n`;
@@ -20,33 +22,80 @@ const INFO = {
   }],
 };
 
+/** @param {string} path in the package */
 const read = (path) => readFileSync(new URL(`../${path}`, import.meta.url), "utf8");
+/** Runs the program for aarch64 on another processor, with its C library. */
+const EMULATOR = "qemu-aarch64";
+const AARCH64_SYSTEM = "/usr/aarch64-linux-gnu";
+const AARCH64_PROGRAM = fileURLToPath(new URL("../../../build/aarch64/modinfo", import.meta.url));
+
 const { error: noNpm } = spawnSync("npm", ["--version"]);
 
-/** Runs a program, which has to end with status 0 and no word on the error output. */
-function outputOf(program, words, { cwd, input, modinfo = STAND_IN, ...variables }) {
+/**
+ * Runs a program, which has to end with status 0 and no word on the error output.
+ * @param {string} program
+ * @param {string[]} words
+ * @param {RunOptions} options
+ * @param {NodeJS.ProcessEnv} [variables]
+ */
+function outputOf(program, words, { cwd, input, modinfo = STAND_IN }, variables = {}) {
   const env = { ...process.env, MODINFO: modinfo, ...variables };
   const { stdout, stderr, status, error } = spawnSync(program, words, { cwd, input, env });
   assert.deepEqual([error, String(stderr), status], [undefined, "", 0], `${program} ${words.join(" ")}`);
   return String(stdout);
 }
 
-/** Runs npm without a network, and with a cache of its own. */
+/**
+ * Runs npm without a network, and with a cache of its own.
+ * @param {string[]} words
+ * @param {string} cwd
+ */
 function npm(words, cwd) {
   const silent = ["--silent", "--no-audit", "--no-fund", "--offline"];
-  return outputOf("npm", [...words, ...silent], { cwd, npm_config_cache: join(cwd, "cache") });
+  return outputOf("npm", [...words, ...silent], { cwd }, { npm_config_cache: join(cwd, "cache") });
 }
 
-/** What is in a block of the README that begins so, the first one. */
+/**
+ * The files in a folder of the package and all below it.
+ * @param {string} root
+ * @param {string} folder
+ * @returns {string[]} paths from the root
+ */
+function filesBelow(root, folder) {
+  return readdirSync(join(root, folder), { withFileTypes: true }).flatMap((entry) => {
+    const path = join(folder, entry.name);
+    return entry.isDirectory() ? filesBelow(root, path) : [path];
+  });
+}
+
+/**
+ * The blocks of a language in a page.
+ * @param {string} language
+ * @param {string} [page]
+ */
+function blocks(language, page = "README.md") {
+  const found = read(page).matchAll(new RegExp(`^\`\`\`${language}\n(.*?)^\`\`\`$`, "gms"));
+  return [...found].map(([, text]) => text);
+}
+
+/**
+ * The first block of a language in the README.
+ * @param {string} language
+ */
 function block(language) {
-  const [, text] = new RegExp(`^\`\`\`${language}\n(.*?)^\`\`\`$`, "ms").exec(read("README.md"));
-  return text;
+  return blocks(language)[0];
 }
 
-/** Makes both packages with a program. */
-function pack(program, folder) {
-  const printed = outputOf(join(PACKAGE, "pack"), ["--program", program, folder], {
-    cwd: folder, npm_config_cache: join(folder, "cache"),
+/**
+ * Makes both packages with a program.
+ * @param {string} program
+ * @param {string} folder
+ * @param {string[]} [words]
+ * @param {NodeJS.ProcessEnv} [variables]
+ */
+function pack(program, folder, words = [], variables = {}) {
+  const printed = outputOf(join(PACKAGE, "pack"), [...words, "--program", program, folder], { cwd: folder }, {
+    npm_config_cache: join(folder, "cache"), ...variables,
   });
   return printed.trimEnd().split("\n");
 }
@@ -58,19 +107,28 @@ function standInWithVersion() {
 exec "${process.execPath}" "${STAND_IN}" "$@"`);
 }
 
-/** A script of the shell in a folder of its own. */
-function executable(text) {
-  const path = join(folderOf(), "modinfo");
+/**
+ * A script of the shell in a folder of its own.
+ * @param {string} text
+ * @param {string} [name]
+ * @param {string} text
+ */
+function executable(text, name = "modinfo") {
+  const path = join(folderOf(), name);
   writeFileSync(path, `#!/bin/sh\n${text}\n`);
   chmodSync(path, 0o755);
   return path;
 }
 
-test("its licence is the repository's, its version the program's and that of the program's package", () => {
+test("its licence is the repository's, its version the program's and that of the program's packages", () => {
   const { license, version, optionalDependencies } = JSON.parse(read("package.json"));
-  const platform = JSON.parse(read("linux-x64/package.json"));
-  assert.deepEqual([platform.version, platform.license], [version, license]);
-  assert.deepEqual(optionalDependencies, { [platform.name]: version });
+  const names = ["linux-arm64", "linux-x64"];
+  for (const name of names) {
+    const { os, cpu, ...platform } = JSON.parse(read(`${name}/package.json`));
+    assert.deepEqual([platform.version, platform.license], [version, license]);
+    assert.deepEqual([platform.name, `${os}-${cpu}`], [`modinfo-${name}`, name]);
+  }
+  assert.deepEqual(optionalDependencies, Object.fromEntries(names.map((name) => [`modinfo-${name}`, version])));
   assert.equal(read("LICENSE"), read("../../LICENSE"));
   assert.match(read("LICENSE"), new RegExp(`^${license} License\n`));
   assert.ok(read("../../crates/modinfo/src/invocation.rt").includes(`"modinfo ${version}\\n"`));
@@ -78,6 +136,7 @@ test("its licence is the repository's, its version the program's and that of the
 
 describe("the package", { skip: noNpm && "npm isn't there" }, () => {
   const folder = folderOf();
+  /** @type {{ filename: string, version: string, files: { path: string }[] }} */
   let packed;
 
   before(() => {
@@ -85,14 +144,18 @@ describe("the package", { skip: noNpm && "npm isn't there" }, () => {
     npm(["install", packed.filename, "--omit=optional"], folder);
   });
 
+  /**
+   * @param {string} script
+   * @param {RunOptions} [options]
+   */
   const node = (script, options) => {
     return outputOf(process.execPath, ["--input-type=module"], { cwd: folder, input: script, ...options });
   };
 
   test("has its modules with their types, a README and a licence, and no tests", () => {
-    const modules = readdirSync(PACKAGE, { recursive: true })
+    const modules = filesBelow(PACKAGE, "src")
       .filter((path) => /^src\/.*\.(?:mjs|mts|js|css)$/.test(path));
-    const expected = ["LICENSE", "README.md", "package.json", "report.png", ...modules];
+    const expected = ["ADAPTERS.md", "LICENSE", "README.md", "package.json", "report.png", ...modules];
     assert.deepEqual(packed.files.map(({ path }) => path).sort(), expected.sort());
   });
 
@@ -103,6 +166,40 @@ describe("the package", { skip: noNpm && "npm isn't there" }, () => {
     } else {
       t.diagnostic("build/modinfo isn't made: by the second one alone");
     }
+  });
+
+  test("the README's other programs run", { skip: !parserFolder("acorn") && "there is no acorn" }, () => {
+    const files = folderOf({ "src/main.ts": TEXT, "src/b.ts": "", "src/b.test.ts": "" });
+    symlinkSync(join(folder, "node_modules"), join(files, "node_modules"));
+    const [, ofTree, ofGraph, ...others] = blocks("js");
+    assert.deepEqual(others, []);
+    const setUp = `import { Modinfo } from "modinfo"; const modinfo = new Modinfo();`;
+    const tree = outputOf(process.execPath, ["--input-type=module"], { cwd: files, input: `${setUp}
+      import { createRequire } from "node:module";
+      const acorn = createRequire(import.meta.url)(${JSON.stringify(parserFolder("acorn"))});
+      const [text, specifier] = [${JSON.stringify(TEXT)}, "file:///a.js"];
+      ${ofTree}
+      console.log(JSON.stringify(info));
+      await modinfo.close();` });
+    assert.deepEqual(JSON.parse(tree), INFO);
+    const graph = outputOf(process.execPath, ["--input-type=module"], { cwd: files, input: `${setUp}
+      ${ofGraph}
+      await modinfo.close();` });
+    const [main, b] = ["src/main.ts", "src/b.ts"].map((path) => urlOf(files, path));
+    assert.equal(graph, `${b} undefined []\n${main} undefined [ '${b}' ]\n`);
+  });
+
+  const notBuilt = !existsSync(MODINFO) && "build/modinfo isn't made";
+
+  test("the program of the page on adapters prints what it says", { skip: notBuilt }, () => {
+    const source = `${"a;".repeat(28)}b`;
+    const body = [[0, 2], [2, 4], [4, 6], [6, 99]].map((range) => ({ kind: "Other", range }));
+    const document = { specifier: "file:///a.js", mediaType: "JavaScript", source, program: { range: [0, 57], body } };
+    const script = `import { Modinfo } from "modinfo"; const modinfo = new Modinfo();
+      const document = ${JSON.stringify(document)};
+      ${blocks("js", "ADAPTERS.md").join("")}
+      await modinfo.close();`;
+    assert.equal(node(script, { modinfo: MODINFO }), blocks("text", "ADAPTERS.md").join(""));
   });
 
   test("is imported by its name", () => {
@@ -158,9 +255,10 @@ describe("the package", { skip: noNpm && "npm isn't there" }, () => {
       specifier: pathToFileURL(join(files, "src", name)).href,
       info: name === "a.ts" ? INFO : { script: true },
     }));
-    const options = { cwd: folder, npm_config_cache: join(folder, "cache") };
     const npx = ["--offline", "--no", "--", "modinfo-files", join(files, "src")];
-    assert.deepEqual(linesOf(outputOf("npx", npx, options)), expected);
+    const cache = { npm_config_cache: join(folder, "cache") };
+    assert.deepEqual(linesOf(outputOf("npx", npx, { cwd: folder }, cache)), expected);
+    /** @param {string} name */
     const link = (name) => join(folder, "node_modules/.bin", name);
     assert.deepEqual(linesOf(outputOf(link("modinfo-files"), ["src"], { cwd: files })), expected);
     for (const name of ["modinfo-typescript", "modinfo-estree"]) {
@@ -187,7 +285,7 @@ describe("the package", { skip: noNpm && "npm isn't there" }, () => {
       "--mermaid src": /^flowchart LR\n/,
       "--json src": /^\{"modules":\[/,
     };
-    const table = read("README.md").match(/^\| `modinfo-files --[^`]*`/gm).map((line) => line.slice(17, -1));
+    const table = read("README.md").match(/^\| `modinfo-files --[^`]*`/gm)?.map((line) => line.slice(17, -1));
     assert.deepEqual(table, Object.keys(expected));
     const program = join(folder, "node_modules/.bin/modinfo-files");
     for (const [words, printed] of Object.entries(expected)) {
@@ -204,8 +302,11 @@ describe("the package", { skip: noNpm && "npm isn't there" }, () => {
 
   test("its types are those of its callers", { skip: !parserFolder("typescript") && "there is no TypeScript" }, () => {
     const modules = join(folder, "node_modules");
-    for (const name of ["acorn", "typescript"].filter(parserFolder)) {
-      symlinkSync(parserFolder(name), join(modules, name));
+    for (const name of /** @type {const} */ (["acorn", "typescript"])) {
+      const parser = parserFolder(name);
+      if (parser) {
+        symlinkSync(parser, join(modules, name));
+      }
     }
     mkdirSync(join(folder, "src"));
     assert.equal(compile(folder, { "src/caller.mts": read("tests/types/caller.mts") }), "");
@@ -223,10 +324,12 @@ describe("the package and that of its program", { skip: noNpm && "npm isn't ther
     npm(["install", ...pack(standInWithVersion(), folder)], folder);
     const other = executable("echo called >&2; exit 1");
     const path = [dirname(other), process.env.PATH].join(delimiter);
-    const options = { cwd: folder, input: block("js"), modinfo: other, PATH: path };
-    assert.equal(outputOf(process.execPath, ["--input-type=module"], options), block("text"));
+    const output = (/** @type {string} */ input) => {
+      return outputOf(process.execPath, ["--input-type=module"], { cwd: folder, input, modinfo: other }, { PATH: path });
+    };
+    assert.equal(output(block("js")), block("text"));
     const named = block("js").replace("new Modinfo()", `new Modinfo({ program: ${JSON.stringify(STAND_IN)} })`);
-    assert.equal(outputOf(process.execPath, ["--input-type=module"], { ...options, input: named }), block("text"));
+    assert.equal(output(named), block("text"));
   });
 
   const notBuilt = !existsSync(MODINFO) && "build/modinfo isn't made";
@@ -235,6 +338,11 @@ describe("the package and that of its program", { skip: noNpm && "npm isn't ther
     const folder = folderOf({ "src/a.ts": TEXT });
     npm(["install", ...pack(MODINFO, folder)], folder);
     const { MODINFO: _, ...env } = process.env;
+    /**
+     * @param {string} program
+     * @param {string[]} words
+     * @param {string} input
+     */
     const run = (program, words, input) => spawnSync(program, words, { cwd: folder, env, input });
     const { stdout, stderr } = run(process.execPath, ["--input-type=module"], block("js"));
     assert.deepEqual([String(stderr), String(stdout)], ["", block("text")]);
@@ -244,14 +352,82 @@ describe("the package and that of its program", { skip: noNpm && "npm isn't ther
 
   test("a program of another version, and none, are refused", () => {
     const folder = folderOf();
-    for (const [program, message] of [
-      [executable("echo modinfo 9.9.9"), /prints 'modinfo 9\.9\.9', not 'modinfo \d/],
-      [join(folder, "none"), /there is no program .*none: \.\/modinfo --prove makes it/],
-    ]) {
-      const { stderr, status } = spawnSync(join(PACKAGE, "pack"), ["--program", program, folder]);
+    /** @type {[words: string[], message: RegExp][]} */
+    const refused = [
+      [["--program", executable("echo modinfo 9.9.9")], /prints 'modinfo 9\.9\.9', not 'modinfo \d/],
+      [["--program", join(folder, "none")], /there is no program .*none: \.\/modinfo --prove makes it/],
+      [["--target", "aarch64", "--program", join(folder, "none")], /none: tools\/prove_modinfo --target aarch64 makes it/],
+    ];
+    for (const [words, message] of refused) {
+      const { stderr, status } = spawnSync(join(PACKAGE, "pack"), [...words, folder]);
       assert.match(String(stderr), message);
       assert.equal(status, 1);
     }
+    for (const words of [["--program"], ["--target", "mips"], ["--none", "a"], ["a", "b"]]) {
+      const { stderr, status } = spawnSync(join(PACKAGE, "pack"), words);
+      assert.match(String(stderr), /^usage: bindings\/node\/pack /);
+      assert.equal(status, 2);
+    }
     assert.deepEqual(readdirSync(folder), []);
+  });
+});
+
+describe("the package of the program for aarch64", { skip: noNpm && "npm isn't there" }, () => {
+  /** Has node take this machine's processor for another one. */
+  const OTHER_PROCESSOR = `data:text/javascript,Object.defineProperty(process, "arch", { value: "arm64" })`;
+
+  /**
+   * The packages with a program, installed in a folder.
+   * @param {string} program
+   * @param {NodeJS.ProcessEnv} variables
+   */
+  function installed(program, variables) {
+    const folder = folderOf();
+    const tarballs = pack(program, folder, ["--target", "aarch64"], variables);
+    assert.deepEqual(tarballs.map((path) => basename(path).replace(/-[\d.]+\.tgz$/, "")), ["modinfo", "modinfo-linux-arm64"]);
+    // Else npm refuses the package on another processor.
+    npm(["install", "--force", ...tarballs], folder);
+    return { folder, tarballs };
+  }
+
+  /** A stand-in for the emulator, which runs what this machine runs. */
+  function withEmulator() {
+    const emulator = executable(`[ "$1" = -L ] || exit 1\nshift 2\nexec "$@"`, EMULATOR);
+    return { PATH: [dirname(emulator), process.env.PATH].join(delimiter) };
+  }
+
+  test("is the program's on that processor alone", () => {
+    const { folder, tarballs } = installed(standInWithVersion(), withEmulator());
+    const files = outputOf("tar", ["--list", "--gzip", "--file", tarballs[1]], { cwd: folder }).trimEnd().split("\n");
+    const names = ["COPYRIGHT", "LICENSE", "README.md", "modinfo", "package.json"];
+    assert.deepEqual(files.sort(), names.map((name) => `package/${name}`).sort());
+    const words = ["--import", OTHER_PROCESSOR, "--input-type=module"];
+    const other = executable("echo called >&2; exit 1");
+    const options = { cwd: folder, input: block("js"), modinfo: other };
+    assert.equal(outputOf(process.execPath, words, options), block("text"));
+    const here = spawnSync(process.execPath, ["--input-type=module"], {
+      cwd: folder, input: block("js"), env: { ...process.env, MODINFO: other },
+    });
+    assert.equal(here.status === 0, process.arch === "arm64");
+  });
+
+  test("npm refuses it on another processor", { skip: process.arch === "arm64" && "this is that processor" }, () => {
+    const folder = folderOf();
+    const tarballs = pack(standInWithVersion(), folder, ["--target", "aarch64"], withEmulator());
+    const words = ["install", "--offline", "--cache", join(folder, "cache"), ...tarballs];
+    const { stderr, status } = spawnSync("npm", words, { cwd: folder });
+    assert.match(String(stderr), /EBADPLATFORM/);
+    assert.notEqual(status, 0);
+  });
+
+  const noEmulator = spawnSync(EMULATOR, ["-version"]).status !== 0 && `${EMULATOR} isn't there`;
+  const notBuilt = !existsSync(AARCH64_PROGRAM) && "build/aarch64/modinfo isn't made";
+
+  test("in an empty folder the README's example runs, emulated", { skip: noEmulator || notBuilt }, () => {
+    const { folder } = installed(AARCH64_PROGRAM, {});
+    const program = join(folder, "node_modules/modinfo-linux-arm64/modinfo");
+    const emulated = executable(`exec ${EMULATOR} -L ${AARCH64_SYSTEM} '${program}' "$@"`);
+    const options = { cwd: folder, input: block("js"), modinfo: emulated };
+    assert.equal(outputOf(process.execPath, ["--input-type=module"], options), block("text"));
   });
 });

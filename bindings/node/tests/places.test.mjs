@@ -7,6 +7,22 @@ import { test } from "node:test";
 
 import { MODINFO } from "./run_commands.mjs";
 
+/**
+ * The names and indices that lead to a value.
+ * @typedef {(string | number)[]} Path
+ */
+
+/** @typedef {{ value: any, path: Path }} Found */
+
+/**
+ * @typedef {object} Break
+ * @property {string} fault that the document then has
+ * @property {any} [put] in place of the value
+ * @property {string} [without] the member that is taken out of the value
+ * @property {Path} [at] where the fault is, if not at the value
+ * @property {string} [expected] as the report has it
+ */
+
 const isMissing = !existsSync(MODINFO) && "build/modinfo isn't made";
 const COUNT = 1000;
 
@@ -16,7 +32,10 @@ const documents = readdirSync(EXAMPLES)
   .map((name) => readFileSync(new URL(name, EXAMPLES), "utf8"))
   .filter((text) => "program" in JSON.parse(text));
 
-/** The members that each object of the notation has to have, by the name of the member that it is in. */
+/**
+ * The members that each object of the notation has to have, by the name of the member that it is in.
+ * @type {Record<string, string[]>}
+ */
 const REQUIRED = {
   "": ["specifier", "mediaType", "source", "program"],
   program: ["range", "body"],
@@ -34,7 +53,11 @@ const REQUIRED = {
 
 const NAMES = ["kind", "mediaType", "callee", "op", "phase"];
 
-/** Numbers from 0 to below `count`, the same for each seed (mulberry32). */
+/**
+ * Numbers from 0 to below `count`, the same for each seed (mulberry32).
+ * @param {number} seed
+ * @returns {(count: number) => number}
+ */
 function numbers(seed) {
   let state = seed;
   return (count) => {
@@ -45,12 +68,35 @@ function numbers(seed) {
   };
 }
 
+/** @param {Path} path */
 const pointerOf = (path) => path.map((step) => `/${String(step).replaceAll("~", "~0").replaceAll("/", "~1")}`).join("");
 
-/** Each value of a document but those in ranges and in strings of units, with the way to it. */
+/**
+ * The name of the member that a value is in, maybe in arrays.
+ * @param {Path} path
+ */
+function roleOf(path) {
+  const names = path.filter((step) => typeof step === "string");
+  return String(names.at(-1) ?? "");
+}
+
+/**
+ * @param {any} document
+ * @param {Path} path
+ */
+function valueAt(document, path) {
+  return path.reduce((value, step) => value[step], document);
+}
+
+/**
+ * Each value of a document but those in ranges and in strings of units, with the path to it.
+ * @param {any} value
+ * @param {Path} path
+ * @returns {Generator<Found>}
+ */
 function* values(value, path = []) {
   yield { value, path };
-  const role = path.findLast((step) => typeof step === "string");
+  const role = roleOf(path);
   if (role === "range" || role === "value" || role === "quasis" || typeof value !== "object" || value === null) {
     return;
   }
@@ -59,9 +105,14 @@ function* values(value, path = []) {
   }
 }
 
-/** How a value can be broken where it is: what to put there, and the fault that this gives. */
+/**
+ * How a value can be broken where it is: what to put there, and the fault that this gives.
+ * @param {Found} found
+ * @param {number} length of the source, in bytes
+ * @returns {Generator<Break>}
+ */
 function* breaks({ value, path }, length) {
-  const role = path.findLast((step) => typeof step === "string") ?? "";
+  const role = roleOf(path);
   const isItem = typeof path.at(-1) === "number";
   if (role === "range") {
     const [start, end] = value;
@@ -91,7 +142,10 @@ function* breaks({ value, path }, length) {
   }
 }
 
-/** One document that is broken by seed, with the fault and the pointer to it. */
+/**
+ * One document that is broken by seed, with the fault and the pointer to it.
+ * @param {number} seed
+ */
 function brokenBy(seed) {
   const number = numbers(seed);
   const document = JSON.parse(documents[number(documents.length)]);
@@ -99,11 +153,10 @@ function brokenBy(seed) {
     [...breaks(each, Buffer.byteLength(document.source))].map((how) => ({ ...each, ...how })),
   );
   const { path, put, without, fault, at, expected } = found[number(found.length)];
-  const parent = path.slice(0, -1).reduce((value, step) => value[step], document);
   if (without !== undefined) {
-    delete path.reduce((value, step) => value[step], document)[without];
+    delete valueAt(document, path)[without];
   } else if (path.length > 0) {
-    parent[path.at(-1)] = put;
+    valueAt(document, path.slice(0, -1))[path[path.length - 1]] = put;
   }
   const broken = path.length === 0 && without === undefined ? put : document;
   return { line: JSON.stringify(broken), fault, pointer: pointerOf(at ?? path), expected };

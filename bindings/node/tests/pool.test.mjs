@@ -2,11 +2,13 @@
 
 import assert from "node:assert/strict";
 import { spawnSync } from "node:child_process";
+import { EventEmitter, once } from "node:events";
 import { join } from "node:path";
 import { test } from "node:test";
 import { pathToFileURL } from "node:url";
 
 import { Pool, WorkerEnd, inOrder } from "../src/runtime/pool.mjs";
+import { all, settled } from "./promises.mjs";
 import { folderOf } from "./run_commands.mjs";
 
 const SERVE = new URL("../src/runtime/worker.mjs", import.meta.url).href;
@@ -27,24 +29,23 @@ serve(async (task) => ({ result: await handle(task), transfer: [] }), async () =
   return pathToFileURL(join(folder, "worker.mjs"));
 }
 
+/** @param {number} end */
 async function* numbers(end) {
   for (let at = 0; at < end; at++) {
     yield at;
   }
 }
 
-async function all(iterable) {
-  const found = [];
-  for await (const each of iterable) {
-    found.push(each);
-  }
-  return found;
-}
-
-/** The results of tasks in a pool, or the names of their errors, in the order of the tasks. */
+/**
+ * The results of tasks in a pool, or the names of their errors, in the order of the tasks.
+ * @param {URL} worker
+ * @param {number} jobs
+ * @param {AsyncIterable<number>} tasks
+ * @param {{ most?: number, perWorker?: number, data?: unknown }} options
+ */
 async function results(worker, jobs, tasks, { most = 40, ...options } = {}) {
   const pool = new Pool(worker, { jobs, ...options });
-  const run = (task) => pool.run(task).catch((error) => error.name);
+  const run = (/** @type {number} */ task) => pool.run(task).catch((error) => error.name);
   const found = await all(inOrder(tasks, most, run));
   await pool.close();
   return found;
@@ -59,6 +60,10 @@ test("results keep the order of the tasks, whichever is done first", async () =>
 
 test("at most so many workers run, and no more than there are tasks", async () => {
   const worker = workerOf(`async (task) => (await sleep(5), threadId)`);
+  /**
+   * @param {number} jobs
+   * @param {number} tasks
+   */
   const threads = async (jobs, tasks) => new Set(await results(worker, jobs, numbers(tasks))).size;
   assert.equal(await threads(3, 60), 3);
   assert.equal(await threads(4, 2), 2);
@@ -67,6 +72,7 @@ test("at most so many workers run, and no more than there are tasks", async () =
 
 test("a worker may get some tasks before another is started", async () => {
   const worker = workerOf(`async (task) => (await sleep(5), threadId)`);
+  /** @param {number} tasks */
   const threads = async (tasks) => new Set(await results(worker, 4, numbers(tasks), { perWorker: 8 })).size;
   assert.deepEqual([await threads(8), await threads(9), await threads(60)], [1, 2, 4]);
 });
@@ -87,6 +93,7 @@ serve(async (task) => {
 
 test("tasks are taken up only as results are", async () => {
   let [started, running, most] = [0, 0, 0];
+  /** @param {number} task */
   const run = async (task) => {
     started++;
     most = Math.max(most, ++running);
@@ -107,25 +114,17 @@ test("tasks are taken up only as results are", async () => {
 });
 
 test("a result doesn't wait for the next task", async () => {
-  const { promise, resolve } = withResolvers();
+  const later = new EventEmitter();
   const tasks = (async function* () {
     yield 1;
-    await promise;
+    await once(later, "next");
     yield 2;
   })();
   const found = inOrder(tasks, 10, async (task) => task);
   assert.equal((await found.next()).value, 1);
-  resolve();
+  later.emit("next");
   assert.deepEqual(await all(found), [2]);
 });
-
-function withResolvers() {
-  let resolve;
-  const promise = new Promise((done) => {
-    resolve = done;
-  });
-  return { promise, resolve };
-}
 
 test("a task over which workers end is the only one that is lost", async () => {
   const worker = workerOf(`async (task) => (task % 40 === 17 ? process.exit(1) : task)`);
@@ -148,7 +147,7 @@ test("a worker that is out of memory ends with that code", async () => {
   await pool.close();
 });
 
-test("an error of a worker's code is told", async () => {
+test("an error of a worker's code is reported", async () => {
   const pool = new Pool(workerOf(`async () => { throw new Error("wrong"); }`), { jobs: 1 });
   await assert.rejects(pool.run(1), (error) => error instanceof WorkerEnd && error.message === "wrong");
   await pool.close();
@@ -157,7 +156,7 @@ test("an error of a worker's code is told", async () => {
 test("where workers can't be started, each task is rejected at once", async () => {
   const folder = folderOf({ "worker.mjs": "import 'none';" });
   const pool = new Pool(pathToFileURL(join(folder, "worker.mjs")), { jobs: 2 });
-  const runs = await Promise.allSettled(Array.from({ length: 50 }, (_, at) => pool.run(at)));
+  const runs = await settled(Array.from({ length: 50 }, (_, at) => pool.run(at)));
   assert.ok(runs.every(({ reason }) => /Cannot find package 'none'/.test(reason.message)));
   assert.ok(runs.every(({ reason }) => !(reason instanceof WorkerEnd)));
   await pool.close();

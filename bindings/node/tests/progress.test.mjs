@@ -7,10 +7,13 @@ import { test } from "node:test";
 import { Progress } from "../src/cli/common/progress.mjs";
 import { STAND_IN, folderOf, programOf } from "./run_commands.mjs";
 
-/** What a stream was written. */
+/**
+ * What a stream was written.
+ * @param {boolean} isTTY
+ */
 function stream(isTTY) {
   let text = "";
-  return { isTTY, write: (more) => (text += more), get text() { return text; } };
+  return { isTTY, write: (/** @type {string} */ more) => (text += more), get text() { return text; } };
 }
 
 test("on a terminal it says the files done of all, and the faults", () => {
@@ -18,7 +21,7 @@ test("on a terminal it says the files done of all, and the faults", () => {
   const progress = new Progress(terminal, true);
   [1, 2, 3].forEach(() => progress.find());
   progress.pass(true);
-  progress.say("a.js: wrong");
+  progress.print("a.js: wrong");
   progress.pass(false);
   progress.clear();
   progress.clear();
@@ -29,13 +32,13 @@ test("on a terminal it says the files done of all, and the faults", () => {
 });
 
 test("elsewhere it says what stays alone", () => {
-  for (const progress of [(each) => new Progress(each, true), (each) => new Progress(each, false)]) {
+  for (const isShown of [true, false]) {
     const file = stream(false);
-    const each = progress(file);
-    each.find();
-    each.pass(true);
-    each.say("a.js: wrong");
-    each.clear();
+    const progress = new Progress(file, isShown);
+    progress.find();
+    progress.pass(true);
+    progress.print("a.js: wrong");
+    progress.clear();
     assert.equal(file.text, "a.js: wrong\n");
   }
   const terminal = stream(true);
@@ -48,6 +51,7 @@ const hasScript = spawnSync("script", ["--version"]).status === 0;
 test("files.mjs on a terminal", { skip: !hasScript && "script isn't installed" }, () => {
   const folder = folderOf({ "a.js": "", "b.js": "(" });
   const command = `${process.execPath} ${programOf("files.mjs")} ${folder}`;
+  /** @param {string} line */
   const onTerminal = (line) => String(spawnSync("script", ["-qec", line, "/dev/null"], {
     env: { ...process.env, MODINFO: STAND_IN, SHELL: "/bin/sh" },
   }).stdout);

@@ -9,23 +9,45 @@ import { fileURLToPath } from "node:url";
 import { resolverThread } from "./resolver_thread.mjs";
 import { folderOf } from "./run_commands.mjs";
 
+/**
+ * @param {string} specifier
+ * @param {object} [more]
+ */
 const imported = (specifier, more) => ({ type: "static", kind: "import", specifier, ...more });
+/** @param {unknown} argument */
 const required = (argument) => ({ type: "dynamic", kind: "require", argument });
+/** @param {string} argument */
 const dynamic = (argument) => ({ type: "dynamic", argument });
+
+/** @typedef {import("../src/index.mjs").Resolution} Resolution */
 
 const resolve = resolverThread();
 
-/** A resolution in few words: its class, unless that is `file`, its files by their paths in a folder. */
+/**
+ * A resolution in few words: its class, unless that is `file`, its files by their paths in a folder.
+ * @param {string} folder
+ * @param {{ class: string, package?: string, file?: string, types?: string }} resolution
+ */
 function brief(folder, { class: name, package: own, file, types }) {
+  /** @param {string} url */
   const pathOf = (url) => relative(folder, fileURLToPath(url));
   const words = [name === "file" ? [] : name, own ?? [], file ? pathOf(file) : []].flat();
   return [...words, ...(types ? [`types ${pathOf(types)}`] : [])].join(" ");
 }
 
-/** What some dependencies of a module resolve to, in few words. */
+/**
+ * What some dependencies of a module resolve to, in few words.
+ * @param {string} folder
+ * @param {string} module
+ * @param {object[]} dependencies
+ * @param {{ by?: ReturnType<typeof resolverThread>, script?: boolean }} options
+ * @returns {Promise<string[]>}
+ */
 async function resolved(folder, module, dependencies, { by = resolve, ...more } = {}) {
   const { info } = await by({ dependencies, ...more }, join(folder, module));
-  return info.dependencies.map((each) => brief(folder, each.resolved));
+  /** @type {{ resolved: Resolution }[]} */
+  const found = info.dependencies;
+  return found.map((each) => brief(folder, each.resolved));
 }
 
 test("a require runs the JavaScript, and its types are those beside it", async () => {
@@ -104,6 +126,7 @@ test("the classes of what is no module of the project", async () => {
 
 test("an argument is its parts together, where all of them are known", async () => {
   const folder = folderOf({ "a.js": "", "b.js": "" });
+  /** @param {string} value */
   const text = (value) => ({ type: "string", value });
   const dependencies = [
     required([text("./b"), text(".js")]), required([text("./b"), { type: "expr" }]), required(undefined),
@@ -144,6 +167,7 @@ test("a TypeScript file names the TypeScript files of its project, also by their
 });
 
 test("the options of the nearest tsconfig.json, and of the project that includes a file", async () => {
+  /** @param {string} target */
   const paths = (target) => ({ baseUrl: ".", paths: { "@/*": [target] }, moduleResolution: "node" });
   const folder = folderOf({
     "tsconfig.json": `{"files":[],"references":[{"path":"./app"},{"path":"./tsconfig.test.json"}]}`,
@@ -188,6 +212,7 @@ test("what is wrong with a configuration is said once", async () => {
     "a/tsconfig.json": `{ "compilerOptions": { "module": "none such" }`, "a/b.ts": "", "a/c.ts": "",
   });
   const by = resolverThread();
+  /** @param {string} path */
   const noticesOf = async (path) => (await by({}, join(folder, path))).notices;
   const [first, second, ...others] = await noticesOf("a/b.ts");
   assert.match(first, /^\/.*a\/tsconfig\.json: '}' expected\.$/);

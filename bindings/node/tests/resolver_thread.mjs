@@ -2,7 +2,7 @@
 
 import { once } from "node:events";
 import { after } from "node:test";
-import { Worker, isMainThread, parentPort, workerData } from "node:worker_threads";
+import { Worker, parentPort, workerData } from "node:worker_threads";
 
 import { nodeFlags } from "../src/graph/node_resolution.mjs";
 import { Resolver } from "../src/graph/resolver.mjs";
@@ -27,10 +27,11 @@ export function resolverThread(options = {}) {
   };
 }
 
-if (!isMainThread) {
+if (parentPort) {
+  const port = parentPort;
   const resolver = new Resolver(loadParser("typescript"), workerData);
-  parentPort.on("message", ({ info, path }) => {
+  port.on("message", ({ info, path }) => {
     resolver.resolve(info, path);
-    parentPort.postMessage({ info, notices: resolver.takeNotices() });
+    port.postMessage({ info, notices: resolver.takeNotices() });
   });
 }

@@ -5,13 +5,22 @@ import { mkdirSync, mkdtempSync, rmSync, writeFileSync } from "node:fs";
 import { tmpdir } from "node:os";
 import { dirname, join } from "node:path";
 import { after } from "node:test";
-import { fileURLToPath } from "node:url";
+import { fileURLToPath, pathToFileURL } from "node:url";
+
+/**
+ * @typedef {object} RunOptions
+ * @property {string} [cwd]
+ * @property {string | Uint8Array} [input]
+ * @property {string} [modinfo] the path of the program; else the second `modinfo`
+ */
+
+/** @typedef {{ stdout: string, stderr: string, status: number | null }} Ended */
 
 /** The second `modinfo`, which is there without a build. */
 export const STAND_IN = fileURLToPath(new URL("./stand_in.mjs", import.meta.url));
 
 /** The program itself, where it is made. */
-export const MODINFO = process.env.MODINFO ?? fileURLToPath(new URL("../../build/modinfo", import.meta.url));
+export const MODINFO = process.env.MODINFO ?? fileURLToPath(new URL("../../../build/modinfo", import.meta.url));
 
 /**
  * A folder that is gone after the tests.
@@ -29,6 +38,14 @@ export function folderOf(files = {}) {
 }
 
 /**
+ * @param {string} folder
+ * @param {string} path in it
+ */
+export function urlOf(folder, path) {
+  return pathToFileURL(join(folder, path)).href;
+}
+
+/**
  * @param {string} name of a file in src/cli/
  * @returns {string} its path
  */
@@ -39,11 +56,8 @@ export function programOf(name) {
 /**
  * @param {string} name of a file in src/cli/
  * @param {string[]} words
- * @param {object} [options]
- * @param {string} [options.cwd]
- * @param {string | Uint8Array} [options.input]
- * @param {string} [options.modinfo] the path of the program; else the second `modinfo`
- * @returns {{ stdout: string, stderr: string, status: number | null }}
+ * @param {RunOptions} options
+ * @returns {Ended}
  */
 export function run(name, words, { cwd, input = "", modinfo = STAND_IN } = {}) {
   const command = [programOf(name), ...threadsFor(name, words), ...words];
@@ -71,7 +85,7 @@ export function threadsFor(name, words) {
  * Runs a line of the shell, in which `$node` and `$cli` are there.
  * @param {string} line
  * @param {string} cwd
- * @returns {{ stdout: string, stderr: string, status: number | null }}
+ * @returns {Ended}
  */
 export function shell(line, cwd) {
   const env = { ...process.env, MODINFO: STAND_IN, node: process.execPath, cli: programOf(".") };

@@ -2,10 +2,18 @@
 
 import { readFileSync } from "node:fs";
 
+/**
+ * A schema, with each keyword's value as JSON has it.
+ * @typedef {any} Schema
+ */
+
 /** Keywords that say nothing of a value. */
 const NOTES = new Set(["$schema", "$defs", "title", "description", "default", "then"]);
 
-/** @param {string} name */
+/**
+ * @param {string} name
+ * @returns {Schema}
+ */
 export function readSchema(name) {
   return JSON.parse(readFileSync(new URL(`../../../docs/${name}.schema.json`, import.meta.url), "utf8"));
 }
@@ -13,7 +21,9 @@ export function readSchema(name) {
 /**
  * Where and why a value breaks a schema; nothing where it keeps it.
  * @param {unknown} value
- * @param {any} schema
+ * @param {Schema} schema
+ * @param {Schema} [root] the schema that has the definitions
+ * @param {string} [path] of the value in the whole
  * @returns {string | undefined}
  */
 export function fault(value, schema, root = schema, path = "") {
@@ -34,6 +44,14 @@ export function fault(value, schema, root = schema, path = "") {
   return undefined;
 }
 
+/**
+ * @param {string} keyword
+ * @param {unknown} value
+ * @param {Schema} schema
+ * @param {Schema} root
+ * @param {string} path
+ * @returns {string | undefined}
+ */
 function faultOf(keyword, value, schema, root, path) {
   const rule = schema[keyword];
   switch (keyword) {
@@ -42,7 +60,7 @@ function faultOf(keyword, value, schema, root, path) {
     case "properties": case "additionalProperties": case "prefixItems": case "items":
       return firstFault(membersOf(keyword, value, schema), root, path);
     case "allOf":
-      return rule.map((one) => fault(value, one, root, path)).find(Boolean);
+      return faultsOf(value, rule, root, path).find(Boolean);
     case "oneOf":
       return oneOf(value, rule, root, path);
     case "if":
@@ -52,11 +70,18 @@ function faultOf(keyword, value, schema, root, path) {
   }
 }
 
-/** Whether a value keeps a keyword that says something of the whole of it. */
+/**
+ * Whether a value keeps a keyword that says something of the whole of it.
+ * @param {string} keyword
+ * @param {unknown} value
+ * @param {any} rule the keyword's value, of a type by the keyword
+ * @param {Schema} root
+ * @returns {boolean}
+ */
 function holds(keyword, value, rule, root) {
   switch (keyword) {
     case "type":
-      return [rule].flat().some((type) => isOfType(value, type));
+      return [rule].flat().some((/** @type {string} */ type) => isOfType(value, type));
     case "const":
       return value === rule;
     case "enum":
@@ -70,25 +95,32 @@ function holds(keyword, value, rule, root) {
     case "maxItems":
       return !Array.isArray(value) || value.length <= rule;
     case "required":
-      return !isOfType(value, "object") || rule.every((name) => Object.hasOwn(value, name));
+      return !isObject(value) || rule.every((/** @type {string} */ name) => Object.hasOwn(value, name));
     case "anyOf":
-      return rule.some((one) => !fault(value, one, root));
+      return faultsOf(value, rule, root, "").includes(undefined);
     default:
       throw new Error(`the keyword ${keyword} isn't known`);
   }
 }
 
-/** The members of a value that a keyword is about, each with its name and its schema. */
+/**
+ * The members of a value that a keyword is about, each with its name and its schema.
+ * @param {string} keyword
+ * @param {unknown} value
+ * @param {Schema} schema
+ * @returns {[string | number, unknown, Schema][]}
+ */
 function membersOf(keyword, value, schema) {
   const rule = schema[keyword];
-  const names = isOfType(value, "object") ? Object.keys(value) : [];
+  const members = isObject(value) ? value : {};
+  const names = Object.keys(members);
   const items = Array.isArray(value) ? value : [];
   switch (keyword) {
     case "properties":
       return Object.keys(rule).filter((name) => names.includes(name))
-        .map((name) => [name, value[name], rule[name]]);
+        .map((name) => [name, members[name], rule[name]]);
     case "additionalProperties":
-      return names.filter((name) => !schema.properties?.[name]).map((name) => [name, value[name], rule]);
+      return names.filter((name) => !schema.properties?.[name]).map((name) => [name, members[name], rule]);
     case "prefixItems":
       return items.slice(0, rule.length).map((item, at) => [at, item, rule[at]]);
     default:
@@ -96,7 +128,12 @@ function membersOf(keyword, value, schema) {
   }
 }
 
-/** The first fault of some members; those behind it aren't looked at. */
+/**
+ * The first fault of some members; those after it aren't looked at.
+ * @param {[string | number, unknown, Schema][]} entries
+ * @param {Schema} root
+ * @param {string} path
+ */
 function firstFault(entries, root, path) {
   for (const [name, member, schema] of entries) {
     const found = fault(member, schema, root, `${path}/${name}`);
@@ -107,13 +144,33 @@ function firstFault(entries, root, path) {
   return undefined;
 }
 
+/**
+ * @param {unknown} value
+ * @param {Schema[]} rules
+ * @param {Schema} root
+ * @param {string} path
+ */
+function faultsOf(value, rules, root, path) {
+  return rules.map((one) => fault(value, one, root, path));
+}
+
+/**
+ * @param {unknown} value
+ * @param {Schema[]} rule
+ * @param {Schema} root
+ * @param {string} path
+ */
 function oneOf(value, rule, root, path) {
-  const faults = rule.map((one) => fault(value, one, root, path));
+  const faults = faultsOf(value, rule, root, path);
   const kept = faults.filter((found) => !found).length;
   const deepest = faults.reduce((one, other) => ((other?.length ?? 0) > (one?.length ?? 0) ? other : one));
   return kept === 1 ? undefined : `${path}: keeps ${kept} of oneOf (${deepest})`;
 }
 
+/**
+ * @param {unknown} value
+ * @param {string} type of JSON Schema
+ */
 function isOfType(value, type) {
   switch (type) {
     case "integer":
@@ -123,8 +180,16 @@ function isOfType(value, type) {
     case "null":
       return value === null;
     case "object":
-      return typeof value === "object" && value !== null && !Array.isArray(value);
+      return isObject(value);
     default:
       return typeof value === type;
   }
+}
+
+/**
+ * @param {unknown} value
+ * @returns {value is Record<string, unknown>}
+ */
+function isObject(value) {
+  return typeof value === "object" && value !== null && !Array.isArray(value);
 }

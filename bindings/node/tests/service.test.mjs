@@ -8,8 +8,10 @@ import { test } from "node:test";
 
 import { Analyzer } from "../src/runtime/analyzer.mjs";
 import { ModinfoFault, ProgramEnd, Service } from "../src/runtime/service.mjs";
+import { settled } from "./promises.mjs";
 import { STAND_IN, folderOf } from "./run_commands.mjs";
 
+/** @param {string} name */
 const document = (name) => JSON.stringify({
   specifier: "file:///a.js", mediaType: "JavaScript", source: `import "${name}";`,
   program: {
@@ -21,7 +23,8 @@ const document = (name) => JSON.stringify({
   },
 });
 
-const specifierOf = (answer) => JSON.parse(answer).dependencies[0].specifier;
+/** @param {unknown} answer JSON, also as bytes */
+const specifierOf = (answer) => JSON.parse(String(answer)).dependencies[0].specifier;
 
 /**
  * A program in JavaScript that stands in for `modinfo`. In it `lines` are those of the input, and
@@ -48,10 +51,13 @@ ${body}`,
   };
 }
 
-/** What became of some promises: answers, or the names of their errors. */
+/**
+ * What became of some promises: answers, or the names of their errors.
+ * @param {Promise<unknown>[]} promises
+ */
 async function outcomes(promises) {
-  const settled = await Promise.allSettled(promises);
-  return settled.map(({ value, reason }) => (reason ? reason.name : String(value)));
+  const found = await settled(promises);
+  return found.map(({ value, reason }) => (reason ? reason.name : String(value)));
 }
 
 test("each of many documents gets its answer", async () => {
@@ -75,7 +81,7 @@ test("a document is text or bytes, and may have line feeds", async () => {
 
 test("a fault rejects its own document alone", async () => {
   const service = new Service(STAND_IN);
-  const [first, wrong, last] = await Promise.allSettled(
+  const [first, wrong, last] = await settled(
     [document("a"), "{", document("b")].map((each) => service.answer(each)),
   );
   assert.equal(specifierOf(first.value), "a");
@@ -134,7 +140,7 @@ test("where the process ends, what it held is rejected and the next goes to a ne
     }`);
   const service = new Service(program);
   assert.deepEqual(await outcomes([service.answer('"a"')]), ['"a"']);
-  const [ended] = await Promise.allSettled([service.answer('"end"')]);
+  const [ended] = await settled([service.answer('"end"')]);
   assert.ok(ended.reason instanceof ProgramEnd);
   assert.match(ended.reason.message, /modinfo\.mjs ended with status 1: modinfo: Output$/);
   assert.deepEqual(await outcomes([service.answer('"b"')]), ['"b"']);
@@ -217,15 +223,15 @@ test("where no more files can be opened, each document is rejected", () => {
   assert.deepEqual([String(stderr), status], ["", 0]);
 });
 
-test("behind what is no answer nothing that the process says is one", async () => {
+test("after what is no answer nothing that the process prints is one", async () => {
   const { program, starts } = programOf(`
     for await (const line of lines) {
       console.log({ 1: "modinfo", 2: '{"fault":2}', 3: '{"answer":3}\\n{"answer":4}' }[line] ?? '{"answer":' + line + "}");
     }`);
   const service = new Service(program);
   for (const [wrong, said] of [["1", "modinfo"], ["2", '{"fault":2}']]) {
-    const held = await Promise.allSettled([service.answer(wrong), service.answer("5"), service.answer("6")]);
-    const message = `ProgramEnd: ${program} answers what is no answer: ${said}`;
+    const held = await settled([service.answer(wrong), service.answer("5"), service.answer("6")]);
+    const message = `ProgramEnd: ${program} prints what is no answer: ${said}`;
     assert.deepEqual(held.map(({ reason }) => String(reason)), [message, message, message]);
     assert.equal(String(await service.answer("5")), "5");
   }

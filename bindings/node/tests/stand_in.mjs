@@ -8,6 +8,7 @@ import { text } from "node:stream/consumers";
 
 import { analyze } from "./analysis.mjs";
 
+/** @type {Partial<Record<string, (document: any) => object>>} */
 const COMMANDS = { analyze, reach };
 
 const [command, ...others] = process.argv.slice(2);
@@ -15,7 +16,7 @@ const run = COMMANDS[command];
 
 if (run && others.join(" ") === "--lines") {
   for await (const line of linesOf(process.stdin)) {
-    process.stdout.write(`${compact(answer(line))}\n`);
+    process.stdout.write(`${compact(answer(run, line))}\n`);
   }
 } else if (run && others.length === 0) {
   process.stdout.write(`${compact(run(JSON.parse(await text(process.stdin))))}\n`);
@@ -24,7 +25,10 @@ if (run && others.join(" ") === "--lines") {
   process.exitCode = 2;
 }
 
-/** The JSON of a value, in which the keys of each object ascend. */
+/**
+ * The JSON of a value, in which the keys of each object ascend.
+ * @param {unknown} value
+ */
 function compact(value) {
   return JSON.stringify(value, (_, part) => {
     const isObject = typeof part === "object" && part !== null && !Array.isArray(part);
@@ -32,12 +36,15 @@ function compact(value) {
   });
 }
 
-/** The lines of some bytes; line feeds alone end them. */
+/**
+ * The lines of some bytes; line feeds alone end them.
+ * @param {NodeJS.ReadStream} input
+ */
 async function* linesOf(input) {
   let begun = "";
   for await (const piece of input.setEncoding("utf8")) {
     const lines = (begun + piece).split("\n");
-    begun = lines.pop();
+    begun = lines.pop() ?? "";
     yield* lines;
   }
   if (begun !== "") {
@@ -45,8 +52,11 @@ async function* linesOf(input) {
   }
 }
 
-/** @param {string} line */
-function answer(line) {
+/**
+ * @param {(document: any) => object} run
+ * @param {string} line
+ */
+function answer(run, line) {
   try {
     return { answer: run(JSON.parse(line)) };
   } catch (error) {

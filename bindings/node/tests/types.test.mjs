@@ -16,7 +16,13 @@ const NODE_TYPES = [join(PACKAGE, "node_modules/@types/node"), "/usr/share/nodej
 
 const skip = !parserFolder("typescript") && "there is no TypeScript";
 
-/** The type of TypeScript that a schema describes. */
+/** @typedef {import("./schema.mjs").Schema} Schema */
+
+/**
+ * The type of TypeScript that a schema describes.
+ * @param {Schema} schema
+ * @returns {string}
+ */
 function typeOf(schema) {
   if (schema === false) {
     return "never";
@@ -27,16 +33,24 @@ function typeOf(schema) {
   if ("const" in schema) {
     return JSON.stringify(schema.const);
   }
-  const choices = schema.enum?.map((value) => JSON.stringify(value)) ??
+  const choices = schema.enum?.map((/** @type {unknown} */ value) => JSON.stringify(value)) ??
     (schema.oneOf ?? schema.anyOf ?? arrayOf(schema.type))?.map(typeOf);
   return choices ? choices.join(" | ") : typeOfOne(schema);
 }
 
-/** Of a schema that has several types one for each. */
+/**
+ * Of a schema that has several types one for each.
+ * @param {unknown} type
+ * @returns {Schema[] | undefined}
+ */
 function arrayOf(type) {
   return Array.isArray(type) ? type.map((each) => ({ type: each })) : undefined;
 }
 
+/**
+ * @param {Schema} schema
+ * @returns {string}
+ */
 function typeOfOne(schema) {
   switch (schema.type) {
     case "integer":
@@ -52,6 +66,10 @@ function typeOfOne(schema) {
   }
 }
 
+/**
+ * @param {Schema} schema
+ * @returns {string}
+ */
 function objectOf({ properties, required = [], additionalProperties }) {
   if (!properties) {
     return `Record<string, ${typeOf(additionalProperties)}>`;
@@ -61,10 +79,13 @@ function objectOf({ properties, required = [], additionalProperties }) {
   return `{ ${members.join(" ")} }`;
 }
 
-/** A node: of each kind the members that all have and those that the kind adds. */
+/**
+ * A node: of each kind the members that all have and those that the kind adds.
+ * @param {Schema} schema
+ */
 function nodeOf({ $defs }) {
   const { properties, required } = $defs.node;
-  return properties.kind.enum.map((kind) => {
+  return properties.kind.enum.map((/** @type {string} */ kind) => {
     const own = $defs[kind];
     return objectOf({
       properties: { ...properties, ...own.properties, kind: { const: kind }, children: properties.children },
@@ -73,7 +94,10 @@ function nodeOf({ $defs }) {
   }).join(" | ");
 }
 
-/** A module that exports the type which a schema describes. */
+/**
+ * A module that exports the type which a schema describes.
+ * @param {Schema} schema
+ */
 function moduleOf(schema) {
   const kinds = schema.$defs.node?.properties.kind.enum ?? [];
   const definitions = Object.entries(schema.$defs)
@@ -86,7 +110,10 @@ function moduleOf(schema) {
 const SAME = `
 type Same<A, B> = (<T>() => T extends A ? 1 : 2) extends (<T>() => T extends B ? 1 : 2) ? true : false;`;
 
-/** What makes another schema of each. */
+/**
+ * What makes another schema of each.
+ * @type {Record<string, ((schema: Schema) => unknown)[]>}
+ */
 const CHANGES = {
   "module-info": [
     ({ $defs }) => delete $defs.staticDependency.properties.sideEffect,
@@ -115,6 +142,7 @@ const CHANGES = {
 
 test("the types are what the schemas say", { skip }, () => {
   const folder = folderOf();
+  /** @type {Record<string, string>} */
   const files = {};
   const checks = [SAME];
   for (const [name, file, type] of [

@@ -6,24 +6,37 @@ import { test } from "node:test";
 import { isAtLeast, loadParser } from "../src/parsers/installed_parsers.mjs";
 import { toDocument } from "../src/parsers/typescript/index.mjs";
 import { documentOf, typescriptAnswer } from "./documents.mjs";
+import { unchecked } from "./unchecked.mjs";
 
 const typescript = loadParser("typescript");
 
-/** For syntax that came after the TypeScript that is installed. */
+/**
+ * For syntax that came after the TypeScript that is installed.
+ * @param {number} major
+ * @param {number} minor
+ */
 const since = (major, minor) => ({ skip: !isAtLeast(typescript, major, minor) && `needs TypeScript ${major}.${minor}` });
 
-/** The dependencies of a text without their places. */
+/**
+ * The dependencies of a text without their places.
+ * @param {string} text
+ * @param {string} [mediaType]
+ */
 function dependencies(text, mediaType) {
   return (typescriptAnswer(text, mediaType).dependencies ?? [])
     .map(({ type, specifierRange, argumentRange, ...others }) => others);
 }
 
-/** The place of the first dependency. */
+/**
+ * The place of the first dependency.
+ * @param {string} text
+ */
 function place(text) {
   const [{ specifierRange, argumentRange }] = typescriptAnswer(text).dependencies;
   return specifierRange ?? argumentRange;
 }
 
+/** @param {string} text */
 function body(text, mediaType = "TypeScript") {
   return documentOf(toDocument, text, mediaType).program.body;
 }
@@ -86,6 +99,7 @@ test("import types", () => {
 });
 
 test("attributes of import types", () => {
+  /** @param {string} text */
   const attributes = (text) => dependencies(`let a: import("a", ${text})`)[0].importAttributes;
   assert.deepEqual(attributes(`{ with: { "resolution-mode": "import" } }`), { known: { "resolution-mode": "import" } });
   assert.deepEqual(attributes(`{ assert: { "resolution-mode": "require" } }`), { known: { "resolution-mode": "require" } });
@@ -93,6 +107,7 @@ test("attributes of import types", () => {
 });
 
 test("attributes of declarations", () => {
+  /** @param {string} text */
   const clause = (text) => dependencies(text)[0].importAttributes;
   assert.deepEqual(clause(`import type { A } from "a" with { "resolution-mode": "require" };`), { known: { "resolution-mode": "require" } });
   assert.deepEqual(clause(`export type { A } from "a" assert { "resolution-mode": "import" };`), { known: { "resolution-mode": "import" } });
@@ -104,6 +119,10 @@ test("a later version's names of the clauses", () => {
   const text = `import a from "a" assert { type: "json" }; let b: import("b", { assert: { c: "d" } });`;
   const tree = typescript.createSourceFile("a.ts", text, { languageVersion: typescript.ScriptTarget.Latest });
   const [declaration, { declarationList: { declarations: [{ type }] } }] = tree.statements;
+  /**
+   * @param {object} node
+   * @param {unknown} attributes
+   */
   const rename = (node, attributes) => Object.assign(node, { attributes, assertClause: undefined, assertions: undefined });
   rename(declaration, declaration.attributes ?? declaration.assertClause);
   rename(type, type.attributes ?? type.assertions.assertClause);
@@ -124,8 +143,9 @@ test("a tree is that of the text", () => {
   const tree = typescript.createSourceFile("a.ts", "a", typescript.ScriptTarget.Latest);
   const options = { specifier: "file:///a.ts", typescript, tree };
   assert.equal(toDocument("a", options).source, "a");
-  for (const wrong of [() => toDocument("b", options), () => toDocument("a", { ...options, tree: {} })]) {
-    assert.throws(wrong, { name: "TypeError", message: "the tree is to be a SourceFile of the text" });
+  const noTree = { ...options, tree: unchecked({}) };
+  for (const wrong of [() => toDocument("b", options), () => toDocument("a", noTree)]) {
+    assert.throws(wrong, { name: "TypeError", message: "the tree must be a SourceFile of the text" });
   }
 });
 
@@ -165,6 +185,10 @@ test("an exported module declaration begins behind the export", () => {
 });
 
 test("what is a script", () => {
+  /**
+   * @param {string} text
+   * @param {string} [mediaType]
+   */
   const isScript = (text, mediaType) => typescriptAnswer(text, mediaType).script ?? false;
   for (const text of ["export = a", "export as namespace a", "import a = require('a')", "declare module 'a' { export {}; export default a; }", "let a: import('a')"]) {
     assert.equal(isScript(text, "Dts"), true, text);
@@ -233,6 +257,7 @@ test("a comment that only looks like a reference is no error", () => {
   }
   assert.deepEqual(typescriptAnswer(text).tsReferences.map((each) => each.text), ["d"]);
   const wrong = { name: "SourceFault", line: 9 };
+  /** @param {string} more */
   const refused = (more) => toDocument(text + more, { specifier: "file:///a.ts", mediaType: "TypeScript" });
   assert.throws(() => refused("let a = ;"), { ...wrong, line: 10 });
 });

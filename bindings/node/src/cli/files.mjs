@@ -10,14 +10,13 @@ import { resolve as absolute } from "node:path";
 import { pathToFileURL } from "node:url";
 
 import { isFolder } from "../files/find_files.mjs";
-import { MAX_BYTES } from "../files/regular_file.mjs";
 import { TYPESCRIPT_MEDIA_TYPES } from "../parsers/typescript/parse.mjs";
 import { withoutExcerpt } from "../runtime/faults.mjs";
 import { printable } from "../runtime/printable.mjs";
 import { PROGRAM_HELP, checkProgram, modinfoPath } from "../runtime/program.mjs";
 import { UsageFault, runProgram, usageOf } from "./common/command_line.mjs";
 import { QUESTIONS, answerQuestion } from "./common/graph_questions.mjs";
-import { LINE_OPTIONS, runLines } from "./common/read_files.mjs";
+import { LINE_HELP, LINE_OPTIONS, runLines } from "./common/read_files.mjs";
 import { writeOutput } from "./common/standard_output.mjs";
 
 /**
@@ -31,53 +30,39 @@ const HELP = `usage: ${NAME} [--resolve] [OPTION ..] PATH ..
        ${NAME} --entry FILE .. [QUESTION] [OPTION ..] [PATH ..]
        ${NAME} QUESTION [OPTION ..] PATH ..
 
-Without a question and an entry: for each file what it depends on, one line of JSON each, in order.
-
+Prints what each file depends on, as one line of JSON each:
   {"specifier":URL,"info":MODULEINFO}
   {"specifier":URL,"fault":NAME,"message":TEXT,"line":N,"column":N}
-
-With an entry: the files that the entries reach by what runs, one a line.
+With --entry, prints the files that the entries reach by what runs, one a line. Example:
+  ${NAME} --entry src/main.ts --unreached src
 
 Questions, one at a time:
-  --unreached        the files of PATH that no entry reaches. Declaration files are left out, since
-                     they never run, unless --types counts them
-  --cycles           modules that lead to each other, a cycle a line; status 1 where there is one
-  --missing          specifiers that lead to no file, and packages that aren't installed
-  --why FILE         a shortest way from an entry to the file
+  --unreached        the files of PATH that no entry reaches; declaration files only with --types
+  --cycles           modules that lead to each other, a cycle a line; status 1 if there is one
+  --missing          specifiers that lead nowhere, as FILE:LINE:COLUMN: SPECIFIER: REASON
+  --why FILE         a shortest chain of imports from an entry to it; status 1 if there is none
   --dependents FILE  the files that lead to the file directly
-  --dot, --mermaid   the graph, in the language of Graphviz or Mermaid
-  --json             the graph; with a question its answer, as JSON
+  --dot, --mermaid   the graph, for Graphviz or Mermaid
+  --json             the graph, or with a question its result, as JSON
 
-What is read:
+Files, printed as paths from the current folder:
   PATH               a file, a folder, or - for paths from the standard input, one a line
-  --entry FILE       a file from which the program starts; what it leads to is read as well, outside
-                     of PATH too, but for installed packages. May be given several times
-  --all              also what is in node_modules and in folders that begin with a dot
-  --exclude GLOB     leaves out files and folders, as "*.test.ts", dist or "src/**/old". May be given
-                     several times
+  --entry FILE       a file with which the program begins. Reads what it leads to, outside of PATH
+                     too, but not installed packages (without --all). May be repeated
+  --exclude GLOB     leaves out files and folders, as "*.test.ts" or "src/**/old". May be repeated
   --gitignore        leaves out what git ignores
-  --follow           also the files outside of PATH that links in it lead to
-  --max-bytes N      the most bytes of a file; else ${MAX_BYTES}
-  --timeout SECONDS  how long a file may take; else as long as it takes
+${LINE_HELP}  -0, --null         paths that are read and printed end with zero bytes
+  --cache FILE       keeps results in FILE, and parses only files whose size or time has changed
 
-How specifiers are resolved:
-  --resolve          all that names a module gets the member "resolved": what runs, what has the
-                     types, and a class: file, package, asset, builtin, url, missing or unknown
-  --types            counts edges of types, JSDoc and references too, and not only those that run
+Resolution:
+  --resolve          adds a member "resolved" to all that names a module
+  --types            counts types, JSDoc and references too, and not only what runs
   --tsconfig FILE    for all files, in place of the nearest tsconfig.json
-  --conditions NAME  a condition of "exports" and "imports". May be given several times
+  --conditions NAME  a condition of "exports" and "imports", as browser. May be repeated
+  -h, --help, --version
 
-Others:
-  --cache FILE       keeps what is found in files there, and doesn't parse those again that haven't
-                     changed
-  --jobs N           threads that parse; else one for each processor, which is the most
-  -0, --null         paths that are read and written end with zero bytes
-  -h, --help         writes this
-  --version          writes the versions
-
-Status 0; 1 where a file can't be read or parsed, with a line on the error output for each, and where
---cycles finds one; 2 where an entry can't be, where there is nothing to read, and for words that
-aren't the usage.
+Status 0; 1 if a file can't be read or parsed, with a line on the error output for each; 2 for a
+usage error, an entry that can't be read or parsed, or no file to read.
 
 ${PROGRAM_HELP}`;
 
@@ -143,7 +128,7 @@ function checkWords(values, paths, question) {
   }
   const folder = entries.find(isFolder);
   if (folder) {
-    throw new UsageFault(`an entry is to be a file, and ${printable(folder)} is a folder`);
+    throw new UsageFault(`an entry must be a file, and ${printable(folder)} is a folder`);
   }
   if (values.resolve && (question || entries.length > 0)) {
     throw new UsageFault("--resolve is for the lines of files; the graph has it by --json");
@@ -152,8 +137,8 @@ function checkWords(values, paths, question) {
 
 /** @param {FileResult} result */
 async function writeInfo({ path, line, fault }) {
-  const said = fault && withoutExcerpt(fault);
-  await writeOutput(line ?? `${JSON.stringify({ specifier: pathToFileURL(path), ...said })}\n`);
+  const printed = fault && withoutExcerpt(fault);
+  await writeOutput(line ?? `${JSON.stringify({ specifier: pathToFileURL(path), ...printed })}\n`);
 }
 
 await runProgram({

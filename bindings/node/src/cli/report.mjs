@@ -35,22 +35,25 @@ const NAME = "modinfo-report";
 
 const HELP = `usage: ${NAME} [--entry FILE ..] [-o FILE] [--dot FILE] [OPTION ..] PATH ..
 
-Makes a page that shows what the files depend on: their graph, each file's text with its specifiers
-marked, and what is unresolved, unknown, unreached or in a cycle. It is one file and loads nothing.
+Writes a page that shows what the files depend on: their graph, each file's text with its
+specifiers marked, and what is unresolved, unknown, unreached or in a cycle. Example:
+  ${NAME} --entry src/main.ts -o report.html src
 
-  PATH               a file, a folder, or - for paths from the standard input, one a line
-  --entry FILE       lists the files that no entry reaches; may be given repeatedly
+  PATH               a file, a folder, or - for paths from the standard input, one a line. A file
+                     that is named twice appears once
+  --entry FILE       lists the files that no entry reaches; without it, those that no module names,
+                     in comments either. May be repeated
   -o, --output FILE  the page; else report.html
-  --dot FILE         writes the graph in Graphviz's language as well
+  --dot FILE         also writes the graph of all modules for Graphviz
 ${LINE_HELP}  -0, --null         paths from the standard input end with zero bytes
-  --help, --version  writes this, or the versions
+  -h, --help, --version
 
 The graph is laid out in the browser by dagre, and the picture of sizes by d3-hierarchy, which are
 written into the page. Without one of them the page is made without what it draws, with status 1.
 
-Status 0; 1 where a file has no answer or there is no graph, with a line on the error output for
-each, and the page is made all the same, or where the page can't be written; 2 for words that
-aren't the usage.
+Status 0; 1 if a file can't be read or parsed, with a line on the error output for each, or there
+is no graph, and the page is written all the same; 1 also if it can't be written; 2 for a usage
+error, or an output that is an input or the other output.
 
 ${PROGRAM_HELP}`;
 
@@ -66,7 +69,7 @@ async function main({ values, positionals }) {
   readJobs(values.jobs);
   const folder = entries.find(isFolder);
   if (folder) {
-    throw new UsageFault(`an entry is to be a file, and ${printable(folder)} is a folder`);
+    throw new UsageFault(`an entry must be a file, and ${printable(folder)} is a folder`);
   }
   checkOutputs(output, dot);
   // The parser's threads take a quarter less memory so, and a sixth more time.
@@ -84,7 +87,7 @@ async function main({ values, positionals }) {
   const found = await reachedOf(project.modules, links, edges, { entries, program });
   const libraries = readLibraries();
   await write(output, drawPage(project, { links, edges, ...found }, libraries));
-  return tellAbsent(libraries) ? 1 : status;
+  return reportAbsent(libraries) ? 1 : status;
 }
 
 /**
@@ -160,11 +163,11 @@ async function reachedOf(modules, links, edges, { entries: paths, program }) {
 }
 
 /**
- * Reports what isn't drawn for want of a library.
+ * Reports what isn't drawn since a library is missing.
  * @param {import("../report/libraries.mjs").Library[]} libraries
  * @returns {boolean} whether there is any
  */
-function tellAbsent(libraries) {
+function reportAbsent(libraries) {
   const absent = libraries.filter(({ fault }) => fault !== undefined);
   for (const { draws, fault } of absent) {
     process.stderr.write(`${NAME}: no ${draws}: ${printableLines(String(fault))}\n`);

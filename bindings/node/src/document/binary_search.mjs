@@ -1,11 +1,11 @@
-/** Finds places in what is in order. */
+/** Finds an index in sorted values. */
 
 /**
- * The first index that isn't before what is looked for, in a time that grows as the logarithm of
+ * Returns the first index that isn't before the wanted one, in a time that grows as the logarithm of
  * the count.
  * @param {number} count how many indexes there are
  * @param {(index: number) => boolean} isBefore true of the first indexes, maybe none or all, and
- *   false of all behind them
+ *   false of all after them
  * @returns {number} the count where all are before
  */
 export function firstIndex(count, isBefore) {

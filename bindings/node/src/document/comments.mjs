@@ -162,7 +162,7 @@ function groups({ text, comments }) {
 }
 
 /**
- * Whether the comments behind a token trail it; to be asked of each of them in order.
+ * Whether the comments after a token trail it; to be asked of each of them in order.
  * @param {string} text
  * @param {number} tokenEnd
  * @param {(offset: number) => boolean} endsOperand

@@ -43,7 +43,7 @@ export function isAbsoluteUrl(text) {
 }
 
 /**
- * The options that say what a text is.
+ * The options that describe a text.
  * @param {unknown} text
  * @param {{ specifier?: any, mediaType?: any } | undefined} options
  * @param {string[]} mediaTypes those that are read
@@ -55,14 +55,14 @@ export function readOptions(text, options, mediaTypes) {
   const { specifier: named, mediaType = mediaTypeOf(String(named)) } = options ?? {};
   const specifier = named instanceof URL ? named.href : named;
   if (typeof text !== "string") {
-    throw new TypeError(`the text is to be a string, and is ${shown(text)}`);
+    throw new TypeError(`the text must be a string, and is ${shown(text)}`);
   }
   if (!isAbsoluteUrl(specifier)) {
-    throw new TypeError(`specifier is to be an absolute URL, and is ${shown(specifier)}`);
+    throw new TypeError(`specifier must be an absolute URL, and is ${shown(specifier)}`);
   }
   if (!mediaTypes.includes(mediaType)) {
     const names = mediaTypes.join(", ");
-    throw new TypeError(`mediaType is to be one of ${names}, and is ${shown(mediaType)}`);
+    throw new TypeError(`mediaType must be one of ${names}, and is ${shown(mediaType)}`);
   }
   return { specifier, mediaType };
 }

@@ -12,7 +12,7 @@
  * @typedef {import("./relevant_nodes.mjs").RelevantNodes} RelevantNodes
  * @typedef {import("./source.mjs").Source} Source
  *
- * @typedef {object} DocumentNode a node of the notation of docs/FORMATS.md
+ * @typedef {object} DocumentNode a node of a module document, as docs/FORMATS.md has it
  * @property {string} kind
  * @property {[number, number]} range in bytes
  * @property {readonly DocumentNode[]} [children]
@@ -48,7 +48,7 @@ export class NodeWriter {
    */
   warnings = [];
   /**
-   * What is inside of the node that is being written, where that is to be beside it.
+   * What is inside of the node that is being written, where that goes beside it.
    * @type {DocumentNode[]}
    */
   #beside = [];
@@ -57,8 +57,8 @@ export class NodeWriter {
    * @param {Source} source
    * @param {View} view
    * @param {RelevantNodes} relevant
-   * @param {boolean} flat whether the nodes inside another are to be beside it, where the
-   *   analysis comes to them in the same order: those inside a call before it, all others behind
+   * @param {boolean} flat whether the nodes inside another go beside it, where the
+   *   analysis comes to them in the same order: those inside a call before it, all others after it
    */
   constructor(source, view, relevant, flat) {
     this.source = source;
@@ -103,15 +103,15 @@ export class NodeWriter {
 
   /**
    * @param {RelevantNode} relevant
-   * @returns {DocumentNode[]} the node, where it is to be flat with those inside it
+   * @returns {DocumentNode[]} the node, and where the document is flat those inside it
    */
   #writeOne({ node, described }) {
     if (!this.flat) {
-      return [this.#listed(node, described)];
+      return [this.#describedNode(node, described)];
     }
     const outer = this.#beside;
     this.#beside = [];
-    const written = this.#listed(node, described);
+    const written = this.#describedNode(node, described);
     const beside = this.#beside;
     this.#beside = outer;
     return described.kind === "Call" ? [...beside, written] : [written, ...beside];
@@ -138,7 +138,7 @@ export class NodeWriter {
    * @param {Description} described
    * @returns {DocumentNode}
    */
-  #listed(node, described) {
+  #describedNode(node, described) {
     switch (described.kind) {
       case "Call":
         return this.#call(node, described);
@@ -328,7 +328,7 @@ export class NodeWriter {
   }
 
   /**
-   * An expression of which nothing is read but what is listed in it.
+   * An expression of which nothing is read but the dependencies in it.
    * @param {unknown} node
    */
   #other(node) {

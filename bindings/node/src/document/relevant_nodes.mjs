@@ -44,7 +44,7 @@ export class RelevantNodes {
     this.relevant = relevant;
     this.starts = relevant.map(({ node }) => view.from(node));
     this.ends = relevant.map(({ node }) => view.end(node));
-    this.behind = this.#placesBehind();
+    this.following = this.#indexesOfFollowing();
   }
 
   /**
@@ -79,31 +79,31 @@ export class RelevantNodes {
         at++;
       } else {
         found.push(this.relevant[at]);
-        at = this.behind[at];
+        at = this.following[at];
       }
     }
     return found;
   }
 
   /**
-   * The place of the first that starts at or behind an offset.
+   * The index of the first that starts at or after an offset.
    * @param {number} offset
    */
   #firstFrom(offset) {
     return firstIndex(this.starts.length, (at) => this.starts[at] < offset);
   }
 
-  /** For each the place of the next that isn't below it. */
-  #placesBehind() {
-    const behind = new Array(this.relevant.length).fill(this.relevant.length);
+  /** For each the index of the next that isn't below it. */
+  #indexesOfFollowing() {
+    const following = new Array(this.relevant.length).fill(this.relevant.length);
     /** @type {number[]} */
     const open = [];
     this.starts.forEach((start, at) => {
       while (open.length > 0 && this.ends[open[open.length - 1]] <= start) {
-        behind[Number(open.pop())] = at;
+        following[Number(open.pop())] = at;
       }
       open.push(at);
     });
-    return behind;
+    return following;
   }
 }

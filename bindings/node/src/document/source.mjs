@@ -14,8 +14,8 @@ export const LONE_SURROGATE = /\p{Surrogate}/u;
 const LINE_END = /\r\n|[\n\r\u2028\u2029]/u;
 /** Those that move a terminal's cursor or change its colours; a tab has its place in the caret's line too. */
 const CONTROL = /[^\P{Cc}\t]/gu;
-/** How many characters of a line are shown before a place, and behind it. */
-const ROUND = 70;
+/** How many characters of a line are shown before an offset, and from it on. */
+const AROUND = 70;
 
 /** A syntax error, or a text that no document can hold. Line and column count from one. */
 export class SourceFault extends Error {
@@ -37,14 +37,14 @@ export class SourceFault extends Error {
 }
 
 /**
- * @param {string} before what the line has before the place
- * @param {string} behind the text from the place on
+ * @param {string} before what the line has before the offset
+ * @param {string} following the text from the offset on
  * @returns {string} two lines
  */
-function excerptOf(before, behind) {
-  const start = [...before].slice(-ROUND).join("").replace(CONTROL, "\uFFFD");
-  const [rest] = behind.slice(0, 2 * ROUND).split(LINE_END, 1);
-  const end = [...rest].slice(0, ROUND).join("").replace(CONTROL, "\uFFFD");
+function excerptOf(before, following) {
+  const start = [...before].slice(-AROUND).join("").replace(CONTROL, "\uFFFD");
+  const [rest] = following.slice(0, 2 * AROUND).split(LINE_END, 1);
+  const end = [...rest].slice(0, AROUND).join("").replace(CONTROL, "\uFFFD");
   return `${start}${end}\n${start.replace(/[^\t]/gu, " ")}^`;
 }
 

@@ -41,7 +41,7 @@
  *       rest: unknown[] }
  *   | { kind: "Function", outside: unknown[], inside: unknown[] }
  *   | { kind: "ExportOther" | "Await" | "ImportMeta" | "Other" }
- * )} Description a `Call` is one that is listed; `open` is the offset of its parenthesis
+ * )} Description a `Call` is a dependency; `open` is the offset of its parenthesis
  *
  * What an expression is where its text or its attributes are read.
  *

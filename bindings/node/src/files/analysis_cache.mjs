@@ -1,7 +1,7 @@
 /**
  * Keeps what was found in files, so that files which haven't changed needn't be parsed again.
  *
- * The cache is a file of lines, one for each file that was read. What a line says counts only where
+ * The cache is a file of lines, one for each file that was read. A line counts only where
  * its checksum is right, the versions are those of now, and size and time of change of the file are
  * those of the line. Any other line is passed over.
  *
@@ -157,7 +157,7 @@ function stateOf(path) {
 }
 
 /**
- * What decides about answers besides the file: the program, the parsers and this package.
+ * What decides about results besides the file: the program, the parsers and this package.
  * @param {string} program the path of `modinfo`
  */
 function versionOf(program) {

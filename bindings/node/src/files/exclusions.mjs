@@ -4,7 +4,7 @@ import { execFile } from "node:child_process";
 import { dirname, join, relative, sep } from "node:path";
 import { promisify } from "node:util";
 
-/** Why git can't say what it ignores. */
+/** git can't list what it ignores. */
 export class GitFault extends Error {}
 
 /**
@@ -14,7 +14,7 @@ export class GitFault extends Error {}
  * @param {string[]} [options.globs] `*` matches any characters of a name, `?` one of them, `**` any
  *   folders, `{a,b}` one of several texts. A glob without a slash matches a name in any folder, one
  *   with a slash a path from the current folder
- * @param {string[]} [options.ignoredIn] folders in whose repositories git says what is ignored
+ * @param {string[]} [options.ignoredIn] folders in whose repositories git decides what is ignored
  * @returns {Promise<(path: string) => boolean>} takes absolute paths
  */
 export async function exclusionsOf({ globs = [], ignoredIn = [] }) {

@@ -51,7 +51,7 @@ export async function readStream(input, maxBytes) {
 }
 
 /**
- * Reads to the end, which need not be where the size says.
+ * Reads to the end, which need not be where the size has it.
  * @param {number} file
  * @param {number} size
  * @param {number} maxBytes

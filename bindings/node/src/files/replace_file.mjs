@@ -6,7 +6,7 @@ import { open, rename, rm, writeFile } from "node:fs/promises";
 import { basename, dirname, join, resolve as absolute } from "node:path";
 
 /**
- * Writes a file beside the place where it is to be, and renames it. A link stays, and the file that it
+ * Writes a file under another name in its folder, and renames it. A link stays, and the file that it
  * leads to is replaced. What is there and is no regular file, as a device or a FIFO, is written to.
  * @param {string} path
  * @param {string} text

@@ -3,7 +3,7 @@
  *
  * @typedef {object} Cycle
  * @property {number[]} modules ascending
- * @property {number[]} path a shortest way from the first back to it, without its end; of a cycle
+ * @property {number[]} path a shortest path from the first back to it, without its end; of a cycle
  *   that types close, one that has an edge of types
  * @property {boolean} isRun whether edges that run close it; else edges of types, JSDoc or
  *   references are needed
@@ -189,7 +189,7 @@ function shortestWay(start, end, component, next) {
   for (const node of todo) {
     for (const to of next[node].filter((each) => isInside.has(each))) {
       if (to === end) {
-        return wayTo(node, before);
+        return pathTo(node, before);
       }
       if (!before.has(to) && to !== start) {
         before.set(to, node);
@@ -204,10 +204,10 @@ function shortestWay(start, end, component, next) {
  * @param {number} node
  * @param {Map<number, number>} before
  */
-function wayTo(node, before) {
-  const way = [];
+function pathTo(node, before) {
+  const path = [];
   for (let at = /** @type {number | undefined} */ (node); at !== undefined; at = before.get(at)) {
-    way.push(at);
+    path.push(at);
   }
-  return way.reverse();
+  return path.reverse();
 }

@@ -7,8 +7,19 @@ import type {
 /**
  * What a specifier resolves to. Files are URLs without symbolic links in them.
  *
- * `file` is what runs. `types` is the TypeScript or declaration file that has the types, where
- * that is another file.
+ * `file` is what runs: what node finds by its own `require.resolve` and `import.meta.resolve`, with
+ * `exports`, `imports`, conditions, `main`, extensions and folders, for a `require` and an `import`
+ * each by its own rules. Where node refuses the file that imports, since it has the syntax of ES
+ * modules and node doesn't take it for one, an import that isn't found is looked for as a `require`,
+ * as bundlers do. TypeScript also finds what runs, where that is a source file of the project: by
+ * `paths` and `baseUrl`; from a TypeScript file, whose `./b.js` is `b.ts`; and where node finds
+ * nothing. TypeScript before 5.0 finds nothing for a specifier that ends in `.ts`, `.tsx`, `.mts` or
+ * `.cts`; it is asked for the specifier of its JavaScript instead.
+ *
+ * `types` is the TypeScript or declaration file that has the types, where that is another file: what
+ * TypeScript finds, by the `compilerOptions` of the nearest tsconfig.json or jsconfig.json. Where that
+ * refers to projects and doesn't include the file, those of the first project that does. Where there
+ * is none, by `"module": "NodeNext"`, `"moduleResolution": "NodeNext"` and `"allowJs": true`.
  */
 export type Resolution =
   /** A module of the project. Without `file` only types were found. */
@@ -48,7 +59,7 @@ export type TypeKind =
 
 export type ReferenceKind = RunKind | TypeKind;
 
-/** A place in a module that names another module. */
+/** A range of a module that names another module. */
 export interface Reference {
   kind: ReferenceKind;
   /** Missing where the text isn't known as a whole. */

@@ -41,13 +41,13 @@ export function readGraphOptions(options, standard) {
   /** @type {{ paths?: unknown[], entries?: unknown[], exclude?: unknown[] }} */
   const { paths = [], entries = [], exclude = [] } = options ?? {};
   if (![paths, entries, exclude].every(Array.isArray) || paths.length + entries.length === 0) {
-    throw new TypeError("paths or entries are needed, and with exclude are to be arrays");
+    throw new TypeError("paths or entries are needed, and with exclude must be arrays");
   }
   if (![gitignore, all, types].every((each) => typeof each === "boolean")) {
-    throw new TypeError("gitignore, all and types are to be true or false");
+    throw new TypeError("gitignore, all and types must be true or false");
   }
   if (!Number.isInteger(jobs) || jobs < 1) {
-    throw new TypeError(`jobs is to be a whole number from 1 on, and is ${String(jobs)}`);
+    throw new TypeError(`jobs must be a whole number from 1 on, and is ${String(jobs)}`);
   }
   return {
     paths: paths.map((path) => pathOf(path, "a path")),

@@ -6,11 +6,11 @@
  * @typedef {import("./graph.mjs").Reference} Reference
  *
  * @typedef {{ module: string, reference: Reference }} Mention a module names something
- * @typedef {{ module: string, by?: Mention }} Step of a way; the first has no `by`
+ * @typedef {{ module: string, by?: Mention }} Step of a chain of imports; the first has no `by`
  *
  * @typedef {object} NamedCycle
  * @property {string[]} modules
- * @property {string[]} path a shortest way from the first back to it, without its end
+ * @property {string[]} path a shortest path from the first back to it, without its end
  */
 
 import { cyclesOf } from "./cycles.mjs";
@@ -77,12 +77,12 @@ export class ModuleGraph {
   }
 
   /**
-   * A shortest way from an entry to a file.
+   * A shortest chain of imports from an entry to a file.
    * @param {string[]} entries keys
    * @param {string} target
    * @returns {Step[]} none where no entry reaches it
    */
-  way(entries, target) {
+  chain(entries, target) {
     /** @type {Map<string, Edge | undefined>} */
     const by = new Map(entries.map((entry) => [entry, undefined]));
     for (const [key] of by) {

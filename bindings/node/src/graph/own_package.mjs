@@ -1,4 +1,4 @@
-/** What the package of a file says of it. */
+/** What the package.json of a file's package has about the file. */
 
 import { basename, dirname, extname, join } from "node:path";
 
@@ -28,7 +28,7 @@ export class OwnPackages {
    * Which module format node takes a file for.
    * @param {string} path absolute
    * @returns {Format | undefined} nothing where neither the file's name nor the `type` of its
-   *   package says it
+   *   package decides it
    */
   formatOf(path) {
     return BY_EXTENSION.get(extname(path)) ?? BY_TYPE.get(this.#ofFolder(dirname(path)).type);

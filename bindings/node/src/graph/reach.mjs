@@ -51,17 +51,17 @@ export async function reach(program, modules, entries) {
     child.once("error", reject);
     child.once("close", (...end) => resolve(end));
   });
-  const [answer, errors, [status, signal]] = await Promise.all([
+  const [output, errors, [status, signal]] = await Promise.all([
     text(child.stdout),
     text(child.stderr),
     ended,
-    // What a write fails with says less than how the process ends.
+    // The error of a write is less helpful than how the process ends.
     pipeline(Readable.from(document(modules, entries)), child.stdin).catch(() => {}),
   ]);
   if (status !== 0) {
     throw new Error(`${program} reach ended by ${signal ?? `status ${status}`}: ${errors.trim()}`);
   }
-  const keys = new Set(JSON.parse(answer));
+  const keys = new Set(JSON.parse(output));
   keys.delete(ROOT);
   return keys;
 }

@@ -1,5 +1,5 @@
 /**
- * The places in a module that name other modules, by its `ModuleInfo`.
+ * The ranges in a module that name other modules, by its `ModuleInfo`.
  *
  * @typedef {import("./graph.mjs").Edge} Edge
  * @typedef {import("./graph.mjs").Reference} Reference

@@ -52,12 +52,12 @@ export class ResolveService {
 export function readResolveOptions(info, options) {
   checkKnown(options, ["specifier", "types", ...RESOLVER_OPTIONS, "signal"]);
   if (typeof info !== "object" || info === null) {
-    throw new TypeError(`a ModuleInfo is to be an object, and is ${String(info)}`);
+    throw new TypeError(`a ModuleInfo must be an object, and is ${String(info)}`);
   }
   const { specifier, types = true } = options ?? {};
   const path = pathOf(specifier, "specifier");
   if (!String(specifier).startsWith("file:")) {
-    throw new TypeError(`specifier is to be the URL of a file, and is ${String(specifier)}`);
+    throw new TypeError(`specifier must be the URL of a file, and is ${String(specifier)}`);
   }
   return { info, path, options: { types, ...readResolverOptions(options) } };
 }
@@ -73,7 +73,7 @@ export const RESOLVER_OPTIONS = ["tsconfig", "conditions"];
  */
 export function readResolverOptions({ tsconfig, conditions = [] }) {
   if (!Array.isArray(conditions) || !conditions.every((each) => /^[^\s=]+$/.test(each))) {
-    throw new TypeError("conditions are to be an array of names");
+    throw new TypeError("conditions must be an array of names");
   }
   return { conditions, ...(tsconfig !== undefined && { tsconfig: pathOf(tsconfig, "tsconfig") }) };
 }
@@ -87,7 +87,7 @@ export function readResolverOptions({ tsconfig, conditions = [] }) {
 export function pathOf(value, name) {
   const isText = typeof value === "string" && value !== "";
   if (!isText && !(value instanceof URL)) {
-    throw new TypeError(`${name} is to be a path or the URL of a file, and is ${String(value)}`);
+    throw new TypeError(`${name} must be a path or the URL of a file, and is ${String(value)}`);
   }
   const isUrl = value instanceof URL || value.startsWith("file:");
   return isUrl ? fileURLToPath(value) : absolute(String(value));

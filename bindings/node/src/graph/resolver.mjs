@@ -21,7 +21,7 @@
  * @property {string} path absolute
  * @property {boolean} isTypeScript whether it is TypeScript and no declaration file
  * @property {boolean} isScript whether it has no syntax of ES modules
- * @property {Mode | undefined} format as node takes it, where that is said
+ * @property {Mode | undefined} format as node takes it, where a package.json or the name has it
  * @property {import("./typescript_resolution.mjs").Importer} typescript
  */
 

@@ -14,7 +14,7 @@ import { withRegularFiles } from "./typescript_system.mjs";
  * @property {string} path absolute
  * @property {Settings} settings
  * @property {Mode | undefined} format what an `import` in it becomes; nothing where the settings
- *   don't say it
+ *   don't decide it
  *
  * @typedef {object} Found
  * @property {string} path absolute

@@ -54,7 +54,7 @@ export class Walk {
 
   /** @param {Found} file */
   *#first(file) {
-    // A link that isn't followed is said, and its file may have another path.
+    // A link that isn't followed is reported, and its file may have another path.
     const key = file.isLeft ? undefined : canonicalUrl(absolute(file.path));
     if (!this.#passed.has(key)) {
       this.#underWay++;

@@ -36,7 +36,7 @@ function byAcorn(text, { warn, ...options }) {
     warnings.forEach(warn);
     return document;
   } catch {
-    // TypeScript may take it; else its error says why not.
+    // TypeScript may take it; else its error is thrown.
     return undefined;
   }
 }

@@ -8,7 +8,7 @@ export class SourceFault extends Error {
   readonly line: number;
   /** From one, in Unicode code points. */
   readonly column: number;
-  /** The line, or of a long one the part round the column, and below it a caret under the column. */
+  /** The line, or of a long one the part around the column, and below it a caret under the column. */
   readonly excerpt: string;
 }
 

@@ -15,8 +15,8 @@ export class Analyzer {
   }
 
   /**
-   * The answer to a document. Where the process ends that has it, it is tried once more, with no
-   * other beside it.
+   * Analyzes a document. If the process ends over it, it is tried once more, with no other document
+   * in the process.
    * @param {string} document JSON
    * @returns {Promise<Buffer>} the JSON of its `ModuleInfo`; rejected as `Service.answer` is
    */

@@ -10,7 +10,7 @@ export function checkKnown(options, names) {
     return;
   }
   if (typeof options !== "object" || options === null) {
-    throw new TypeError(`options are to be an object, and are ${String(options)}`);
+    throw new TypeError(`options must be an object, and are ${String(options)}`);
   }
   const unknown = Object.keys(options).find((name) => !names.includes(name));
   if (unknown !== undefined) {
@@ -26,7 +26,7 @@ export function checkKnown(options, names) {
 export function readSignal(options) {
   const { signal } = options ?? {};
   if (signal !== undefined && !(signal instanceof AbortSignal)) {
-    throw new TypeError("signal is to be an AbortSignal");
+    throw new TypeError("signal must be an AbortSignal");
   }
   return /** @type {AbortSignal | undefined} */ (signal);
 }

@@ -1,4 +1,4 @@
-/** Documents that `modinfo check` reads, and what its reports say of places in them. */
+/** Documents that `modinfo check` reads, and the positions in them that its reports have. */
 
 import { LONE_SURROGATE, isWellFormed } from "../document/source.mjs";
 
@@ -11,8 +11,8 @@ import { LONE_SURROGATE, isWellFormed } from "../document/source.mjs";
 const NO_UTF8 = Buffer.of(0xff);
 
 /**
- * What the program is handed of a document. A text ends with its first lone surrogate, in whose place
- * is what is no UTF-8 either.
+ * The document as the program gets it. A text ends with its first lone surrogate, which a byte that
+ * UTF-8 doesn't have replaces.
  * @param {string | Uint8Array} json
  * @returns {string | Buffer} no bytes that the caller may change
  */
@@ -27,7 +27,7 @@ export function checkedForm(json) {
 }
 
 /**
- * A report with the place in the document as it was handed over: the program reads it as one line.
+ * A report with the position in the document as it was handed over: the program reads it as one line.
  * @param {Report} report
  * @param {string | Buffer} document
  * @returns {Report}
@@ -40,7 +40,7 @@ export function withPlace(report, document) {
 
 /**
  * @param {Buffer} document
- * @param {number} offset in bytes, behind a character
+ * @param {number} offset in bytes, after a character
  * @returns {TextPlace}
  */
 function placeAt(document, offset) {
@@ -49,11 +49,11 @@ function placeAt(document, offset) {
 }
 
 /**
- * What a report says, for people.
+ * A report in one line, for people.
  * @param {import("./check_report.mjs").FaultReport} report
  * @returns {string} one line, as `Tree at /program: expected a member `body``
  */
 export function describeReport({ fault, pointer, at, expected }) {
-  const place = at ? `line ${at.line + 1}, column ${at.column + 1}` : pointer || "the whole document";
-  return `${fault} at ${place}: expected ${expected}`;
+  const position = at ? `line ${at.line + 1}, column ${at.column + 1}` : pointer || "the whole document";
+  return `${fault} at ${position}: expected ${expected}`;
 }

@@ -1,8 +1,8 @@
 /**
- * Why a file has no document or no answer.
+ * Why a file has no document or no `ModuleInfo`.
  *
  * @typedef {object} Fault as it is printed and handed from thread to thread
- * @property {string} fault one of the names in docs/FORMATS.md or README.md beside this file
+ * @property {string} fault one of the names in docs/FORMATS.md or in README.md of this package
  * @property {string} message
  * @property {number} [line] of a syntax error, with the column counted from one
  * @property {number} [column]
@@ -43,13 +43,13 @@ export function faultOf(error) {
     return { fault: "Depth", message: "the text nests too deep for the parser" };
   }
   if (error instanceof ModinfoFault) {
-    return { fault: error.fault, message: `modinfo answers ${error.fault}` };
+    return { fault: error.fault, message: `modinfo reports ${error.fault}` };
   }
   if (error instanceof ProgramEnd) {
     return { fault: "Program", message: error.message };
   }
   if (error instanceof WorkerEnd && error.code === "ERR_WORKER_OUT_OF_MEMORY") {
-    return { fault: "OutOfMemory", message: "memory for the parser was refused" };
+    return { fault: "OutOfMemory", message: "the parser is out of memory" };
   }
   if (error instanceof WorkerEnd && error.code === TIMEOUT) {
     return { fault: "Timeout", message: `${error.message} (--timeout)` };
@@ -61,7 +61,7 @@ export function faultOf(error) {
 }
 
 /**
- * What a system call says, without the path, which is before it anyway.
+ * The message of a system call, without the path, which the caller prints before it.
  * @param {Error} error
  * @returns {string} as `ENOENT: no such file or directory`
  */
@@ -70,7 +70,7 @@ export function systemMessage({ message }) {
 }
 
 /**
- * A fault as an answer or a page has it.
+ * A fault as a line of JSON or a page has it.
  * @param {Fault} fault
  * @returns {Fault}
  */
@@ -85,6 +85,6 @@ export function withoutExcerpt({ excerpt, ...fault }) {
  *   terminal obeys
  */
 export function describeFault(file, { message, line, column, excerpt }) {
-  const place = line ? `:${line}:${column}` : "";
-  return `${printable(file)}${place}: ${printable(message)}${excerpt ? `\n${excerpt}` : ""}`;
+  const position = line ? `:${line}:${column}` : "";
+  return `${printable(file)}${position}: ${printable(message)}${excerpt ? `\n${excerpt}` : ""}`;
 }

@@ -1,5 +1,5 @@
 /**
- * The worker thread that reads files: to documents, or with the path of `modinfo` to its answers.
+ * The worker thread that reads files: to documents, or with the path of `modinfo` to its results.
  *
  * @typedef {object} Work its `workerData`
  * @property {string} adapter the URL of a module with `toDocument`

@@ -7,7 +7,7 @@ import { Queue } from "./queue.mjs";
 
 /**
  * How many tasks a worker holds at most, so that the next ones are at hand when some are done. It
- * parses all that it was sent before it sees an answer, and sends the results of these together.
+ * parses all that it was sent before it sees a result, and sends the results of these together.
  */
 const HELD = 16;
 

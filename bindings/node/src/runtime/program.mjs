@@ -17,8 +17,8 @@ const REPOSITORY = /^(.*\/)bindings\/node\/src\/runtime\//.exec(import.meta.url)
 
 /** Which program runs, for the help of the commands that run one. */
 export const PROGRAM_HELP = `\
-The program \`modinfo\` is that of the package modinfo-linux-x64; else the one that the environment
-variable MODINFO names; else, in the repository, the one that \`./modinfo --prove\` makes.
+The program \`modinfo\` is that of the package ${PACKAGE}; else the one that the
+environment variable MODINFO names; else, in the repository, the one that \`./modinfo --prove\` makes.
 `;
 
 /**

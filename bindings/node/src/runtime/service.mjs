@@ -1,6 +1,6 @@
 /**
- * The program `modinfo` behind a pipe: one process for many documents, each a line, with a promise
- * for each answer.
+ * The program `modinfo` at the end of a pipe: one process for many documents, each a line, with a
+ * promise for each answer.
  */
 
 import { spawn } from "node:child_process";
@@ -9,16 +9,16 @@ import { Queue } from "./queue.mjs";
 
 /** How much may wait in the pipe to the program, in bytes, before documents wait for it. */
 const ROOM = 1 << 20;
-/** How much of what the program says on its error output is kept, in characters. */
+/** How much of the program's error output is kept, in characters. */
 const KEPT_ERRORS = 2000;
 const LINE_FEED = 0x0a;
 const CARRIAGE_RETURN = 0x0d;
 const ANSWER = Buffer.from('{"answer":');
 const VALID = Buffer.from('{"valid":true');
 
-/** What is said of a document whose report nobody asked for. */
+/** The message for a document without a report. */
 const UNREPORTED =
-  "modinfo refuses the document; with the option report the error says where, and what it expects";
+  "modinfo refuses the document; with the option report the error has the position, and what was expected";
 
 /** @typedef {import("./check_report.mjs").FaultReport} FaultReport */
 
@@ -47,7 +47,7 @@ export class ModinfoFault extends Error {
   }
 }
 
-/** The program ended, or couldn't be started, before it answered. */
+/** The program ended, or couldn't be started, before its answer. */
 export class ProgramEnd extends Error {
   /** @param {string} message */
   constructor(message) {
@@ -60,7 +60,7 @@ export class ProgramEnd extends Error {
  * @typedef {import("node:child_process").ChildProcessWithoutNullStreams} ChildProcess
  *
  * @typedef {"analyze" | "convert" | "reach"} Command
- * @typedef {Command | `check ${Command}`} Words behind the program's name
+ * @typedef {Command | `check ${Command}`} Words after the program's name
  *
  * @typedef {{ json: Buffer, fault?: undefined } | { fault: string }} Answer
  *
@@ -80,7 +80,7 @@ export class Service {
    */
   #waiting = new Queue();
   /**
-   * Requests that are written and not yet answered.
+   * Requests that are written, and have no answer yet.
    * @type {Queue<Request>}
    */
   #asked = new Queue();
@@ -95,7 +95,7 @@ export class Service {
   /** Whether the process keeps node from ending. */
   #isHeld = false;
   /**
-   * What `close` has answered.
+   * The promise that `close` returned.
    * @type {Promise<void> | undefined}
    */
   #closed;
@@ -115,12 +115,11 @@ export class Service {
   }
 
   /**
-   * The answer to a document. Documents are written in the order of the calls, each once the pipe
-   * has room for it.
+   * Returns the answer to a document. Documents are written in the order of the calls, each once the
+   * pipe has room for it.
    * @param {string | Uint8Array} document JSON
    * @returns {Promise<Buffer>} JSON, as the command prints it; rejected with a `ModinfoFault`, of a
-   *   check only where memory was refused, or with a `ProgramEnd` where the process ends before it has
-   *   answered
+   *   check only when out of memory, or with a `ProgramEnd` where the process ends before its answer
    */
   answer(document) {
     if (this.#closed) {
@@ -216,7 +215,7 @@ export class Service {
     this.#isHeld = true;
     process.once("close", (status, signal) => isHeard() && this.#end(status, signal));
     process.stdin.on("drain", () => this.#proceed());
-    // What a write fails with says less than how the process ends.
+    // The error of a write is less helpful than how the process ends.
     process.stdin.on("error", () => {});
     process.stdout.on("data", (bytes) => isHeard() && this.#read(bytes));
     process.stderr.setEncoding("utf8");
@@ -251,7 +250,7 @@ export class Service {
     if (!request) {
       // Which answer belongs to which document isn't known any more.
       this.#process?.kill();
-      this.#lose(`answers what is no answer: ${line.toString().slice(0, 100)}`);
+      this.#lose(`prints what is no answer: ${line.toString().slice(0, 100)}`);
       return;
     }
     if (answer.fault === undefined) {
@@ -290,8 +289,8 @@ export class Service {
    */
   #end(status, signal) {
     const how = signal ? `by ${signal}` : `with status ${status}`;
-    const said = this.#errors.trim();
-    this.#lose(`ended ${how}${said && `: ${said}`}`);
+    const errors = this.#errors.trim();
+    this.#lose(`ended ${how}${errors && `: ${errors}`}`);
   }
 
   /**

@@ -19,7 +19,7 @@ export function serve(handle, close) {
     results = [];
     transfers = [];
   };
-  const answer = async (/** @type {{ id: number, task: unknown }} */ { id, task }) => {
+  const perform = async (/** @type {{ id: number, task: unknown }} */ { id, task }) => {
     const { result, transfer } = await handle(task);
     transfers.push(...transfer);
     if (results.push({ id, result }) === 1) {
@@ -31,7 +31,7 @@ export function serve(handle, close) {
       await close();
       port.close();
     }
-    tasks.forEach(answer);
+    tasks.forEach(perform);
   });
   port.postMessage([]);
 }

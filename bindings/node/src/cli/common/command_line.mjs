@@ -15,7 +15,7 @@ const MOST_BYTES = 2 ** 30;
 /** A day. */
 const MOST_SECONDS = 86_400;
 
-/** Words that aren't the usage. */
+/** A usage error. */
 export class UsageFault extends Error {}
 
 /**
@@ -24,27 +24,27 @@ export class UsageFault extends Error {}
  * @property {import("../../parsers/installed_parsers.mjs").Parser} parser the module that it parses with
  * @property {string} help
  * @property {object} options those of node's `parseArgs`, but for `help` and `version`
- * @property {(words: Words) => Promise<number>} main answers the status
+ * @property {(words: Words) => Promise<number>} main returns the status
  *
  * @typedef {{ values: any, positionals: string[] }} Words
  */
 
 /**
  * Runs a program with the words that node was started with. Status 0; 1 where something can't be
- * read or written, with a line on the error output; 2 for other words than the usage.
+ * read or written, with a line on the error output; 2 for a usage error.
  * @param {Program} program
  */
 export async function runProgram(program) {
   const { name, parser, main } = program;
-  // A write that fails is told to its caller; what can't be said isn't said.
+  // A write that fails rejects its caller's promise; a message that can't be printed is lost.
   process.stdout.on("error", () => {});
   process.stderr.on("error", () => {});
   try {
     const words = readWords(program);
-    if (await tell(program, words)) {
+    if (await printHelp(program, words)) {
       return;
     }
-    // Where it isn't installed, that is said once.
+    // Where it isn't installed, that is one error, and not one for each file.
     parserVersion(parser);
     process.exitCode = await main(words);
   } catch (/** @type {any} */ error) {
@@ -73,11 +73,11 @@ function readWords({ help, options }) {
 }
 
 /**
- * Writes the help or the version, where the words ask for it.
+ * Prints the help or the version, where the words ask for it.
  * @param {Program} program
  * @param {Words} words
  */
-async function tell({ name, parser, help }, { values }) {
+async function printHelp({ name, parser, help }, { values }) {
   if (values.help) {
     await writeOutput(help);
   } else if (values.version) {
@@ -133,7 +133,7 @@ export function readTimeout(word) {
 function readNumber(option, word, most) {
   const number = /^[1-9]\d{0,15}$/.test(word) ? Number(word) : Infinity;
   if (number > most) {
-    throw new UsageFault(`${option} is to be a number from 1 to ${most}`);
+    throw new UsageFault(`${option} must be a number from 1 to ${most}`);
   }
   return number;
 }

@@ -41,21 +41,21 @@ export function run(adapter) {
 /** @param {Adapter} adapter */
 function helpOf({ name, mediaTypes, standard }) {
   return `usage: ${name} [--specifier URL] [--media-type NAME] [--max-bytes N] FILE
-       ${name} --lines [--follow] [--max-bytes N] [--timeout SECONDS] [--jobs N] [--all] [-0] PATH ..
+       ${name} --lines [OPTION ..] PATH ..
 
-Writes the document of a file, which \`modinfo analyze\` reads; with --lines those of all files, one
-a line, which \`modinfo analyze --lines\` reads.
+Prints the document of a file, which \`modinfo analyze\` reads; with --lines those of all files, one
+a line, which \`modinfo analyze --lines\` reads. Example:
+  ${name} --lines src | modinfo analyze --lines
 
   FILE               a file, or - for the standard input
   --specifier URL    the module's; else the file's URL
   --media-type NAME  ${mediaTypes.join(", ")};
-                     else by the file's name, for the standard input ${standard}
+                     else by the file's name, of the standard input by the URL's, else ${standard}
   PATH               a file, a folder, or - for paths from the standard input, one a line
 ${LINE_HELP}  -0, --null         paths from the standard input end with zero bytes
-  --help, --version  writes this, or the versions
+  -h, --help, --version
 
-Status 0; 1 where a file has no document, with a line on the error output for each; 2 for words that
-aren't the usage.
+Status 0; 1 if a file has no document, with a line on the error output for each; 2 for a usage error.
 `;
 }
 
@@ -85,7 +85,7 @@ async function writeOne(adapter, words) {
     const text = decode(await contentOf(file, maxBytes));
     const { json, warnings } = documentOf(adapter.toDocument, text, options);
     for (const { message, ...place } of warnings) {
-      say(adapter, file, { message: `warning: ${message}`, ...place });
+      printFault(adapter, file, { message: `warning: ${message}`, ...place });
     }
     await writeOutput(`${json}\n`);
     return 0;
@@ -93,7 +93,7 @@ async function writeOne(adapter, words) {
     if (error instanceof OutputFault) {
       throw error;
     }
-    say(adapter, file, faultOf(error));
+    printFault(adapter, file, faultOf(error));
     return 1;
   }
 }
@@ -111,7 +111,7 @@ function contentOf(file, maxBytes) {
  * @param {string} file
  * @param {{ message: string, line?: number, column?: number }} fault or a warning
  */
-function say({ name }, file, fault) {
+function printFault({ name }, file, fault) {
   process.stderr.write(`${name}: ${describeFault(file, fault)}\n`);
 }
 
@@ -127,12 +127,12 @@ function readOptions(adapter, { values, positionals: [file, ...others] }) {
   }
   const { specifier = pathToFileURL(file === "-" ? "stdin" : file).href } = values;
   if (!isAbsoluteUrl(specifier)) {
-    throw new UsageFault(`--specifier is to be an absolute URL, and is ${specifier}`);
+    throw new UsageFault(`--specifier must be an absolute URL, and is ${specifier}`);
   }
   const named = mediaTypeOf(file === "-" ? values.specifier : file);
   const mediaType = values["media-type"] ?? named ?? (file === "-" ? adapter.standard : undefined);
   if (!adapter.mediaTypes.includes(mediaType)) {
-    throw new UsageFault(`${file}: --media-type is to be one of ${adapter.mediaTypes.join(", ")}`);
+    throw new UsageFault(`${file}: --media-type must be one of ${adapter.mediaTypes.join(", ")}`);
   }
   return { file, specifier, mediaType, maxBytes: readMaxBytes(maxBytes) };
 }

@@ -40,9 +40,9 @@ export function fileLines(urls) {
  * @returns {string} a line
  */
 export function cycleLine({ modules, path }, isRun) {
-  const way = [...path, path[0]].map(shownPath).join(" -> ");
+  const chain = [...path, path[0]].map(shownPath).join(" -> ");
   const more = modules.length > path.length ? ` (${modules.length} modules lead to each other)` : "";
-  return printable(`${isRun ? "" : "by types alone: "}${way}${more}`);
+  return printable(`${isRun ? "" : "by types alone: "}${chain}${more}`);
 }
 
 /**

@@ -1,4 +1,4 @@
-/** Answers questions about the graph of files. */
+/** The questions about the graph of files that options ask. */
 
 import { resolve as absolute } from "node:path";
 
@@ -10,7 +10,7 @@ import { printable } from "../../runtime/printable.mjs";
 import {
   cycleLine, fileLines, mentionData, missingLine, shownPath, stepLine,
 } from "./graph_output.mjs";
-import { Teller, ahead, exclusionsFor, findNamed, readOptions, saveCache } from "./read_files.mjs";
+import { FileReporter, ahead, exclusionsFor, findNamed, readOptions, saveCache } from "./read_files.mjs";
 import { writeOutput } from "./standard_output.mjs";
 
 /**
@@ -47,8 +47,8 @@ const ANSWERS = { reached, unreached, cycles, missing, why, dependents, dot, mer
  */
 export async function answerQuestion(question, run) {
   const { values, work, name } = run;
-  const teller = new Teller(name, { isShown: true });
-  const { graph, named } = await readRun(run, teller);
+  const reporter = new FileReporter(name, { isShown: true });
+  const { graph, named } = await readRun(run, reporter);
   /** @type {string[]} */
   const entries = (values.entry ?? []).map(keyOf);
   if (entries.some((entry) => graph.module(entry)?.fault)) {
@@ -61,15 +61,15 @@ export async function answerQuestion(question, run) {
   if (answer.note) {
     process.stderr.write(`${name}: ${printable(answer.note)}\n`);
   }
-  return Math.max(teller.status, answer.status ?? 0);
+  return Math.max(reporter.status, answer.status ?? 0);
 }
 
 /**
  * @param {Run} run
- * @param {Teller} teller
+ * @param {FileReporter} reporter
  * @returns {Promise<{ graph: ModuleGraph, named: string[] }>}
  */
-async function readRun(run, teller) {
+async function readRun(run, reporter) {
   const { paths, values, ready } = run;
   const { entry: entries = [], types, all } = values;
   const isExcluded = await exclusionsFor(run);
@@ -82,14 +82,14 @@ async function readRun(run, teller) {
   const options = readOptions(run);
   const graph = await readGraph(files, {
     ...options, types, all, isExcluded, follow: entries.length > 0,
-    ahead: (walked) => ahead(walked, teller),
+    ahead: (walked) => ahead(walked, reporter),
     onRead: async (result) => {
       await ready;
-      teller.tell(result);
+      reporter.report(result);
     },
   });
   await ready;
-  teller.end(paths);
+  reporter.end(paths);
   await saveCache(run, options.cache);
   return { graph, named };
 }
@@ -159,7 +159,7 @@ function missing({ graph }) {
 
 /** @param {Context} context */
 function why({ graph, entries, values }) {
-  const steps = graph.way(entries, keyOf(values.why));
+  const steps = graph.chain(entries, keyOf(values.why));
   const note = steps.length > 0 ? undefined : `no entry reaches ${values.why}`;
   const data = steps.map(({ module, by }) => ({ module, ...(by && { by: mentionData(by) }) }));
   return { lines: steps.map(stepLine), data: { why: data }, note, status: note ? 1 : 0 };

@@ -1,4 +1,4 @@
-/** What is said on the error output while files are read. */
+/** What is printed on the error output while files are read. */
 
 /** How long a line of progress stays as it is at least, in milliseconds. */
 const STEP = 100;
@@ -45,7 +45,7 @@ export class Progress {
    * Writes a line that stays.
    * @param {string} line without a line feed
    */
-  say(line) {
+  print(line) {
     this.clear();
     this.#stream.write(`${line}\n`);
   }

@@ -32,16 +32,16 @@ export const LINE_OPTIONS = {
 };
 
 /** What the options mean that a program has for many files, for its help. */
-export const LINE_HELP = `  --follow           also the files outside of PATH that links in it lead to
-  --max-bytes N      the most bytes of a file; else ${MAX_BYTES}
+export const LINE_HELP = `  --all              also what is in node_modules and in folders that begin with a dot
+  --follow           also the files outside of PATH that links in it lead to
+  --max-bytes N      the most bytes of a file, up to 1073741824; else ${MAX_BYTES}
   --timeout SECONDS  how long a file may take; else as long as it takes
-  --jobs N           threads that parse; else one for each processor
-  --all              also what is in node_modules and in folders that begin with a dot
+  --jobs N           threads that parse; else one for each processor, which is the most
 `;
 
 const ENDINGS = ".js, .mjs, .cjs, .jsx, .ts, .mts, .cts or .tsx";
 
-/** What is said of a link that isn't followed. */
+/** The warning about a link that isn't followed. */
 const LEFT = "warning: a link out of the given paths is not followed (--follow follows it)";
 
 /** How many paths are looked up ahead of the files that are read. */
@@ -53,11 +53,11 @@ const AHEAD = 1_000_000;
  * @property {any} values those of its options
  * @property {string[]} paths
  * @property {Work} work
- * @property {Promise<void>} [ready] nothing is said or written before it; where it is rejected, so is the run
+ * @property {Promise<void>} [ready] nothing is printed before it; where it is rejected, so is the run
  */
 
 /**
- * Reads the files of some paths, and says what is wrong with them.
+ * Reads the files of some paths, and prints what is wrong with them.
  * @param {Run & {
  *   isOnce?: boolean,
  *   isQuiet?: boolean,
@@ -69,25 +69,25 @@ const AHEAD = 1_000_000;
  */
 export async function runLines(run) {
   const { isOnce, isQuiet, ready, write = writeLine } = run;
-  const teller = new Teller(run.name, { isShown: isQuiet || !process.stdout.isTTY });
+  const reporter = new FileReporter(run.name, { isShown: isQuiet || !process.stdout.isTTY });
   const found = await findNamed(run);
-  const files = ahead(isOnce ? eachOnce(found) : found, teller);
+  const files = ahead(isOnce ? eachOnce(found) : found, reporter);
   const options = readOptions(run);
   for await (const result of readFiles(files, options)) {
     await ready;
-    teller.tell(result);
+    reporter.report(result);
     if (!result.isLeft) {
       await write(result);
     }
   }
   await ready;
-  teller.end(run.paths);
+  reporter.end(run.paths);
   await saveCache(run, options.cache);
-  return teller.status;
+  return reporter.status;
 }
 
 /**
- * Writes what was added to a cache. Where that fails, a warning says so, and the next run reads more.
+ * Writes what was added to a cache. Where that fails, prints a warning, and the next run reads more.
  * @param {Run} run
  * @param {AnalysisCache | undefined} cache
  */
@@ -155,11 +155,11 @@ export function exclusionsFor({ paths, values: { exclude, gitignore, entry = [] 
 /**
  * The same files, looked up long before they are read, so that the progress knows how many they are.
  * @param {AsyncIterable<Found>} files
- * @param {Teller} teller
+ * @param {FileReporter} reporter
  * @returns {AsyncIterable<Found>}
  */
-export function ahead(files, teller) {
-  return Readable.from(counted(files, teller), { highWaterMark: AHEAD });
+export function ahead(files, reporter) {
+  return Readable.from(counted(files, reporter), { highWaterMark: AHEAD });
 }
 
 /** @param {FileResult} result */
@@ -203,17 +203,17 @@ async function* eachOnce(files) {
 
 /**
  * @param {AsyncIterable<Found>} files
- * @param {Teller} teller
+ * @param {FileReporter} reporter
  */
-async function* counted(files, teller) {
+async function* counted(files, reporter) {
   for await (const file of files) {
-    teller.find();
+    reporter.find();
     yield file;
   }
 }
 
 /** Says on the error output what is wrong with files. */
-export class Teller {
+export class FileReporter {
   status = 0;
   #name;
   #progress;
@@ -247,19 +247,19 @@ export class Teller {
   }
 
   /** @param {FileResult} result */
-  tell({ path, isLeft, fault, warnings = [], notices = [] }) {
+  report({ path, isLeft, fault, warnings = [], notices = [] }) {
     for (const notice of notices.filter((each) => !this.#noticed.has(each))) {
       this.#noticed.add(notice);
-      this.#say(`warning: ${printable(notice)}`);
+      this.#print(`warning: ${printable(notice)}`);
     }
     for (const { message, ...place } of warnings) {
-      this.#say(describeFault(path, { message: `warning: ${message}`, ...place }));
+      this.#print(describeFault(path, { message: `warning: ${message}`, ...place }));
     }
     if (isLeft) {
-      this.#say(describeFault(path, { message: LEFT }));
+      this.#print(describeFault(path, { message: LEFT }));
     }
     if (fault) {
-      this.#say(describeFault(path, fault));
+      this.#print(describeFault(path, fault));
       this.status = 1;
       process.exitCode = 1;
     }
@@ -267,7 +267,7 @@ export class Teller {
   }
 
   /** @param {string} text */
-  #say(text) {
-    this.#progress.say(`${this.#name}: ${text}`);
+  #print(text) {
+    this.#progress.print(`${this.#name}: ${text}`);
   }
 }

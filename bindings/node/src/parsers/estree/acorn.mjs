@@ -20,7 +20,7 @@ const SOURCE_TYPES = {
 
 const LONGEST_WORD = "import".length;
 const MODULE_WORD = /^(?:import|export|await)(?![\p{ID_Continue}$])/u;
-/** In a script `await` is a name, behind which there is no operand. */
+/** In a script `await` is a name, after which there is no operand. */
 const AWAIT_BEFORE = new RegExp(
   String.raw`(?<![\p{ID_Continue}$.#])await(?:\s|/\*(?:(?!\*/)[^])*\*/|//.*[\n\r\u2028\u2029])+$`,
   "u",
@@ -71,7 +71,7 @@ function loadAcorn() {
 
 /**
  * Of the errors in the order of the ways: the module's where the script's is that it has the syntax
- * of a module, else the one that is furthest behind.
+ * of a module, else the one that is last in the text.
  * @param {string} text
  * @param {{ pos: number, message: string }[]} errors
  */
@@ -160,7 +160,7 @@ function withClauses(Parser, { tokTypes }) {
 }
 
 /**
- * Declarations with a clause behind their source.
+ * Declarations with a clause after their source.
  * @param {any} Parser that reads clauses
  */
 function withAttributes(Parser) {

@@ -44,7 +44,7 @@ export function end(node) {
 export function rangeOf(node) {
   const range = { start: start(node), end: end(node) };
   if (!Number.isInteger(range.start) || !Number.isInteger(range.end)) {
-    throw new TypeError("a tree and its comments are to have start and end, or range");
+    throw new TypeError("a tree and its comments must have start and end, or range");
   }
   return range;
 }

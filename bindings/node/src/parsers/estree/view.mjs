@@ -199,15 +199,15 @@ export class EstreeView {
   }
 
   /**
-   * The clause `with { .. }` of a declaration. Only the text tells none from an empty one.
+   * The clause `with { .. }` of a declaration. Only the text distinguishes none from an empty one.
    * @param {any} node
    * @returns {ObjectLiteral | undefined}
    */
   clause(node) {
     const { text } = this.trivia;
     const keyword = this.trivia.tokenStart(end(node.source));
-    const behind = text.slice(keyword, Math.min(keyword + "assert{".length, end(node)));
-    const word = /^(?:with|assert)(?![\p{ID_Continue}$])/u.exec(behind)?.[0];
+    const following = text.slice(keyword, Math.min(keyword + "assert{".length, end(node)));
+    const word = /^(?:with|assert)(?![\p{ID_Continue}$])/u.exec(following)?.[0];
     if (!word) {
       return undefined;
     }
@@ -289,9 +289,9 @@ export class EstreeView {
    */
   openingOf(node) {
     /** @type {(offset: number, word: string) => number} */
-    const behind = (offset, word) => this.trivia.tokenStart(offset) + word.length;
+    const after = (offset, word) => this.trivia.tokenStart(offset) + word.length;
     const keyword = start(node) + "import".length;
-    return this.trivia.tokenStart(node.phase ? behind(behind(keyword, "."), node.phase) : keyword);
+    return this.trivia.tokenStart(node.phase ? after(after(keyword, "."), node.phase) : keyword);
   }
 
   /**
@@ -304,11 +304,11 @@ export class EstreeView {
     let range = { start: start(node), end: end(node) };
     for (;;) {
       const before = this.trivia.tokenEnd(range.start) - 1;
-      const behind = this.trivia.tokenStart(range.end);
-      if (text[before] !== "(" || before === open || text[behind] !== ")") {
+      const after = this.trivia.tokenStart(range.end);
+      if (text[before] !== "(" || before === open || text[after] !== ")") {
         return range;
       }
-      range = { start: before, end: behind + 1 };
+      range = { start: before, end: after + 1 };
     }
   }
 

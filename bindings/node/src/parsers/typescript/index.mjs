@@ -32,7 +32,7 @@ export function toDocument(text, options) {
   const mediaTypes = tree ? MEDIA_TYPES : TYPESCRIPT_MEDIA_TYPES;
   const { specifier, mediaType } = readOptions(text, options, mediaTypes);
   if (tree && tree.text !== text) {
-    throw new TypeError("the tree is to be a SourceFile of the text");
+    throw new TypeError("the tree must be a SourceFile of the text");
   }
   const compiler = typescript ?? loadParser("typescript");
   const source = new Source(text);

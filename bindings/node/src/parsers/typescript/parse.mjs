@@ -30,7 +30,7 @@ const FILES = {
 export const TYPESCRIPT_MEDIA_TYPES = Object.keys(FILES);
 
 /**
- * What the parser says of comments that begin with `///`: an invalid reference, a resolution mode
+ * The parser's errors about comments that begin with `///`: an invalid reference, a resolution mode
  * that is none, a second name of an AMD module.
  */
 const OF_COMMENTS = new Set([1084, 1453, 2458]);
@@ -101,10 +101,10 @@ function parseAs(compiler, text, mediaType, asModule) {
 /**
  * TypeScript takes an `await` outside of every function for a name at first, and parses a module's
  * statements with one a second time. Where such a statement then takes in several of the first
- * time's, it leaves as many behind the last statement, with their errors.
+ * time's, it leaves as many after the last statement, with their errors.
  * @param {Compiler} compiler
  * @param {Node} file
- * @returns {Node} the file, where it is so, with all behind the first `await` parsed twice
+ * @returns {Node} the file, where it is so, with all after the first `await` parsed twice
  */
 export function withoutRemains(compiler, file) {
   if (firstRemain(file) < 0) {
@@ -129,7 +129,7 @@ export function withoutRemains(compiler, file) {
 
 /**
  * @param {{ statements: Node[] }} file
- * @returns {number} the place of the first statement that was left, below 0 where there is none
+ * @returns {number} the index of the first statement that was left, below 0 where there is none
  */
 function firstRemain({ statements }) {
   return statements.findIndex(({ pos }, at) => at > 0 && pos < statements[at - 1].end);

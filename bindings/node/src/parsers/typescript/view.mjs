@@ -225,7 +225,7 @@ export class TypeScriptView {
   }
 
   /**
-   * The callee of a call that is listed; nothing for any other.
+   * The callee of a call that is a dependency; nothing for any other.
    * @param {Node} expression
    */
   callee(expression) {

@@ -1,0 +1,26 @@
+/** The help of each command. */
+
+import assert from "node:assert/strict";
+import { test } from "node:test";
+
+import { folderOf, run } from "./run_commands.mjs";
+
+const MOST_LINES = 45;
+
+for (const name of ["estree", "files", "report", "typescript"]) {
+  const { stdout: help } = run(`${name}.mjs`, ["--help"]);
+
+  test(`the help of modinfo-${name} fits one screen`, () => {
+    const lines = help.split("\n").slice(0, -1);
+    assert.ok(lines.length <= MOST_LINES, `${lines.length} lines`);
+    assert.deepEqual(lines.filter((line) => line.length > 101), []);
+  });
+
+  test(`the example in the help of modinfo-${name} runs`, () => {
+    const [, words] = / Example:\n {2}modinfo-\w+ ([^|\n]*)/.exec(help) ?? assert.fail("there is no example");
+    const cwd = folderOf({ "src/main.ts": `import "./b.js";`, "src/b.js": "", "src/lonely.js": "" });
+    const { stdout, stderr, status } = run(`${name}.mjs`, words.trim().split(" "), { cwd });
+    assert.deepEqual([stderr, status], ["", 0]);
+    assert.equal(stdout.includes("lonely.js"), name !== "report");
+  });
+}
