@@ -5,8 +5,8 @@
  *
  * modinfo_analyze, modinfo_convert and modinfo_reach each read one JSON document from memory, and
  * write one line, the answer, into memory of the caller. modinfo_check, modinfo_check_convert and
- * modinfo_check_reach read a document of these three, and write a report on it. Nothing is kept
- * between calls, and nothing is printed.
+ * modinfo_check_reach read a document of these three, and write a report on it. modinfo_lines does one of
+ * these for each line of a text. Nothing is kept between calls, and nothing is printed.
  *
  *     document         the document, in UTF-8
  *     document_length  its length in bytes; no zero byte is needed after it
@@ -23,6 +23,8 @@
  *                        document: its only fault is OutOfMemory.
  *     MODINFO_TOO_SMALL  `room` is too small for the answer or the name. Nothing is written to
  *                        `answer`: call again with room for `*length` bytes.
+ *     MODINFO_NO_COMMAND modinfo_lines alone: `command` is none of the numbers below. Nothing is written to
+ *                        `answer`, and `*length` is 0.
  *
  * Bytes of `answer` after the first `*length` are left as they were, and there is no zero byte at the
  * end. Most answers are shorter than their documents, so that room for as many bytes as the document
@@ -65,7 +67,8 @@
  * A POINTER is a JSON Pointer (RFC 6901) into the document. The pointer to the whole document is empty.
  *
  * What a caller has to do: `document` and `answer` point to `document_length` and `room` bytes, also where these
- * are zero (then to any byte): a null pointer isn't tested for. The document, the room and `*length`
+ * are zero (then to any byte). A null pointer isn't tested for; a compiler that knows `nonnull` warns of one that
+ * it sees. The document, the room and `*length`
  * don't overlap, and no other thread writes to them during the call. Calls may run side by side in
  * many threads, but not in a signal handler, nor in the forked child of a process with threads.
  * Memory comes from the process's `malloc`, `realloc` and `free`, and is given back before the call
@@ -94,8 +97,26 @@ extern "C" {
 enum {
     MODINFO_ANSWERED = 0,
     MODINFO_FAULT = 1,
-    MODINFO_TOO_SMALL = 2
+    MODINFO_TOO_SMALL = 2,
+    MODINFO_NO_COMMAND = 3
 };
+
+/* The commands of modinfo_lines. */
+enum {
+    MODINFO_ANALYZE = 0,
+    MODINFO_CONVERT = 1,
+    MODINFO_REACH = 2,
+    MODINFO_CHECK = 3,
+    MODINFO_CHECK_CONVERT = 4,
+    MODINFO_CHECK_REACH = 5
+};
+
+/* No pointer is null. */
+#if defined(__GNUC__)
+#define MODINFO_NONNULL __attribute__((nonnull))
+#else
+#define MODINFO_NONNULL
+#endif
 
 /* Returns the version of the library that is loaded, major * 10000 + minor * 100 + patch. MODINFO_VERSION
  * is that of the header. */
@@ -103,28 +124,35 @@ uint32_t modinfo_version(void);
 
 /* Reads a module's source, tree and comments, and writes its ModuleInfo. */
 uint8_t modinfo_analyze(const uint8_t *document, size_t document_length,
-                        uint8_t *answer, size_t room, size_t *length);
+                        uint8_t *answer, size_t room, size_t *length) MODINFO_NONNULL;
 
 /* Reads the information of one module in version 1, and writes that in version 2. */
 uint8_t modinfo_convert(const uint8_t *document, size_t document_length,
-                        uint8_t *answer, size_t room, size_t *length);
+                        uint8_t *answer, size_t room, size_t *length) MODINFO_NONNULL;
 
 /* Reads a root and the ModuleInfo of many modules, and writes the keys that the root reaches, ascending. */
 uint8_t modinfo_reach(const uint8_t *document, size_t document_length,
-                      uint8_t *answer, size_t room, size_t *length);
+                      uint8_t *answer, size_t room, size_t *length) MODINFO_NONNULL;
 
 /* Reads a document of modinfo_analyze, and writes a report on it. Returns MODINFO_ANSWERED whether the
  * document is valid or not. */
 uint8_t modinfo_check(const uint8_t *document, size_t document_length,
-                      uint8_t *answer, size_t room, size_t *length);
+                      uint8_t *answer, size_t room, size_t *length) MODINFO_NONNULL;
 
 /* Like modinfo_check, but reads a document of modinfo_convert. */
 uint8_t modinfo_check_convert(const uint8_t *document, size_t document_length,
-                              uint8_t *answer, size_t room, size_t *length);
+                              uint8_t *answer, size_t room, size_t *length) MODINFO_NONNULL;
 
 /* Like modinfo_check, but reads a document of modinfo_reach. */
 uint8_t modinfo_check_reach(const uint8_t *document, size_t document_length,
-                            uint8_t *answer, size_t room, size_t *length);
+                            uint8_t *answer, size_t room, size_t *length) MODINFO_NONNULL;
+
+/* Reads a text of which each line is a document of the command, and writes a line for each, in the same order, as the
+ * program does with --lines: {"answer":ANSWER} or {"fault":NAME}, for a check the report alone or {"fault":NAME}. The
+ * last line needs no line feed. Returns MODINFO_ANSWERED whatever the documents are, MODINFO_FAULT where an allocation
+ * failed. Threads gain most where each call has some hundred kilobytes of documents. */
+uint8_t modinfo_lines(uint8_t command, const uint8_t *documents, size_t documents_length,
+                      uint8_t *answer, size_t room, size_t *length) MODINFO_NONNULL;
 
 #ifdef __cplusplus
 }

@@ -2,7 +2,7 @@
 
 use std::collections::TryReserveError;
 
-type CFunction = unsafe extern "C" fn(*const u8, usize, *mut u8, usize, *mut usize) -> u8;
+pub type CFunction = unsafe extern "C" fn(*const u8, usize, *mut u8, usize, *mut usize) -> u8;
 
 macro_rules! declare {
     ($($name:ident)*) => {
@@ -14,6 +14,14 @@ macro_rules! declare {
                 room: usize,
                 length: *mut usize,
             ) -> u8;)*
+            fn modinfo_lines(
+                command: u8,
+                documents: *const u8,
+                documents_length: usize,
+                answer: *mut u8,
+                room: usize,
+                length: *mut usize,
+            ) -> u8;
             fn modinfo_version() -> u32;
         }
     };
@@ -30,14 +38,19 @@ declare! {
 
 /// One of the functions of the library.
 #[derive(Clone, Copy)]
-pub struct Function(CFunction);
+pub enum Function {
+    /// A function that reads one document.
+    Document(CFunction),
+    /// `modinfo_lines`, with the number of a command.
+    Lines(u8),
+}
 
-pub const ANALYZE: Function = Function(modinfo_analyze);
-pub const CONVERT: Function = Function(modinfo_convert);
-pub const REACH: Function = Function(modinfo_reach);
-pub const CHECK: Function = Function(modinfo_check);
-pub const CHECK_CONVERT: Function = Function(modinfo_check_convert);
-pub const CHECK_REACH: Function = Function(modinfo_check_reach);
+pub const ANALYZE: Function = Function::Document(modinfo_analyze);
+pub const CONVERT: Function = Function::Document(modinfo_convert);
+pub const REACH: Function = Function::Document(modinfo_reach);
+pub const CHECK: Function = Function::Document(modinfo_check);
+pub const CHECK_CONVERT: Function = Function::Document(modinfo_check_convert);
+pub const CHECK_REACH: Function = Function::Document(modinfo_check_reach);
 
 /// What a call wrote.
 pub enum Written {
@@ -68,17 +81,18 @@ pub fn call(function: Function, document: &[u8]) -> Result<Written, TryReserveEr
 /// with status 2, the length that is needed.
 fn call_once(function: Function, document: &[u8], room: &mut Vec<u8>) -> (u8, usize) {
     let mut length = 0;
+    let (input, size) = (document.as_ptr(), document.len());
+    let (output, capacity) = (room.as_mut_ptr(), room.capacity());
     // SAFETY: `document` and the spare capacity of `room` are as long as the call says, no pointer of a slice or a
     // vector is null, only the call writes to `length`, and a mutable borrow overlaps with no other. The header
     // requires nothing else.
     let status = unsafe {
-        (function.0)(
-            document.as_ptr(),
-            document.len(),
-            room.as_mut_ptr(),
-            room.capacity(),
-            &mut length,
-        )
+        match function {
+            Function::Document(call) => call(input, size, output, capacity, &mut length),
+            Function::Lines(command) => {
+                modinfo_lines(command, input, size, output, capacity, &mut length)
+            }
+        }
     };
     if status != 2 {
         // SAFETY: with any other status the call has written `length` bytes, and `length` is at most the capacity.

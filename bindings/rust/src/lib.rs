@@ -2,6 +2,7 @@
 #![deny(unsafe_code)]
 #![warn(missing_docs)]
 
+mod command;
 mod error;
 mod fault;
 #[allow(unsafe_code)]
@@ -9,6 +10,7 @@ mod ffi;
 mod report;
 mod version;
 
+pub use command::Command;
 pub use error::Error;
 pub use fault::Fault;
 pub use version::Version;
@@ -79,6 +81,22 @@ pub fn check_convert(document: &[u8]) -> Result<String, Fault> {
 /// [`Fault::OutOfMemory`] alone.
 pub fn check_reach(document: &[u8]) -> Result<String, Fault> {
     answer(ffi::CHECK_REACH, document)
+}
+
+/// Returns a line for each line of `documents`, in the same order, each with its line feed. Each line of
+/// `documents` is a document of the command, and the last one needs no line feed. A line of the result is
+/// `{"answer":ANSWER}` or `{"fault":NAME}`, for a check the report or `{"fault":"OutOfMemory"}`.
+///
+/// Calls may run in many threads at once, which gain most where each call has some hundred kilobytes.
+///
+/// # Errors
+///
+/// [`Fault::OutOfMemory`] alone. A document with a fault has a line too.
+pub fn answer_lines(command: Command, documents: &[u8]) -> Result<String, Fault> {
+    match ffi::call(Function::Lines(command as u8), documents) {
+        Ok(Written::Answer(lines)) => Ok(text(lines)),
+        Ok(Written::FaultName(_)) | Err(_) => Err(Fault::OutOfMemory),
+    }
 }
 
 /// Returns the version of the library that is linked.

@@ -1,4 +1,4 @@
-//! The words behind the program's name, and what is printed about them.
+//! The words after the program's name, and what is printed about them.
 
 ghost use Rattle.std.specs.Prelude.{◌≡◌, [], ◌∷◌, Bool, codes, if◌then◌else◌, map, Some};
 ghost use Rattle.modinfo.specs.Answer.{name_of};
@@ -7,7 +7,7 @@ ghost use Rattle.modinfo.specs.Invocation.{Flags, are_strict, flag_words, have_l
 use crate::subcommand::Subcommand;
 use crate::task::Task;
 
-/// The line for words that are no invocation.
+/// The first line that is printed for words that are no invocation.
 pub const USAGE: &str = "modinfo: usage: modinfo analyze, modinfo convert or modinfo reach";
 
 /// What `--version` prints.
@@ -18,7 +18,7 @@ pub const HELP: &str = r#"modinfo: what one JavaScript or TypeScript module depe
 
 usage: modinfo analyze | convert | reach [--lines]
        modinfo check [analyze | convert | reach] [--lines] [--strict]
-       modinfo --help | --version
+       modinfo -h | --help | --version
 
 Each command reads one JSON document from the standard input, and prints its answer as one line of
 JSON.
@@ -60,10 +60,10 @@ Example:
   "specifierRange":[[0,7],[0,15]],"type":"static"}]}
 "#;
 
-/// What the words behind the program's name ask for.
+/// What the words after the program's name ask for.
 #[derive(Debug, Clone, Copy, PartialEq, Eq)]
 pub enum Invocation {
-    /// `--help`
+    /// `--help`, or `-h`
     Help,
     /// `--version`
     Version,
@@ -89,7 +89,7 @@ impl Invocation {
             (invocation_of (have_lines flags) (Task.Check Subcommand.Analyze (are_strict flags))) }
     {
         match words {
-            [word] if *word == "--help" => Some(Invocation::Help),
+            [word] if *word == "--help" || *word == "-h" => Some(Invocation::Help),
             [word] if *word == "--version" => Some(Invocation::Version),
             [word, words @ ..] if *word == "check" => Invocation::from_check(words),
             [name] => {
@@ -146,4 +146,38 @@ impl Invocation {
             Some(Invocation::Document(task))
         }
     }
+}
+
+/// The first word that no invocation has at its place, `None` if each can be there and a command is
+/// missing.
+pub fn unexpected_word<'a>(words: &[&'a str]) -> Option<&'a str> {
+    match words {
+        [] => None,
+        [command, words @ ..] if *command == "check" => unexpected_in_check(words),
+        [command, flags @ ..] if Subcommand::from_name(command).is_some() => match flags {
+            [flag, other, ..] if *flag == "--lines" => Some(*other),
+            [flag, ..] => Some(*flag),
+            [] => None,
+        },
+        [word, other, ..] if ["-h", "--help", "--version"].contains(word) => Some(*other),
+        [word, ..] => Some(*word),
+    }
+}
+
+fn unexpected_in_check<'a>(words: &[&'a str]) -> Option<&'a str> {
+    let flags = match words {
+        [name, flags @ ..] if Subcommand::from_name(name).is_some() => flags,
+        _ => words,
+    };
+    match flags {
+        [flag, other, rest @ ..] if is_flag(flag) && is_flag(other) && flag != other => {
+            rest.first().copied()
+        }
+        [flag, other, ..] if is_flag(flag) => Some(*other),
+        _ => flags.first().copied(),
+    }
+}
+
+fn is_flag(word: &str) -> bool {
+    word == "--lines" || word == "--strict"
 }

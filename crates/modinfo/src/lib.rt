@@ -12,10 +12,11 @@ mod output;
 mod program;
 mod reach;
 pub mod subcommand;
-mod task;
+pub mod task;
 
 pub use fault::Fault;
 pub use modinfo_notation as notation;
 pub use modinfo_notation::parse_document;
 pub use program::serve;
 pub use subcommand::Subcommand;
+pub use task::Task;

@@ -97,7 +97,7 @@ fn answer_next<R: Read>(
         × IsAtEnd (reader_remaining R.remaining input.old))
         (λ passes. (line : List ℕ) × (printed : List ℕ)
         × TakesLines (reader_remaining R.remaining input.old)
-            (reader_remaining R.remaining input.new) (line ∷ [])
+        (reader_remaining R.remaining input.new) (line ∷ [])
         × PrintsLine task line passes printed
         × (waiting.new.items ≡ waiting.old.items ++ printed))) IsFailure }
 {

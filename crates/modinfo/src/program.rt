@@ -8,7 +8,7 @@ ghost use Rattle.modinfo.specs.Run.{AppendsFront, IsFailure, IsRun, Leaves, Leav
 
 use crate::fault::Fault;
 use crate::input::read_to_end;
-use crate::invocation::{HELP, Invocation, USAGE, VERSION};
+use crate::invocation::{HELP, Invocation, USAGE, VERSION, unexpected_word};
 use crate::lines::answer_lines;
 use crate::output::write_front;
 use crate::subcommand::Subcommand;
@@ -18,15 +18,15 @@ use std::io::{self, Read, Write};
 
 /// One run of the program, and its exit status. `words` are the arguments after the program's name:
 /// `analyze`, `convert` or `reach`, and then `--lines` or not; `check`, and then one of these three
-/// or none, and then `--lines`, `--strict`, both or none; or `--help` or `--version` alone.
+/// or none, and then `--lines`, `--strict`, both or none; or `--help`, `-h` or `--version` alone.
 ///
-/// `--help` and `--version` read nothing and print their text: status 0. The others read `input` to
+/// `--help`, `-h` and `--version` read nothing and print their text: status 0. The others read `input` to
 /// its end and write one line of JSON to `output`: status 0. Where that fails `errors` gets a line
 /// with the fault's name, and `output` nothing, or a beginning where a write failed: status 1. A
 /// check prints its report, and has status 1 too where the document has a fault, or with `--strict`
 /// a warning. With `--lines` each line of the input is a document, for which one line is printed, and
-/// only a failed read, write or allocation ends the run. Other words print a line on the usage:
-/// status 2. A failed write to `errors` is ignored.
+/// only a failed read, write or allocation ends the run. Other words print a line on the usage to
+/// `errors`, and one that names the first wrong word: status 2. A failed write to `errors` is ignored.
 pub fn serve<R: Read, W: Write, E: Write>(
     alloc: Global,
     words: &[&str],
@@ -73,7 +73,7 @@ pub fn serve<R: Read, W: Write, E: Write>(
     ensures usage { result ≡ 2 → Keeps (W.contents output.old) (W.contents output.new) }
 {
     let Some(invocation) = Invocation::from_words(words) else {
-        print_line(errors, USAGE);
+        print_usage(errors, unexpected_word(words));
         return 2;
     };
     match answer(alloc, invocation, input, output) {
@@ -89,6 +89,38 @@ fn status_of(passes: bool) -> u8
     ensures { result ≡ (if passes then 0 else 1) }
 {
     if passes { 0 } else { 1 }
+}
+
+/// Prints the usage, and the word that isn't part of it. A write that fails ends the text there.
+fn print_usage<E: Write>(errors: &mut E, unexpected: Option<&str>) {
+    if !write_front(errors, USAGE.as_bytes()) || !write_front(errors, b"\nmodinfo: ") {
+        return;
+    }
+    let is_printed = match unexpected {
+        Some(word) => print_unexpected(errors, word),
+        None => write_front(errors, b"a command is missing"),
+    };
+    if is_printed {
+        print_line(
+            errors,
+            "; modinfo --help describes each command, check among them",
+        );
+    }
+}
+
+/// Prints which word is not expected, with escapes for what a terminal would not show. Returns whether
+/// all of it was written.
+fn print_unexpected<E: Write>(errors: &mut E, word: &str) -> bool {
+    if !write_front(errors, b"unexpected argument \"") {
+        return false;
+    }
+    for escaped in word.escape_debug() {
+        let mut bytes = [0; 4];
+        if !write_front(errors, escaped.encode_utf8(&mut bytes).as_bytes()) {
+            return false;
+        }
+    }
+    write_front(errors, b"\"")
 }
 
 /// Prints the line of a fault. A write that fails ends the line there.

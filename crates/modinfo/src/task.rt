@@ -1,10 +1,12 @@
-ghost use Rattle.std.specs.Prelude.{◌≡◌, ◌⊎◌, Bool, IsTrue, true, MatchBool, MatchResult};
+ghost use Rattle.std.specs.Prelude.{◌≡◌, ◌⊎◌, Bool, IfOk, IsTrue, true, MatchBool, MatchResult};
 ghost use Rattle.std.specs.String.{string_bytes};
 ghost use Rattle.modinfo.specs.Answer.{IsAnswerText, IsDocumentFault, IsFaultyDocument, IsValidDocument};
+ghost use Rattle.modinfo.specs.Lines.{PrintsLines, lines_of};
 
 use crate::fault::Fault;
+use crate::lines::answer_lines;
 use crate::subcommand::Subcommand;
-use std::alloc::Global;
+use std::alloc::{AllocError, Global};
 
 /// What is done with each document.
 #[derive(Debug, Clone, Copy, PartialEq, Eq)]
@@ -58,6 +60,19 @@ impl Task {
                     is_passed: report.passes(is_strict),
                 })
             }
+        }
+    }
+
+    /// What is printed for each line of a text, which is a document, in the same order: the output of
+    /// a run with `--lines`. The only error is that an allocation failed.
+    pub fn print_lines(self, alloc: Global, documents: &[u8]) -> Result<Vec<u8>, AllocError>
+        ensures { IfOk result (λ printed. (passes : Bool)
+            × PrintsLines self (lines_of documents.now) passes printed.items) }
+    {
+        let mut printed = Vec::new(alloc);
+        match answer_lines(alloc, self, documents, &mut printed) {
+            Ok(_) => Ok(printed),
+            Err(_) => Err(AllocError),
         }
     }
 }

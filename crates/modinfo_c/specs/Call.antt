@@ -1,16 +1,36 @@
 -- What a call leaves in the memory of its caller.
-use Rattle.std.specs.Prelude.{◌≡◌, ℕ, List, ◌++◌, ◌<◌, ◌≤◌, length, drop}
+use Rattle.std.specs.Prelude.{
+  ◌≡◌,
+  ◌++◌,
+  ◌<◌,
+  ◌≤◌,
+  ◌==◌,
+  ℕ,
+  List,
+  length,
+  drop,
+  Bool,
+  false,
+  Option,
+  None,
+  Some,
+  if◌then◌else◌,
+}
 use Rattle.modinfo.specs.Fault.{name_of_fault}
+use Rattle.modinfo.specs.Lines.{PrintsLines, lines_of}
 use Rattle.modinfo.specs.declared.fault.Fault.{Fault}
 use Rattle.modinfo.specs.declared.fault.Fault.TheVariants.{OutOfMemory}
+use Rattle.modinfo.specs.declared.subcommand.Subcommand.TheVariants.{Analyze, Convert, Reach}
+use Rattle.modinfo.specs.declared.task.Task.{Task}
+use Rattle.modinfo.specs.declared.task.Task.TheVariants.{Answer, Check}
 
--- the text is at the front of the room, and the bytes behind it are as they were
+-- The text is at the front of the room, and the bytes after it are as they were.
 pub record IsPut (text before after : List ℕ) : Type 0 where
   pub fits : length text ≤ length before
   pub is : after ≡ text ++ drop (length text) before
 
--- with the wanted status the text is put into the room; with status 2 it is longer than the room, which is as
--- it was; in both `needed` is its length
+-- With the wanted status the text is put into the room; with status 2 the text is longer than the room, and
+-- the room is as it was. In both cases `needed` is the length of the text.
 pub data IsLeft (text : List ℕ) (wanted : ℕ) (before after : List ℕ) (needed status : ℕ) : Type 0 where
   put : status ≡ wanted → needed ≡ length text → IsPut text before after
       → IsLeft text wanted before after needed status
@@ -18,8 +38,8 @@ pub data IsLeft (text : List ℕ) (wanted : ℕ) (before after : List ℕ) (need
       → IsLeft text wanted before after needed status
 
 -- With status 0 an answer is put into the room, with status 1 the name of a fault of the document; with
--- status 2
--- what would have been put there is longer than the room, which is as it was. In each `needed` is its length.
+-- status 2 what would have been put there is longer than the room, and the room is as it was. In each case
+-- `needed` is the length of the answer or name.
 pub data IsAnswered (IsAnswer : List ℕ → Type 0) (IsFault : Fault → Type 0) (before after : List ℕ)
     (needed status : ℕ) : Type 0 where
   answered : (line : List ℕ) → IsAnswer line → IsLeft line 0 before after needed status
@@ -34,3 +54,18 @@ IsOutOfMemory fault = fault ≡ OutOfMemory
 -- Of the text of a report nothing is said.
 abbrev pub IsReport : List ℕ → Type 0
 IsReport line = Unit {0}
+
+-- The command that a number stands for, if it stands for one.
+abbrev pub task_of : ℕ → Option Task
+task_of command =
+    if command == 0 then Some (Answer Analyze)
+    else if command == 1 then Some (Answer Convert)
+    else if command == 2 then Some (Answer Reach)
+    else if command == 3 then Some (Check Analyze false)
+    else if command == 4 then Some (Check Convert false)
+    else if command == 5 then Some (Check Reach false)
+    else None
+
+-- The text has what is printed for each line of the documents, in their order.
+abbrev pub IsLinesText : Task → List ℕ → List ℕ → Type 0
+IsLinesText task documents text = (passes : Bool) × PrintsLines task (lines_of documents) passes text

@@ -119,19 +119,35 @@ fn a_failed_write_leaves_a_beginning(rt: HostRuntime) {
     }
 }
 
+/// What is printed for a word that would clear the screen.
+const UNEXPECTED: &str = r#"modinfo: usage: modinfo analyze, modinfo convert or modinfo reach
+modinfo: unexpected argument "\u{1b}[2J\n"; modinfo --help describes each command, check among them
+"#;
+
 #[test]
 fn a_failed_write_to_errors_is_passed_over(rt: HostRuntime) {
-    for (words, status) in [(["analyze"], 1), (["parse"], 2)] {
-        for room in 0..10 {
+    for (word, status, whole) in [
+        ("analyze", 1, "modinfo: Json\n"),
+        ("\u{1b}[2J\n", 2, UNEXPECTED),
+    ] {
+        for room in 0..=whole.len() {
             let mut errors = FailingWriter {
                 kept: Vec::new(rt.alloc()),
                 room,
             };
             let mut output = Vec::new(rt.alloc());
             let mut input = b"".as_slice();
-            let answered = modinfo::serve(rt.alloc(), &words, &mut input, &mut output, &mut errors);
+            let answered = modinfo::serve(
+                rt.alloc(),
+                &[word],
+                &mut input,
+                &mut output,
+                &mut errors,
+            );
             assert_eq!(rt; answered, status);
             assert!(rt; output.is_empty());
+            assert!(rt; whole.as_bytes().starts_with(errors.kept.as_slice()));
+            assert_eq!(rt; errors.kept.len(), room);
         }
     }
 }

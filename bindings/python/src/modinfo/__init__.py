@@ -80,8 +80,8 @@ def check(document: Document, command: Command = "analyze") -> Report:
     only where an allocation fails, its name OutOfMemory; ValueError where there is no such command; and TypeError
     and others as analyze does.
     """
-    function = _command(command).check
-    return cast(Report, json.loads(_call(function, _bytes_of(document))))
+    call = _command(command).check
+    return cast(Report, json.loads(_call(call, _bytes_of(document))))
 
 
 def analyze_lines(lines: Iterable[Buffer], jobs: int = 1) -> Iterator[bytes]:
@@ -91,12 +91,12 @@ def analyze_lines(lines: Iterable[Buffer], jobs: int = 1) -> Iterator[bytes]:
     want of memory, `{"fault":NAME}` is returned, and the next line is read. `jobs` threads work side by side; with more
     than one, lines are read ahead. Raises TypeError where a line isn't bytes.
     """
-    return answer_lines(_library.COMMANDS["analyze"].function, _in_answer, lines, jobs)
+    return answer_lines(_library.COMMANDS["analyze"].answer, _in_answer, lines, jobs)
 
 
 def convert_lines(lines: Iterable[Buffer], jobs: int = 1) -> Iterator[bytes]:
     """Returns for each line what `modinfo convert --lines` prints for it, as analyze_lines does."""
-    return answer_lines(_library.COMMANDS["convert"].function, _in_answer, lines, jobs)
+    return answer_lines(_library.COMMANDS["convert"].answer, _in_answer, lines, jobs)
 
 
 def check_lines(lines: Iterable[Buffer], command: Command = "analyze", jobs: int = 1) -> Iterator[bytes]:
@@ -130,7 +130,7 @@ def _answer(name: Command, document: Document) -> Any:
 def _answer_line(name: Command, document: Buffer) -> bytes:
     command = _library.COMMANDS[name]
     try:
-        return _call(command.function, document)
+        return _call(command.answer, document)
     except Fault as fault:
         raise Fault(fault.name, _report(command, fault, document)) from None
 
@@ -145,9 +145,9 @@ def _report(command: _library.Command, fault: Fault, document: Buffer) -> FaultR
         return None
 
 
-def _call(function: _library.Function, document: Buffer) -> bytes:
+def _call(call: _library.Call, document: Buffer) -> bytes:
     try:
-        return _library.Room().call(function, document)
+        return _library.Room().call(call.one, document)
     except _library.Refused as refused:
         raise Fault(refused.name) from None
 

@@ -3,6 +3,7 @@
 import ctypes
 from collections.abc import Callable
 from dataclasses import dataclass
+from functools import partial
 from pathlib import Path
 from typing import cast
 
@@ -30,31 +31,53 @@ def _load() -> ctypes.CDLL:
 _library = _load()
 
 
+_ARGUMENTS = [ctypes.c_void_p, ctypes.c_size_t, ctypes.c_void_p, ctypes.c_size_t, ctypes.c_void_p]
+
+
 def _function(name: str) -> Function:
     function = getattr(_library, name)
     function.restype = ctypes.c_uint8
-    function.argtypes = [
-        ctypes.c_void_p,
-        ctypes.c_size_t,
-        ctypes.c_void_p,
-        ctypes.c_size_t,
-        ctypes.c_void_p,
-    ]
+    function.argtypes = _ARGUMENTS
     return cast(Function, function)
+
+
+def _lines_of(command: int) -> Function:
+    """The function that does a command, by its number in the header, for each line of a text."""
+    function = _library.modinfo_lines
+    function.restype = ctypes.c_uint8
+    function.argtypes = [ctypes.c_uint8, *_ARGUMENTS]
+    return cast(Function, partial(function, command))
+
+
+@dataclass(frozen=True)
+class Call:
+    """A function that reads one document, and that which reads many, one per line."""
+
+    one: Function
+    lines: Function
 
 
 @dataclass(frozen=True)
 class Command:
     """A command, and the check of its documents."""
 
-    function: Function
-    check: Function
+    answer: Call
+    check: Call
 
 
 COMMANDS = {
-    "analyze": Command(_function("modinfo_analyze"), _function("modinfo_check")),
-    "convert": Command(_function("modinfo_convert"), _function("modinfo_check_convert")),
-    "reach": Command(_function("modinfo_reach"), _function("modinfo_check_reach")),
+    "analyze": Command(
+        Call(_function("modinfo_analyze"), _lines_of(0)),
+        Call(_function("modinfo_check"), _lines_of(3)),
+    ),
+    "convert": Command(
+        Call(_function("modinfo_convert"), _lines_of(1)),
+        Call(_function("modinfo_check_convert"), _lines_of(4)),
+    ),
+    "reach": Command(
+        Call(_function("modinfo_reach"), _lines_of(2)),
+        Call(_function("modinfo_check_reach"), _lines_of(5)),
+    ),
 }
 
 

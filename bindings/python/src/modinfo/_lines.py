@@ -5,7 +5,7 @@ from collections.abc import Callable, Iterable, Iterator
 from concurrent.futures import Future, ThreadPoolExecutor
 
 from ._buffers import Buffer, is_buffer
-from ._library import Function, Refused, Room
+from ._library import Call, Refused, Room
 
 # The line that is printed for an answer.
 Frame = Callable[[bytes], bytes]
@@ -17,12 +17,12 @@ BATCH_BYTES = 1 << 20
 AHEAD = 2
 
 
-def answer_lines(function: Function, frame: Frame, lines: Iterable[Buffer], jobs: int) -> Iterator[bytes]:
+def answer_lines(call: Call, frame: Frame, lines: Iterable[Buffer], jobs: int) -> Iterator[bytes]:
     if jobs < 1:
         raise ValueError(f"jobs is a number above zero, not {jobs}")
     if jobs == 1:
-        return _answer_batch(function, frame, _checked(lines))
-    return _answer_in_threads(function, frame, _batches(_checked(lines)), jobs)
+        return _answer_batch(call, frame, _checked(lines))
+    return _answer_in_threads(call, frame, _batches(_checked(lines)), jobs)
 
 
 def _checked(lines: Iterable[Buffer]) -> Iterator[Buffer]:
@@ -32,14 +32,14 @@ def _checked(lines: Iterable[Buffer]) -> Iterator[Buffer]:
         yield line
 
 
-def _answer_batch(function: Function, frame: Frame, lines: Iterable[Buffer]) -> Iterator[bytes]:
+def _answer_batch(call: Call, frame: Frame, lines: Iterable[Buffer]) -> Iterator[bytes]:
     room = Room()
-    return (_answer(room, function, frame, line) for line in lines)
+    return (_answer(room, call, frame, line) for line in lines)
 
 
-def _answer(room: Room, function: Function, frame: Frame, line: Buffer) -> bytes:
+def _answer(room: Room, call: Call, frame: Frame, line: Buffer) -> bytes:
     try:
-        return frame(room.call(function, line))
+        return frame(room.call(call.one, line))
     except Refused as refused:
         name = refused.name
     except MemoryError:
@@ -66,7 +66,7 @@ def _batches(lines: Iterator[Buffer]) -> Iterator[list[Buffer]]:
         yield batch
 
 
-def _answer_in_threads(function: Function, frame: Frame, batches: Iterator[list[Buffer]], jobs: int) -> Iterator[bytes]:
+def _answer_in_threads(call: Call, frame: Frame, batches: Iterator[list[Buffer]], jobs: int) -> Iterator[bytes]:
     under_way: deque[Future[list[bytes]]] = deque()
     failure: Exception | None = None
     with ThreadPoolExecutor(jobs) as threads:
@@ -75,7 +75,7 @@ def _answer_in_threads(function: Function, frame: Frame, batches: Iterator[list[
                 if isinstance(batch, Exception):
                     failure = batch
                     break
-                under_way.append(threads.submit(_answer_list, function, frame, batch))
+                under_way.append(threads.submit(_answer_list, call, frame, batch))
                 if len(under_way) == AHEAD * jobs:
                     yield from under_way.popleft().result()
             while under_way:
@@ -95,5 +95,18 @@ def _next(batches: Iterator[list[Buffer]]) -> list[Buffer] | Exception | None:
         return error
 
 
-def _answer_list(function: Function, frame: Frame, batch: list[Buffer]) -> list[bytes]:
-    return list(_answer_batch(function, frame, batch))
+def _answer_list(call: Call, frame: Frame, batch: list[Buffer]) -> list[bytes]:
+    """The answers to a batch: by one call, or where that can't be by a call for each line."""
+    return _answer_at_once(call, batch) or list(_answer_batch(call, frame, batch))
+
+
+def _answer_at_once(call: Call, batch: list[Buffer]) -> list[bytes] | None:
+    """The answers to a batch. None where a document takes several lines, and where an allocation fails."""
+    try:
+        lines = [bytes(line).removesuffix(b"\n") for line in batch]
+        if any(b"\n" in line for line in lines):
+            return None
+        answers = Room().call(call.lines, b"\n".join([*lines, b""])).splitlines(keepends=True)
+    except (MemoryError, Refused):
+        return None
+    return answers

@@ -3,7 +3,7 @@ use Rattle.modinfo_c.proofs.call.Goals as goal
 
 -- the line is the answer, and was put
 pub returns-in-Ok : goal.returns-in-Ok
-returns-in-Ok c = answered _ c.in-Ok.ensures (rw c.as_str.ensures.value at c.put.ensures)
+returns-in-Ok c = answered _ c.in-Ok.ensures (rw c.as_bytes.ensures.value at c.put.ensures)
 
 -- the name of the fault was put
 pub returns-in-Err : goal.returns-in-Err
