@@ -7,7 +7,7 @@ from building import Kit, Target, run
 from sources import BuildError
 
 COMMANDS = ("analyze", "convert", "reach", "check", "check_convert", "check_reach")
-EXPORTED = ["modinfo_version", *(f"modinfo_{command}" for command in COMMANDS)]
+EXPORTED = ["modinfo_version", "modinfo_lines", *(f"modinfo_{command}" for command in COMMANDS)]
 
 
 def link_program(target: Target, kit: Kit, main: Path, program: Path) -> None:
