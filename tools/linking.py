@@ -6,8 +6,8 @@ from pathlib import Path
 from building import Kit, Target, run
 from sources import BuildError
 
-COMMANDS = ("analyze", "convert", "reach", "check", "check_convert", "check_reach")
-EXPORTED = ["modinfo_version", "modinfo_lines", *(f"modinfo_{command}" for command in COMMANDS)]
+FUNCTIONS = ("analyze", "convert", "reach", "check", "check_convert", "check_reach", "lines", "version")
+EXPORTED = [f"modinfo_{function}" for function in FUNCTIONS]
 
 
 def link_program(target: Target, kit: Kit, main: Path, program: Path) -> None:
