@@ -41,6 +41,7 @@ for (const [count, page] of Object.entries(PAGES)) {
 
 /** Each label can be read, and none covers another one. */
 async function assertReadable() {
+  /** @type {{ sizes: number[], boxes: DOMRect[] }} */
   const { sizes, boxes } = await browser.run(`
     const labels = [...document.querySelectorAll(".node text, .frame text")];
     const nodes = [...document.querySelectorAll(".node rect")];

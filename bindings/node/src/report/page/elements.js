@@ -31,3 +31,8 @@ function furnished(made, attributes, children) {
   made.append(...children.filter((child) => child !== undefined));
   return made;
 }
+
+/** Ends the task that runs, so that the browser can draw and hear keys before what follows. */
+export function nextTask() {
+  return new Promise((resolve) => setTimeout(resolve));
+}

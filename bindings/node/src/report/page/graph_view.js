@@ -22,9 +22,12 @@ const TITLE_SCALE = 1.12;
 /** After so many layouts in which labels are too small, none with more items is tried. */
 const MOST_FAILED = 2;
 
-/** Of the window's height the part that a graph has, and its least height. */
-const PART = 0.7;
+/** Least and most of the window's height that a drawing fills, and its least height in pixels. */
+const PARTS = { least: 0.5, most: 0.7 };
 const LEAST_HEIGHT = 120;
+
+/** Height of the legend, which is put above a drawing, and of the page below it, in pixels. */
+const BESIDE = 50;
 
 /**
  * What is shown around a graph.
@@ -39,11 +42,15 @@ export function graphFrame(title) {
 }
 
 /**
- * @param {HTMLElement} box in the page
- * @returns {{ width: number, height: number }} the largest that a drawing may have in it
+ * Returns the largest size of a drawing in its box: the end of the drawing is seen without scrolling,
+ * unless the drawing would be too small then.
+ * @param {HTMLElement} box in the page, without its drawing
+ * @returns {{ width: number, height: number }}
  */
 export function roomIn(box) {
-  return { width: Math.max(200, box.clientWidth), height: Math.max(240, innerHeight * PART) };
+  const below = innerHeight - box.offsetTop - BESIDE;
+  const height = Math.min(PARTS.most * innerHeight, Math.max(PARTS.least * innerHeight, below));
+  return { width: Math.max(200, box.clientWidth), height: Math.max(240, height) };
 }
 
 /**

@@ -1,7 +1,7 @@
 /** The page: what the address says is shown. */
 
 import { cycleView } from "./cycle_view.js";
-import { element } from "./elements.js";
+import { element, nextTask } from "./elements.js";
 import { fadeGraph } from "./filter.js";
 import { folders, root } from "./folders.js";
 import { graphView } from "./graph_view.js";
@@ -196,4 +196,6 @@ document.body.replaceChildren(element("aside", {}, home, modules.view, keys()), 
 main.addEventListener("drawn", () => fadeGraph(main, hits));
 addEventListener("hashchange", show);
 addEventListener("keydown", onKey);
+// What the address shows is made in a task of its own, after the list of modules is there.
+await nextTask();
 show();

@@ -55,6 +55,9 @@ export class ModuleList {
 
   /** @param {number | undefined} module the one that is open */
   open(module) {
+    if (module === this.#open) {
+      return;
+    }
     this.#open = module;
     this.#stop = this.#rowOf[module] >= 0 ? module : this.#stop;
     this.#scrollTo(module);

@@ -1,7 +1,7 @@
 /** A module's text with its marks. */
 
 import { withControls } from "./controls.js";
-import { element } from "./elements.js";
+import { element, nextTask } from "./elements.js";
 import { hashOf } from "./pieces.js";
 import { kindNamed } from "./report.js";
 import { lineSegments } from "./segments.js";
@@ -33,7 +33,7 @@ async function addLines(lines, view) {
       isDone = lines.next().done;
     }
     if (!isDone) {
-      await new Promise((resolve) => setTimeout(resolve));
+      await nextTask();
       isDone = !view.isConnected;
     }
   }
