@@ -148,11 +148,11 @@ test("packages have the version that is installed, else the range of the nearest
   ))];
   const { packages, builtins } = outsideOf(modules, new Links(folder, modules));
   assert.deepEqual(packages, [
-    { name: "a", version: "7.0.1", isAbsent: undefined, places: [0, 0, 0, 0, 3, 3] },
-    { name: "b", version: "^1.2.0", isAbsent: true, places: [0, 1, 1] },
-    { name: "c", version: undefined, isAbsent: true, places: [0, 2, 2] },
+    { name: "a", version: "7.0.1", isAbsent: undefined, users: [0, 0, 0, 0, 3, 3] },
+    { name: "b", version: "^1.2.0", isAbsent: true, users: [0, 1, 1] },
+    { name: "c", version: undefined, isAbsent: true, users: [0, 2, 2] },
   ]);
-  assert.deepEqual(builtins.map(({ name, places }) => [name, places]), [["fs", [0, 4, 4, 0, 5, 5]]]);
+  assert.deepEqual(builtins.map(({ name, users }) => [name, users]), [["fs", [0, 4, 4, 0, 5, 5]]]);
 });
 
 test("a cycle has the lines that make it, those that run rather than those of types", () => {
@@ -160,7 +160,7 @@ test("a cycle has the lines that make it, those that run rather than those of ty
   const { modules, links } = projectWith([{ kind: "type", name: "./b.js", resolved: b }, { name: "./b.js", resolved: b }]);
   modules[1].rows = rowsWith({ name: "./a.js", resolved: a });
   const { cycles } = listsOf(modules, links, edgesOf(modules, links), []);
-  assert.deepEqual(cycles.map(({ places }) => places), [[
+  assert.deepEqual(cycles.map(({ rows }) => rows), [[
     { module: 0, row: 1, line: 1, kind: "static", name: "./b.js" },
     { module: 1, row: 0, line: 0, kind: "static", name: "./a.js" },
   ]]);

@@ -6,7 +6,7 @@ import { test } from "node:test";
 import { faultMarks, marksOf } from "../src/report/marks.mjs";
 import { withControls } from "../src/report/page/controls.js";
 import { lineSegments } from "../src/report/page/segments.js";
-import { Places } from "../src/report/places.mjs";
+import { Offsets } from "../src/report/offsets.mjs";
 import { rowsOf } from "../src/report/rows.mjs";
 
 /** @typedef {import("../src/report/rows.mjs").Range} Range */
@@ -48,15 +48,15 @@ test("characters are code points, and only a line feed ends a line", () => {
   }
 });
 
-test("a place is found in any order, at a line's end and at the text's", () => {
-  const places = new Places("a😀b\nc\n");
+test("an offset is found in any order, at a line's end and at the text's", () => {
+  const offsets = new Offsets("a😀b\nc\n");
   /** @type {[number, number][]} */
   const asked = [[0, 3], [0, 1], [1, 1], [0, 2], [2, 0], [0, 0], [1, 0]];
-  assert.deepEqual(asked.map((position) => places.offset(position)), [4, 1, 6, 3, 7, 0, 5]);
+  assert.deepEqual(asked.map((position) => offsets.find(position)), [4, 1, 6, 3, 7, 0, 5]);
   /** @type {[number, number][]} */
   const absent = [[0, 4], [1, 2], [2, 1], [3, 0]];
   for (const none of absent) {
-    assert.throws(() => places.offset(none), RangeError);
+    assert.throws(() => offsets.find(none), RangeError);
   }
 });
 
@@ -106,16 +106,16 @@ test("kinds are told apart by what ModuleInfo calls them", () => {
   assert.deepEqual(kinds("dynamic", [undefined, "importDefer", "require"]), ["dynamic", "dynamic", "require"]);
 });
 
-test("the place of a syntax error is the character there, or the end of its line", () => {
+test("the position of a syntax error is the character there, or the end of its line", () => {
   /** @type {(text: string, line: number, column: number) => [number, string][]} */
-  const place = (text, line, column) => {
+  const markAt = (text, line, column) => {
     return faultMarks(text, { fault: "Syntax", message: "", line, column }).map(({ from, to }) => [from, text.slice(from, to)]);
   };
-  assert.deepEqual(place("let a = ;", 1, 9), [[8, ";"]]);
-  assert.deepEqual(place("a;\r\n😀 b\n", 2, 1), [[4, "😀"]]);
-  assert.deepEqual(place("a;\u2028b )", 2, 3), [[5, ")"]]);
-  assert.deepEqual(place("a;\n(", 2, 2), [[4, ""]]);
-  assert.deepEqual(place("(\r\nb", 1, 2), [[1, ""]]);
+  assert.deepEqual(markAt("let a = ;", 1, 9), [[8, ";"]]);
+  assert.deepEqual(markAt("a;\r\n😀 b\n", 2, 1), [[4, "😀"]]);
+  assert.deepEqual(markAt("a;\u2028b )", 2, 3), [[5, ")"]]);
+  assert.deepEqual(markAt("a;\n(", 2, 2), [[4, ""]]);
+  assert.deepEqual(markAt("(\r\nb", 1, 2), [[1, ""]]);
   assert.deepEqual(faultMarks("a", { fault: "Depth", message: "" }), []);
 });
 

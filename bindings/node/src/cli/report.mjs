@@ -1,6 +1,6 @@
 #!/usr/bin/env node
 /**
- * From files and folders to a page that shows what they depend on.
+ * Makes a page that shows the dependencies of files and folders.
  *
  *     node bindings/node/src/cli/report.mjs --entry src/main.ts src
  */
@@ -48,9 +48,9 @@ ${LINE_HELP}  -0, --null         paths from the standard input end with zero byt
 The graph is laid out in the browser by dagre, and the picture of sizes by d3-hierarchy, which are
 written into the page. Without one of them the page is made without what it draws, with status 1.
 
-Status 0; 1 where a file has no answer or there is no graph, with a line on the error output for
-each, and the page is made all the same, or where the page can't be written; 2 for words that
-aren't the usage.
+Status 0; 1 if a file can't be analyzed or there is no graph, with a line on the error output for
+each, and the page is made all the same, or if the page can't be written; 2 for words that aren't
+the usage.
 
 ${PROGRAM_HELP}`;
 
@@ -69,7 +69,7 @@ async function main({ values, positionals }) {
     throw new UsageFault(`an entry is to be a file, and ${printable(folder)} is a folder`);
   }
   checkOutputs(output, dot);
-  // The parser's threads take a quarter less memory so, and a sixth more time.
+  // Less memory for the parser's threads, at the cost of some time.
   setFlagsFromString("--optimize-for-size");
   const program = modinfoPath();
   await checkProgram(program);
@@ -84,7 +84,7 @@ async function main({ values, positionals }) {
   const found = await reachedOf(project.modules, links, edges, { entries, program });
   const libraries = readLibraries();
   await write(output, drawPage(project, { links, edges, ...found }, libraries));
-  return tellAbsent(libraries) ? 1 : status;
+  return reportAbsent(libraries) ? 1 : status;
 }
 
 /**
@@ -103,7 +103,7 @@ function drawPage({ folder, modules }, { links, ...found }, libraries) {
 /**
  * @param {string} output
  * @param {string | undefined} dot
- * @throws {UsageFault} the outputs are one file
+ * @throws {UsageFault} both outputs are the same file
  */
 function checkOutputs(output, dot) {
   if (dot !== undefined && placeOf(output) === placeOf(dot)) {
@@ -160,11 +160,11 @@ async function reachedOf(modules, links, edges, { entries: paths, program }) {
 }
 
 /**
- * Reports what isn't drawn for want of a library.
+ * Reports the libraries that are absent, and what isn't drawn without them.
  * @param {import("../report/libraries.mjs").Library[]} libraries
- * @returns {boolean} whether there is any
+ * @returns {boolean} whether a library is absent
  */
-function tellAbsent(libraries) {
+function reportAbsent(libraries) {
   const absent = libraries.filter(({ fault }) => fault !== undefined);
   for (const { draws, fault } of absent) {
     process.stderr.write(`${NAME}: no ${draws}: ${printableLines(String(fault))}\n`);

@@ -171,10 +171,10 @@ shown("why a module is there is the shortest way from an entry, with the lines",
   await openModule("src/main.ts");
   assert.match((await texts(".why")).join(), /It is an entry\./);
   await openModule("src/old_forecast.js");
-  assert.match((await texts(".why")).join(), /No way leads to it from an entry\./);
+  assert.match((await texts(".why")).join(), /No entry leads to it\./);
   await openModule("src/globals.d.ts");
   assert.deepEqual(await steps(), ["src/main.ts:1 type ./globals.d.ts"]);
-  assert.match((await texts(".why")).join(), /by types or in comments alone/);
+  assert.match((await texts(".why")).join(), /Only types or comments lead to it/);
 });
 
 /** A package that is installed with a version, one that isn't and has a range, and what else there is. */
