@@ -22,6 +22,8 @@ let open = {};
 /** Resolved when the open view is complete. */
 let whole = Promise.resolve();
 
+// The index is read. The list and the view are each made in a task of their own, so that none is long.
+await nextTask();
 const modules = new ModuleList({
   onFilter: (found) => fadeGraph(main, (matches = found)),
   onOpen: (module) => {
@@ -196,6 +198,5 @@ document.body.replaceChildren(element("aside", {}, home, modules.view, keys()), 
 main.addEventListener("drawn", () => fadeGraph(main, matches));
 addEventListener("hashchange", show);
 addEventListener("keydown", onKey);
-// What the address shows is made in a task of its own, after the list of modules is there.
 await nextTask();
 show();
