@@ -20,8 +20,8 @@ import { pageCost } from "./report_page.mjs";
 const PROGRAM = fileURLToPath(new URL("../bindings/node/src/cli/report.mjs", import.meta.url));
 
 const COLUMNS = [
-  "", "made in, s", "memory, MB", "page, MB", "opens in, s", "longest task then, ms",
-  "key in the filter, ms", "of that the script, ms", "longest task at the graph, ms",
+  "", "made in, s", "memory, MB", "page, MB", "opens in, s", "longest task, ms", "key, ms",
+  "its script, ms", "at the nodes, ms",
 ];
 
 const { values, positionals } = parseArgs({
