@@ -1,6 +1,6 @@
 #!/usr/bin/env node
 /**
- * Measures what reports cost: to make, and in a browser.
+ * Measures the cost of reports: to make, and in a browser.
  *
  *     node bench/report.mjs [--jobs N] [--program FILE] FOLDER ..
  *
@@ -15,14 +15,13 @@ import { basename, join, resolve } from "node:path";
 import { fileURLToPath, pathToFileURL } from "node:url";
 import { parseArgs } from "node:util";
 
-import { Browser } from "../bindings/node/tests/browser/browser.mjs";
 import { pageCost } from "./report_page.mjs";
 
 const PROGRAM = fileURLToPath(new URL("../bindings/node/src/cli/report.mjs", import.meta.url));
 
 const COLUMNS = [
-  "", "made in, s", "memory, MB", "page, MB", "opens in, s", "longest task then, ms",
-  "key in the filter, ms", "of that the script, ms", "longest task at the graph, ms",
+  "", "made in, s", "memory, MB", "page, MB", "opens in, s", "longest task, ms", "key, ms",
+  "its script, ms", "at the nodes, ms",
 ];
 
 const { values, positionals } = parseArgs({
@@ -30,15 +29,15 @@ const { values, positionals } = parseArgs({
   allowPositionals: true,
 });
 const temporary = mkdtempSync(join(tmpdir(), "bench-report-"));
-const browser = await Browser.start({ width: 1400, height: 760 });
 try {
   print(COLUMNS);
   print(COLUMNS.map(() => "---"));
   for (const path of positionals) {
     const [file, hash = ""] = path.split("#");
+    /** @type {{ page: string, seconds?: number, memory?: number }} */
     const made = file.endsWith(".html") ? { page: resolve(file) } : await make(file);
     const url = `${pathToFileURL(made.page).href}#${hash}`;
-    const { open, openTask, key, keyWork, hoverTask } = await pageCost(browser, url);
+    const { open, openTask, key, keyWork, hoverTask } = await pageCost(url);
     print([
       basename(path), made.seconds?.toFixed(1) ?? "", made.memory?.toFixed(0) ?? "",
       (statSync(made.page).size / 1e6).toFixed(2), (open / 1000).toFixed(2),
@@ -46,7 +45,6 @@ try {
     ]);
   }
 } finally {
-  await browser.close();
   rmSync(temporary, { recursive: true });
 }
 
@@ -65,7 +63,7 @@ async function make(folder) {
   const page = join(temporary, `${basename(folder)}.html`);
   const jobs = values.jobs ? ["--jobs", values.jobs] : [];
   const start = performance.now();
-  const words = [values.program, ...jobs, "-o", page, folder];
+  const words = [values.program ?? PROGRAM, ...jobs, "-o", page, folder];
   const child = spawn(process.execPath, words, { stdio: ["ignore", "ignore", "inherit"] });
   let memory = 0;
   const watch = setInterval(() => (memory = Math.max(memory, peakOf(child.pid))), 100);

@@ -19,23 +19,36 @@ const PROJECT = {
   "src/lonely.js": "",
 };
 
-/** Runs the command in a folder. */
+/**
+ * Runs the command in a folder.
+ * @param {string} folder
+ * @param {string[]} words
+ */
 function make(folder, words) {
   return run("report.mjs", words, { cwd: folder });
 }
 
-/** What is written into a page: its index, and of each module its path and what is compressed. */
+/**
+ * Returns the data of a page: its index, in which each module has its path and its compressed part.
+ * @param {string} file
+ * @returns {any}
+ */
 function dataOf(file) {
   const page = readFileSync(file, "utf8");
-  const [, json] = /<script type="application\/json" id="data">(.*?)<\/script>/s.exec(page);
+  const [, json = ""] = /<script type="application\/json" id="data">(.*?)<\/script>/s.exec(page) ?? [];
   const index = JSON.parse(json);
   const parts = [...page.matchAll(/<script type="text\/plain" id="part-\d+">(.*?)<\/script>/gs)];
   const details = parts.flatMap(([, text]) => JSON.parse(String(inflateSync(Buffer.from(text, "base64")))));
-  const modules = index.modules.map((name, at) => {
+  const modules = index.modules.map((/** @type {string} */ name, /** @type {number} */ at) => {
     const folder = index.folders[index.inFolder[at]];
     return { ...details[at], path: folder === "." ? name : `${folder}/${name}`, fault: index.faults[at] };
   });
   return { ...index, modules };
+}
+
+/** @param {{ path: string }[]} modules */
+function pathsIn(modules) {
+  return modules.map(({ path }) => path);
 }
 
 test("the page has the modules, their edges and the lists", () => {
@@ -44,8 +57,8 @@ test("the page has the modules, their edges and the lists", () => {
   assert.deepEqual(result, { stdout: "", stderr: "", status: 0 });
   const { title, modules, edges, edgeCount, entries, lists, bytes } = dataOf(join(folder, "report.html"));
   assert.deepEqual([title, edgeCount, entries, bytes], ["src", 1, [2], [20, 0, 51]]);
-  assert.deepEqual(modules.map(({ path }) => path), ["b.ts", "lonely.js", "main.ts"]);
-  assert.deepEqual(modules[2].rows.map(({ name, to }) => [name, to]), [
+  assert.deepEqual(pathsIn(modules), ["b.ts", "lonely.js", "main.ts"]);
+  assert.deepEqual(modules[2].rows.map((/** @type {any} */ row) => [row.name, row.to]), [
     ["./b.js", { module: 0 }], ["./none.js", { class: "missing" }], ["fs", { class: "builtin" }],
   ]);
   // The target, the kind, the row and the line.
@@ -60,7 +73,7 @@ test("without an entry it has what no module leads to", () => {
   });
   make(folder, ["src"]);
   const { modules, lists } = dataOf(join(folder, "report.html"));
-  assert.deepEqual(lists.unreached.map((at) => modules[at].path), ["e.ts", "lonely.js", "main.ts"]);
+  assert.deepEqual(pathsIn(lists.unreached.map((/** @type {number} */ at) => modules[at])), ["e.ts", "lonely.js", "main.ts"]);
 });
 
 test("no path from outside of the folder is in the page", () => {
@@ -145,12 +158,14 @@ test("other words are answered by the usage, and nothing is written", () => {
 
 test("no text ends an element of the page", () => {
   const evil = `</script><script>x</script><!--<script>]]>&lt;\u2028`;
-  const page = pageOf({ title: "<b>&\"", evil }, [{ evil }], readLibraries([folderOf()]));
+  /** @type {{ title: string, [member: string]: unknown }} */
+  const index = { title: "<b>&\"", evil };
+  const page = pageOf(index, [{ evil }], readLibraries([folderOf()]));
   assert.deepEqual(page.match(/<\/?(?:script|style|title|b)\b/g), [
     "<title", "</title", "<style", "</style",
     "<script", "</script", "<script", "</script", "<script", "</script",
   ]);
   assert.ok(page.includes("<title>Dependencies of &lt;b&gt;&amp;\"</title>"));
-  const [, json] = /id="data">(.*?)<\/script>/s.exec(page);
+  const [, json = ""] = /id="data">(.*?)<\/script>/s.exec(page) ?? [];
   assert.equal(JSON.parse(json).evil, evil);
 });

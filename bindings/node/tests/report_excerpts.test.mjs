@@ -5,9 +5,19 @@ import { test } from "node:test";
 
 import { excerptOf, withinBounds } from "../src/report/excerpts.mjs";
 
-/** A text of some lines, each its number, with marks on some of them. */
+/**
+ * @typedef {import("../src/report/marks.mjs").Mark} Mark
+ * @typedef {import("../src/report/excerpts.mjs").Text} Text
+ */
+
+/**
+ * Returns a text of some lines, each its number, with marks on some of them.
+ * @param {number} count
+ * @param {number[]} marked
+ */
 function numbered(count, marked) {
   const lines = Array.from({ length: count }, (_, at) => `${at}\n`);
+  /** @type {Mark[]} */
   const marks = marked.map((line) => {
     const from = lines.slice(0, line).join("").length;
     return { from, to: from + String(line).length, row: line, kind: "static" };
@@ -15,15 +25,20 @@ function numbered(count, marked) {
   return { source: lines.join(""), marks };
 }
 
-/** What the marks of an excerpt cover. */
-const covered = ({ source, marks }) => marks.map(({ from, to }) => source.slice(from, to));
+/**
+ * @param {Text} excerpt
+ * @returns {string[]} the texts that its marks cover
+ */
+function covered({ source = "", marks }) {
+  return marks.map(({ from, to }) => source.slice(from, to));
+}
 
 test("three lines are kept before a mark and after it", () => {
   const { source, marks } = numbered(100, [10, 15, 50, 99]);
   const excerpt = excerptOf(source, marks);
   const kept = [[7, 18], [47, 53], [96, 99]];
   const expected = kept.flatMap(([first, last]) => Array.from({ length: last + 1 - first }, (_, at) => first + at));
-  assert.deepEqual(excerpt.source.trim().split("\n").map(Number), expected);
+  assert.deepEqual(String(excerpt.source).trim().split("\n").map(Number), expected);
   assert.deepEqual(excerpt.pieces, [[0, 7], [12, 47], [19, 96]]);
   assert.deepEqual(covered(excerpt), ["10", "15", "50", "99"]);
 });
@@ -31,13 +46,15 @@ test("three lines are kept before a mark and after it", () => {
 test("a mark on several lines is kept whole, and so are those inside of it", () => {
   const { source } = numbered(40, []);
   const from = source.indexOf("\n20\n") + 1;
+  /** @type {Mark} */
   const outer = { from, to: source.indexOf("\n30\n") + 3, row: 0, kind: "dynamic" };
+  /** @type {Mark} */
   const inner = { from: source.indexOf("\n25\n") + 1, to: source.indexOf("\n25\n") + 3, row: 1, kind: "require" };
   const excerpt = excerptOf(source, [outer, inner]);
   assert.deepEqual(excerpt.pieces, [[0, 17]]);
   assert.equal(covered(excerpt)[0], source.slice(outer.from, outer.to));
   assert.equal(covered(excerpt)[1], "25");
-  assert.ok(excerpt.source.endsWith("\n33\n"));
+  assert.ok(excerpt.source?.endsWith("\n33\n"));
 });
 
 test("of a text without a mark its head is kept", () => {

@@ -13,11 +13,23 @@ import { gridOf, shelvesOf } from "../src/report/page/layout_grid.js";
 import { curveOf, pointOnCurve } from "../src/report/page/layout_curves.js";
 import { folderOf } from "./run_commands.mjs";
 
-/** Edges of one kind, each written as "from to". */
+/**
+ * @typedef {import("../src/report/links.mjs").Edge} Edge
+ * @typedef {import("../src/report/project.mjs").Module} Module
+ * @typedef {import("../src/report/rows.mjs").Row} Row
+ * @typedef {import("../src/report/rows.mjs").Resolution} Resolution
+ */
+
+/**
+ * Edges of one kind, each written as "from to".
+ * @param {string[]} texts
+ * @param {Edge["kind"]} kind
+ * @returns {Edge[]}
+ */
 function edges(texts, kind = "static") {
   return texts.map((text) => {
     const [from, to] = text.split(" ").map(Number);
-    return { from, to, kind };
+    return { from, to, kind, row: 0, line: 0 };
   });
 }
 
@@ -45,26 +57,43 @@ test("a cycle that types close isn't one of what runs", () => {
 });
 
 test("cycles of a long chain are found without recursion", () => {
-  const chain = Array.from({ length: 50_000 }, (_, at) => ({ from: at, to: (at + 1) % 50_000, kind: "static" }));
+  const chain = edges(Array.from({ length: 50_000 }, (_, at) => `${at} ${(at + 1) % 50_000}`));
   const [cycle, ...others] = cyclesOf(50_000, chain);
   assert.deepEqual([cycle.modules.length, cycle.path.length, others.length], [50_000, 50_000, 0]);
 });
 
-/** Some rows that a module has, each with its line. */
+/**
+ * @param {...any} rows
+ * @returns {Row[]} the rows of a module, each on a line of its own
+ */
 function rowsWith(...rows) {
-  return rows.map((row, line) => ({ kind: "static", range: [[line, 0], [line, 1]], ...row }));
+  return rows.map((row, line) => ({ kind: "static", word: "import", range: [[line, 0], [line, 1]], ...row }));
 }
 
-/** Two modules of a project, of which the first has these rows. */
+/**
+ * @param {string} folder
+ * @param {string} path
+ * @param {Row[]} rows
+ * @returns {Module}
+ */
+function moduleWith(folder, path, rows) {
+  return { path, file: `${folder}/${path}`, key: `file://${folder}/${path}`, source: "", rows, marks: [] };
+}
+
+/**
+ * Two modules of a project, of which the first has these rows.
+ * @param {any[]} rows
+ */
 function projectWith(rows, paths = ["a.ts", "b.ts"]) {
-  const modules = paths.map((path) => ({ file: `/project/${path}`, key: `file:///project/${path}`, rows: [] }));
+  const modules = paths.map((path) => moduleWith("/project", path, []));
   modules[0].rows = rowsWith(...rows);
   return { modules, links: new Links("/project", modules) };
 }
 
 test("rows lead to modules of the report, to other files, or to what is outside", () => {
   const { links } = projectWith([]);
-  const target = (name, resolved) => links.target({ kind: "static", name, resolved }, "/project/a.ts");
+  /** @type {(name: Row["name"], resolved: Resolution | undefined) => unknown} */
+  const target = (name, resolved) => links.target(rowsWith({ name, resolved })[0], "/project/a.ts");
   assert.deepEqual(target("./b.js", { class: "file", file: "file:///project/b.ts" }), { module: 1 });
   assert.deepEqual(target("../c.js", { class: "file", file: "file:///c.ts" }), { class: "file", file: "../c.ts" });
   assert.deepEqual(target("fs", { class: "builtin" }), { class: "builtin", file: undefined });
@@ -93,7 +122,7 @@ test("each row that leads to a module is an edge, with its line, and the types t
 test("what runs leads to the file that runs and to its types, a type to the types, and a declaration file runs nothing", () => {
   const resolved = { class: "file", file: "file:///project/b.js", types: "file:///project/b.d.ts" };
   const rows = [{ name: "./b.js", resolved }, { kind: "type", name: "./b.js", resolved }];
-  const ends = (paths) => {
+  const ends = (/** @type {string[]} */ paths) => {
     const { modules, links } = projectWith(rows, paths);
     return edgesOf(modules, links).map(({ to, kind, row }) => [row, paths[to], kind]);
   };
@@ -112,18 +141,18 @@ test("packages have the version that is installed, else the range of the nearest
     "src/m.js": "",
   });
   const installed = { class: "package", package: "a", file: `file://${folder}/node_modules/a/lib/x.js` };
-  const modules = [{ file: `${folder}/src/m.js`, key: `file://${folder}/src/m.js`, rows: rowsWith(
+  const modules = [moduleWith(folder, "src/m.js", rowsWith(
     { name: "a", resolved: installed }, { name: "b", resolved: { class: "package", package: "b" } },
     { name: "c/d", resolved: { class: "package", package: "c" } }, { name: "a/lib/x.js", resolved: installed },
     { name: "node:fs", resolved: { class: "builtin" } }, { name: "fs", resolved: { class: "builtin" } },
-  ) }];
+  ))];
   const { packages, builtins } = outsideOf(modules, new Links(folder, modules));
   assert.deepEqual(packages, [
-    { name: "a", version: "7.0.1", isAbsent: undefined, places: [0, 0, 0, 0, 3, 3] },
-    { name: "b", version: "^1.2.0", isAbsent: true, places: [0, 1, 1] },
-    { name: "c", version: undefined, isAbsent: true, places: [0, 2, 2] },
+    { name: "a", version: "7.0.1", isAbsent: undefined, users: [0, 0, 0, 0, 3, 3] },
+    { name: "b", version: "^1.2.0", isAbsent: true, users: [0, 1, 1] },
+    { name: "c", version: undefined, isAbsent: true, users: [0, 2, 2] },
   ]);
-  assert.deepEqual(builtins.map(({ name, places }) => [name, places]), [["fs", [0, 4, 4, 0, 5, 5]]]);
+  assert.deepEqual(builtins.map(({ name, users }) => [name, users]), [["fs", [0, 4, 4, 0, 5, 5]]]);
 });
 
 test("a cycle has the lines that make it, those that run rather than those of types", () => {
@@ -131,7 +160,7 @@ test("a cycle has the lines that make it, those that run rather than those of ty
   const { modules, links } = projectWith([{ kind: "type", name: "./b.js", resolved: b }, { name: "./b.js", resolved: b }]);
   modules[1].rows = rowsWith({ name: "./a.js", resolved: a });
   const { cycles } = listsOf(modules, links, edgesOf(modules, links), []);
-  assert.deepEqual(cycles.map(({ places }) => places), [[
+  assert.deepEqual(cycles.map(({ rows }) => rows), [[
     { module: 0, row: 1, line: 1, kind: "static", name: "./b.js" },
     { module: 1, row: 0, line: 0, kind: "static", name: "./a.js" },
   ]]);
@@ -156,11 +185,12 @@ test("Graphviz reads names of any kind", { skip: !hasDot && "dot isn't installed
   const names = [`a"b`, "c\\", "<b>d</b>", "&lt;", "\u0001\n", "größe 😀.ts", "m0 -> m1", "node"];
   const { stdout } = spawnSync("dot", ["-Tjson0"], { input: dotOf(names, edges(["0 1", "1 2", "2 0", "7 7"])) });
   const { objects, edges: drawn } = JSON.parse(String(stdout));
-  assert.deepEqual(objects.map(({ name }) => name).sort(), names.map((_, at) => `m${at}`));
+  assert.deepEqual(objects.map((/** @type {{ name: string }} */ { name }) => name).sort(), names.map((_, at) => `m${at}`));
   assert.equal(drawn.length, 4);
 });
 
 test("a grid is filled row by row, in as many columns as there is room for", () => {
+  /** @type {[number, number][]} */
   const sizes = [[30, 10], [50, 10], [20, 10], [40, 10], [10, 10]];
   assert.deepEqual(gridOf(sizes, { gap: 5, width: 100 }), {
     corners: [[0, 0], [35, 0], [0, 15], [35, 15], [0, 30]], width: 85, height: 40,
@@ -169,6 +199,7 @@ test("a grid is filled row by row, in as many columns as there is room for", () 
 });
 
 test("shelves hold rectangles that don't overlap, in about the shape of their room", () => {
+  /** @type {[number, number][]} */
   const sizes = Array.from({ length: 30 }, (_, at) => [20 + 7 * (at % 5), 10 + 11 * (at % 3)]);
   const { corners, width, height } = shelvesOf(sizes, { gap: 4, aspect: 2 });
   corners.forEach(([x, y], at) => {

@@ -6,22 +6,33 @@ import { test } from "node:test";
 import { faultMarks, marksOf } from "../src/report/marks.mjs";
 import { withControls } from "../src/report/page/controls.js";
 import { lineSegments } from "../src/report/page/segments.js";
-import { Places } from "../src/report/places.mjs";
+import { Offsets } from "../src/report/offsets.mjs";
 import { rowsOf } from "../src/report/rows.mjs";
 
-/** A static dependency with this range. */
+/** @typedef {import("../src/report/rows.mjs").Range} Range */
+
+/**
+ * A static dependency with this range.
+ * @param {string} specifier
+ * @param {Range} specifierRange
+ */
 function imported(specifier, specifierRange, more = {}) {
   return { type: "static", kind: "import", specifier, specifierRange, ...more };
 }
 
-/** What the marks of a module's information cover. */
+/**
+ * @param {string} text
+ * @param {object} info a `ModuleInfo`
+ * @returns {string[]} the texts that the marks of the module cover
+ */
 function marked(text, info) {
   return marksOf(text, rowsOf(info)).map(({ from, to }) => text.slice(from, to));
 }
 
 test("characters are code points, and only a line feed ends a line", () => {
   // The positions are counted by hand: each of 😀, tab, U+000D, U+2028 and U+FEFF is one character.
-  for (const [text, range, expected] of [
+  /** @type {[string, Range, string][]} */
+  const cases = [
     [`import "./a";`, [[0, 7], [0, 12]], `"./a"`],
     [`"😀"; import "./b😀";`, [[0, 12], [0, 18]], `"./b😀"`],
     [`\t\timport\t"./c";`, [[0, 9], [0, 14]], `"./c"`],
@@ -31,17 +42,21 @@ test("characters are code points, and only a line feed ends a line", () => {
     [`\ufeffimport "./g";`, [[0, 8], [0, 13]], `"./g"`],
     [`\n\nimport "./ö𝔸ß";`, [[2, 7], [2, 14]], `"./ö𝔸ß"`],
     [`require(\n  "./h" +\n  x)`, [[1, 2], [2, 3]], `"./h" +\n  x`],
-  ]) {
+  ];
+  for (const [text, range, expected] of cases) {
     assert.deepEqual(marked(text, { dependencies: [imported("", range)] }), [expected]);
   }
 });
 
-test("a place is found in any order, at a line's end and at the text's", () => {
-  const places = new Places("a😀b\nc\n");
+test("an offset is found in any order, at a line's end and at the text's", () => {
+  const offsets = new Offsets("a😀b\nc\n");
+  /** @type {[number, number][]} */
   const asked = [[0, 3], [0, 1], [1, 1], [0, 2], [2, 0], [0, 0], [1, 0]];
-  assert.deepEqual(asked.map((position) => places.offset(position)), [4, 1, 6, 3, 7, 0, 5]);
-  for (const none of [[0, 4], [1, 2], [2, 1], [3, 0]]) {
-    assert.throws(() => places.offset(none), RangeError);
+  assert.deepEqual(asked.map((position) => offsets.find(position)), [4, 1, 6, 3, 7, 0, 5]);
+  /** @type {[number, number][]} */
+  const absent = [[0, 4], [1, 2], [2, 1], [3, 0]];
+  for (const none of absent) {
+    assert.throws(() => offsets.find(none), RangeError);
   }
 });
 
@@ -81,6 +96,7 @@ test("each part of a ModuleInfo is marked, in the order of the source", () => {
 
 test("kinds are told apart by what ModuleInfo calls them", () => {
   const range = [[0, 0], [0, 0]];
+  /** @type {(type: string, names: (string | undefined)[]) => string[]} */
   const kinds = (type, names) => names.map((kind) => rowsOf({
     dependencies: [{ type, kind, specifierRange: range, argumentRange: range }],
   })[0].kind);
@@ -90,19 +106,24 @@ test("kinds are told apart by what ModuleInfo calls them", () => {
   assert.deepEqual(kinds("dynamic", [undefined, "importDefer", "require"]), ["dynamic", "dynamic", "require"]);
 });
 
-test("the place of a syntax error is the character there, or the end of its line", () => {
-  const place = (text, line, column) => {
-    return faultMarks(text, { line, column }).map(({ from, to }) => [from, text.slice(from, to)]);
+test("the position of a syntax error is the character there, or the end of its line", () => {
+  /** @type {(text: string, line: number, column: number) => [number, string][]} */
+  const markAt = (text, line, column) => {
+    return faultMarks(text, { fault: "Syntax", message: "", line, column }).map(({ from, to }) => [from, text.slice(from, to)]);
   };
-  assert.deepEqual(place("let a = ;", 1, 9), [[8, ";"]]);
-  assert.deepEqual(place("a;\r\n😀 b\n", 2, 1), [[4, "😀"]]);
-  assert.deepEqual(place("a;\u2028b )", 2, 3), [[5, ")"]]);
-  assert.deepEqual(place("a;\n(", 2, 2), [[4, ""]]);
-  assert.deepEqual(place("(\r\nb", 1, 2), [[1, ""]]);
+  assert.deepEqual(markAt("let a = ;", 1, 9), [[8, ";"]]);
+  assert.deepEqual(markAt("a;\r\n😀 b\n", 2, 1), [[4, "😀"]]);
+  assert.deepEqual(markAt("a;\u2028b )", 2, 3), [[5, ")"]]);
+  assert.deepEqual(markAt("a;\n(", 2, 2), [[4, ""]]);
+  assert.deepEqual(markAt("(\r\nb", 1, 2), [[1, ""]]);
   assert.deepEqual(faultMarks("a", { fault: "Depth", message: "" }), []);
 });
 
-/** The lines of a text, each as its pieces with the rows that mark them. */
+/**
+ * @param {string} text
+ * @param {import("../src/report/page/segments.js").Mark[]} marks
+ * @returns {[string, number[]][][]} the lines of the text, each as its pieces with the rows that mark them
+ */
 function lines(text, marks) {
   return [...lineSegments(text, marks)].map((segments) => {
     return segments.map((segment) => [text.slice(segment.from, segment.to), segment.marks.map((mark) => mark[2])]);

@@ -1,6 +1,6 @@
 #!/usr/bin/env node
 /**
- * From files and folders to a page that shows what they depend on.
+ * Makes a page that shows the dependencies of files and folders.
  *
  *     node bindings/node/src/cli/report.mjs --entry src/main.ts src
  */
@@ -72,7 +72,7 @@ async function main({ values, positionals }) {
     throw new UsageFault(`an entry must be a file, and ${printable(folder)} is a folder`);
   }
   checkOutputs(output, dot);
-  // The parser's threads take a quarter less memory so, and a sixth more time.
+  // Less memory for the parser's threads, at the cost of some time.
   setFlagsFromString("--optimize-for-size");
   const program = modinfoPath();
   await checkProgram(program);
@@ -106,7 +106,7 @@ function drawPage({ folder, modules }, { links, ...found }, libraries) {
 /**
  * @param {string} output
  * @param {string | undefined} dot
- * @throws {UsageFault} the outputs are one file
+ * @throws {UsageFault} both outputs are the same file
  */
 function checkOutputs(output, dot) {
   if (dot !== undefined && placeOf(output) === placeOf(dot)) {
@@ -163,9 +163,9 @@ async function reachedOf(modules, links, edges, { entries: paths, program }) {
 }
 
 /**
- * Reports what isn't drawn since a library is missing.
+ * Reports the libraries that are absent, and what isn't drawn without them.
  * @param {import("../report/libraries.mjs").Library[]} libraries
- * @returns {boolean} whether there is any
+ * @returns {boolean} whether a library is absent
  */
 function reportAbsent(libraries) {
   const absent = libraries.filter(({ fault }) => fault !== undefined);

@@ -1,6 +1,6 @@
 /**
- * What is written into the page: an index, which its script reads at once, and the modules' texts
- * and tables in parts, which it reads when a module is opened. Paths are from the folder alone.
+ * The data of the page: an index, which the page's script reads at once, and parts with the modules'
+ * texts and tables, which are read when a module is opened. Paths are from the report's folder.
  *
  * @typedef {import("./project.mjs").Module} Module
  * @typedef {import("./rows.mjs").Row} Row
@@ -12,7 +12,7 @@ import { withinBounds } from "./excerpts.mjs";
 import { KINDS } from "./kinds.mjs";
 import { countEdges } from "./links.mjs";
 
-/** About how many bytes of text are in a part. */
+/** The bytes of text in a part, about. */
 const PART = 400_000;
 
 /**
@@ -24,14 +24,14 @@ const PART = 400_000;
  * @param {import("./lists.mjs").Lists} found.lists
  * @param {import("./outside.mjs").Classes} found.outside
  * @param {number[]} starts the first module of each part
- * @returns {{ title: string, [member: string]: unknown }} the index, which JSON can hold
+ * @returns {{ title: string, [member: string]: unknown }} the index, which can be written as JSON
  */
 export function indexOf({ title, modules, edges, entries, lists, outside }, starts) {
   const folders = [...new Set(modules.map(({ path }) => posix.dirname(path)))].sort();
   const numbers = new Map(folders.map((folder, at) => [folder, at]));
   return {
     title,
-    kinds: KINDS.map(({ kind, title: name, says, dash }) => ({ kind, title: name, says, dash })),
+    kinds: KINDS.map(({ kind, title: name, syntax, dash }) => ({ kind, title: name, syntax, dash })),
     folders,
     modules: modules.map(({ path }) => posix.basename(path)),
     inFolder: modules.map(({ path }) => numbers.get(posix.dirname(path))),
@@ -44,7 +44,8 @@ export function indexOf({ title, modules, edges, entries, lists, outside }, star
 }
 
 /**
- * The edges from each module: the target, the kind's index, the row and its line, one after the other.
+ * Returns for each module the numbers of its edges: of each the target, the kind's index, the row and
+ * its line.
  * @param {number} count of the modules
  * @param {import("./links.mjs").Edge[]} edges
  * @returns {number[][]}
@@ -65,10 +66,10 @@ function faultsOf(modules) {
 }
 
 /**
- * The modules' texts and tables, in parts of about the same size.
+ * Yields the modules' texts and tables in parts of about the same size.
  * @param {Module[]} modules
  * @param {import("./links.mjs").Links} links
- * @returns {Generator<{ start: number, modules: object[] }>} with the first module of each part
+ * @returns {Generator<{ start: number, modules: object[] }>} `start` is the first module of the part
  */
 export function* partsOf(modules, links) {
   /** @type {{ start: number, modules: object[] }} */
@@ -99,7 +100,7 @@ export function* partsOf(modules, links) {
 function rowData(row, links, file) {
   const { kind, word, name, range, attributes, mode, sideEffect, types } = row;
   return {
-    kind, word, name, place: range, attributes, mode, sideEffect,
+    kind, word, name, range, attributes, mode, sideEffect,
     to: links.target(row, file),
     types: types?.text,
     typesTo: links.typesTarget(row, file),

@@ -2,7 +2,7 @@
 
 import { KINDS } from "./kinds.mjs";
 
-/** What Graphviz prints as it is, and no label may have. */
+/** Characters that Graphviz prints unchanged and that no label may have. */
 const CONTROLS = /[\0-\x1f\x7f]/g;
 
 const HEAD = `digraph modules {
@@ -16,7 +16,7 @@ const HEAD = `digraph modules {
 /**
  * @param {string[]} paths those of the modules
  * @param {import("./links.mjs").Edge[]} edges
- * @returns {string} with each edge of a kind between two modules once
+ * @returns {string} in which each edge of a kind between two modules is once
  */
 export function dotOf(paths, edges) {
   const styles = new Map(KINDS.map(({ kind, light, dot }) => [kind, `color="${light}", ${dot}`]));
@@ -28,7 +28,7 @@ export function dotOf(paths, edges) {
 }
 
 /**
- * A text as a label: Graphviz reads escapes that begin with a backslash, and entities of HTML.
+ * Quotes a text as a label, in which Graphviz reads backslashes and entities of HTML.
  * @param {string} text
  * @returns {string}
  */

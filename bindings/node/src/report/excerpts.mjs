@@ -1,28 +1,28 @@
 /**
- * Keeps a page small: of the longest texts it has the lines around their marks alone.
+ * Excerpts of the longest texts, which keep a page small: the lines around their marks.
  *
  * @typedef {import("./marks.mjs").Mark} Mark
  *
  * @typedef {object} Text
- * @property {string} [source] none where even the lines around its marks are too long
+ * @property {string} [source] none if even the lines around its marks are too long
  * @property {Mark[]} marks
  * @property {[number, number][]} [pieces] where lines are left out: for each piece the line of
  *   `source` at which it begins, and that line's number in the file, both from zero
- * @property {number} [lines] how many the file has, where some are left out
+ * @property {number} [lines] count of the file's lines, if some are left out
  */
 
 /** The most bytes of all texts of a page, in UTF-8, and of one of which lines are left out. */
 const MOST = 24_000_000;
 const MOST_OF_EXCERPT = 100_000;
 
-/** How many lines are kept before a mark and after it. */
+/** Count of the lines that are kept before a mark and after it. */
 const AROUND = 3;
 
 /**
  * @template {Text} Module
  * @param {Module[]} modules
  * @param {number} [most]
- * @returns {(Module & Text)[]} the same, some with less text
+ * @returns {(Module & Text)[]} the modules, some with an excerpt of their text
  */
 export function withinBounds(modules, most = MOST) {
   const sizes = modules.map(({ source = "" }) => Buffer.byteLength(source));
@@ -75,7 +75,7 @@ export function excerptOf(source, marks) {
 }
 
 /**
- * The lines around the marks, those that touch as one range.
+ * Returns the ranges of lines around the marks; ranges that touch are one.
  * @param {number[]} starts of the lines
  * @param {Mark[]} marks sorted
  * @returns {[number, number][]} first and last lines

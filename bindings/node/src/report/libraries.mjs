@@ -4,13 +4,13 @@ import { readFileSync } from "node:fs";
 import { createRequire } from "node:module";
 import { join } from "node:path";
 
-/** Where Debian's packages put modules; its own node looks there by itself, others don't. */
+/** The folder of Debian's packages. Debian's node looks for modules there, others don't. */
 const DEBIAN_MODULES = "/usr/share/nodejs";
 
 const require = createRequire(import.meta.url);
 
 /**
- * Each with the file that a browser can run, and what it draws.
+ * The libraries: of each the file that a browser can run, and what the library draws.
  * @type {{ name: string, file: string, debian: string, draws: string }[]}
  */
 const LIBRARIES = [
@@ -25,12 +25,12 @@ const LIBRARIES = [
  * @typedef {object} Library
  * @property {string} name
  * @property {string} [text] its script
- * @property {string} [fault] why there is none
+ * @property {string} [fault] why the script can't be read
  * @property {string} draws
  */
 
 /**
- * @param {string[]} [folders] where packages are looked for
+ * @param {string[]} [folders] in which packages are looked for
  * @returns {Library[]}
  */
 export function readLibraries(folders = foldersOfPackages()) {
@@ -41,7 +41,7 @@ export function readLibraries(folders = foldersOfPackages()) {
   });
 }
 
-/** @returns {string[]} as node looks for them from here, and Debian's */
+/** @returns {string[]} the folders in which node looks for packages from here, and Debian's */
 function foldersOfPackages() {
   return [...require.resolve.paths("dagre") ?? [], DEBIAN_MODULES];
 }

@@ -1,5 +1,5 @@
 /**
- * Where the rows of a report's modules lead to.
+ * Targets of the rows of a report's modules, and the edges of the graph.
  *
  * @typedef {import("../graph/graph.mjs").Resolution} Resolution
  * @typedef {import("./project.mjs").Module} Module
@@ -11,9 +11,9 @@
  * @property {string} [file] the path of another file, from the report's folder
  * @property {string} [package] a package's name
  * @property {boolean} [isAbsent] whether the package isn't installed
- * @property {string} [version] the package's, or the range that its user's package.json has
+ * @property {string} [version] of the package, else the range in its user's package.json
  *
- * @typedef {object} Edge a row that leads to a module
+ * @typedef {object} Edge a row whose target is a module
  * @property {number} from the index of a module
  * @property {number} to
  * @property {import("./kinds.mjs").Kind} kind
@@ -47,7 +47,7 @@ export class Links {
   /**
    * @param {Row} row
    * @param {string} user the path of its module
-   * @returns {Target | undefined} nothing where its name isn't known as a whole, or names no module
+   * @returns {Target | undefined} nothing if its name is unknown or partly known, or names no module
    */
   target(row, user) {
     return this.#targets(row, user).name;
@@ -56,14 +56,14 @@ export class Links {
   /**
    * @param {Row} row
    * @param {string} user the path of its module
-   * @returns {Target | undefined} that of the types which the comment before it names
+   * @returns {Target | undefined} the target of the types that the comment before it names
    */
   typesTarget(row, user) {
     return this.#targets(row, user).types;
   }
 
   /**
-   * The targets of a row, which are looked for once.
+   * Returns the targets of a row, which are resolved once.
    * @param {Row} row
    * @param {string} user
    */
@@ -82,7 +82,7 @@ export class Links {
 
   /**
    * @param {Resolution | undefined} resolved
-   * @param {{ user: string, runs: boolean }} use whether the file that runs is meant, and not its types
+   * @param {{ user: string, runs: boolean }} use `runs` if the target is the file that runs, not its types
    * @returns {Target | undefined}
    */
   #target(resolved, { user, runs }) {
@@ -113,8 +113,8 @@ export class Links {
 }
 
 /**
- * The edges of a report's graph. What runs leads to the file that runs, and by an edge of types to
- * the module that has its types, where that is another one.
+ * Returns the edges of a report's graph. A row that runs has an edge to the file that runs, and a
+ * second one, of types, if another module has its types.
  * @param {Module[]} modules
  * @param {Links} links
  * @returns {Edge[]} in the order of the modules and their rows
@@ -147,7 +147,7 @@ function edgesOfRow({ file }, row, links) {
 }
 
 /**
- * How many edges there are, where those of one kind between two modules count once.
+ * Counts the edges; those of one kind between two modules count once.
  * @param {Edge[]} edges
  * @returns {number}
  */

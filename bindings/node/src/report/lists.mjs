@@ -1,20 +1,20 @@
 /**
- * The lists of a report, which are what a person looks for first.
+ * The lists of a report: modules and dependencies to look at first.
  *
- * @typedef {object} Place a row of a module, by their indexes
+ * @typedef {object} Found a row of a module, by their indexes
  * @property {number} module
  * @property {number} row
  * @property {number} line from zero
  * @property {import("./kinds.mjs").Kind} kind
  * @property {import("./rows.mjs").Row["name"]} name
  *
- * @typedef {import("../graph/cycles.mjs").Cycle & { places: Place[] }} ShownCycle each place leads from a
- *   module of the path to the next one
+ * @typedef {import("../graph/cycles.mjs").Cycle & { rows: Found[] }} ShownCycle each row leads from a module
+ *   of the path to the next one
  *
  * @typedef {object} Lists modules are indexes
- * @property {Place[]} missing
- * @property {Place[]} unknown arguments of which nothing is known
- * @property {Place[]} partly arguments of which a part is known
+ * @property {Found[]} missing
+ * @property {Found[]} unknown arguments
+ * @property {Found[]} partly known arguments
  * @property {number[]} unreached
  * @property {ShownCycle[]} cycles
  * @property {number[]} faults
@@ -37,23 +37,23 @@ import { isRunKind } from "../graph/references.mjs";
  */
 export function listsOf(modules, links, edges, unreached) {
   const isMissing = (/** @type {Target | undefined} */ target) => target?.class === "missing";
-  /** @type {(has: (row: Row, file: string) => boolean) => Place[]} */
-  const places = (has) => modules.flatMap(({ rows, file }, module) => {
-    return rows.flatMap((each, row) => (has(each, file) ? [placeOf(modules, { module, row })] : []));
+  /** @type {(has: (row: Row, file: string) => boolean) => Found[]} */
+  const rowsThat = (has) => modules.flatMap(({ rows, file }, module) => {
+    return rows.flatMap((each, row) => (has(each, file) ? [foundRow(modules, { module, row })] : []));
   });
   const missing = [
-    ...places((row, file) => isMissing(links.target(row, file))),
-    ...places((row, file) => isMissing(links.typesTarget(row, file))).map((place) => {
-      return { ...place, name: modules[place.module].rows[place.row].types?.text ?? null };
+    ...rowsThat((row, file) => isMissing(links.target(row, file))),
+    ...rowsThat((row, file) => isMissing(links.typesTarget(row, file))).map((found) => {
+      return { ...found, name: modules[found.module].rows[found.row].types?.text ?? null };
     }),
   ];
   return {
     missing: missing.sort((one, other) => one.module - other.module || one.row - other.row),
-    unknown: places(({ name }) => name === null),
-    partly: places(({ name }) => Array.isArray(name)),
+    unknown: rowsThat(({ name }) => name === null),
+    partly: rowsThat(({ name }) => Array.isArray(name)),
     unreached,
     cycles: cyclesOf(modules.length, edges).map((cycle) => {
-      return { ...cycle, places: placesOn(cycle, edges).map((edge) => placeOf(modules, edge)) };
+      return { ...cycle, rows: rowsOn(cycle, edges).map((edge) => foundRow(modules, edge)) };
     }),
     faults: modules.flatMap(({ fault }, module) => (fault ? [module] : [])),
   };
@@ -62,20 +62,21 @@ export function listsOf(modules, links, edges, unreached) {
 /**
  * @param {Module[]} modules
  * @param {{ module: number, row: number }} at
- * @returns {Place}
+ * @returns {Found}
  */
-function placeOf(modules, { module, row }) {
+function foundRow(modules, { module, row }) {
   const { kind, name, range } = modules[module].rows[row];
   return { module, row, line: range[0][0], kind, name };
 }
 
 /**
- * The rows that make a cycle's path: of several between two modules one that runs, if there is any.
+ * Returns the rows that make a cycle's path. Of several rows between two modules, one that runs is
+ * preferred.
  * @param {import("../graph/cycles.mjs").Cycle} cycle
  * @param {Edge[]} edges
  * @returns {{ module: number, row: number }[]}
  */
-function placesOn({ path }, edges) {
+function rowsOn({ path }, edges) {
   const next = new Map(path.map((from, at) => [from, path[(at + 1) % path.length]]));
   /** @type {Map<number, Edge>} */
   const chosen = new Map();

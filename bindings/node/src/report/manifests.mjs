@@ -1,4 +1,4 @@
-/** The versions of packages, as their package.json has them. */
+/** The versions of packages, from their package.json. */
 
 import { dirname, join } from "node:path";
 
@@ -15,7 +15,7 @@ export class Manifests {
    * @param {string} name of a package
    * @param {{ file?: string, user: string }} found one of its files, where it is installed, and a
    *   file that names it
-   * @returns {string | undefined} its version; else the range that the user's package.json has
+   * @returns {string | undefined} its version, else the range in the user's package.json
    */
   version(name, { file, user }) {
     const installed = file && this.#of(dirname(file)).version;
@@ -28,9 +28,9 @@ export class Manifests {
   }
 
   /**
-   * The package.json that is nearest to a folder and has a name.
+   * Returns the nearest package.json of a folder that has a name.
    * @param {string} folder
-   * @returns {any} an empty object where there is none
+   * @returns {any} an empty object if there is none
    */
   #of(folder) {
     let manifest = this.#nearest.get(folder);
@@ -50,7 +50,7 @@ function read(path) {
     const value = JSON.parse(String(readRegularFile(path)));
     return typeof value === "object" ? value : undefined;
   } catch {
-    // It isn't there, or is no JSON: then nothing is known of it.
+    // The file is absent, or isn't JSON.
     return undefined;
   }
 }

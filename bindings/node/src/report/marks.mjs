@@ -6,16 +6,16 @@
  * @property {number} to
  * @property {number} row the row's index
  * @property {string} kind the row's; `pragma` for the types that a comment names, `fault` for the
- *   place of a syntax error, which has the row -1
+ *   position of a syntax error, which has the row -1
  */
 
-import { Places, faultRange } from "./places.mjs";
+import { Offsets, faultRange } from "./offsets.mjs";
 
 /**
  * @param {string} text
  * @param {import("./rows.mjs").Row[]} rows
- * @returns {Mark[]} sorted, those around others before them
- * @throws {RangeError} where the text isn't the one of which the rows are
+ * @returns {Mark[]} by where they begin, a mark before those inside of it
+ * @throws {RangeError} the rows are those of another text
  */
 export function marksOf(text, rows) {
   const ranges = rows.flatMap(({ kind, range, types }, row) => [
@@ -23,10 +23,10 @@ export function marksOf(text, rows) {
     ...(types ? [{ range: types.range, row, kind: "pragma" }] : []),
   ]);
   ranges.sort(({ range: [one] }, { range: [other] }) => one[0] - other[0] || one[1] - other[1]);
-  const starts = new Places(text);
-  const ends = new Places(text);
+  const starts = new Offsets(text);
+  const ends = new Offsets(text);
   const marks = ranges.map(({ range: [start, end], row, kind }) => {
-    return { from: starts.offset(start), to: ends.offset(end), row, kind };
+    return { from: starts.find(start), to: ends.find(end), row, kind };
   });
   return marks.sort((one, other) => one.from - other.from || other.to - one.to);
 }
@@ -34,7 +34,7 @@ export function marksOf(text, rows) {
 /**
  * @param {string} text
  * @param {import("../runtime/faults.mjs").Fault} fault
- * @returns {Mark[]} the place of a syntax error; none for other faults
+ * @returns {Mark[]} the position of a syntax error; none for other faults
  */
 export function faultMarks(text, fault) {
   const range = faultRange(text, fault);

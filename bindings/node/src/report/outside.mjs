@@ -1,12 +1,12 @@
 /**
- * What a report's modules name beside one another, by class.
+ * Names that lead to no module of the report, by class.
  *
  * @typedef {object} Outside
  * @property {string} name of a package, a builtin module or a file
  * @property {string} [version] of a package
  * @property {boolean} [isAbsent] whether a package isn't installed
- * @property {number[]} places the module, the row and the line (from zero) of each that names it,
- *   one after the other
+ * @property {number[]} users the module, the row and the line (from zero) of each dependency, one after
+ *   the other
  *
  * @typedef {object} Classes
  * @property {Outside[]} packages
@@ -34,9 +34,9 @@ export function outsideOf(modules, links) {
     packages: new Map(), builtins: new Map(), assets: new Map(), files: new Map(), urls: new Map(),
   };
   modules.forEach(({ rows, file }, module) => rows.forEach((each, row) => {
-    const place = [module, row, each.range[0][0]];
-    add(found, links.target(each, file), /** @type {string} */ (each.name), place);
-    add(found, links.typesTarget(each, file), each.types?.text ?? "", place);
+    const user = [module, row, each.range[0][0]];
+    add(found, links.target(each, file), /** @type {string} */ (each.name), user);
+    add(found, links.typesTarget(each, file), each.types?.text ?? "", user);
   }));
   const lists = Object.entries(found).map(([list, items]) => [list, [...items.values()].sort(byName)]);
   return Object.fromEntries(lists);
@@ -46,9 +46,9 @@ export function outsideOf(modules, links) {
  * @param {Record<keyof Classes, Map<string, Outside>>} found
  * @param {Target | undefined} target
  * @param {string} specifier
- * @param {number[]} place
+ * @param {number[]} user
  */
-function add(found, target, specifier, place) {
+function add(found, target, specifier, user) {
   const list = target?.class && CLASSES[target.class];
   if (!list) {
     return;
@@ -56,8 +56,8 @@ function add(found, target, specifier, place) {
   const name = target.package ?? target.file ?? specifier.replace(/^node:/, "");
   const key = `${name} ${target.version ?? ""} ${target.isAbsent}`;
   const { version, isAbsent } = target;
-  const item = found[list].get(key) ?? { name, version, isAbsent, places: [] };
-  item.places.push(...place);
+  const item = found[list].get(key) ?? { name, version, isAbsent, users: [] };
+  item.users.push(...user);
   found[list].set(key, item);
 }
 

@@ -6,7 +6,7 @@ import { deflateSync } from "node:zlib";
 
 import { KINDS } from "./kinds.mjs";
 
-/** The page's own modules, each after those that it imports. */
+/** The page's own modules; a module is after those that it imports. */
 const SCRIPTS = [
   "elements.js", "controls.js", "report.js", "folders.js", "details.js", "pieces.js", "reveal.js",
   "segments.js", "source_view.js", "table_view.js", "ways.js", "way_view.js", "module_view.js",
@@ -17,12 +17,12 @@ const SCRIPTS = [
   "sizes_view.js", "filter.js", "module_list.js", "main.js",
 ];
 
-/** What runs beside the page, in a worker. */
+/** The modules of the page's worker. */
 const LAYOUT_SCRIPTS = ["layout_grid.js", "layout_curves.js", "layout_boxes.js", "layout_worker.js"];
 
 /**
- * @param {{ title: string }} index what JSON can hold
- * @param {Iterable<object>} parts the same; each is compressed
+ * @param {{ title: string }} index can be written as JSON
+ * @param {Iterable<object>} parts can be written as JSON; each is compressed
  * @param {import("./libraries.mjs").Library[]} libraries
  * @returns {string} HTML
  */
@@ -56,7 +56,7 @@ ${[...parts].map((part, at) => partElement(part, at)).join("\n")}
 }
 
 /**
- * Modules of the page as one script.
+ * Joins modules to one script.
  * @param {string[]} names
  * @returns {string}
  */
@@ -69,7 +69,7 @@ function scriptOf(names) {
 }
 
 /**
- * The script of the worker. An element's text ends at `</script`, which no script needs.
+ * Returns the script of the worker, without `</script` and `<!--`, which would end its element.
  * @param {string} library
  */
 function layoutScript(library) {
@@ -90,7 +90,7 @@ function partElement(part, at) {
   return `<script type="text/plain" id="part-${at}">${bytes.toString("base64")}</script>`;
 }
 
-/** The kinds' colours, for light pages and for dark ones. */
+/** Returns the rules for the kinds' colours, on light pages and on dark ones. */
 function colours() {
   /** @type {(shade: "light" | "dark") => string} */
   const variables = (shade) => KINDS.map((kind) => `--${kind.kind}: ${kind[shade]};`).join(" ");
@@ -114,14 +114,14 @@ function hash(text) {
 
 /**
  * @param {string} text
- * @returns {string} as HTML has it between tags
+ * @returns {string} HTML
  */
 export function escapeText(text) {
   return text.replace(/&/g, "&amp;").replace(/</g, "&lt;").replace(/>/g, "&gt;");
 }
 
 /**
- * JSON that ends no script element and begins no comment in it.
+ * Returns JSON that neither ends a script element nor begins a comment in it.
  * @param {unknown} value
  * @returns {string}
  */

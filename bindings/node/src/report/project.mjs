@@ -3,12 +3,12 @@
  *
  * @typedef {object} Module
  * @property {string} file the path of its file, absolute
- * @property {string} path the same from the report's folder
+ * @property {string} path its path from the report's folder
  * @property {string} key the canonical URL of its file
- * @property {string} [source] none where it can't be read
+ * @property {string} [source] its text; none if the file can't be read
  * @property {import("./rows.mjs").Row[]} rows
  * @property {import("./marks.mjs").Mark[]} marks
- * @property {import("../runtime/faults.mjs").Fault} [fault] where it has no answer
+ * @property {import("../runtime/faults.mjs").Fault} [fault] why it wasn't analyzed
  *
  * @typedef {import("../runtime/file_worker.mjs").FileResult & { path: string }} FileResult
  */
@@ -23,7 +23,7 @@ import { decode } from "../files/document_of_file.mjs";
 import { faultMarks, marksOf } from "./marks.mjs";
 import { rowsOf } from "./rows.mjs";
 
-/** Takes the modules as they are read, each file once. */
+/** Collects modules in the order in which they are read, each file once. */
 export class Project {
   /** @type {Module[]} */
   #modules = [];
@@ -34,7 +34,7 @@ export class Project {
     this.#maxBytes = maxBytes;
   }
 
-  /** @param {FileResult} result with the line that `--resolve` gives */
+  /** @param {FileResult} result with its resolutions */
   add({ path, line, fault }) {
     const file = absolute(path);
     const module = { file, path: "", key: canonicalUrl(file), rows: [], marks: [] };
@@ -44,7 +44,7 @@ export class Project {
 
   /**
    * @param {string[]} paths those of the words
-   * @returns {{ folder: string, modules: Module[] }} the folder is the deepest that has all of them
+   * @returns {{ folder: string, modules: Module[] }} the folder is the deepest one around all modules
    */
   finish(paths) {
     const modules = this.#modules;
@@ -86,7 +86,7 @@ function changed(error) {
 
 /**
  * @param {string[]} folders absolute
- * @returns {string} the deepest folder that they are in; the current one where there are none
+ * @returns {string} the deepest folder around them; the current one if there are none
  */
 export function commonFolder(folders) {
   const [first = process.cwd(), ...others] = folders;

@@ -1,21 +1,21 @@
 /**
- * What a module names, and where: the rows of its table.
+ * The rows of a module's table: its dependencies and their ranges.
  *
- * @typedef {[number, number]} Position line and character, as a `ModuleInfo` has them
+ * @typedef {[number, number]} Position line and character, both from zero
  * @typedef {[Position, Position]} Range
  *
  * @typedef {object} Row
  * @property {import("./kinds.mjs").Kind} kind
- * @property {string} word what a `ModuleInfo` calls it, as `importType` or `jsxImportSource`
- * @property {string | { type: string, value?: string }[] | null} name the specifier; of an argument
- *   what is known of it, null where that is nothing
+ * @property {string} word the kind's name in a `ModuleInfo`, as `importType` or `jsxImportSource`
+ * @property {string | { type: string, value?: string }[] | null} name the specifier, or the
+ *   known parts of an argument; null if it is unknown
  * @property {Range} range
  * @property {"unknown" | { known: Record<string, string | null> }} [attributes]
  * @property {string} [mode] a resolution mode that a comment names
  * @property {boolean} [sideEffect]
- * @property {{ text: string, range: Range, resolved?: Resolution }} [types] what the comment before
- *   it names
- * @property {Resolution} [resolved] none where it names no module
+ * @property {{ text: string, range: Range, resolved?: Resolution }} [types] the module of its types,
+ *   which the comment before it names
+ * @property {Resolution} [resolved] none if it names no module
  *
  * @typedef {import("../graph/graph.mjs").Resolution} Resolution
  */
@@ -56,7 +56,7 @@ function dependencyRow(dependency) {
 }
 
 /**
- * Whether a dependency names a module: what `declare module` names may be declared there alone.
+ * Whether a dependency names a module: `declare module` may declare a module that is nowhere else.
  * @param {any} dependency
  */
 function isReference({ kind, resolved }) {

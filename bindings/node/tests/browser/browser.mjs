@@ -11,6 +11,8 @@ import { join } from "node:path";
 import { createInterface } from "node:readline";
 import { setTimeout as wait } from "node:timers/promises";
 
+/** @typedef {{ x: number, y: number }} Point of the window, in pixels */
+
 /** The name under which an element is handed over. */
 const ELEMENT = "element-6066-11e4-a52e-4f735466cecf";
 
@@ -37,22 +39,33 @@ export function missingPrograms() {
 }
 
 export class Browser {
+  /** @type {import("node:child_process").ChildProcess} */
   #driver;
+  /** The folder of Chromium's files. @type {string} */
   #profile;
-  #session;
+  /** The address of the session; empty before it begins. */
+  #session = "";
 
   /**
-   * @param {object} [options]
-   * @param {number} [options.width] of the window
-   * @param {number} [options.height]
+   * @param {import("node:child_process").ChildProcess} driver
+   * @param {string} profile
+   */
+  constructor(driver, profile) {
+    this.#driver = driver;
+    this.#profile = profile;
+  }
+
+  /**
+   * @param {{ width?: number, height?: number, trace?: string }} options the size of the window, and
+   *   the categories of a trace, which goes to the performance log
    * @returns {Promise<Browser>}
    */
-  static async start({ width = 1360, height = 900 } = {}) {
-    const browser = new Browser();
-    browser.#profile = mkdtempSync(join(tmpdir(), "report-browser-"));
-    browser.#driver = spawn("chromedriver", ["--port=0"], { stdio: ["ignore", "pipe", "ignore"] });
+  static async start({ width = 1360, height = 900, trace } = {}) {
+    const profile = mkdtempSync(join(tmpdir(), "report-browser-"));
+    const driver = spawn("chromedriver", ["--port=0"], { stdio: ["ignore", "pipe", "ignore"] });
+    const browser = new Browser(driver, profile);
     try {
-      browser.#session = await browser.#begin(width, height);
+      browser.#session = await browser.#begin(width, height, trace);
     } catch (error) {
       await browser.close();
       throw error;
@@ -63,20 +76,22 @@ export class Browser {
   /**
    * @param {number} width
    * @param {number} height
+   * @param {string | undefined} trace
    * @returns {Promise<string>} the address of the session
    */
-  async #begin(width, height) {
+  async #begin(width, height, trace) {
     const address = await addressOf(this.#driver);
     // In a container there is often no sandbox to be had, and little shared memory.
     const args = [
       "--headless=new", "--no-sandbox", "--disable-dev-shm-usage", "--disable-gpu", "--hide-scrollbars",
       `--window-size=${width},${height}`, `--user-data-dir=${this.#profile}`,
     ];
+    const perfLoggingPrefs = { enableNetwork: true, traceCategories: trace };
     const { sessionId } = await request(`${address}/session`, "POST", {
       capabilities: {
         alwaysMatch: {
           browserName: "chrome",
-          "goog:chromeOptions": { args, perfLoggingPrefs: { enableNetwork: true } },
+          "goog:chromeOptions": { args, perfLoggingPrefs },
           "goog:loggingPrefs": { browser: "ALL", performance: "ALL" },
         },
       },
@@ -130,10 +145,11 @@ export class Browser {
 
   /**
    * Presses the mouse's button at a point, moves it, and lets it go.
-   * @param {{ x: number, y: number }} from
-   * @param {{ x: number, y: number }} to
+   * @param {Point} from
+   * @param {Point} to
    */
   async drag(from, to) {
+    /** @type {(type: string, point: Point, buttons: number) => Promise<void>} */
     const mouse = (type, { x, y }, buttons) => {
       return this.command("Input.dispatchMouseEvent", { type, x, y, button: "left", buttons, clickCount: 1 });
     };
@@ -146,7 +162,7 @@ export class Browser {
 
   /**
    * Turns the wheel at a point.
-   * @param {{ x: number, y: number }} point
+   * @param {Point} point
    * @param {number} deltaY above 0 as for scrolling down
    */
   wheel({ x, y }, deltaY) {
@@ -155,10 +171,11 @@ export class Browser {
 
   /**
    * Moves two fingers, each from a point to another one.
-   * @param {{ x: number, y: number }[]} from
-   * @param {{ x: number, y: number }[]} to
+   * @param {Point[]} from
+   * @param {Point[]} to
    */
   async pinch(from, to) {
+    /** @type {(type: string, points: Point[]) => Promise<void>} */
     const touch = (type, points) => {
       return this.command("Input.dispatchTouchEvent", { type, touchPoints: points.map((point, id) => ({ ...point, id })) });
     };
@@ -173,7 +190,7 @@ export class Browser {
     return Buffer.from(data, "base64");
   }
 
-  /** @param {"browser" | "performance"} type @returns {Promise<any[]>} what was logged since the last call */
+  /** @param {"browser" | "performance"} type @returns {Promise<{ message: string }[]>} what was logged since the last call */
   log(type) {
     return this.#post("se/log", { type });
   }
@@ -201,6 +218,10 @@ export class Browser {
     rmSync(this.#profile, { recursive: true, force: true, maxRetries: 5, retryDelay: 200 });
   }
 
+  /**
+   * @param {string} path of a command
+   * @param {object} body
+   */
   #post(path, body) {
     return request(`${this.#session}/${path}`, "POST", body);
   }
@@ -211,10 +232,11 @@ export class Browser {
  * @returns {Promise<string>} where it listens
  */
 async function addressOf(driver) {
-  for await (const line of createInterface({ input: driver.stdout })) {
+  const output = /** @type {import("node:stream").Readable} */ (driver.stdout);
+  for await (const line of createInterface({ input: output })) {
     const [, port] = /successfully on port (\d+)/.exec(line) ?? [];
     if (port) {
-      driver.stdout.resume();
+      output.resume();
       return `http://127.0.0.1:${port}`;
     }
   }

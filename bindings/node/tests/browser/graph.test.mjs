@@ -4,7 +4,10 @@ import assert from "node:assert/strict";
 
 import { folderOf } from "../run_commands.mjs";
 import { KEYS } from "./browser.mjs";
-import { browser, exampleReport, go, hasProgram, listed, open, place, report, shown, texts, untilModule } from "./session.mjs";
+import {
+  browser, exampleReport, go, hasProgram, listed, open, place, report, shown, texts, untilModule,
+  untilMoved,
+} from "./session.mjs";
 
 const example = exampleReport();
 
@@ -27,8 +30,13 @@ const isWhole = () => browser.run(`
   });
 `);
 
-/** Files of folders, each of which has modules in a chain; each leads to the first module of the next folder. */
+/**
+ * Files of folders, each of which has modules in a chain; each leads to the first module of the next folder.
+ * @param {number} folders
+ * @param {number} modules
+ */
 function chained(folders, modules) {
+  /** @type {Record<string, string>} */
   const files = {};
   for (let folder = 0; folder < folders; folder++) {
     for (let at = 0; at < modules; at++) {
@@ -67,7 +75,7 @@ shown("the graph has each module of a small project, with a box around those of 
 
 shown("edges are told apart by kind, and those between two folders are one with a count", async () => {
   await open(example);
-  const edges = await texts(".edges title");
+  const edges = await texts(".edge title");
   for (const edge of [
     "src/main.ts → src/settings.ts: static", "src/main.ts → src/page.tsx: dynamic",
     "src/main.ts → src/report.ts: type", "src/main.ts → src/globals.d.ts: type",
@@ -79,6 +87,7 @@ shown("edges are told apart by kind, and those between two folders are one with 
   }
   assert.equal(edges.length, new Set(edges).size);
   const kinds = ["static", "dynamic", "type", "require"];
+  /** @type {[string, string][]} */
   const styles = await browser.run(`
     return arguments[0].map((kind) => {
       const { stroke, strokeDasharray } = getComputedStyle(document.querySelector(".edges .edge." + kind));
@@ -93,7 +102,7 @@ shown("edges are told apart by kind, and those between two folders are one with 
 
 shown("edges of many modules of two folders are one edge with a count", async () => {
   await open(report(folderOf(chained(2, 3))));
-  assert.deepEqual((await texts(".edges title")).filter((title) => title.startsWith("f0/: ")), [
+  assert.deepEqual((await texts(".edge title")).filter((title) => title.startsWith("f0/: ")), [
     "f0/: 3 modules → f1/: 3 modules: static (3)",
   ]);
   assert.deepEqual(await texts(".edge-count"), ["3"]);
@@ -132,7 +141,7 @@ shown("a folder opens on a click, with what is around it, and its path leads bac
   await browser.until(`return document.querySelectorAll(".node[data-module]").length === 8`);
   const labels = await texts(".node text");
   assert.ok(labels.includes("f2/8") && labels.includes("f4/8") && labels.includes("m7.js"), labels.join());
-  assert.deepEqual((await texts(".edges title")).filter((title) => title.startsWith("f2/")), [
+  assert.deepEqual((await texts(".edge title")).filter((title) => title.startsWith("f2/")), [
     "f2/: 8 modules → f3/: 8 modules: static (8)",
   ]);
   await browser.click(".crumbs a");
@@ -142,6 +151,7 @@ shown("a folder opens on a click, with what is around it, and its path leads bac
 shown("modules without edges are in a grid below the others, by name", async () => {
   const alone = Object.fromEntries([..."hgfedcba"].map((name) => [`${name}.js`, ""]));
   await open(report(folderOf({ ...alone, "x.js": `import "./y.js";`, "y.js": "" })));
+  /** @type {{ name: string, left: number, top: number }[]} */
   const places = await browser.run(`
     return [...document.querySelectorAll(".node")].map((node) => {
       const { left, top } = node.getBoundingClientRect();
@@ -181,16 +191,15 @@ shown("the wheel makes the drawing larger around the pointer, and two fingers do
   await open(example);
   const before = await place();
   const point = await middle();
-  const box = await browser.run(`const { left, top } = document.querySelector(".drawing").getBoundingClientRect(); return { left, top }`);
   await browser.wheel(point, -300);
-  await browser.until(`return !document.querySelector(".scene").getAttribute("transform").includes(arguments[0])`, `scale(${before.scale})`);
+  await untilMoved(before);
   const after = await place();
   assert.ok(after.scale > before.scale);
-  const under = ({ x, scale }) => (point.x - box.left - x) / scale;
+  const under = (/** @type {{ x: number, scale: number }} */ { x, scale }) => (point.x - x) / scale;
   assert.ok(Math.abs(under(after) - under(before)) < 1);
-  const beside = (by) => [{ x: point.x - by, y: point.y }, { x: point.x + by, y: point.y }];
+  const beside = (/** @type {number} */ by) => [{ x: point.x - by, y: point.y }, { x: point.x + by, y: point.y }];
   await browser.pinch(beside(100), beside(50));
-  await browser.until(`return document.querySelector(".scene").getAttribute("transform") !== arguments[0]`, `translate(${after.x} ${after.y}) scale(${after.scale})`);
+  await untilMoved(after);
   assert.ok(Math.abs((await place()).scale - after.scale / 2) < 0.1 * after.scale);
 });
 
@@ -231,24 +240,27 @@ shown("a node that has the focus shows each edge of its modules, and the others 
   assert.ok(Number(faded) < 0.5);
 });
 
+/** @type {() => Promise<[string, boolean][]>} the folders of the graph: their texts, and whether each is faded */
+const folders = () => browser.run(`
+  return [...document.querySelectorAll(".node:not([data-module]), .frame")].map((each) => {
+    return [each.querySelector("text").textContent, Number(getComputedStyle(each).opacity) < 0.5];
+  });
+`);
+
 shown("the filter filters the list, fades the graph, and counts in its folders", async () => {
-  await open(report(folderOf({ ...chained(12, 8), "z/only.js": "" })));
+  await open(report(folderOf({ ...chained(12, 30), "z/only.js": "" })));
   await browser.type("/");
-  await browser.type("f3 M1");
-  await browser.until(`return document.querySelector(".shown").textContent === "1 of 97 modules"`);
-  assert.deepEqual(await listed(), ["f3/m1.js"]);
-  assert.deepEqual(await texts(".rows .heading"), ["f3/1 of 8"]);
-  const folders = await browser.run(`
-    return [...document.querySelectorAll("[data-folder]")].map((each) => {
-      return [each.querySelector(".number").textContent, each.classList.contains("left-out")];
-    });
-  `);
-  assert.ok(folders.length > 5);
-  assert.deepEqual(folders.filter(([, isFaded]) => !isFaded), [["1 of 8", false]]);
-  assert.ok(folders.some(([text, isFaded]) => text === "0 of 8" && isFaded));
+  await browser.type("f3 M11");
+  await browser.until(`return document.querySelector(".shown").textContent === "1 of 361 modules"`);
+  assert.deepEqual(await listed(), ["f3/m11.js"]);
+  const found = await folders();
+  assert.ok(found.length > 5);
+  assert.deepEqual(found.filter(([, isFaded]) => !isFaded), [["f3/1 of 30", false]]);
+  assert.ok(found.some(([text]) => text === "f4/0 of 30"));
+  assert.deepEqual(await texts(".rows .heading"), ["f3/1 of 30"]);
   await browser.type(KEYS.escape);
-  await browser.until(`return document.querySelector(".shown").textContent === "97 modules"`);
-  assert.equal(await browser.run(`return document.querySelectorAll(".left-out").length`), 0);
+  await browser.until(`return document.querySelector(".shown").textContent === "361 modules"`);
+  assert.deepEqual((await folders()).filter(([, isFaded]) => isFaded), []);
 });
 
 shown("a cycle is shown in the graph, its edges marked, with the lines that make it", async () => {
@@ -296,8 +308,15 @@ const FLAT = Object.fromEntries(Array.from({ length: 200 }, (_, at) => {
 }));
 
 shown("a folder of 200 modules is shown as layers of what one module leads to, to a depth", async () => {
-  await open(report(folderOf(FLAT)));
-  const shownEdges = await browser.run(`return document.querySelectorAll(".edges .edge").length`);
+  const page = report(folderOf(FLAT));
+  const size = { width: 1400, height: 760, deviceScaleFactor: 1, mobile: false };
+  await browser.command("Emulation.setDeviceMetricsOverride", size);
+  await open(page);
+  const bottom = await browser.run(`return document.querySelector(".drawing").getBoundingClientRect().bottom`);
+  assert.ok(bottom <= size.height, `the drawing ends at ${bottom}`);
+  await browser.command("Emulation.clearDeviceMetricsOverride");
+  await open(page);
+  const shownEdges = await browser.run(`return document.querySelectorAll("path[data-from]").length`);
   assert.ok(shownEdges > 10 && shownEdges < 100, String(shownEdges));
   const lefts = async () => {
     const found = await browser.run(`

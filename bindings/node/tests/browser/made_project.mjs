@@ -15,10 +15,16 @@ import { folderOf } from "../run_commands.mjs";
 
 const WORDS = ["core", "view", "model", "route", "store", "parse", "format", "client", "server", "util", "test", "theme"];
 
-/** Numbers below a bound that look like chance and are the same each time: Lehmer's generator. */
+/** @type {import("../../src/report/kinds.mjs").Kind[]} */
+const KINDS = ["static", "static", "type", "dynamic"];
+
+/**
+ * Returns numbers below a bound that look like chance and are the same each time: Lehmer's generator.
+ * @param {number} seed
+ */
 function chance(seed) {
   let state = seed;
-  return (bound) => {
+  return (/** @type {number} */ bound) => {
     state = (state * 48_271) % 2_147_483_647;
     return state % bound;
   };
@@ -40,6 +46,16 @@ function pathsOf(count) {
 }
 
 /**
+ * @param {import("../../src/report/kinds.mjs").Kind} kind
+ * @param {string} name
+ * @param {{ resolved: import("../../src/report/rows.mjs").Resolution, line: number }} found
+ * @returns {import("../../src/report/rows.mjs").Row}
+ */
+function rowOf(kind, name, { resolved, line }) {
+  return { kind, word: "import", name, resolved, range: [[line, 7], [line, 9 + name.length]] };
+}
+
+/**
  * @param {string[]} paths
  * @returns {import("../../src/report/project.mjs").Module[]} each imports modules near to it and a
  *   few others, as a project's do
@@ -50,14 +66,12 @@ function modulesOf(paths) {
   return paths.map((path, at) => {
     const near = at % 11 === 5 ? [] : [at + 1 + random(6), at + 1 + random(12), random(at + 1)];
     const found = [...new Set(near)].filter((to) => to < paths.length && to !== at && random(3) > 0);
+    /** @type {{ text: string, resolved: import("../../src/report/rows.mjs").Resolution }[]} */
     const names = found.map((to) => ({ text: `/${paths[to]}`, resolved: { class: "file", file: urls[to] } }));
     if (random(5) === 0) {
       names.push({ text: `package-${random(900)}`, resolved: { class: "package", package: `package-${random(900)}` } });
     }
-    const rows = names.map(({ text, resolved }, line) => ({
-      kind: ["static", "static", "type", "dynamic"][random(4)], word: "import", name: text, resolved,
-      range: [[line, 7], [line, 9 + text.length]],
-    }));
+    const rows = names.map(({ text, resolved }, line) => rowOf(KINDS[random(4)], text, { resolved, line }));
     const source = `${names.map(({ text }) => `import "${text}";\n`).join("")}${"call();\n".repeat(random(400))}`;
     return { file: `/project/${path}`, path, key: urls[at], source, rows, marks: marksOf(source, rows) };
   });

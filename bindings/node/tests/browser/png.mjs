@@ -92,6 +92,11 @@ function unfiltered(rows, width, height) {
   return pixels;
 }
 
+/**
+ * @param {number} left
+ * @param {number} up
+ * @param {number} corner
+ */
 function paeth(left, up, corner) {
   const [toLeft, toUp, toCorner] = [left, up, corner].map((each) => Math.abs(left + up - corner - each));
   if (toLeft <= toUp && toLeft <= toCorner) {
@@ -102,11 +107,13 @@ function paeth(left, up, corner) {
 
 /** @param {Buffer} pixels */
 function reduced(pixels) {
+  /** @type {Map<number, number>} */
   const counts = new Map();
   for (let at = 0; at < pixels.length; at += PIXEL) {
     const colour = pixels.readUIntBE(at, PIXEL);
     counts.set(colour, (counts.get(colour) ?? 0) + 1);
   }
+  /** @type {number[]} */
   const colours = [];
   for (const [colour] of [...counts].sort(([, one], [, other]) => other - one)) {
     const isNew = colours.every((other) => distance(colour, other) >= NEAR);
@@ -116,7 +123,7 @@ function reduced(pixels) {
   }
   const indexOf = new Map([...counts.keys()].map((colour) => [colour, nearest(colour, colours)]));
   const indexes = Buffer.alloc(pixels.length / PIXEL);
-  indexes.forEach((_, at) => (indexes[at] = indexOf.get(pixels.readUIntBE(at * PIXEL, PIXEL))));
+  indexes.forEach((_, at) => (indexes[at] = indexOf.get(pixels.readUIntBE(at * PIXEL, PIXEL)) ?? 0));
   const palette = Buffer.alloc(colours.length * PIXEL);
   colours.forEach((colour, at) => palette.writeUIntBE(colour, at * PIXEL, PIXEL));
   return { palette, indexes };

@@ -67,6 +67,7 @@ shown("each module has its text, and its specifiers are marked in it", async () 
 shown("a table says what each place names", async () => {
   await open(example);
   await openModule("src/main.ts");
+  /** @type {string[][]} */
   const rows = await browser.run(`
     return [...document.querySelectorAll("table tbody tr")].map((row) => [...row.cells].map((cell) => cell.innerText));
   `);
@@ -96,7 +97,7 @@ shown("the lists have what they have to", async () => {
     "src/globals.d.ts named by 1 place", "src/legacy/archive_types.d.ts named by 1 place",
     "src/messages/de.js", "src/messages/en.js", "src/old_forecast.js",
     // It has types alone, which run nothing.
-    `src/report.ts named by ${hasProgram ? 8 : 5} places`,
+    `src/report.ts named by ${hasProgram ? 8 : 6} places`,
   ]);
   assert.deepEqual(await items("cycles"), ["src/forecast.ts → src/station.ts → src/forecast.ts show in the graph"]);
   assert.deepEqual(await items("faults"), []);
@@ -133,7 +134,7 @@ shown("everything is reached by keyboard", async () => {
   assert.equal(await focused(), "src/format/numbers.js");
   await browser.type(KEYS.enter);
   await untilModule("src/format/numbers.js");
-  const chosen = (name) => browser.until(`return document.querySelector("tr.chosen .name")?.textContent === arguments[0]`, name);
+  const chosen = (/** @type {string} */ name) => browser.until(`return document.querySelector("tr.chosen .name")?.textContent === arguments[0]`, name);
   await browser.type(hasProgram ? "nn" : "n");
   await chosen("./units.js");
   await browser.type("o");
@@ -170,10 +171,10 @@ shown("why a module is there is the shortest way from an entry, with the lines",
   await openModule("src/main.ts");
   assert.match((await texts(".why")).join(), /It is an entry\./);
   await openModule("src/old_forecast.js");
-  assert.match((await texts(".why")).join(), /No way leads to it from an entry\./);
+  assert.match((await texts(".why")).join(), /No entry leads to it\./);
   await openModule("src/globals.d.ts");
   assert.deepEqual(await steps(), ["src/main.ts:1 type ./globals.d.ts"]);
-  assert.match((await texts(".why")).join(), /by types or in comments alone/);
+  assert.match((await texts(".why")).join(), /Only types or comments lead to it/);
 });
 
 /** A package that is installed with a version, one that isn't and has a range, and what else there is. */
@@ -189,7 +190,7 @@ const OUTSIDE = {
 shown("what isn't of the report is listed by class, and only what is missing is red", async () => {
   const folder = folderOf(OUTSIDE);
   await open(report(join(folder, "src")));
-  const flat = async (list) => (await items(list)).map((text) => text.replace(/\s+/g, " "));
+  const flat = async (/** @type {string} */ list) => (await items(list)).map((text) => text.replace(/\s+/g, " "));
   assert.deepEqual(await flat("packages"), ["absent ^2.1.0, not installed 1 place", "here 3.4.5 2 places"]);
   assert.deepEqual(await flat("builtins"), ["fs 2 places"]);
   assert.deepEqual(await flat("missing"), ["./none.js static a.js:5"]);
@@ -297,7 +298,7 @@ const LEAST_CONTRAST = 5.3;
 /** The page's colours of texts. */
 const COLOURS = ["text", "quiet", "warn", "static", "dynamic", "type", "require", "jsdoc", "pragma"];
 
-/** The contrast of each of some colours with the one below it. */
+/** The script of `contrastsOf`. */
 const CONTRASTS = `
   const style = getComputedStyle(document.documentElement);
   const canvas = document.createElement("canvas").getContext("2d", { willReadFrequently: true });
@@ -315,13 +316,22 @@ const CONTRASTS = `
   });
 `;
 
+/**
+ * @param {string[]} colours
+ * @param {string} ground
+ * @returns {Promise<number[]>} the contrast of each colour with the ground
+ */
+function contrastsOf(colours, ground) {
+  return browser.run(CONTRASTS, colours, ground);
+}
+
 shown("it is readable in light and dark", async () => {
   const pages = new Set();
   for (const value of ["light", "dark"]) {
     await browser.command("Emulation.setEmulatedMedia", { features: [{ name: "prefers-color-scheme", value }] });
     await open(example);
     pages.add(await browser.run("return getComputedStyle(document.documentElement).backgroundColor"));
-    const contrasts = await browser.run(CONTRASTS, COLOURS.map((name) => `--${name}`), "--page");
+    const contrasts = await contrastsOf(COLOURS.map((name) => `--${name}`), "--page");
     contrasts.forEach((contrast, at) => assert.ok(contrast >= LEAST_CONTRAST, `${COLOURS[at]}, ${value}: ${contrast}`));
   }
   assert.equal(pages.size, 2);
@@ -336,7 +346,7 @@ shown("the graph is readable in colours of a person's own, light and dark", asyn
     const colours = await browser.run(`
       return [...document.querySelectorAll(".node text, .frame text, .edge-count text, .area")].map((each) => getComputedStyle(each).fill);
     `);
-    const contrasts = await browser.run(CONTRASTS, [...new Set(colours)], "Canvas");
+    const contrasts = await contrastsOf([...new Set(colours)], "Canvas");
     contrasts.forEach((contrast) => assert.ok(contrast >= LEAST_CONTRAST, `${value}: ${contrast}`));
   }
   await browser.command("Emulation.setEmulatedMedia", { features: [] });
@@ -346,6 +356,7 @@ shown("labels of the graph and of the picture of sizes are readable on what is b
   for (const value of ["light", "dark"]) {
     await browser.command("Emulation.setEmulatedMedia", { features: [{ name: "prefers-color-scheme", value }] });
     await open(example);
+    /** @type {[string, string][]} */
     const pairs = await browser.run(`
       const style = (element, name) => getComputedStyle(element)[name];
       return [...document.querySelectorAll(".node, .edge-count")].map((each) => {
@@ -359,7 +370,7 @@ shown("labels of the graph and of the picture of sizes are readable on what is b
     `));
     for (const pair of new Set(pairs.map((each) => each.join(" on ")))) {
       const [text, ground] = pair.split(" on ");
-      const [contrast] = await browser.run(CONTRASTS, [text], ground);
+      const [contrast] = await contrastsOf([text], ground);
       assert.ok(contrast >= LEAST_CONTRAST, `${value}, ${pair}: ${contrast}`);
     }
   }
@@ -371,7 +382,7 @@ shown("on paper it is dark on white, without what is clicked, and nothing is cut
   await openModule("src/main.ts");
   const features = [{ name: "prefers-color-scheme", value: "dark" }];
   await browser.command("Emulation.setEmulatedMedia", { media: "print", features });
-  const contrasts = await browser.run(CONTRASTS, COLOURS.map((name) => `--${name}`), "#fff");
+  const contrasts = await contrastsOf(COLOURS.map((name) => `--${name}`), "#fff");
   contrasts.forEach((contrast, at) => assert.ok(contrast >= LEAST_CONTRAST, `${COLOURS[at]}: ${contrast}`));
   const { aside, overflow, whole } = await browser.run(`
     const pre = document.querySelector("pre");
@@ -409,7 +420,7 @@ test("scripts other than its own don't run, and markup of a text is refused", { 
   assert.deepEqual(ran, ["TypeError", "TypeError", "TypeError", "TypeError"]);
   await browser.until("return document.images.length === 1");
   assert.equal(await browser.run("return window.other ?? null"), null);
-  const refused = (await browser.log("browser")).map(({ message }) => message);
-  assert.ok(refused.some((message) => /Content Security Policy|TrustedHTML|Trusted/.test(message)));
+  const refused = await browser.log("browser");
+  assert.ok(refused.some(({ message }) => /Content Security Policy|TrustedHTML|Trusted/.test(message)));
   await browser.log("performance");
 });

@@ -18,7 +18,7 @@ const ROOT = fileURLToPath(new URL("../../../../", import.meta.url));
 const WIDTH = 1240;
 
 /** What of the page is taken: its address after the file, and how high. */
-const VIEWS = [["", 750], ["#module-7-5", 640]];
+const VIEWS = /** @type {const} */ ([["", 750], ["#module-7-5", 640]]);
 
 /** Puts the pictures below one another, with a line between them. */
 const JOIN = `

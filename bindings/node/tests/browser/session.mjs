@@ -17,12 +17,17 @@ export const skip = missingPrograms();
 /** JSDoc imports are read by the program itself alone. */
 export const hasProgram = existsSync(MODINFO);
 
-/** @type {Browser} */
+/**
+ * The browser of all tests, which are skipped where there is none.
+ * @type {Browser}
+ */
 export let browser;
-before(async () => {
-  browser = skip ? undefined : await Browser.start();
-});
-after(() => browser?.close());
+if (!skip) {
+  before(async () => {
+    browser = await Browser.start();
+  });
+  after(() => browser?.close());
+}
 
 /**
  * @param {string} folder
@@ -67,6 +72,7 @@ export function shown(name, act) {
 
 /** The addresses that were asked for. */
 async function requests() {
+  /** @type {{ method: string, params: any }[]} */
   const events = (await browser.log("performance")).map(({ message }) => JSON.parse(message).message);
   return events
     .filter(({ method }) => method === "Network.requestWillBeSent")
@@ -122,6 +128,7 @@ export function untilModule(path) {
  * @returns {Promise<string[]>} the items of a list, each as its text
  */
 export async function items(list) {
+  /** @type {string[]} */
   const found = await browser.run(
     `return [...document.querySelectorAll("#list-" + arguments[0] + " li")].map((each) => each.innerText)`, list,
   );
@@ -130,14 +137,30 @@ export async function items(list) {
 
 /** @returns {Promise<string[]>} the modules that the list shows */
 export function listed() {
-  return browser.run(`return [...document.querySelectorAll(".rows a")].map((each) => each.title)`);
+  return browser.run(`
+    return [...document.querySelectorAll("nav a[title]")]
+      .filter((each) => each.getClientRects().length > 0).map((each) => each.title);
+  `);
 }
 
-/** @returns {Promise<{ x: number, y: number, scale: number }>} where a drawing is in its box, and how large */
+/**
+ * The scale of a drawing, and the point of the window at which the drawing's origin is.
+ * @returns {Promise<{ x: number, y: number, scale: number }>}
+ */
 export function place() {
   return browser.run(`
-    const [, x, y, scale] = /translate\\((\\S+) (\\S+)\\) scale\\((\\S+)\\)/
-      .exec(document.querySelector(".scene").getAttribute("transform")).map(Number);
-    return { x, y, scale };
+    const { a, e, f } = document.querySelector(".node rect").getScreenCTM();
+    return { x: e, y: f, scale: a };
   `);
+}
+
+/**
+ * Waits until a drawing has another scale or is at another point.
+ * @param {{ x: number, y: number, scale: number }} before
+ */
+export function untilMoved({ x, y, scale }) {
+  return browser.until(`
+    const { a, e, f } = document.querySelector(".node rect").getScreenCTM();
+    return String([e, f, a]) !== arguments[0];
+  `, String([x, y, scale]));
 }

@@ -1,12 +1,12 @@
-/** Characters that aren't seen, or that change how others are seen, have their name shown. */
+/** Names of characters that are invisible, or that change how others are shown. */
 
 const REST = "\\x0b-\\x1f\\x7f-\\x9f\\xad\\u061c\\u180e\\u200b\\u200e\\u200f" +
   "\\u2028-\\u202e\\u2060-\\u206f\\ufeff\\ufff9-\\ufffb";
 
-/** In a text, whose tabs and line feeds are seen. */
+/** Such characters in a text, where tabs and line feeds are visible. */
 const IN_TEXT = new RegExp(`[\\0-\\x08${REST}]`, "u");
 
-/** In a name. */
+/** Such characters in a name. */
 const IN_NAME = new RegExp(`[\\0-\\x0a${REST}]`, "u");
 
 const NAMES = new Map([
@@ -17,7 +17,7 @@ const NAMES = new Map([
 
 /**
  * @param {string} text
- * @returns {{ text: string, name?: string }[]} its parts; with a name those of one such character
+ * @returns {{ text: string, name?: string }[]} its parts; a part with a name is one such character
  */
 export function withControls(text) {
   return partsWith(text, IN_TEXT);
@@ -25,14 +25,18 @@ export function withControls(text) {
 
 /**
  * @param {string} name of a file or a folder
- * @returns {{ text: string, name?: string }[]} the same of a name, where a tab and a line feed are
- *   such characters too
+ * @returns {{ text: string, name?: string }[]} like `withControls`, but tabs and line feeds have names
  */
 export function nameParts(name) {
   return partsWith(name, IN_NAME);
 }
 
+/**
+ * @param {string} text
+ * @param {RegExp} controls
+ */
 function partsWith(text, controls) {
+  /** @type {{ text: string, name?: string }[]} */
   const parts = [];
   let rest = text;
   for (let at = rest.search(controls); at >= 0; at = rest.search(controls)) {
@@ -45,6 +49,7 @@ function partsWith(text, controls) {
   return rest === "" ? parts : [...parts, { text: rest }];
 }
 
+/** @param {string} character */
 function codeOf(character) {
   return `U+${character.charCodeAt(0).toString(16).toUpperCase().padStart(4, "0")}`;
 }

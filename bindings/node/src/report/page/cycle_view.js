@@ -9,7 +9,7 @@ import { graphFrame, roomIn, showFault, showPlan } from "./graph_view.js";
 import { counted, kindLabel, moduleLink, nameLabel } from "./pieces.js";
 import { paths, report } from "./report.js";
 
-/** The most modules of a cycle that are drawn; of more those of its shortest way are. */
+/** The most modules of a cycle that are drawn; of a larger cycle, the modules of its shortest path. */
 const MOST_DRAWN = 40;
 
 /**
@@ -18,19 +18,19 @@ const MOST_DRAWN = 40;
  */
 export function cycleView(number) {
   const cycle = report.lists.cycles[number];
-  const { modules, path, isRun, places } = cycle;
+  const { modules, path, isRun, rows } = cycle;
   const frame = graphFrame([`Cycle of ${counted(modules.length, "module")}`]);
-  const kinds = isRun ? "" : " Types or comments close it: nothing of it runs in a circle.";
-  const says = `The marked edges are a shortest way around.${kinds}`;
-  frame.bar.after(element("p", { class: "says" }, says));
-  const steps = element("ol", { class: "steps" }, ...places.map(placeStep));
-  frame.view.append(element("h3", {}, "The lines that make it"), steps);
+  const kinds = isRun ? "" : " Types or comments close it: its code doesn't run in a circle.";
+  const note = `The marked edges are a shortest path around it.${kinds}`;
+  frame.bar.after(element("p", { class: "hint" }, note));
+  const steps = element("ol", { class: "steps" }, ...rows.map(rowStep));
+  frame.view.append(element("h3", {}, "Its lines"), steps);
   const drawn = modules.length > MOST_DRAWN ? path.slice(0, MOST_DRAWN) : modules;
   requestAnimationFrame(() => drawCycle(frame, drawn, path).catch((error) => showFault(frame, error)));
   return frame.view;
 }
 
-function placeStep({ module, row, line, kind, name }) {
+function rowStep({ module, row, line, kind, name }) {
   return element(
     "li", {},
     moduleLink(module, row), element("span", { class: "place" }, `:${line + 1}`), " ",
@@ -48,14 +48,14 @@ async function drawCycle(frame, modules, path) {
   const placed = layout.edges.map((edge) => ({ ...edge, ...byEnds.get(`${edge.from} ${edge.to}`) }));
   const nodes = modules.map((module) => {
     const id = `m${module}`;
-    return { id, module, place: layout.boxes[id], look: looks.get(id) };
+    return { id, module, rectangle: layout.boxes[id], look: looks.get(id) };
   });
   const leaves = [];
   modules.forEach((module) => (leaves[module] = { id: `m${module}`, type: "module", module }));
   showPlan(frame, { ...layout, nodes, frames: [], edges: placed }, { leaves });
 }
 
-/** The edges between modules, those marked that the path has. */
+/** Returns the edges between modules; the edges of the path are marked. */
 function edgesAmong(modules, path) {
   const inside = new Set(modules);
   const steps = new Set(path.map((module, at) => `m${module} m${path[(at + 1) % path.length]}`));

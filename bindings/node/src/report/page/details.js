@@ -1,17 +1,17 @@
-/** The modules' texts and tables, which are compressed in the page, in parts of several modules. */
+/** Reads the modules' texts and tables, which are compressed in the page in parts of several modules. */
 
 import { report } from "./report.js";
 
-/** How many parts are kept. */
+/** The most parts that are kept. */
 const KEPT = 8;
 
-/** By their numbers, the last one that was used at the end. @type {Map<number, Promise<any[]>>} */
+/** The parts that are kept, by their numbers, the last used at the end. @type {Map<number, Promise<any[]>>} */
 const parts = new Map();
 
 /**
  * @param {number} module
- * @returns {Promise<any>} its `source`, `rows`, `marks`, and where lines are left out its `pieces`
- *   and `lines`
+ * @returns {Promise<any>} its `source`, `rows`, `marks`, and if lines are left out its `pieces` and
+ *   `lines`
  */
 export async function detailsOf(module) {
   const number = partOf(module);
@@ -24,7 +24,7 @@ export async function detailsOf(module) {
   return (await part)[module - report.starts[number]];
 }
 
-/** The number of the part that has a module: the last one that begins with it or before it. */
+/** Returns the number of a module's part: the last one that begins with the module or before it. */
 function partOf(module) {
   let [low, high] = [0, report.starts.length - 1];
   while (low < high) {

@@ -1,10 +1,10 @@
-/** Makes elements. What is a text stays a text, whatever it has in it. */
+/** Makes elements. A text is never read as markup. */
 
 const SVG = "http://www.w3.org/2000/svg";
 
 /**
  * @param {string} name
- * @param {Record<string, any>} [attributes] those that are undefined or false are left out
+ * @param {Record<string, any>} [attributes] undefined and false ones are left out
  * @param {...(Node | string | undefined)} children
  * @returns {HTMLElement}
  */
@@ -30,4 +30,9 @@ function furnished(made, attributes, children) {
   }
   made.append(...children.filter((child) => child !== undefined));
   return made;
+}
+
+/** Returns a promise for the next task, before which the browser can draw and handle keys. */
+export function nextTask() {
+  return new Promise((resolve) => setTimeout(resolve));
 }

@@ -1,11 +1,12 @@
 /**
- * Which modules a filter leaves in.
+ * The modules that match the filter.
  *
- * @typedef {object} Hits
+ * @typedef {object} Matches
  * @property {boolean} isAll whether nothing is filtered
- * @property {Uint8Array} isShown for each module 1 where it is left in
- * @property {number} count how many are
- * @property {number[]} inFolder for each folder how many modules below it are
+ * @property {Uint8Array} isShown for each module 1 if it matches
+ * @property {number} count of the modules that match
+ * @property {number[]} inFolder for each folder, the count of those directly in it
+ * @property {number[]} below for each folder, the count of those in it and in its folders
  */
 
 import { folderOf, folders } from "./folders.js";
@@ -15,9 +16,9 @@ const texts = paths.map((path) => path.toLowerCase());
 
 /**
  * @param {string} text words, each of which the path has to have
- * @returns {Hits}
+ * @returns {Matches}
  */
-export function hitsOf(text) {
+export function matchesOf(text) {
   const words = text.toLowerCase().split(/\s+/u).filter((word) => word !== "");
   const isShown = new Uint8Array(texts.length);
   const inFolder = new Array(folders.length).fill(0);
@@ -29,27 +30,37 @@ export function hitsOf(text) {
       count++;
     }
   });
+  const below = [...inFolder];
   // Each folder is after its parent.
   for (let at = folders.length - 1; at > 0; at--) {
-    inFolder[folders[at].parent.index] += inFolder[at];
+    below[folders[at].parent.index] += below[at];
   }
-  return { isAll: words.length === 0, isShown, count, inFolder };
+  return { isAll: words.length === 0, isShown, count, inFolder, below };
 }
 
 /**
- * Fades in a graph what has no hit, and counts the hits of folders.
+ * Fades in a graph each node without a match, and counts the matches in folders.
  * @param {HTMLElement} view
- * @param {Hits} hits
+ * @param {Matches} matches
  */
-export function fadeGraph(view, { isAll, isShown, inFolder }) {
+export function fadeGraph(view, matches) {
   for (const node of view.querySelectorAll(".node, .frame")) {
-    const { module, folder } = node.dataset;
-    const count = module === undefined ? inFolder[folder] : isShown[module];
+    const count = countIn(node.dataset, matches);
     node.classList.toggle("left-out", count === 0);
-    const number = folder === undefined ? undefined : node.querySelector(".number");
+    const number = node.querySelector(".number");
     if (number) {
       const { all } = number.dataset;
-      number.textContent = isAll ? all : `${count.toLocaleString("en")} of ${all}`;
+      number.textContent = matches.isAll ? all : `${count.toLocaleString("en")} of ${all}`;
     }
   }
+}
+
+/** The count of matches that a node of a graph stands for; undefined where it stands for no module. */
+function countIn({ module, inside, folders: all }, { isShown, inFolder, below }) {
+  if (module !== undefined) {
+    return isShown[module];
+  }
+  return inside === undefined
+    ? all?.split(" ").reduce((sum, folder) => sum + below[folder], 0)
+    : inFolder[inside];
 }

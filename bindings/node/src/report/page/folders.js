@@ -1,16 +1,16 @@
 /**
- * The folders of the report as a tree. A folder that has one folder and nothing else is left out:
- * that one takes its place.
+ * The folders of the report as a tree. A folder that has one folder and nothing else is replaced by
+ * that folder.
  *
  * @typedef {object} Folder
  * @property {number} index in `folders`
- * @property {string} path from the report's folder, without a slash at its end; empty for that one
+ * @property {string} path from the report's folder, without a slash at its end; empty for the report's folder
  * @property {string} name its path from its parent's
  * @property {Folder} [parent]
- * @property {Folder[]} folders those inside, by name
- * @property {number[]} modules those directly inside, by name
- * @property {number} count how many modules are below it
- * @property {number} bytes how many bytes their files have
+ * @property {Folder[]} folders inside, by name
+ * @property {number[]} modules directly inside, by name
+ * @property {number} count of the modules below it
+ * @property {number} bytes of their files
  */
 
 import { report } from "./report.js";
@@ -21,7 +21,7 @@ export const folders = [];
 /** For each module its folder. @type {Folder[]} */
 export const folderOf = [];
 
-/** The folder of a path, which is made with those above it if it isn't there yet. */
+/** Returns the folder of a path; makes it, and the folders above it, if it isn't there yet. */
 function folderAt(byPath, path) {
   let folder = byPath.get(path);
   if (folder === undefined) {
@@ -39,7 +39,7 @@ function compareNames(one, other) {
   return one < other ? -1 : Number(one > other);
 }
 
-/** Leaves out what has one folder alone, counts, and sorts. */
+/** Replaces folders that have one folder alone, counts, and sorts. */
 function finish(folder, parent) {
   let kept = folder;
   while (kept.folders.length === 1 && kept.modules.length === 0) {
@@ -73,7 +73,7 @@ export const root = readFolders();
 
 /**
  * @param {Folder} folder
- * @returns {Folder[]} those above it, the root first, and itself
+ * @returns {Folder[]} the folders above it, the root first, and the folder itself
  */
 export function chainOf(folder) {
   const chain = [];

@@ -10,10 +10,11 @@
  *
  * @typedef {object} PlannedNode
  * @property {string} id
- * @property {[number, number, number, number]} place the upper left corner, the width and the height
+ * @property {[number, number, number, number]} rectangle the upper left corner, the width and the height
  * @property {import("./graph_nodes.js").Look} look
  * @property {number} [module]
- * @property {import("./folders.js").Folder} [folder]
+ * @property {number} [inside] the folder whose own modules the node stands for
+ * @property {number[]} [folders] those whose modules the node stands for
  *
  * @typedef {object} PlannedEdge
  * @property {string} from
@@ -34,11 +35,11 @@ import { kindNamed, report } from "./report.js";
  * @returns {{ drawing: SVGElement, scene: SVGElement }} the scene is the group that is moved
  */
 export function draw({ nodes, frames, edges }) {
-  const says = new Map([...nodes, ...frames].map(({ id, look }) => [id, look.says]));
+  const names = new Map([...nodes, ...frames].map(({ id, look }) => [id, look.description]));
   const scene = drawn(
     "g", { class: "scene" },
     drawn("g", {}, ...frames.map(frameView)),
-    drawn("g", { class: "edges" }, ...edges.map((edge) => edgeView(edge, says))),
+    drawn("g", { class: "edges" }, ...edges.map((edge) => edgeView(edge, names))),
     drawn("g", { class: "nodes" }, ...nodes.map(nodeView)),
     drawn("g", { class: "counts" }, ...edges.filter(({ label }) => label).map(countView)),
     drawn("g", { class: "near-edges" }),
@@ -55,12 +56,12 @@ export function draw({ nodes, frames, edges }) {
 function arrow(kind) {
   const tip = drawn("path", { d: "M0 0L8 3.5L0 7Z", class: `tip ${kind}` });
   const size = { markerWidth: 8, markerHeight: 7, markerUnits: "userSpaceOnUse" };
-  const place = { refX: 7.5, refY: 3.5, orient: "auto" };
-  return drawn("marker", { id: `arrow-${kind}`, ...size, ...place }, tip);
+  const attach = { refX: 7.5, refY: 3.5, orient: "auto" };
+  return drawn("marker", { id: `arrow-${kind}`, ...size, ...attach }, tip);
 }
 
-function edgeView({ from, to, path, kinds, isMarked }, says) {
-  const title = `${says.get(from)} → ${says.get(to)}: ${kindsText(kinds)}`;
+function edgeView({ from, to, path, kinds, isMarked }, names) {
+  const title = `${names.get(from)} → ${names.get(to)}: ${kindsText(kinds)}`;
   const attributes = { "data-from": from, "data-to": to, class: isMarked ? "marked" : undefined };
   return edgeLine(path, kinds, attributes, drawn("title", {}, title));
 }
@@ -97,32 +98,32 @@ function countView({ from, to, label: [x, y], count, kinds }) {
   );
 }
 
-function frameView({ id, place: [x, y, width, height], look, folder }) {
+function frameView({ id, rectangle: [x, y, width, height], look, folders }) {
   return drawn(
-    "g", { class: "frame", "data-id": id, "data-folder": folder?.index },
+    "g", { class: "frame", "data-id": id, "data-folders": folders?.join(" ") },
     drawn("rect", { x, y, width, height, rx: 6 }),
     drawn(
-      "a", { href: look.href, "aria-label": look.says, class: "frame-title" },
-      drawn("title", {}, look.says),
+      "a", { href: look.href, "aria-label": look.description, class: "frame-title" },
+      drawn("title", {}, look.description),
       labelText(look, { x: x + 10, y: y + 17 }),
     ),
   );
 }
 
-function nodeView({ id, place: [x, y, width, height], look, module, folder }) {
+function nodeView({ id, rectangle: [x, y, width, height], look, module, inside, folders }) {
   return drawn(
     "a",
     {
       href: look.href, class: `node ${look.classes}`.trim(), "data-id": id, "data-module": module,
-      "data-folder": folder?.index, tabindex: "-1", "aria-label": look.says,
+      "data-inside": inside, "data-folders": folders?.join(" "), tabindex: "-1", "aria-label": look.description,
     },
-    drawn("title", {}, look.says),
+    drawn("title", {}, look.description),
     drawn("rect", { x, y, width, height, rx: look.classes.includes("folder-node") ? 2 : 7 }),
     labelText(look, { x: x + width / 2, y: y + height / 2 + 4 }),
   );
 }
 
-function labelText({ label, count }, place) {
+function labelText({ label, count }, position) {
   const number = count && drawn("tspan", { class: "number", dx: 6, "data-all": count }, count);
-  return drawn("text", place, label, number);
+  return drawn("text", position, label, number);
 }

@@ -1,12 +1,12 @@
 /**
- * The edges between what is drawn: one, with a count, from one item to another that is in the same
- * box, for all edges between modules of the first and of the second.
+ * The edges between items. From one item to another in the same box there is one edge, with the count of
+ * all edges between their modules.
  *
  * @typedef {object} DrawnEdge
  * @property {string} from the id of an item
  * @property {string} to
  * @property {import("./graph_kinds.js").KindCounts} kinds
- * @property {number} count how many edges it is
+ * @property {number} count of the edges between modules
  *
  * @typedef {import("./graph_tree.js").Item} Item
  */
@@ -16,9 +16,9 @@ import { countKind } from "./graph_kinds.js";
 import { eachEdge, report } from "./report.js";
 
 /**
- * For each module the innermost item that shows it.
+ * Returns for each module the innermost item that shows it.
  * @param {Item} top
- * @returns {(Item | undefined)[]} nothing for those that aren't drawn
+ * @returns {(Item | undefined)[]} nothing for modules that aren't drawn
  */
 export function leavesOf(top) {
   const leaves = new Array(report.modules.length);
@@ -37,7 +37,7 @@ export function leavesOf(top) {
 }
 
 /**
- * Adds to each box the edges between its items.
+ * Returns the edges between the items of each box.
  * @param {Item} top
  * @param {(Item | undefined)[]} leaves
  * @returns {Map<Item, DrawnEdge[]>} by boxes
@@ -85,7 +85,7 @@ function addEdge(byBox, from, to, kind) {
   edge.count++;
 }
 
-/** The innermost box that has both, and its items in which they are. */
+/** Returns the innermost box around two items, and its items around each of them. */
 function siblings(from, to) {
   let [first, second] = [from, to];
   let [above, below] = [depthOf(first), depthOf(second)];

@@ -1,6 +1,6 @@
 /**
- * While a node has the pointer or the focus, the edges of its modules are drawn to where they lead,
- * and what is not near fades.
+ * While a node has the pointer or the focus, each edge of its modules is drawn, and nodes without such
+ * an edge fade.
  */
 
 import { eachModuleBelow } from "./folders.js";
@@ -15,12 +15,12 @@ const MOST_EDGES = 200;
 /**
  * @param {SVGElement} drawing
  * @param {import("./graph_scene.js").Scene} scene
- * @param {Map<string, [number, number, number, number]>} places of the nodes
+ * @param {Map<string, [number, number, number, number]>} rectangles of the nodes
  */
-export function followPointer(drawing, scene, places) {
+export function followPointer(drawing, scene, rectangles) {
   const items = new Map();
   scene.leaves.forEach((item) => item && items.set(item.id, item));
-  const show = (id) => showNear(drawing, items.get(id), { scene, places });
+  const show = (id) => showNear(drawing, items.get(id), { scene, rectangles });
   const nodeAt = ({ target }) => target.closest(".node")?.dataset.id;
   for (const name of ["pointerover", "focusin"]) {
     drawing.addEventListener(name, (event) => show(nodeAt(event)));
@@ -30,12 +30,12 @@ export function followPointer(drawing, scene, places) {
   }
 }
 
-function showNear(drawing, item, { scene, places }) {
+function showNear(drawing, item, { scene, rectangles }) {
   drawing.classList.toggle("following", item !== undefined);
   const near = item ? neighbours(item, scene) : [];
   const isSeen = ({ kinds }) => [...kinds.keys()].some((kind) => !hiddenKinds.has(kind));
   const lines = near.filter(isSeen).slice(0, MOST_EDGES).map(({ from, to, kinds }) => {
-    return edgeLine(straight(places.get(from), places.get(to)), kinds);
+    return edgeLine(straight(rectangles.get(from), rectangles.get(to)), kinds);
   });
   drawing.querySelector(".near-edges").replaceChildren(...lines);
   const ids = new Set([item?.id, ...near.flatMap(({ from, to }) => [from, to])]);
@@ -44,7 +44,7 @@ function showNear(drawing, item, { scene, places }) {
   }
 }
 
-/** The items to which a one's modules lead, and those that lead to them. */
+/** Returns the edges between an item and the others. */
 function neighbours(item, { leaves }) {
   const found = new Map();
   const add = (from, to, kind) => {
@@ -72,7 +72,7 @@ function eachModuleOf({ type, module, folder, folders }, act) {
   }
 }
 
-/** A curve from the border of one rectangle to that of another. */
+/** Returns a curve from the border of one rectangle to the border of another. */
 function straight([x, y, width, height], [left, top, wide, high]) {
   const from = { x: x + width / 2, y: y + height / 2 };
   const to = { x: left + wide / 2, y: top + high / 2 };

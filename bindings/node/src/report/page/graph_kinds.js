@@ -2,14 +2,14 @@
 
 import { report } from "./report.js";
 
-/** The strongest first: an edge of several kinds is drawn as this one. */
+/** The kinds, the strongest first: an edge of several kinds is drawn as the strongest of them. */
 const STRENGTH = ["static", "require", "dynamic", "type", "jsdoc", "pragma"];
 
 /** Kinds that a click in the legend has hidden. @type {Set<string>} */
 export const hiddenKinds = new Set();
 
 /**
- * How many edges of each kind there are between two things that are drawn.
+ * Counts of the edges between two items, by their kinds.
  * @typedef {Map<string, number>} KindCounts
  */
 

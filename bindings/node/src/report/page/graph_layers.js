@@ -1,6 +1,5 @@
 /**
- * What a module leads to, and what leads to it, in layers: each has the modules that are as many
- * edges away.
+ * The layers around a module: each has the modules that are equally many edges away.
  */
 
 import { eachPair } from "./graph_edges.js";
@@ -10,8 +9,8 @@ import { eachImporter, paths, report } from "./report.js";
 /**
  * @typedef {object} Layer
  * @property {number} distance from the module: below zero for those that lead to it
- * @property {number[]} modules those that are drawn
- * @property {number} left how many aren't
+ * @property {number[]} modules that are drawn
+ * @property {number} left count of the modules that aren't drawn
  */
 
 /**
@@ -52,7 +51,7 @@ function walk(start, depth, seen, eachNext) {
   return layers;
 }
 
-/** Where there are too many, those are drawn that have most edges from them. */
+/** Returns a layer; of too many modules, those with most edges are drawn. */
 function layerOf(modules, distance, most) {
   const count = (module) => report.edges[module].length;
   const byEdges = [...modules].sort((one, other) => count(other) - count(one));
@@ -62,7 +61,7 @@ function layerOf(modules, distance, most) {
 }
 
 /**
- * Sorts each layer by where the modules of the one beside it are that it has edges with.
+ * Sorts each layer by the order of the layer beside it, to which its edges lead.
  * @param {Layer[]} layers
  * @returns {number[][]} the modules of each layer
  */
@@ -70,8 +69,8 @@ export function orderedLayers(layers) {
   const start = layers.findIndex(({ distance }) => distance === 0);
   const ordered = layers.map(({ modules }) => modules);
   const sort = (at, beside) => {
-    const places = new Map(ordered[beside].map((module, place) => [module, place]));
-    const middles = new Map(ordered[at].map((module) => [module, middleOfNear(module, places)]));
+    const orders = new Map(ordered[beside].map((module, order) => [module, order]));
+    const middles = new Map(ordered[at].map((module) => [module, middleOfNear(module, orders)]));
     ordered[at] = [...ordered[at]].sort((one, other) => middles.get(one) - middles.get(other));
   };
   for (let at = start + 1; at < layers.length; at++) {
@@ -83,10 +82,10 @@ export function orderedLayers(layers) {
   return ordered;
 }
 
-function middleOfNear(module, places) {
+function middleOfNear(module, orders) {
   const near = [];
-  const add = (other) => places.has(other) && near.push(places.get(other));
+  const add = (other) => orders.has(other) && near.push(orders.get(other));
   eachPair(module, add);
   eachImporter(module, add);
-  return near.length > 0 ? near.reduce((sum, place) => sum + place, 0) / near.length : places.size;
+  return near.length > 0 ? near.reduce((sum, order) => sum + order, 0) / near.length : orders.size;
 }

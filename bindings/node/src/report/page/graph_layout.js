@@ -1,8 +1,8 @@
-/** Asks the worker for places, and measures labels. */
+/** Asks the worker for layouts, and measures labels. */
 
 import { report } from "./report.js";
 
-/** The size of a label's font, as the style has it, and what a node has around it. */
+/** The size of a label's font, as in the style, and the space around it in a node. */
 const FONT_SIZE = 12;
 const MARGIN = 18;
 export const NODE_HEIGHT = 24;
@@ -24,7 +24,7 @@ let requests = 0;
  * @param {import("./layout_boxes.js").Given} top
  * @param {{ width: number, height: number }} room
  * @param {number} [enough] the scale at which the first layout that fits the room is taken
- * @returns {Promise<import("./layout_boxes.js").Layout>} rejected where there is no layout
+ * @returns {Promise<import("./layout_boxes.js").Layout>} rejected if there is no layout
  */
 export function askLayout(top, room, enough = 1) {
   if (report.absent.dagre) {
@@ -58,7 +58,7 @@ function startWorker() {
   return started;
 }
 
-/** The page's policy lets a worker be started by a URL of this function alone. */
+/** Makes the URL of a worker: the page's policy allows no other URL. */
 function trusted(url) {
   const policy = globalThis.trustedTypes?.createPolicy("layout", { createScriptURL: (each) => each });
   return policy ? policy.createScriptURL(url) : url;
@@ -84,7 +84,7 @@ export function sizeOfLabel(label) {
 }
 
 /**
- * A label that isn't too long: its begin and its end.
+ * Shortens a label that is too long to its start and its end.
  * @param {string} label
  * @returns {string}
  */

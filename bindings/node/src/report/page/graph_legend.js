@@ -1,4 +1,4 @@
-/** What the lines and the frames of a graph mean; a kind of lines is hidden by a click. */
+/** The legend of a graph: its kinds of edges, of which a click hides one, and its states of modules. */
 
 import { drawn, element } from "./elements.js";
 import { hiddenKinds } from "./graph_kinds.js";
@@ -10,7 +10,7 @@ const STATES = ["entry", "unreached", "faulty"];
 /**
  * @param {import("./graph_drawing.js").Plan} plan
  * @param {SVGElement} drawing of the plan
- * @returns {HTMLElement} with the kinds and states that are in the drawing
+ * @returns {HTMLElement} the kinds and states of the drawing
  */
 export function legend({ nodes, edges }, drawing) {
   const drawnKinds = new Set(edges.flatMap(({ kinds }) => [...kinds.keys()]));
@@ -25,14 +25,14 @@ export function legend({ nodes, edges }, drawing) {
   return element("ul", attributes, ...kinds.map((kind) => kindItem(kind, drawing)), ...states);
 }
 
-function kindItem({ kind, title, says, dash }, drawing) {
+function kindItem({ kind, title, syntax, dash }, drawing) {
   const line = drawn("path", {
     d: "M1 6H33", class: `edge ${kind}`, "stroke-dasharray": dash || undefined,
     "marker-end": `url(#arrow-${kind})`,
   });
   const frame = { viewBox: "0 0 36 12", width: 36, height: 12, "aria-hidden": "true" };
   const pressed = String(!hiddenKinds.has(kind));
-  const attributes = { type: "button", title: `${says}; a click hides them`, "aria-pressed": pressed };
+  const attributes = { type: "button", title: `${syntax}; a click hides them`, "aria-pressed": pressed };
   const button = element("button", attributes, drawn("svg", frame, line), title);
   button.addEventListener("click", () => {
     const isHidden = !hiddenKinds.delete(kind) && Boolean(hiddenKinds.add(kind));
@@ -42,7 +42,7 @@ function kindItem({ kind, title, says, dash }, drawing) {
   return element("li", {}, button);
 }
 
-/** Hides the edges of which each kind is hidden. */
+/** Hides each edge of which all kinds are hidden. */
 function hideEdges(drawing) {
   for (const edge of drawing.querySelectorAll("[data-kinds]")) {
     const isHidden = edge.dataset.kinds.split(" ").every((kind) => hiddenKinds.has(kind));

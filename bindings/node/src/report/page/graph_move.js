@@ -9,11 +9,11 @@ const LEAST = 0.05;
 const LARGEST = 4;
 const FITTING = 1.1;
 
-/** How far an arrow key moves a drawing, and how far a pointer has to move to drag it, in pixels. */
+/** Pixels by which an arrow key moves a drawing, and after which a pointer drags it. */
 const STRIDE = 60;
 const DRAG = 4;
 
-/** Around a drawing that fits its box, in pixels. */
+/** Pixels around a drawing that fits its box. */
 const AROUND = 12;
 
 export class Mover {
@@ -21,7 +21,7 @@ export class Mover {
   #scene;
   #size;
   #at = { x: 0, y: 0, scale: 1 };
-  /** Where each pointer that is down was last. @type {Map<number, { x: number, y: number }>} */
+  /** The last position of each pointer that is down. @type {Map<number, { x: number, y: number }>} */
   #pointers = new Map();
   #dragged = false;
   #isFitted = true;
@@ -63,7 +63,7 @@ export class Mover {
 
   /**
    * @param {number} factor above 1 to make the drawing larger
-   * @param {{ x: number, y: number }} [point] of the box that stays where it is; else the middle
+   * @param {{ x: number, y: number }} [point] of the box, at which the drawing stays; else the middle
    */
   zoom(factor, point = { x: this.#box.clientWidth / 2, y: this.#box.clientHeight / 2 }) {
     const { x, y, scale } = this.#at;
@@ -81,7 +81,7 @@ export class Mover {
   }
 
   /**
-   * Moves the drawing so far that a part of it is seen.
+   * Moves the drawing until a part of it is seen.
    * @param {Element} part
    */
   show(part) {
@@ -96,7 +96,7 @@ export class Mover {
 
   /**
    * @param {KeyboardEvent} event
-   * @returns {boolean} whether the key is one that moves the drawing
+   * @returns {boolean} whether the key moves the drawing
    */
   onKey({ key }) {
     const acts = {
@@ -173,7 +173,7 @@ export class Mover {
     }
   }
 
-  /** Where the whole drawing is seen, a wheel that would make it smaller scrolls the page. */
+  /** If the whole drawing is seen, a wheel that would make it smaller scrolls the page. */
   #onWheel(event) {
     const { clientWidth: width, clientHeight: height } = this.#box;
     const isSmaller = event.deltaY > 0;
@@ -198,7 +198,7 @@ export function fitScale(size, room) {
   return Math.max(LEAST, Math.min(FITTING, across, down));
 }
 
-/** The height that a drawing needs in a box of a width, with what is around it. */
+/** Returns the height of a drawing in a box, with the space around it. */
 export function heightFor(size, room) {
   return size.height * fitScale(size, room) + 2 * AROUND;
 }

@@ -1,11 +1,11 @@
 /**
- * How an item of a graph is shown.
+ * The look of an item of a graph.
  *
  * @typedef {object} Look
  * @property {string} href
  * @property {string} label
  * @property {string} [count] after the label
- * @property {string} says its whole name, for who points at it and for screen readers
+ * @property {string} description its whole name, for a pointer and for screen readers
  * @property {string} classes
  */
 
@@ -33,7 +33,7 @@ export function lookOf(item) {
  */
 export function moduleLook(module, label) {
   return {
-    href: hashOf(module), label: shortLabel(visible(label)), says: visible(paths[module]),
+    href: hashOf(module), label: shortLabel(visible(label)), description: visible(paths[module]),
     classes: moduleStates(module).join(" "),
   };
 }
@@ -44,7 +44,7 @@ function folderLook({ type, folder, parent }) {
   const path = visible(folder.path);
   return {
     href: `#folder-${folder.index}`, label: `${shortLabel(visible(name))}/`,
-    count: folder.count.toLocaleString("en"), says: `${path}/: ${counted(folder.count, "module")}`,
+    count: folder.count.toLocaleString("en"), description: `${path}/: ${counted(folder.count, "module")}`,
     classes: type === "box" ? "" : "folder-node",
   };
 }
@@ -53,7 +53,7 @@ function flatLook({ folder, count }) {
   const label = counted(count, "module");
   return {
     href: `#flat-${folder.index}`, label, classes: "folder-node flat",
-    says: `${visible(folder.path)}/: ${label} that are directly in it`,
+    description: `${visible(folder.path)}/: ${label} that are directly in it`,
   };
 }
 
@@ -61,6 +61,6 @@ function moreLook({ folder, folders, count }) {
   const label = counted(folders.length, "more folder");
   return {
     href: `#more-${folder.index}`, label, count: count.toLocaleString("en"), classes: "folder-node more",
-    says: `${label} with ${counted(count, "module")}`,
+    description: `${label} with ${counted(count, "module")}`,
   };
 }

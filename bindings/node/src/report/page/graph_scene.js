@@ -1,10 +1,10 @@
-/** A folder and what is around it, as it is handed to the layout. */
+/** The items and edges of a drawing: of a folder and of its neighbours. */
 
 import { chainOf, root } from "./folders.js";
 import { edgesIn, leavesOf } from "./graph_edges.js";
 import { boxOf, folderItem, moreItem, ownItems } from "./graph_tree.js";
 
-/** How much is drawn: the most items, and the most modules of one folder. */
+/** Bounds that are tried: the most items, and the most modules of one folder. */
 const MOST_ITEMS = [6, 9, 12, 16, 20, 25, 30, 40, 50, 60, 80, 120];
 const MOST_OF_FOLDER = [3, 8, 20, 60];
 
@@ -20,9 +20,9 @@ const MOST_BESIDE = 20;
  */
 
 /**
- * The ways to draw a folder.
+ * Returns the boxes with which a folder can be drawn.
  * @param {import("./folders.js").Folder} scope
- * @returns {import("./graph_tree.js").Item[]} boxes, each different, with more and more items
+ * @returns {import("./graph_tree.js").Item[]} different boxes, with more and more items
  */
 export function boxesOf(scope) {
   const found = new Map();
@@ -36,7 +36,7 @@ export function boxesOf(scope) {
   return [...found.values()].sort((one, other) => one.count - other.count).map(({ box }) => box);
 }
 
-/** The items in a box that are no boxes themselves. */
+/** Returns the items in a box that aren't boxes. */
 function itemsOf(box) {
   return box.items.flatMap((item) => (item.items ? itemsOf(item) : [item]));
 }
@@ -60,7 +60,7 @@ export function sceneOf(scope, box) {
   return { top, leaves, edges: shown };
 }
 
-/** A box with the scope's, and all that is beside it in the folders above. */
+/** Returns a box around the scope's box and all items beside it in the folders above. */
 function around(scope, box) {
   const chain = chainOf(scope);
   const items = chain.slice(0, -1).flatMap((folder, at) => {
@@ -70,7 +70,7 @@ function around(scope, box) {
   return boxWith([box, ...items]);
 }
 
-/** Keeps those that have edges to the scope or from it, the ones with most edges if they are many. */
+/** Keeps the items with an edge to the scope or from it; of too many, those with most edges. */
 function withNeighbours(all, box, edges) {
   const counts = new Map();
   for (const { from, to, count } of edges) {

@@ -1,6 +1,6 @@
 /**
- * What of a folder is drawn: its modules and folders as items, of which some folders are boxes with
- * items inside, as long as there aren't too many.
+ * The items that are drawn for a folder: its modules and folders. Some folders are boxes with items
+ * inside, as long as there aren't too many items.
  *
  * @typedef {object} Item
  * @property {string} id
@@ -8,14 +8,14 @@
  * @property {number} [module] of a module
  * @property {import("./folders.js").Folder} [folder] of a folder, a box, or of the modules of a
  *   folder that are too many to be drawn (flat)
- * @property {import("./folders.js").Folder[]} [folders] those that are too many (more)
- * @property {Item[]} [items] those inside of a box
+ * @property {import("./folders.js").Folder[]} [folders] of folders that are drawn as one item (more)
+ * @property {Item[]} [items] inside of a box
  * @property {Item} [parent] the box in which it is
- * @property {number} count how many modules it is
+ * @property {number} count of its modules
  */
 
 /**
- * How much is drawn.
+ * Bounds of what is drawn.
  * @typedef {object} Detail
  * @property {number} items the most that are drawn, if there aren't more side by side
  * @property {number} modules the most of one folder that are drawn; else they are one item
@@ -44,7 +44,7 @@ export function boxOf(scope, detail) {
   }
 }
 
-/** How many items a folder has; one that is nothing but too many modules stays closed. */
+/** Counts the items of a folder; a folder that has only too many modules stays closed. */
 function sizeIn({ folders, modules }, detail) {
   const isLarge = modules.length > detail.modules;
   return isLarge && folders.length === 0 ? Infinity : folders.length + (isLarge ? 1 : modules.length);
@@ -67,7 +67,7 @@ export function ownItems(folder, most) {
     : modules.map((module) => ({ id: `m${module}`, type: "module", module, count: 1 }));
 }
 
-/** Makes a folder a box with its items: those of its folders that have most modules, if they are too many. */
+/** Makes a folder a box. Of too many folders inside, those with most modules are items of their own. */
 function openBox(item, detail) {
   const { folder } = item;
   const modules = ownItems(folder, detail.modules);
@@ -84,7 +84,7 @@ function openBox(item, detail) {
   return item;
 }
 
-/** @returns {Item} folders that are drawn as one */
+/** @returns {Item} one item for several folders */
 export function moreItem(folder, folders) {
   const count = folders.reduce((sum, each) => sum + each.count, 0);
   return { id: `x${folder.index}`, type: "more", folder, folders, count };

@@ -1,4 +1,4 @@
-/** The graph of a folder, and what the graphs of all views share. */
+/** The graph of a folder, and functions that all graphs use. */
 
 import { element } from "./elements.js";
 import { chainOf, root } from "./folders.js";
@@ -13,21 +13,24 @@ import { boxesOf, sceneOf } from "./graph_scene.js";
 import { counted, nameText } from "./pieces.js";
 import { report } from "./report.js";
 
-/** The least scale at which labels are read: their letters have 12 pixels at the scale 1, and 11 then. */
+/** The least scale at which labels can be read: their letters have 12 pixels at the scale 1, and 11 then. */
 export const READABLE_SCALE = 11 / 12;
 
-/** How much wider a title is than a label, since it is bold. */
+/** A title is wider than a label by this factor, since it is bold. */
 const TITLE_SCALE = 1.12;
 
-/** After so many layouts in which labels are too small, none with more items is tried. */
+/** After this many layouts in which labels are too small, none with more items is tried. */
 const MOST_FAILED = 2;
 
-/** Of the window's height the part that a graph has, and its least height. */
-const PART = 0.7;
+/** Least and most of the window's height that a drawing fills, and its least height in pixels. */
+const PARTS = { least: 0.5, most: 0.7 };
 const LEAST_HEIGHT = 120;
 
+/** Height of the legend, which is put above a drawing, and of the page below it, in pixels. */
+const BESIDE = 50;
+
 /**
- * What is shown around a graph.
+ * Makes the box of a graph and the bar above it.
  * @param {(HTMLElement | string)[]} title
  * @returns {{ view: HTMLElement, box: HTMLElement, bar: HTMLElement }}
  */
@@ -39,15 +42,19 @@ export function graphFrame(title) {
 }
 
 /**
- * @param {HTMLElement} box in the page
- * @returns {{ width: number, height: number }} the largest that a drawing may have in it
+ * Returns the largest size of a drawing in its box: the end of the drawing is seen without scrolling,
+ * unless the drawing would be too small then.
+ * @param {HTMLElement} box in the page, without its drawing
+ * @returns {{ width: number, height: number }}
  */
 export function roomIn(box) {
-  return { width: Math.max(200, box.clientWidth), height: Math.max(240, innerHeight * PART) };
+  const below = innerHeight - box.offsetTop - BESIDE;
+  const height = Math.min(PARTS.most * innerHeight, Math.max(PARTS.least * innerHeight, below));
+  return { width: Math.max(200, box.clientWidth), height: Math.max(240, height) };
 }
 
 /**
- * Shows a drawing that has its places.
+ * Shows a plan in its box.
  * @param {{ view: HTMLElement, box: HTMLElement, bar: HTMLElement }} frame
  * @param {import("./graph_drawing.js").Plan} plan
  * @param {import("./graph_scene.js").Scene} scene
@@ -64,7 +71,7 @@ export function showPlan({ view, box, bar }, plan, scene) {
   }
   bar.append(mover.buttons());
   box.before(legend(plan, drawing));
-  followPointer(drawing, scene, new Map(plan.nodes.map(({ id, place }) => [id, place])));
+  followPointer(drawing, scene, new Map(plan.nodes.map(({ id, rectangle }) => [id, rectangle])));
   listenInGraph(box, mover);
   view.mover = mover;
   view.dispatchEvent(new CustomEvent("drawn", { bubbles: true }));
@@ -80,7 +87,7 @@ export function showFault({ box }, { message }) {
 
 /**
  * @param {import("./folders.js").Folder} folder
- * @returns {HTMLElement} the path to a folder, each folder of it a link
+ * @returns {HTMLElement} the path to a folder, in which each folder is a link
  */
 export function crumbs(folder) {
   const links = chainOf(folder).map((each) => {
@@ -94,7 +101,7 @@ export function crumbs(folder) {
 /**
  * The graph of a folder.
  * @param {import("./folders.js").Folder} folder
- * @param {(folder: import("./folders.js").Folder) => HTMLElement} instead the view of one whose
+ * @param {(folder: import("./folders.js").Folder) => HTMLElement} instead makes the view if the
  *   modules are too many for one drawing
  * @returns {HTMLElement}
  */
@@ -117,7 +124,7 @@ async function drawFolder(frame, folder, instead) {
   }
 }
 
-/** The layout with most items whose labels are large enough; else the one with the fewest items. */
+/** Returns the layout with most items whose labels are large enough, else the one with fewest items. */
 async function bestLayout(folder, room) {
   let best;
   let failed = 0;
@@ -136,7 +143,7 @@ async function bestLayout(folder, room) {
   return best;
 }
 
-/** Whether there is little to see but the modules of the folder itself, as one item. */
+/** Whether the modules of the folder itself, as one item, are most of what is drawn. */
 function isPoor({ top }, folder) {
   const box = folder === root ? top : top.items[0];
   const flat = box.items.find(({ type }) => type === "flat");
@@ -144,7 +151,7 @@ function isPoor({ top }, folder) {
   return flat !== undefined && box.items.length <= 3 && 2 * flat.count >= all;
 }
 
-/** An item as the layout gets it. */
+/** Returns an item in the form that the layout reads. */
 function givenOf(item, edges) {
   const { label, count = "" } = item.id === "top" ? { label: "" } : lookOf(item);
   const text = `${label}${count && ` ${count}`}`;
@@ -159,14 +166,23 @@ function givenOf(item, edges) {
   };
 }
 
-/** A scene with its places. */
+/** The modules that an item stands for: one, those directly in a folder, or those below some folders. */
+function modulesOf({ type, module, folder, folders }) {
+  switch (type) {
+    case "module": return { module };
+    case "flat": return { inside: folder.index };
+    case "more": return { folders: folders.map(({ index }) => index) };
+    default: return { folders: [folder.index] };
+  }
+}
+
+/** Puts the items of a scene where the layout has them. */
 function planOf({ top, edges }, layout) {
   const [nodes, frames] = [[], []];
   const visit = (item) => {
-    const { id, module, folder, type } = item;
+    const { id, type } = item;
     if (layout.boxes[id]) {
-      const hasCount = type === "folder" || type === "box";
-      const shown = { id, place: layout.boxes[id], look: lookOf(item), module, folder: hasCount ? folder : undefined };
+      const shown = { id, rectangle: layout.boxes[id], look: lookOf(item), ...modulesOf(item) };
       (type === "box" ? frames : nodes).push(shown);
     }
     item.items?.forEach(visit);

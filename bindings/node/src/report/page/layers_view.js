@@ -1,4 +1,4 @@
-/** The graph of what one module leads to, and of what leads to it. */
+/** The graph of one module: the layers of what it leads to, and of what leads to it. */
 
 import { element } from "./elements.js";
 import { folderOf } from "./folders.js";
@@ -16,19 +16,19 @@ import { longList } from "./reveal.js";
 const BETWEEN = 90;
 const GAP_BELOW = 6;
 
-/** How many layers are shown at first, and at most. */
+/** Count of layers that are shown at first, and at most. */
 export const DEPTHS = { into: 2, from: 1 };
 const DEEPEST = 9;
 
 /**
  * @param {number} module
  * @param {{ into: number, from: number }} depths
- * @param {(Node | string)[]} [before] what is said before it
+ * @param {(Node | string)[]} [before] the text before the choice of layers
  * @returns {HTMLElement}
  */
 export function layersView(module, depths, before = []) {
   const frame = graphFrame([crumbs(folderOf[module]), ...nameText(report.modules[module])]);
-  frame.bar.after(element("p", { class: "says" }, ...before, ...depthLinks(module, depths)));
+  frame.bar.after(element("p", { class: "hint" }, ...before, ...depthLinks(module, depths)));
   requestAnimationFrame(() => {
     if (frame.view.isConnected) {
       const leaves = [];
@@ -39,33 +39,33 @@ export function layersView(module, depths, before = []) {
   return frame.view;
 }
 
-/** How many modules of a layer are seen at once, at the least scale at which they are read. */
+/** Returns how many modules of a layer can be seen at once at the least scale at which they can be read. */
 function mostInLayer({ height }) {
   return Math.max(6, Math.floor(height / READABLE_SCALE / (NODE_HEIGHT + GAP_BELOW)) - 1);
 }
 
 function depthLinks(module, { into, from }) {
-  const those = { from: "of what leads to it", into: "of what it leads to" };
-  const link = (text, next, says) => {
+  const sides = { from: "of what leads to it", into: "of what it leads to" };
+  const link = (text, next, title) => {
     const href = `#layers-${module}-${next.into}-${next.from}`;
-    return element("a", { href, class: "step", "aria-label": says, title: says }, text);
+    return element("a", { href, class: "step", "aria-label": title, title }, text);
   };
   const fewer = (value) => Math.max(0, value - 1);
   const more = (value) => Math.min(DEEPEST, value + 1);
   return [
     "What leads to it: ",
-    link("−", { into, from: fewer(from) }, `one layer fewer ${those.from}`),
+    link("−", { into, from: fewer(from) }, `one layer fewer ${sides.from}`),
     ` ${counted(from, "layer")} `,
-    link("+", { into, from: more(from) }, `one layer more ${those.from}`),
+    link("+", { into, from: more(from) }, `one layer more ${sides.from}`),
     " · what it leads to: ",
-    link("−", { into: fewer(into), from }, `one layer fewer ${those.into}`),
+    link("−", { into: fewer(into), from }, `one layer fewer ${sides.into}`),
     ` ${counted(into, "layer")} `,
-    link("+", { into: more(into), from }, `one layer more ${those.into}`),
+    link("+", { into: more(into), from }, `one layer more ${sides.into}`),
     " · ", element("a", { href: hashOf(module), class: "open" }, "open the module"),
   ];
 }
 
-/** Places the modules of each layer below one another, and the layers side by side. */
+/** Puts the modules of each layer below one another, and the layers side by side. */
 function planOfLayers(layers, leaves) {
   const ordered = orderedLayers(layers);
   const label = labelsOf(ordered.flat());
@@ -76,7 +76,7 @@ function planOfLayers(layers, leaves) {
   for (const column of columns) {
     let top = (height - column.height) / 2;
     for (const { id, look, module, size } of column.items) {
-      nodes.push({ id, look, module, place: [left, top, column.width, size[1]] });
+      nodes.push({ id, look, module, rectangle: [left, top, column.width, size[1]] });
       top += size[1] + GAP_BELOW;
       if (module !== undefined) {
         leaves[module] = { id, type: "module", module };
@@ -88,7 +88,7 @@ function planOfLayers(layers, leaves) {
   return { width: left - BETWEEN, height, nodes, frames: [], edges };
 }
 
-/** Names alone, where all modules are of one folder; else paths. */
+/** Returns the function of labels: names if all modules are of one folder, else paths. */
 function labelsOf(modules) {
   const folder = folderOf[modules[0]];
   const isOne = modules.every((module) => folderOf[module] === folder);
@@ -103,9 +103,9 @@ function columnOf({ distance, left }, modules, label) {
     return { id: `m${module}`, module, look: { ...look, href, classes: `${look.classes} ${chosen}`.trim() } };
   });
   if (left > 0) {
-    const says = `${counted(left, "more module")} that are not drawn`;
+    const description = `${counted(left, "more module")} that are not drawn`;
     const href = hashOf(modules[0]);
-    const look = { href, says, label: counted(left, "more module"), classes: "folder-node left" };
+    const look = { href, description, label: counted(left, "more module"), classes: "folder-node left" };
     items.push({ id: `l${distance}`, look });
   }
   const sized = items.map((item) => ({ ...item, size: sizeOfLabel(item.look.label) }));
@@ -116,9 +116,9 @@ function columnOf({ distance, left }, modules, label) {
   };
 }
 
-/** The edges from a layer to the next one. */
+/** Returns the edges from each layer to the next one. */
 function layerEdges(ordered, nodes) {
-  const places = new Map(nodes.map(({ id, place }) => [id, place]));
+  const rectangles = new Map(nodes.map(({ id, rectangle }) => [id, rectangle]));
   const pairs = ordered.flatMap((modules, layer) => modules.map((module) => [module, layer]));
   const layerOfModule = new Map(pairs);
   const edges = new Map();
@@ -127,7 +127,7 @@ function layerEdges(ordered, nodes) {
       if (layerOfModule.get(to) === layer + 1) {
         const key = `${module} ${to}`;
         const [from, end] = [`m${module}`, `m${to}`];
-        const path = across(places.get(from), places.get(end));
+        const path = across(rectangles.get(from), rectangles.get(end));
         const edge = edges.get(key) ?? { from, to: end, kinds: new Map(), count: 1, path };
         edges.set(key, edge);
         countKind(edge.kinds, kind);
@@ -137,7 +137,7 @@ function layerEdges(ordered, nodes) {
   return [...edges.values()];
 }
 
-/** A curve from the right side of a rectangle to the left side of another. */
+/** Returns a curve from the right side of a rectangle to the left side of another. */
 function across([x, y, width, height], [left, top, , high]) {
   const bend = (x + width + left) / 2;
   const [start, end] = [y + height / 2, top + high / 2];
@@ -145,8 +145,8 @@ function across([x, y, width, height], [left, top, , high]) {
 }
 
 /**
- * What is shown of a folder whose modules are too many for one drawing: what the one with most
- * edges leads to, and links to the others.
+ * The view of a folder whose modules are too many for one drawing: the layers of the module with most
+ * edges, and links to the others.
  * @param {import("./folders.js").Folder} folder
  * @returns {HTMLElement}
  */
@@ -154,16 +154,16 @@ export function largeFolderView(folder) {
   const weight = (module) => report.edges[module].length;
   const byEdges = [...folder.modules].sort((one, other) => weight(other) - weight(one));
   const first = report.entries.find((entry) => folder.modules.includes(entry)) ?? byEdges[0];
-  const says = `${counted(folder.modules.length, "module")} of one folder are too many for one drawing. ` +
-    "This is what one of them leads to; choose another one in the list, or here. ";
-  const view = layersView(first, DEPTHS, [says]);
+  const note = `The ${counted(folder.modules.length, "module")} of this folder are too many for one drawing. ` +
+    "It shows what one of them leads to; choose another one in the list, or below. ";
+  const view = layersView(first, DEPTHS, [note]);
   const inside = folder.folders.map((each) => {
     const text = `${visible(each.name)}/ (${each.count.toLocaleString("en")})`;
     return element("a", { href: `#folder-${each.index}` }, text);
   });
   const choices = longList(byEdges, (module) => element("li", {}, layersLink(module)));
   choices.classList.add("choices");
-  view.append(element("p", { class: "says inside" }, ...inside.flatMap((link) => [link, " "])), choices);
+  view.append(element("p", { class: "hint inside" }, ...inside.flatMap((link) => [link, " "])), choices);
   return view;
 }
 

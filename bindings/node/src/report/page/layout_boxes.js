@@ -1,13 +1,13 @@
 /**
- * Lays out boxes in boxes: first the items of the innermost ones, then each box as an item of the
- * one around it.
+ * Lays out boxes in boxes: the items of the innermost boxes first, then each box as an item of the box
+ * around it.
  *
  * @typedef {object} Given an item, or a box
  * @property {string} id
  * @property {[number, number]} [size] of an item: its width and height
  * @property {number} [title] of a box: the width of its title
- * @property {Given[]} [items] those inside of a box
- * @property {{ from: string, to: string, count: number }[]} [edges] those between its items
+ * @property {Given[]} [items] inside of a box
+ * @property {{ from: string, to: string, count: number }[]} [edges] between its items
  *
  * @typedef {object} Layout
  * @property {number} width
@@ -20,12 +20,12 @@
 import { curveOf, pointOnCurve } from "./layout_curves.js";
 import { gridOf, shelvesOf } from "./layout_grid.js";
 
-/** Lengths in a drawing: around a box's items, above them for its title, and between what is apart. */
+/** Lengths in a drawing: around a box's items, above them for its title, and between two items. */
 const PADDING = 10;
 const TITLE = 20;
 const GAP = 14;
 
-/** The width of what is in a box for a height of 1, where there is a choice. */
+/** The preferred width of a box for a height of 1. */
 const BOX_ASPECT = 1.8;
 
 /** The size of a count on an edge. */
@@ -44,7 +44,7 @@ export function layoutOf(top, aspect, directions) {
   return layout;
 }
 
-/** Gives each item in a box its final place. */
+/** Adds the rectangles of the items in a box to the layout. */
 function collect({ parts }, x, y, layout) {
   for (const { item, corner: [left, top], edge } of parts) {
     if (edge) {
@@ -61,7 +61,7 @@ function collect({ parts }, x, y, layout) {
   }
 }
 
-/** An item with its width and height; a box with its parts too. */
+/** Returns an item with its width and height; a box also has its parts. */
 function layItem(item, direction) {
   if (item.items === undefined) {
     return { id: item.id, width: item.size[0], height: item.size[1] };
@@ -74,7 +74,7 @@ function layItem(item, direction) {
   return { id: item.id, parts: laid.parts, width, height: laid.height + 2 * PADDING + TITLE };
 }
 
-/** Lays out the items of a box: those that edges connect as one drawing each, the others in a grid. */
+/** Lays out the items of a box: each group that edges connect as a drawing, the others in a grid. */
 function layBox({ items, edges }, aspect, [direction, inner]) {
   const laid = items.map((item) => layItem(item, inner));
   const groups = connected(laid, edges);
@@ -88,11 +88,11 @@ function layBox({ items, edges }, aspect, [direction, inner]) {
   return withSingle({ parts, ...placed }, single, aspect);
 }
 
-/** Puts those without edges below: boxes on shelves, the others in a grid. */
+/** Puts the items without edges below the others: boxes on shelves, and the rest in a grid. */
 function withSingle({ parts, width, height }, single, aspect) {
   const all = [...parts];
   let [wide, high] = [width, height];
-  const place = (nodes, { corners, width: across, height: down }) => {
+  const add = (nodes, { corners, width: across, height: down }) => {
     const top = high > 0 ? high + 2 * GAP : 0;
     all.push(...nodes.map((item, at) => ({ item, corner: [corners[at][0], corners[at][1] + top] })));
     [wide, high] = [Math.max(wide, across), top + down];
@@ -101,12 +101,12 @@ function withSingle({ parts, width, height }, single, aspect) {
   const boxes = single.filter((node) => node.parts);
   const plain = single.filter((node) => !node.parts);
   if (boxes.length > 0) {
-    place(boxes, shelvesOf(sizes(boxes), { gap: GAP, aspect }));
+    add(boxes, shelvesOf(sizes(boxes), { gap: GAP, aspect }));
   }
   if (plain.length > 0) {
     const area = plain.reduce((sum, node) => sum + (node.width + GAP) * (node.height + GAP), 0);
     const room = Math.max(wide, Math.sqrt(area * aspect));
-    place(plain, gridOf(sizes(plain), { gap: GAP / 2, width: room }));
+    add(plain, gridOf(sizes(plain), { gap: GAP / 2, width: room }));
   }
   return { parts: all, width: wide, height: high };
 }
@@ -115,7 +115,7 @@ function moved(parts, [x, y]) {
   return parts.map((part) => ({ ...part, corner: [part.corner[0] + x, part.corner[1] + y] }));
 }
 
-/** The items in groups that edges connect, each with its edges. */
+/** Returns the groups of items that edges connect, with their edges. */
 function connected(nodes, edges) {
   const groupOf = new Map(nodes.map((node) => [node.id, { nodes: [node], edges: [] }]));
   for (const { from, to } of edges) {
@@ -130,7 +130,7 @@ function connected(nodes, edges) {
   return [...new Set(groupOf.values())];
 }
 
-/** One connected group, by dagre. */
+/** Lays out one connected group, by dagre. */
 function drawGroup({ nodes, edges }, direction) {
   const { dagre } = globalThis;
   const graph = new dagre.graphlib.Graph();
@@ -152,7 +152,7 @@ function drawGroup({ nodes, edges }, direction) {
   return atOrigin([...parts, ...curves]);
 }
 
-/** Moves parts so that they begin at the upper left corner, and measures them, edges among them. */
+/** Moves parts to the upper left corner, and measures them together with their edges. */
 function atOrigin(parts) {
   const xs = [];
   const ys = [];

@@ -1,5 +1,5 @@
 /**
- * Edges as curves, as SVG's paths have them.
+ * Edges as curves, in the form of SVG's paths.
  *
  * @typedef {{ x: number, y: number }} Point
  */
@@ -19,17 +19,20 @@ function halfway(one, other) {
 }
 
 /**
- * A curve that begins at the first point, ends at the last one, and bends near the others.
+ * Returns a curve that begins at the first point, ends at the last one, and bends near the others.
  * @param {Point[]} points
  * @returns {string}
  */
 export function curveOf(points) {
-  const at = ({ x, y }) => `${rounded(x)} ${rounded(y)}`;
+  const at = (/** @type {Point} */ { x, y }) => `${rounded(x)} ${rounded(y)}`;
   const bends = bendsOf(points).map(({ bend, end }) => `Q${at(bend)} ${at(end)}`);
   return `M${at(points[0])}${bends.length > 0 ? bends.join("") : `L${at(points[points.length - 1])}`}`;
 }
 
-/** The bends of a curve: each with where it begins and ends. */
+/**
+ * Returns the bends of a curve, each with its start and end.
+ * @param {Point[]} points
+ */
 function bendsOf(points) {
   const inner = points.slice(1, -1);
   return inner.map((bend, index) => ({
@@ -40,13 +43,13 @@ function bendsOf(points) {
 }
 
 /**
- * The point of a curve that is nearest to one of those at which it bends.
+ * Returns the middle of a curve's bend that is nearest to a point.
  * @param {Point[]} points
  * @param {Point} near
  * @returns {Point}
  */
 export function pointOnCurve(points, near) {
-  const far = ({ bend: { x, y } }) => Math.hypot(x - near.x, y - near.y);
+  const far = (/** @type {{ bend: Point }} */ { bend: { x, y } }) => Math.hypot(x - near.x, y - near.y);
   const [nearest] = bendsOf(points).sort((one, other) => far(one) - far(other));
   return nearest ? halfway(nearest.bend, halfway(nearest.start, nearest.end)) : near;
 }

@@ -1,5 +1,5 @@
 /**
- * Places rectangles beside and below one another.
+ * Puts rectangles beside and below one another.
  *
  * @typedef {object} Placed
  * @property {[number, number][]} corners of the rectangles, upper left
@@ -8,9 +8,9 @@
  */
 
 /**
- * A grid whose columns are as wide as they have to be, in the order of the rectangles, row by row.
+ * Returns a grid with the narrowest columns, filled row by row in the order of the rectangles.
  * @param {[number, number][]} sizes
- * @param {{ gap: number, width: number }} room the width that is used, if the widest one fits
+ * @param {{ gap: number, width: number }} room the most width, if the widest rectangle fits
  * @returns {Placed}
  */
 export function gridOf(sizes, { gap, width }) {
@@ -25,7 +25,14 @@ export function gridOf(sizes, { gap, width }) {
   return best;
 }
 
+/**
+ * @param {[number, number][]} sizes
+ * @param {number} columns
+ * @param {number} gap
+ * @returns {Placed}
+ */
 function columnsOf(sizes, columns, gap) {
+  /** @type {number[]} */
   const widths = new Array(Math.min(columns, sizes.length)).fill(0);
   sizes.forEach(([width], at) => (widths[at % columns] = Math.max(widths[at % columns], width)));
   const lefts = widths.map((_, at) => widths.slice(0, at).reduce((sum, width) => sum + width + gap, 0));
@@ -39,7 +46,7 @@ function columnsOf(sizes, columns, gap) {
 }
 
 /**
- * Shelves: the highest rectangles first, each shelf as wide as there is room.
+ * Puts rectangles on shelves, the highest first.
  * @param {[number, number][]} sizes
  * @param {{ gap: number, aspect: number }} room the width of the whole for a height of 1
  * @returns {Placed}
@@ -49,6 +56,7 @@ export function shelvesOf(sizes, { gap, aspect }) {
   const widest = sizes.reduce((most, [width]) => Math.max(most, width), 0);
   const room = Math.max(widest, Math.sqrt(area * aspect));
   const order = [...sizes.keys()].sort((one, other) => sizes[other][1] - sizes[one][1]);
+  /** @type {[number, number][]} */
   const corners = [];
   let [x, y, high, width] = [0, 0, 0, 0];
   for (const at of order) {

@@ -1,17 +1,17 @@
 /**
- * The worker: lays out a drawing in several directions, and returns one that is large enough in its
- * room, else the largest.
+ * The worker: lays out a drawing in several directions, and returns the first layout that is large
+ * enough in its room, else the largest.
  *
  * @typedef {object} Request
  * @property {number} id
  * @property {import("./layout_boxes.js").Given} top
  * @property {{ width: number, height: number }} room
- * @property {number} enough the scale at which the first layout that fits is taken
+ * @property {number} enough the scale that is large enough
  */
 
 import { layoutOf } from "./layout_boxes.js";
 
-/** The directions of edges that are tried, and those in the boxes inside: the first is the best to read. */
+/** Directions of edges, outside and inside of boxes, in the order in which they are tried. */
 const TRIED = [["LR", "LR"], ["TB", "LR"], ["LR", "TB"], ["TB", "TB"]];
 
 addEventListener("message", ({ data: { id, top, room, enough } }) => {

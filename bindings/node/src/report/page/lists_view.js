@@ -1,4 +1,4 @@
-/** The lists: what to look at first. */
+/** The lists of modules and dependencies to look at first. */
 
 import { element } from "./elements.js";
 import { CLASSES, outsideItem, outsideItems } from "./outside_view.js";
@@ -6,38 +6,38 @@ import { counted, kindLabel, moduleLink, nameLabel } from "./pieces.js";
 import { importers, report } from "./report.js";
 import { longList } from "./reveal.js";
 
-/** The most modules of a cycle that its item names. */
+/** The most modules of a cycle in its item. */
 const MOST_STEPS = 8;
 
-/** The lists with their titles, how the summary calls one item and more, and how one is shown. */
+/** The lists: their titles, the words of the summary for one item and for more, and the view of an item. */
 const LISTS = [
   {
     id: "missing", title: "Missing", one: "missing",
-    says: "Nothing is found for them.", view: placeItem,
+    note: "They resolve to no file or package.", view: rowItem,
   },
   {
     id: "unknown", title: "Unknown arguments", one: "unknown argument", many: "unknown arguments",
-    says: "Nothing is known of what they name.", view: placeItem,
+    note: "Nothing of their text is known.", view: rowItem,
   },
   {
     id: "partly", title: "Partly known arguments", one: "partly known",
-    says: "Only a part of the text is known.", view: placeItem,
+    note: "Only a part of their text is known.", view: rowItem,
   },
   { id: "unreached", ...unreachedWords(), view: unreachedItem },
   {
     id: "cycles", title: "Cycles", one: "cycle", many: "cycles",
-    says: "Each of the modules leads to each other one.", view: cycleItem,
+    note: "Each module of a cycle leads to each other one.", view: cycleItem,
   },
   {
     id: "faults", title: "Files that aren't analyzed", one: "not analyzed",
-    says: "They have a syntax error, or couldn't be read.", view: faultItem,
+    note: "They have a syntax error, or couldn't be read.", view: faultItem,
   },
 ].map((list) => {
   const item = (each) => element("li", {}, ...list.view(each));
   return { ...list, items: report.lists[list.id], item };
 });
 
-/** Those of what is outside, of which each that is empty is left out. */
+/** The lists of what is outside the report, without the empty ones. */
 const OUTSIDE = CLASSES
   .map((list) => ({ ...list, items: outsideItems(list.id), item: outsideItem }))
   .filter(({ items }) => items.length > 0);
@@ -46,12 +46,13 @@ function unreachedWords() {
   return report.entries.length > 0
     ? {
       title: "Unreached from the entries", one: "unreached",
-      says: "No chain of imports that run leads to them from an entry. Types and comments aren't " +
-        "followed, nor is an argument that isn't known as a whole.",
+      note: "No entry leads to them by imports that run. Types and comments aren't followed, nor are " +
+        "arguments of which only a part is known.",
     }
     : {
       title: "Imported by no module", one: "imported by no module",
-      says: "Nothing in this report leads to them. With --entry it lists what no entry reaches.",
+      note: "No module of this report leads to them. With --entry, the list has the modules that no entry " +
+        "reaches.",
     };
 }
 
@@ -74,21 +75,21 @@ export function listsView() {
   return element("div", { class: "lists" }, ...[...LISTS, ...OUTSIDE].map(listView));
 }
 
-function listView({ id, title, says, items, item }) {
+function listView({ id, title, note, items, item }) {
   const count = element("span", { class: "count" }, items.length.toLocaleString("en"));
   const attributes = { id: `list-${id}`, class: items.length > 0 ? "list" : "list zero" };
   const section = element("section", attributes, element("h2", {}, title, " ", count));
   if (items.length > 0) {
-    const note = says && element("p", { class: "says" }, says);
-    section.append(...[note].filter(Boolean), longList(items, item));
+    const hint = note && element("p", { class: "hint" }, note);
+    section.append(...[hint].filter(Boolean), longList(items, item));
   }
   return section;
 }
 
-function placeItem(place) {
-  const { module, row, line, name } = place;
+function rowItem(found) {
+  const { module, row, line, name } = found;
   const at = element("span", { class: "place" }, `:${line + 1}`);
-  const kind = kindLabel({ ...place, word: place.kind });
+  const kind = kindLabel({ ...found, word: found.kind });
   return [nameLabel(name), kind, element("span", {}, moduleLink(module, row), at)];
 }
 

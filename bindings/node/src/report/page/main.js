@@ -1,7 +1,7 @@
-/** The page: what the address says is shown. */
+/** The page: shows what its address names. */
 
 import { cycleView } from "./cycle_view.js";
-import { element } from "./elements.js";
+import { element, nextTask } from "./elements.js";
 import { fadeGraph } from "./filter.js";
 import { folders, root } from "./folders.js";
 import { graphView } from "./graph_view.js";
@@ -15,22 +15,24 @@ import { longList } from "./reveal.js";
 import { MEASURES, sizesView } from "./sizes_view.js";
 
 const main = element("main", { tabindex: "-1" });
-/** What the filter leaves in. */
-let hits;
-/** What is open: of a module its index, else the address of the graph. */
+/** The modules that match the filter. */
+let matches;
+/** The open view: a module's index, or the address of a picture. */
 let open = {};
-/** When what is open is there as a whole. */
+/** Resolved when the open view is complete. */
 let whole = Promise.resolve();
 
+// The index is read. The list and the view are each made in a task of their own, so that none is long.
+await nextTask();
 const modules = new ModuleList({
-  onFilter: (found) => fadeGraph(main, (hits = found)),
+  onFilter: (found) => fadeGraph(main, (matches = found)),
   onOpen: (module) => {
     location.hash = hashOf(module);
     main.focus({ preventScroll: true });
   },
 });
 
-/** The graphs and pictures by the first word of their address; each is made of the numbers in it. */
+/** The graphs and pictures by the first word of their address; the others are its numbers. */
 const FIGURES = {
   folder: ([number]) => graphView(folders[number] ?? root, largeFolderView),
   flat: ([number]) => {
@@ -45,7 +47,7 @@ const FIGURES = {
   sizes: ([number, measure]) => sizesView(folders[number] ?? root, MEASURES[measure] ?? MEASURES.bytes),
 };
 
-/** All folders of one, of which a graph doesn't draw each. */
+/** The list of a folder's folders, for a graph that doesn't draw each. */
 function moreView(folder) {
   const item = (each) => {
     const link = element("a", { href: `#folder-${each.index}` }, `${visible(each.name)}/`);
@@ -96,7 +98,7 @@ function show() {
     showOverview(asked);
   }
   open = asked;
-  // Who pressed a key on what is gone goes on in what came.
+  // The focus of a removed element goes to the new view.
   if (!before.isConnected) {
     main.focus({ preventScroll: true });
   }
@@ -136,7 +138,7 @@ function titleOf(module) {
   return module === undefined ? title : `${visible(paths[module])} – ${title}`;
 }
 
-/** How many rows the open module has; it has a table when it is there as a whole. */
+/** Counts the rows of the open module; its table is there when the view is complete. */
 function countRows() {
   return main.querySelectorAll("table.rows tbody tr").length;
 }
@@ -184,16 +186,17 @@ function onKey(event) {
 
 function keys() {
   const all = [
-    ["/", "filter"], ["n p", "next, previous place"], ["o", "open its module"],
+    ["/", "filter"], ["n p", "next, previous dependency"], ["o", "open its module"],
     ["g", "graph and lists"], ["+ - 0", "larger, smaller, fit"],
   ];
-  const shown = all.map(([key, says]) => element("span", {}, element("kbd", {}, key), ` ${says}`));
+  const shown = all.map(([key, effect]) => element("span", {}, element("kbd", {}, key), ` ${effect}`));
   return element("footer", {}, ...shown);
 }
 
 const home = element("a", { href: "#", class: "home" }, report.title);
 document.body.replaceChildren(element("aside", {}, home, modules.view, keys()), main);
-main.addEventListener("drawn", () => fadeGraph(main, hits));
+main.addEventListener("drawn", () => fadeGraph(main, matches));
 addEventListener("hashchange", show);
 addEventListener("keydown", onKey);
+await nextTask();
 show();

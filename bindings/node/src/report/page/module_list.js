@@ -1,12 +1,12 @@
-/** The list of all modules by folder, of which the part is made that is seen, and its filter. */
+/** The list of all modules by folder, of which only the visible part is made, and its filter. */
 
 import { element } from "./elements.js";
 import { folders } from "./folders.js";
-import { hitsOf } from "./filter.js";
+import { matchesOf } from "./filter.js";
 import { counted, hashOf, nameText } from "./pieces.js";
 import { paths, report, visible } from "./report.js";
 
-/** The height of a row as the style has it, and how many are made above and below those in sight. */
+/** The height of a row, as in the style, and how many rows are made above and below the visible ones. */
 const ROW = 22;
 const BEYOND = 12;
 
@@ -18,22 +18,22 @@ export class ModuleList {
   #count = element("p", { class: "shown", role: "status" });
   #rows = element("ul", { class: "rows" });
   #list = element("div", { class: "modules" }, this.#rows);
-  /** What each row is: a module; or above the modules of a folder -1 - the folder's index. */
+  /** The rows: each is a module, or `-1 - folder` above the modules of a folder. */
   #shown = [];
-  /** For each module its row, -1 for those that aren't shown. */
+  /** For each module its row; -1 if it isn't shown. */
   #rowOf = new Int32Array(paths.length);
-  /** @type {import("./filter.js").Hits} */
-  #hits;
-  /** The module that is the list's stop of the tab key. */
-  #stop;
+  /** @type {import("./filter.js").Matches} */
+  #matches;
+  /** The module that the tab key goes to. */
+  #tabbed;
   #open;
   #onFilter;
   #onOpen;
 
   /**
    * @param {object} listeners
-   * @param {(hits: import("./filter.js").Hits) => void} listeners.onFilter
-   * @param {(module: number) => void} listeners.onOpen is called with a module that Enter opens
+   * @param {(matches: import("./filter.js").Matches) => void} listeners.onFilter
+   * @param {(module: number) => void} listeners.onOpen is called with the module that Enter opens
    */
   constructor({ onFilter, onOpen }) {
     this.#onFilter = onFilter;
@@ -55,26 +55,29 @@ export class ModuleList {
 
   /** @param {number | undefined} module the one that is open */
   open(module) {
+    if (module === this.#open) {
+      return;
+    }
     this.#open = module;
-    this.#stop = this.#rowOf[module] >= 0 ? module : this.#stop;
+    this.#tabbed = this.#rowOf[module] >= 0 ? module : this.#tabbed;
     this.#scrollTo(module);
     this.#draw();
   }
 
   /** Shows the modules whose paths have each of the field's words. */
   #filter() {
-    const hits = hitsOf(this.#field.value);
-    this.#hits = hits;
+    const matches = matchesOf(this.#field.value);
+    this.#matches = matches;
     this.#shown = [];
     this.#rowOf.fill(-1);
     folders.forEach((folder) => this.#addRows(folder));
-    this.#stop = this.#shown[1];
+    this.#tabbed = this.#shown[1];
     const all = counted(paths.length, "module");
-    this.#count.textContent = hits.isAll ? all : `${hits.count.toLocaleString("en")} of ${all}`;
+    this.#count.textContent = matches.isAll ? all : `${matches.count.toLocaleString("en")} of ${all}`;
     this.#rows.style.height = `${this.#shown.length * ROW}px`;
     this.#list.scrollTop = 0;
     this.#draw();
-    this.#onFilter(hits);
+    this.#onFilter(matches);
   }
 
   /** Adds the rows of a folder's own modules. */
@@ -82,7 +85,7 @@ export class ModuleList {
     const rows = this.#shown;
     const start = rows.push(-1 - index);
     for (const module of modules) {
-      if (this.#hits.isShown[module] === 1) {
+      if (this.#matches.isShown[module] === 1) {
         this.#rowOf[module] = rows.push(module) - 1;
       }
     }
@@ -91,7 +94,7 @@ export class ModuleList {
     }
   }
 
-  /** Makes the rows that are in sight; one that has the focus is kept. */
+  /** Makes the visible rows, and keeps the focus. */
   #draw() {
     const { scrollTop, clientHeight } = this.#list;
     const first = Math.max(0, Math.floor(scrollTop / ROW) - BEYOND);
@@ -112,7 +115,7 @@ export class ModuleList {
   }
 
   #moduleRow(module, position) {
-    const attributes = { "aria-setsize": this.#hits.count, "aria-posinset": position };
+    const attributes = { "aria-setsize": this.#matches.count, "aria-posinset": position };
     return element("li", attributes, this.#link(module));
   }
 
@@ -120,8 +123,8 @@ export class ModuleList {
     const text = nameText(path === "" ? "./" : `${path}/`);
     const name = element("span", { class: "heading-name" }, element("bdi", {}, ...text));
     const heading = element("li", { class: "heading", title: visible(path) }, name);
-    if (!this.#hits.isAll) {
-      const count = modules.filter((module) => this.#hits.isShown[module] === 1).length;
+    if (!this.#matches.isAll) {
+      const count = modules.filter((module) => this.#matches.isShown[module] === 1).length;
       heading.append(element("span", { class: "count" }, `${count} of ${modules.length}`));
     }
     return heading;
@@ -131,7 +134,7 @@ export class ModuleList {
     const path = visible(paths[module]);
     const attributes = {
       href: hashOf(module), title: path, "aria-label": path, "data-module": module,
-      tabindex: module === this.#stop ? "0" : "-1",
+      tabindex: module === this.#tabbed ? "0" : "-1",
       "aria-current": module === this.#open ? "page" : undefined,
     };
     return element("a", attributes, ...nameText(report.modules[module]));
@@ -182,7 +185,7 @@ export class ModuleList {
     }
   }
 
-  /** The module of a row; of a heading that of the row that is next in a direction. */
+  /** Returns the module of a row; of a heading, the module of the next row in a direction. */
   #moduleFrom(row, step) {
     const isAboveAll = row === 0 && step < 0;
     const isHeading = this.#shown[row] < 0;
@@ -190,7 +193,7 @@ export class ModuleList {
   }
 
   #go(module) {
-    this.#stop = module;
+    this.#tabbed = module;
     this.#scrollTo(module);
     this.#draw();
     this.#rows.querySelector(`[data-module="${module}"]`)?.focus({ preventScroll: true });

@@ -1,4 +1,4 @@
-/** One module: its source, and beside it what it names. */
+/** The view of one module: its source, and beside it the table of its dependencies. */
 
 import { detailsOf } from "./details.js";
 import { element } from "./elements.js";
@@ -10,7 +10,7 @@ import { wayView } from "./way_view.js";
 
 /**
  * @param {number} index
- * @returns {{ view: HTMLElement, whole: Promise<void> }} `whole` is when its text is there
+ * @returns {{ view: HTMLElement, whole: Promise<void> }} `whole` is resolved when its text is there
  */
 export function moduleView(index) {
   const text = element("div");
@@ -36,10 +36,10 @@ async function fill(index, text, beside) {
   await fillText(index, details, text);
 }
 
-/** Shows the text, as far as the page has it. */
+/** Shows the text that the page has. */
 async function fillText(index, details, box) {
   const { source, lines } = details;
-  const left = lines && `The file has ${counted(lines, "line")}: too long to be in this page as a whole.`;
+  const left = lines && `The file has ${counted(lines, "line")}, of which this page has only some.`;
   if (left || source === undefined) {
     box.append(element("p", { class: "none" }, left ?? "Its text couldn't be read."));
   }

@@ -1,34 +1,34 @@
-/** What is named and is no module of the report, by class. */
+/** The lists of what is outside the report, by class. */
 
 import { element } from "./elements.js";
 import { counted, moduleLink, nameText } from "./pieces.js";
 import { report } from "./report.js";
 import { longList } from "./reveal.js";
 
-/** Numbers of a place: the module, the row and the line. */
-const PLACE = 3;
+/** Numbers of a user: the module, the row and the line. */
+const USER = 3;
 
-/** The classes with their titles, and how the summary calls one item and more. */
+/** The classes: their titles, and the words of the summary for one item and for more. */
 export const CLASSES = [
   {
     id: "packages", title: "Packages", one: "package", many: "packages",
-    says: "With the version that is installed, else the one that package.json asks for.",
+    note: "With the version that is installed, else the one in package.json.",
   },
   { id: "builtins", title: "Modules of Node.js", one: "module of Node.js", many: "modules of Node.js" },
-  { id: "assets", title: "Assets", one: "asset", many: "assets", says: "Files that are no modules." },
+  { id: "assets", title: "Assets", one: "asset", many: "assets", note: "Files that aren't modules." },
   {
     id: "files", title: "Other files", one: "other file", many: "other files",
-    says: "Modules that were found and aren't of this report.",
+    note: "Modules that exist, but aren't in this report.",
   },
-  { id: "urls", title: "URLs", one: "URL", many: "URLs", says: "Nothing is loaded to look for them." },
+  { id: "urls", title: "URLs", one: "URL", many: "URLs", note: "They aren't loaded." },
 ];
 
 /**
- * @param {{ name: string, version?: string, places: number[] }} item
- * @returns {HTMLElement} a list item that shows, when it is opened, who names it
+ * @param {{ name: string, version?: string, users: number[] }} item
+ * @returns {HTMLElement} a list item that shows its users when it is opened
  */
-export function outsideItem({ name, version, isAbsent, places }) {
-  const count = counted(places.length / PLACE, "place");
+export function outsideItem({ name, version, isAbsent, users }) {
+  const count = counted(users.length / USER, "place");
   const summary = element(
     "summary", {},
     element("span", { class: "name" }, ...nameText(name)),
@@ -36,14 +36,14 @@ export function outsideItem({ name, version, isAbsent, places }) {
     element("span", { class: "count" }, count),
   );
   const details = element("details", {}, summary);
-  details.addEventListener("toggle", () => details.append(users(places)), { once: true });
+  details.addEventListener("toggle", () => details.append(usersList(users)), { once: true });
   return element("li", {}, details);
 }
 
-function users(places) {
+function usersList(users) {
   const items = [];
-  for (let at = 0; at < places.length; at += PLACE) {
-    items.push(places.slice(at, at + PLACE));
+  for (let at = 0; at < users.length; at += USER) {
+    items.push(users.slice(at, at + USER));
   }
   return longList(items, ([module, row, line]) => {
     const place = element("span", { class: "place" }, `:${line + 1}`);

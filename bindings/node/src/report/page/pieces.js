@@ -1,11 +1,11 @@
-/** Small pieces that more than one part of the page shows. */
+/** Small elements and texts that several parts of the page show. */
 
 import { nameParts } from "./controls.js";
 import { element } from "./elements.js";
 import { kindNamed, partsOf, paths } from "./report.js";
 
 /**
- * A path whose name is darker than its folder.
+ * Makes a path whose name is darker than its folder.
  * @param {string} path
  * @returns {HTMLElement}
  */
@@ -16,7 +16,7 @@ export function pathLabel(path) {
 }
 
 /**
- * A text in which a line may end after each slash, and each character is seen.
+ * Makes a text in which a line may end after each slash, and invisible characters are named.
  * @param {string} text
  * @returns {(Node | string)[]}
  */
@@ -26,7 +26,7 @@ function breakable(text) {
 }
 
 /**
- * A name in which each character is seen.
+ * Makes a name in which invisible characters are named.
  * @param {string} text
  * @returns {(Node | string)[]}
  */
@@ -64,7 +64,7 @@ export function kindLabel({ kind, word }) {
 }
 
 /**
- * A specifier, or what is known of an argument.
+ * Makes a specifier, or the known parts of an argument.
  * @param {any} name
  * @returns {HTMLElement}
  */
@@ -81,7 +81,7 @@ export function nameLabel(name) {
 }
 
 /**
- * Where a row leads to.
+ * Makes the target of a row.
  * @param {any} target
  * @returns {HTMLElement | string}
  */

@@ -1,4 +1,4 @@
-/** The index that is written into the page, and the questions that are asked of it. */
+/** The index that is written into the page, and functions that read it. */
 
 import { nameParts } from "./controls.js";
 
@@ -69,7 +69,7 @@ export function importers(module) {
 }
 
 /**
- * What is to be said of a module: whether it is an entry, unreached, in a cycle, or has a fault.
+ * Returns the states of a module: whether it is an entry, unreached, in a cycle, or has a fault.
  * @param {number} module
  * @returns {string[]}
  */
@@ -84,7 +84,7 @@ export function moduleStates(module) {
 }
 
 /**
- * @param {string} state one of those of `moduleStates`
+ * @param {string} state that `moduleStates` returns
  * @returns {string}
  */
 export function stateTitle(state) {
@@ -93,7 +93,7 @@ export function stateTitle(state) {
 }
 
 /**
- * A path in two parts.
+ * Splits a path in two parts.
  * @param {string} path
  * @returns {[string, string]} the folder with its slash, and the name
  */
@@ -103,7 +103,7 @@ export function partsOf(path) {
 }
 
 /**
- * A path as a text in which each character is seen.
+ * Returns a path in which invisible characters are shown by their names.
  * @param {string} path
  * @returns {string}
  */
@@ -113,7 +113,7 @@ export function visible(path) {
 
 /**
  * @param {string} kind
- * @returns {any} its title and how it is drawn
+ * @returns {any} its title, syntax and dashes
  */
 export function kindNamed(kind) {
   return report.kinds.find((each) => each.kind === kind);

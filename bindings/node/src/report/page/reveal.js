@@ -1,14 +1,14 @@
-/** Long lists, of which as much is made as is seen. */
+/** Long lists, whose items are made when they are seen. */
 
 import { element } from "./elements.js";
 import { counted } from "./pieces.js";
 
-/** How many items are shown at first, and how many are added when the end is seen. */
+/** Count of items that are shown at first, and that are added when the end is seen. */
 const SHOWN = 50;
 const ADDED = 100;
 
 /**
- * A list whose first items are shown; a button shows the others, in a box that scrolls.
+ * Makes a list of which the first items are shown; a button shows the others, in a box that scrolls.
  * @param {any[]} items
  * @param {(item: any) => HTMLElement} view makes a list item
  * @param {string} tag of the list
@@ -29,7 +29,7 @@ export function longList(items, view, tag = "ul") {
   return box;
 }
 
-/** Adds items as often as the end of the list comes into sight. */
+/** Adds items each time the end of the list is seen. */
 function revealAll(box, list, rest, view) {
   const end = element("div", { class: "end" });
   box.append(end);
@@ -43,7 +43,7 @@ function revealAll(box, list, rest, view) {
       }
       list.append(view(value));
     }
-    // An observer reports changes: where the end is still in sight it has to look anew.
+    // An observer reports changes only: if the end is still seen, it has to observe anew.
     observer.unobserve(end);
     observer.observe(end);
   };

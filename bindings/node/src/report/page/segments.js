@@ -1,4 +1,4 @@
-/** Cuts a module's text into lines, and lines where marks begin and end. */
+/** Cuts a module's text into lines, and each line where marks begin and end. */
 
 /**
  * @typedef {[number, number, number, string]} Mark from, to, the row and the kind
@@ -6,16 +6,17 @@
  * @typedef {object} Segment
  * @property {number} from in UTF-16 units
  * @property {number} to
- * @property {Mark[]} marks those around it, the innermost last
+ * @property {Mark[]} marks around it, the innermost last
  */
 
 /**
  * @param {string} text
  * @param {Mark[]} marks sorted by where they begin
- * @returns {Generator<Segment[]>} for each line its segments, a line feed among them
+ * @returns {Generator<Segment[]>} for each line its segments, with its line feed
  */
 export function* lineSegments(text, marks) {
   let next = 0;
+  /** @type {Mark[]} */
   let open = [];
   for (let from = 0; from < text.length || next < marks.length; ) {
     const feed = text.indexOf("\n", from);
@@ -33,12 +34,19 @@ export function* lineSegments(text, marks) {
   }
 }
 
-/** Of a line, with the marks that reach into it. */
+/**
+ * Returns the segments of a line.
+ * @param {number} from
+ * @param {number} to
+ * @param {Mark[]} marks
+ */
 function segmentsOf(from, to, marks) {
   const ends = marks.flatMap(([start, end]) => [start, end]).filter((at) => at > from && at < to);
   const cuts = [...new Set([from, ...ends, to])].sort((one, other) => one - other);
+  /** @type {Segment[]} */
   const segments = [];
   let next = 0;
+  /** @type {Mark[]} */
   let around = [];
   cuts.forEach((start, at) => {
     while (next < marks.length && marks[next][0] <= start) {
@@ -56,7 +64,11 @@ function segmentsOf(from, to, marks) {
   return segments;
 }
 
-/** The longest first. */
+/**
+ * Sorts the longest first.
+ * @param {Mark} one
+ * @param {Mark} other
+ */
 function byLength(one, other) {
   return other[1] - other[0] - (one[1] - one[0]);
 }

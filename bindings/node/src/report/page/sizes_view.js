@@ -1,28 +1,28 @@
-/** A picture of sizes: folders and modules as areas, by their bytes or by how many modules they are. */
+/** The picture of sizes: folders and modules as areas, by their bytes or by their count of modules. */
 
 import { element } from "./elements.js";
 import { crumbs } from "./graph_view.js";
 import { counted, hashOf, sizeText } from "./pieces.js";
 import { paths, report, visible } from "./report.js";
 
-/** How deep folders are drawn in folders, and the most areas side by side. */
+/** The depth of folders in folders that is drawn, and the most areas side by side. */
 const DEPTH = 3;
 const MOST_AREAS = 120;
 
-/** Of an area: the least side that is drawn, the least with a name, and a title's height, in pixels. */
+/** Pixels of an area: the least side that is drawn, and the least size with a name. */
 const LEAST_SIDE = 5;
 const NAMED = { width: 40, height: 17 };
 
-/** The least size of a folder's area in which what is inside is drawn, in pixels. */
+/** Pixels of a folder's area: the least size in which its content is drawn, and its title's height. */
 const OPEN = { width: 64, height: 48 };
 const HEAD = 18;
 
-/** What an area measures. */
+/** The measures of an area. */
 export const MEASURES = { bytes: "bytes", modules: "modules" };
 
 /**
  * @param {import("./folders.js").Folder} folder
- * @param {string} measure one of those above
+ * @param {string} measure of `MEASURES`
  * @returns {HTMLElement}
  */
 export function sizesView(folder, measure) {
@@ -52,7 +52,7 @@ function drawSizes(box, folder, measure) {
   box.replaceChildren(...shownInside(tree).map((node) => areaView(node, measure)));
 }
 
-/** The areas inside of one that are drawn: not those that are too small, nor what is in small ones. */
+/** Returns the areas inside of an area that are drawn: neither too small ones, nor the content of small ones. */
 function shownInside({ children = [] }) {
   const sides = ({ x0, x1, y0, y1 }) => [x1 - x0, y1 - y0];
   const shown = children.filter((node) => Math.min(...sides(node)) >= LEAST_SIDE);
@@ -63,7 +63,7 @@ function shownInside({ children = [] }) {
   });
 }
 
-/** A folder with what is inside, as deep as it is drawn; what is small is put together. */
+/** Returns a folder with its content to a depth; the smallest modules are one area. */
 function areaOf(folder, measure, depth) {
   const value = measure === MEASURES.bytes ? folder.bytes : folder.count;
   if (depth === 0) {
@@ -86,14 +86,14 @@ function areaView({ x0, x1, y0, y1, depth, data, isOpen, value }, measure) {
   const [width, height] = [x1 - x0, y1 - y0];
   const { name, path, href } = areaName(data);
   const size = measure === MEASURES.bytes ? sizeText(value) : counted(value, "module");
-  const says = `${path}: ${size}`;
+  const title = `${path}: ${size}`;
   const isNamed = width >= NAMED.width && height >= NAMED.height;
   const kind = `area${data.module === undefined ? " folder-area" : ""}${isNamed ? " named" : ""}`;
   const isTall = !isOpen && height >= 2 * NAMED.height;
   const area = element(
     "a",
     {
-      href: measureHref(href, measure), class: `${kind} depth-${depth}`, title: says, "aria-label": says,
+      href: measureHref(href, measure), class: `${kind} depth-${depth}`, title, "aria-label": title,
     },
     isNamed ? element("span", {}, isTall ? name : `${name} ${size}`) : undefined,
     isNamed && isTall ? element("span", { class: "count" }, size) : undefined,

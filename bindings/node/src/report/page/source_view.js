@@ -1,22 +1,22 @@
 /** A module's text with its marks. */
 
 import { withControls } from "./controls.js";
-import { element } from "./elements.js";
+import { element, nextTask } from "./elements.js";
 import { hashOf } from "./pieces.js";
 import { kindNamed } from "./report.js";
 import { lineSegments } from "./segments.js";
 
-/** Lines that a browser lays out together, once they are seen. */
+/** Count of lines that a browser lays out together, when they are seen. */
 const BLOCK = 200;
 
-/** How long lines are made at a time, in milliseconds, before the browser gets its turn. */
+/** Milliseconds in which lines are made in one task. */
 const SLICE = 20;
 
 /**
  * @param {number} index of the module
  * @param {any} details those of the module
- * @returns {{ view: HTMLElement, whole: Promise<void> }} the first lines at once; `whole` is when
- *   all are there, or the view is no longer shown
+ * @returns {{ view: HTMLElement, whole: Promise<void> }} the view has its first lines at once; `whole`
+ *   is resolved when it has all, or when it is no longer shown
  */
 export function sourceView(index, details) {
   const code = element("code", { class: "source" });
@@ -25,7 +25,7 @@ export function sourceView(index, details) {
   return { view, whole: addLines(lines, view) };
 }
 
-/** Makes lines, a slice of time after the other. */
+/** Makes lines in several tasks. */
 async function addLines(lines, view) {
   for (let isDone = false; !isDone; ) {
     const end = performance.now() + SLICE;
@@ -33,13 +33,13 @@ async function addLines(lines, view) {
       isDone = lines.next().done;
     }
     if (!isDone) {
-      await new Promise((resolve) => setTimeout(resolve));
+      await nextTask();
       isDone = !view.isConnected;
     }
   }
 }
 
-/** Adds a line to the code with each step. */
+/** Adds one line to the code at each step. */
 function* linesOf(index, details, code) {
   const { source, marks } = details;
   const numbers = lineNumbers(details);
@@ -60,7 +60,7 @@ function* linesOf(index, details, code) {
 }
 
 /**
- * The numbers of lines, counted from one, of a text of which some may be left out.
+ * Returns the function of line numbers, counted from one, of a text of which some lines may be left out.
  * @param {{ pieces?: [number, number][] }} module
  */
 function lineNumbers({ pieces = [[0, 0]] }) {

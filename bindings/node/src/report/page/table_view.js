@@ -1,11 +1,11 @@
-/** The table of what a module names, and who names it. */
+/** The table of a module's dependencies, and the list of its users. */
 
 import { element } from "./elements.js";
 import { hashOf, kindLabel, moduleLink, nameLabel, targetLabel } from "./pieces.js";
 import { importers, report } from "./report.js";
 import { longList } from "./reveal.js";
 
-/** What the kind says already. */
+/** Names in a `ModuleInfo` that repeat the kind. */
 const PLAIN = new Set(["import", "require", "JSDoc import"]);
 
 /**
@@ -27,9 +27,9 @@ export function tableView(index, rows) {
 }
 
 function rowView(index, row, at) {
-  const { kind, name, place, to } = row;
-  const title = `ModuleInfo, from zero: ${place.map((position) => position.join(":")).join(" to ")}`;
-  const line = element("a", { href: hashOf(index, at), title, class: "place" }, String(place[0][0] + 1));
+  const { kind, name, range, to } = row;
+  const title = `ModuleInfo, from zero: ${range.map((position) => position.join(":")).join(" to ")}`;
+  const line = element("a", { href: hashOf(index, at), title, class: "place" }, String(range[0][0] + 1));
   const link = element("a", { href: hashOf(index, at), title }, nameLabel(name));
   return element(
     "tr", { "data-row": at, class: kind },
@@ -40,7 +40,7 @@ function rowView(index, row, at) {
   );
 }
 
-/** What is below a row's name. */
+/** Makes the details below a row's name. */
 function details({ word, attributes, mode, sideEffect, types, typesTo }) {
   return [
     !PLAIN.has(word) && detail("as", element("code", {}, word)),

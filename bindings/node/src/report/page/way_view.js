@@ -1,4 +1,4 @@
-/** Why a module is there: a shortest way to it, with the lines. */
+/** Why a module is there: a shortest path to it, with the lines. */
 
 import { detailsOf } from "./details.js";
 import { element } from "./elements.js";
@@ -19,16 +19,16 @@ export function wayView(module) {
 function contentOf(way) {
   const isOfEntries = report.entries.length > 0;
   if (way === undefined) {
-    return [note(isOfEntries ? "No way leads to it from an entry." : "No way leads to it but a cycle.")];
+    return [note(isOfEntries ? "No entry leads to it." : "Only modules of a cycle lead to it.")];
   }
   if (way.length === 0) {
-    return [note(isOfEntries ? "It is an entry." : "No module of this report names it.")];
+    return [note(isOfEntries ? "It is an entry." : "No module of this report leads to it.")];
   }
   const runs = way.every(({ kind }) => kindRuns[kind]);
-  const kinds = runs ? "" : " It is named by types or in comments alone, which run nothing.";
-  const start = isOfEntries ? "an entry" : "a module that no other one names";
+  const kinds = runs ? "" : " Only types or comments lead to it, which run nothing.";
+  const start = isOfEntries ? "an entry" : "a module that no other one leads to";
   return [
-    note(`The shortest way from ${start}.${kinds}`),
+    note(`The shortest path from ${start}.${kinds}`),
     element("ol", { class: "steps" }, ...way.map(stepView)),
   ];
 }
@@ -43,6 +43,6 @@ function stepView({ from, kind, row, line }) {
   return element(
     "li", {},
     moduleLink(from, row), element("span", { class: "place" }, `:${line + 1}`), " ",
-    kindLabel({ kind: report.kinds[kind].kind, word: report.kinds[kind].says }), " ", name,
+    kindLabel({ kind: report.kinds[kind].kind, word: report.kinds[kind].syntax }), " ", name,
   );
 }

@@ -1,21 +1,21 @@
-/** The shortest ways to modules from the entries, or without entries from what no module names. */
+/** The shortest paths to modules from the entries, or without entries from the modules that none leads to. */
 
 import { eachEdge, kindRuns, report } from "./report.js";
 
 /**
- * For each module the edge by which a shortest way comes to it; undefined for those where ways
- * begin, and for those to which none leads.
+ * For each module the last edge of a shortest path to it; undefined where a path begins, and where
+ * none ends.
  * @type {{ from: number, kind: number, row: number, line: number }[] | undefined}
  */
 let steps;
 
-/** Where ways begin. @type {Set<number>} */
+/** The modules where paths begin. @type {Set<number>} */
 const starts = new Set(report.entries.length > 0 ? report.entries : report.lists.unreached);
 
 /**
  * @param {number} module
  * @returns {{ from: number, to: number, kind: number, row: number, line: number }[] | undefined}
- *   the edges of a shortest way, by edges that run if there is such a way; nothing where there is none
+ *   the edges of a shortest path, which run if there is such a path; nothing if there is no path
  */
 export function wayTo(module) {
   steps ??= allSteps();
@@ -29,7 +29,7 @@ export function wayTo(module) {
   return way.length > 0 ? way : undefined;
 }
 
-/** Breadth first by edges that run; then from all that was reached by the others too. */
+/** Searches breadth first by edges that run, then from all reached modules by the other edges too. */
 function allSteps() {
   const found = [];
   const reached = new Set(starts);

@@ -1,16 +1,16 @@
-/** From the positions of a `ModuleInfo` to offsets in the text. */
+/** Offsets of positions in a text. */
 
 /** How TypeScript and the faults of the adapters count lines. */
 const LINE_BREAK = /\r\n|[\n\r\u2028\u2029]/gu;
 
 /**
- * The offsets of positions, whose lines end at U+000A and whose characters are Unicode code points.
- * It is quickest where positions ascend.
+ * Finds the offset of a position, as a `ModuleInfo` has it: lines end at U+000A, and characters are
+ * Unicode code points. Ascending positions are found quickest.
  */
-export class Places {
+export class Offsets {
   #text;
   #starts;
-  /** The last position that was asked for, and its offset. */
+  /** The position that was found last, and its offset. */
   #last = { line: 0, character: 0, offset: 0 };
 
   /** @param {string} text */
@@ -25,9 +25,9 @@ export class Places {
   /**
    * @param {[number, number]} position line and character, both from zero
    * @returns {number} in UTF-16 units
-   * @throws {RangeError} where the text has no such place
+   * @throws {RangeError} the text has no such position
    */
-  offset([line, character]) {
+  find([line, character]) {
     const { length } = this.#text;
     const end = (this.#starts[line + 1] ?? length + 1) - 1;
     let at = this.#before(line, character);
@@ -43,21 +43,21 @@ export class Places {
   }
 
   /**
-   * A place of a line whose offset is known.
+   * Returns the position from which to count: the last one, or the start of the line.
    * @param {number} line
    * @param {number} character
    */
   #before(line, character) {
-    const isBehind = this.#last.line === line && this.#last.character <= character;
-    return isBehind ? this.#last : { line, character: 0, offset: this.#starts[line] };
+    const isAfter = this.#last.line === line && this.#last.character <= character;
+    return isAfter ? this.#last : { line, character: 0, offset: this.#starts[line] };
   }
 }
 
 /**
- * The character at which a syntax error is, by the place that its fault has.
+ * Returns the range of the character at a fault's position.
  * @param {string} text
  * @param {{ line?: number, column?: number }} fault counted from one, its characters code points
- * @returns {[number, number] | undefined} offsets, equal at the end of a line; none without a place
+ * @returns {[number, number] | undefined} offsets, equal at the end of a line; none without a position
  */
 export function faultRange(text, { line, column = 1 }) {
   if (!line) {
