@@ -43,13 +43,13 @@ faults! {
     Tree,
     /// `analyze`: the specifier is no URL.
     Specifier,
-    /// `analyze`: a range has its start after its end.
+    /// `analyze`: a range starts after its end.
     RangeReversed,
-    /// `analyze`: a range has an end after that of the source.
+    /// `analyze`: a range ends after the source.
     RangeOutside,
-    /// `analyze`: a range has an end inside a character.
+    /// `analyze`: a range starts or ends inside a character.
     RangeOffBoundary,
-    /// `analyze`: the source doesn't have the comment, as it is written, at the comment's range.
+    /// `analyze`: the source doesn't have the comment at its range.
     CommentText,
     /// `analyze`: two comments are unequal and share a byte.
     CommentsOverlap,

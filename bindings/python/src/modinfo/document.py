@@ -272,7 +272,7 @@ class Ident(TypedDict):
 
 
 class Object(TypedDict):
-    """An object literal, also that of a `with` clause. Its children are its properties."""
+    """An object literal or a `with` clause. Its children are its properties."""
 
     # The tag.
     kind: Literal["Object"]
