@@ -1,4 +1,6 @@
-//! The types of what `analyze` returns: each example and row is read and written back.
+//! The types of what `analyze` returns: what is found in each example and row, and in generated documents, is read and
+//! written back.
+#![cfg(feature = "serde")]
 
 mod repository;
 
@@ -8,7 +10,8 @@ use modinfo::{
     SpecifierWithRange, StaticDependencyDescriptor, StaticDependencyKind, TypeScriptReference,
     TypeScriptTypesResolutionMode,
 };
-use repository::{examples, rows, Call};
+use repository::{examples, root, rows, Call};
+use std::process::Command;
 
 fn read(json: &str) -> ModuleInfo {
     serde_json::from_str(json).unwrap_or_else(|error| panic!("{error}: {json}"))
@@ -48,6 +51,21 @@ fn each_example_is_read_and_written_back() {
 #[test]
 fn each_row_is_read_and_written_back() {
     assert!(written_back(rows()) > 100);
+}
+
+#[test]
+fn generated_documents_are_read_and_written_back() {
+    let generated = Command::new("/usr/bin/python3")
+        .arg(root().join("tools/tests/generated_documents.py"))
+        .arg("1000")
+        .output()
+        .expect("python3");
+    let documents = String::from_utf8(generated.stdout).expect("UTF-8");
+    assert_eq!(documents.lines().count(), 1000);
+    for document in documents.lines() {
+        let line = modinfo::analyze(document.as_bytes()).expect(document);
+        assert_eq!(written(&read(&line)), line);
+    }
 }
 
 #[test]
