@@ -8,7 +8,7 @@ import { readFileSync } from "node:fs";
  */
 
 /** Keywords that say nothing of a value. */
-const NOTES = new Set(["$schema", "$defs", "title", "description", "default", "then"]);
+const NOTES = new Set(["$schema", "$defs", "title", "description", "default", "examples", "then"]);
 
 /**
  * @param {string} name
@@ -34,7 +34,7 @@ export function fault(value, schema, root = schema, path = "") {
     return `${path}: not allowed`;
   }
   for (const keyword of Object.keys(schema)) {
-    if (!NOTES.has(keyword)) {
+    if (!NOTES.has(keyword) && !keyword.startsWith("x-")) {
       const found = faultOf(keyword, value, schema, root, path);
       if (found) {
         return found;

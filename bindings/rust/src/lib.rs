@@ -7,12 +7,18 @@ mod error;
 mod fault;
 #[allow(unsafe_code)]
 mod ffi;
+#[cfg(feature = "serde")]
+mod information;
+#[cfg(feature = "serde")]
+mod module_info;
 mod report;
 mod version;
 
 pub use command::Command;
 pub use error::Error;
 pub use fault::Fault;
+#[cfg(feature = "serde")]
+pub use module_info::*;
 pub use version::Version;
 
 use ffi::{Function, Written};

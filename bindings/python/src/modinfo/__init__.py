@@ -10,12 +10,12 @@ from typing import Any, Literal, cast
 
 from . import _library
 from ._buffers import Buffer, is_buffer
-from ._fault import DocumentFault, Fault, FaultName
+from ._fault import Fault, FaultName
 from ._lines import answer_lines
 from .document import ModuleDocument
 from .information import ModuleInfo
 from .parser import Parser, ParserError
-from .report import FaultReport, Report, ValidReport
+from .report import DocumentFault, FaultReport, Report, ValidReport
 
 __version__ = "0.1.0"
 __all__ = [

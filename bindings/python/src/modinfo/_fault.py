@@ -1,27 +1,10 @@
 """The error of a document that is refused."""
 
-from typing import TYPE_CHECKING, Literal
+from typing import Literal
 
 from ._messages import shown
+from .report import DocumentFault, FaultReport
 
-if TYPE_CHECKING:
-    from .report import FaultReport
-
-# Why a document is refused; docs/FORMATS.md of the repository says when each comes.
-DocumentFault = Literal[
-    "Input",
-    "Json",
-    "Tree",
-    "Specifier",
-    "RangeReversed",
-    "RangeOutside",
-    "RangeOffBoundary",
-    "CommentText",
-    "CommentsOverlap",
-    "Shape",
-    "Float",
-    "ColumnOverflow",
-]
 FaultName = Literal[DocumentFault, "OutOfMemory"]
 
 
@@ -33,7 +16,7 @@ class Fault(Exception):
     is expected there.
     """
 
-    def __init__(self, name: FaultName, report: "FaultReport | None" = None) -> None:
+    def __init__(self, name: FaultName, report: FaultReport | None = None) -> None:
         super().__init__(name, report)
         self.name: FaultName = name
         self.report = report
@@ -44,7 +27,7 @@ class Fault(Exception):
         return f"{self.name}{_place(self.report)}: expected {shown(self.report['expected'])}"
 
 
-def _place(report: "FaultReport") -> str:
+def _place(report: FaultReport) -> str:
     """Lines and columns as editors count them, from one. The report counts from zero."""
     place = ""
     if "pointer" in report:

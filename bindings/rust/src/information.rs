@@ -1,0 +1,109 @@
+//! What the generated types of `module_info` are made with, and their methods.
+
+use crate::module_info::{
+    DependencyDescriptor, DynamicArgument, DynamicDependencyDescriptor, ImportAttribute,
+    ImportAttributes, StaticDependencyDescriptor,
+};
+
+/// Defines a struct of two fields that is an array in JSON.
+macro_rules! pair {
+    ($(#[$meaning:meta])* $name:ident { $first:ident: $one:ty, $second:ident: $other:ty }) => {
+        $(#[$meaning])*
+        #[derive(Clone, Copy, Debug, Default, PartialEq, Eq, PartialOrd, Ord, Hash)]
+        pub struct $name {
+            #[doc = concat!("The ", stringify!($first), ".")]
+            pub $first: $one,
+            #[doc = concat!("The ", stringify!($second), ".")]
+            pub $second: $other,
+        }
+
+        impl serde::Serialize for $name {
+            fn serialize<S: serde::Serializer>(&self, serializer: S) -> Result<S::Ok, S::Error> {
+                (self.$first, self.$second).serialize(serializer)
+            }
+        }
+
+        impl<'de> serde::Deserialize<'de> for $name {
+            fn deserialize<D: serde::Deserializer<'de>>(deserializer: D) -> Result<Self, D::Error> {
+                let ($first, $second) = serde::Deserialize::deserialize(deserializer)?;
+                Ok($name { $first, $second })
+            }
+        }
+    };
+}
+
+pub(crate) use pair;
+
+/// Whether a member is left out of the JSON.
+pub(crate) fn is_default<T: Default + PartialEq>(value: &T) -> bool {
+    *value == T::default()
+}
+
+impl DependencyDescriptor {
+    /// The dependency if a declaration or a type names it.
+    #[must_use]
+    pub fn as_static(&self) -> Option<&StaticDependencyDescriptor> {
+        match self {
+            DependencyDescriptor::Static(dependency) => Some(dependency),
+            DependencyDescriptor::Dynamic(_) => None,
+        }
+    }
+
+    /// The dependency if it is one of a call.
+    #[must_use]
+    pub fn as_dynamic(&self) -> Option<&DynamicDependencyDescriptor> {
+        match self {
+            DependencyDescriptor::Static(_) => None,
+            DependencyDescriptor::Dynamic(dependency) => Some(dependency),
+        }
+    }
+
+    /// The attributes of either kind of dependency.
+    #[must_use]
+    pub fn import_attributes(&self) -> &ImportAttributes {
+        match self {
+            DependencyDescriptor::Static(dependency) => &dependency.import_attributes,
+            DependencyDescriptor::Dynamic(dependency) => &dependency.import_attributes,
+        }
+    }
+}
+
+impl From<StaticDependencyDescriptor> for DependencyDescriptor {
+    fn from(dependency: StaticDependencyDescriptor) -> Self {
+        DependencyDescriptor::Static(dependency)
+    }
+}
+
+impl From<DynamicDependencyDescriptor> for DependencyDescriptor {
+    fn from(dependency: DynamicDependencyDescriptor) -> Self {
+        DependencyDescriptor::Dynamic(dependency)
+    }
+}
+
+impl ImportAttributes {
+    /// Whether there are no attributes.
+    #[must_use]
+    pub fn is_none(&self) -> bool {
+        *self == ImportAttributes::None
+    }
+
+    /// The value of a key, if it is known.
+    #[must_use]
+    pub fn get(&self, key: &str) -> Option<&str> {
+        match self {
+            ImportAttributes::Known(values) => match values.get(key)? {
+                ImportAttribute::Known(value) => Some(value),
+                ImportAttribute::Unknown => None,
+            },
+            _ => None,
+        }
+    }
+}
+
+impl DynamicArgument {
+    /// Whether nothing is known of the argument.
+    #[must_use]
+    pub fn is_expr(&self) -> bool {
+        *self == DynamicArgument::Expr
+    }
+}
