@@ -1,8 +1,8 @@
 /**
- * From a text to a document that has the answer of its module, by what is fastest: scripts by a lexer, other
- * JavaScript by acorn, which needs less time than TypeScript and is loaded sooner, all else by TypeScript. What
- * acorn doesn't take, as JSX, types or decorators, is parsed by TypeScript too, whose error is that of a text
- * which neither takes.
+ * From a text to a document that has the answer of its module, by what is fastest: JavaScript by a lexer, where
+ * that isn't sure by acorn, which needs less time than TypeScript and is loaded sooner, all else by TypeScript.
+ * What acorn doesn't take, as JSX, types or decorators, is parsed by TypeScript too, whose error is that of a
+ * text which neither takes.
  */
 
 import { toDocument as toDocumentByAcorn } from "./estree/index.mjs";
@@ -10,7 +10,6 @@ import { toDocument as toDocumentByLexer } from "./lexer/index.mjs";
 import { toDocument as toDocumentByTypeScript } from "./typescript/index.mjs";
 import { isInstalled } from "./installed_parsers.mjs";
 
-const SCRIPTS = new Set(["JavaScript", "Cjs"]);
 const BY_ACORN = new Set(["JavaScript", "Mjs", "Cjs"]);
 
 /**
@@ -20,16 +19,7 @@ const BY_ACORN = new Set(["JavaScript", "Mjs", "Cjs"]);
  * @throws {import("../document/source.mjs").SourceFault} a syntax error, or a lone surrogate
  */
 export function toDocument(text, options) {
-  return byLexer(text, options) ?? byAcorn(text, options) ?? toDocumentByTypeScript(text, options);
-}
-
-/**
- * @param {string} text
- * @param {{ specifier: string, mediaType: any }} options
- * @returns {object | undefined} nothing where it needs a parser
- */
-function byLexer(text, options) {
-  return SCRIPTS.has(options.mediaType) ? toDocumentByLexer(text, options) : undefined;
+  return toDocumentByLexer(text, options) ?? byAcorn(text, options) ?? toDocumentByTypeScript(text, options);
 }
 
 /**

@@ -1,11 +1,12 @@
 /**
- * Finds comments, and calls of `require` and `import`, in a script, without a tree.
+ * Finds comments, import and export declarations, and calls of `require` and `import`, without a tree.
  *
  * A slash begins a comment, a division or a regular expression. Which of them is known from the tokens
  * before it in all but few places; there the lexer gives up, as where something other than such a call may
  * be relevant.
  *
  * @typedef {import("../../document/comments.mjs").Comment} Comment
+ * @typedef {import("./declarations.mjs").Declaration} Declaration
  *
  * @typedef {object} Call of which the first argument is the only one
  * @property {number} start in UTF-16 units, as all offsets
@@ -22,8 +23,12 @@
  * @property {number} start of the first one; the text's length where there is none
  * @property {Comment[]} comments in the order of the source
  * @property {Call[]} calls each before those inside of it, in the order of the source
+ * @property {Declaration[]} declarations in the order of the source
+ * @property {boolean} hasAwait
  * @property {Set<number>} regularExpressionEnds
  */
+
+import { readDeclaration } from "./declarations.mjs";
 
 /** The last token, as far as that tells what follows. */
 const OPERATOR = 0;
@@ -65,7 +70,11 @@ const WORDS_BEFORE_OPERAND = wordSet(
   "break case continue debugger delete do else extends in instanceof new return throw typeof void",
 );
 /** Keywords or names, depending on where they are. */
-const UNKNOWN_WORDS = wordSet("of yield");
+const UNKNOWN_WORDS = wordSet("await of yield");
+
+const DECIMAL = String.raw`(?:(?:0|[1-9][\d_]*)(?:\.[\d_]*)?|\.[\d_]+)(?:e[+-]?[\d_]+)?`;
+const INTEGER = String.raw`0[box][\da-f_]+n?|(?:0|[1-9][\d_]*)n`;
+const NUMBER = new RegExp(String.raw`(?:${INTEGER}|${DECIMAL})(?![\w$])`, "iy");
 
 const LINE_FEED = 0x0a;
 const CARRIAGE_RETURN = 0x0d;
@@ -80,11 +89,11 @@ const LINE_SEPARATOR = 0x2028;
 const PARAGRAPH_SEPARATOR = 0x2029;
 
 /**
- * @param {string} text a script; where it has a syntax error, what is found is of no use
+ * @param {string} text where it has a syntax error, what is found is of no use
  * @param {number} from behind the `#!` line
  * @returns {Tokens | undefined} nothing where the lexer gives up
  */
-export function lexScript(text, from) {
+export function lex(text, from) {
   const lexer = new Lexer(text, from);
   return lexer.run() ? lexer.tokens() : undefined;
 }
@@ -115,6 +124,11 @@ class Lexer {
   #comments = [];
   /** @type {Call[]} */
   #calls = [];
+  /** @type {Declaration[]} */
+  #declarations = [];
+  #hasAwait = false;
+  /** Whether an expression is exported. */
+  #hasDefault = false;
   /** @type {Set<number>} */
   #regularExpressionEnds = new Set();
 
@@ -148,6 +162,8 @@ class Lexer {
       start: this.#start < 0 ? this.#text.length : this.#start,
       comments: this.#comments,
       calls: this.#calls.filter(({ end }) => end > 0),
+      declarations: this.#declarations,
+      hasAwait: this.#hasAwait,
       regularExpressionEnds: this.#regularExpressionEnds,
     };
   }
@@ -202,22 +218,40 @@ class Lexer {
     if (this.#last === MEMBER) {
       return this.#pass(end, OPERAND);
     }
-    const isNew = this.#last === WORD && this.#isLastWord("new");
+    const isBehindNew = this.#isBehind("new");
+    const isBehindFor = this.#isBehind("for");
     this.#wordStart = start;
     this.#wordEnd = end;
     this.#pass(end, WORD);
-    return !this.#mayBeRelevant() && !(isNew && this.#isLastWord("require"));
+    if (this.#isLastWord("import") || this.#isLastWord("export")) {
+      return this.#moduleWord();
+    }
+    if (this.#isLastWord("await")) {
+      this.#hasAwait = true;
+      return !isBehindFor;
+    }
+    return !(isBehindNew && this.#isLastWord("require"));
   }
 
-  /** Whether the last word may make the script a module, or name one otherwise than by a call. */
-  #mayBeRelevant() {
-    if (!(this.#isLastWord("import") || this.#isLastWord("export") || this.#isLastWord("await"))) {
+  /** @param {string} word */
+  #isBehind(word) {
+    return this.#last === WORD && this.#isLastWord(word);
+  }
+
+  /** A key, a call of `import`, or a declaration. */
+  #moduleWord() {
+    const next = this.#text[this.#spaceEnd(this.#wordEnd)];
+    if (next === ":" || (next === "(" && this.#isLastWord("import"))) {
+      return true;
+    }
+    const isItem = this.#open.length === 0;
+    const declaration = isItem && readDeclaration(this.#text, this.#wordStart, this.#declarations.length);
+    if (!declaration) {
       return false;
     }
-    const next = this.#text[this.#spaceEnd(this.#wordEnd)];
-    const isKey = next === ":";
-    const isCall = next === "(" && this.#isLastWord("import");
-    return !isKey && !isCall;
+    this.#declarations.push(declaration);
+    this.#hasDefault ||= declaration.isDefault;
+    return this.#pass(declaration.end, OPERATOR);
   }
 
   /** @param {string} word */
@@ -250,13 +284,10 @@ class Lexer {
     return end;
   }
 
-  /** A number, with the names of members behind it. */
+  /** A number, but no octal one without a letter, behind which a dot may be of it or not. */
   #number() {
-    let end = this.#nameEnd(this.#at + 1);
-    while (this.#text[end] === ".") {
-      end = this.#nameEnd(end + 1);
-    }
-    return this.#pass(end, OPERAND);
+    NUMBER.lastIndex = this.#at;
+    return NUMBER.test(this.#text) && this.#pass(NUMBER.lastIndex, OPERAND);
   }
 
   /** @param {number} quote */
@@ -293,7 +324,7 @@ class Lexer {
       case "`":
         return this.#template();
       case ",":
-        return this.#open[this.#open.length - 1] !== CALL && this.#pass(this.#at + 1, OPERATOR);
+        return !this.#isOutermostComma() && this.#pass(this.#at + 1, OPERATOR);
       case ".":
         return this.#dot();
       case "#":
@@ -304,6 +335,12 @@ class Lexer {
         // In a script, and in no module, this is a comment.
         return !this.#text.startsWith("<!--", this.#at) && this.#pass(this.#at + 1, OPERATOR);
     }
+  }
+
+  /** Whether a comma at this place is one behind an argument, or maybe behind a default export. */
+  #isOutermostComma() {
+    const { length } = this.#open;
+    return length === 0 ? this.#hasDefault : this.#open[length - 1] === CALL;
   }
 
   /** @param {number} kind */
@@ -425,7 +462,8 @@ class Lexer {
     this.#begin();
     switch (this.#last === WORD ? this.#wordToken() : this.#last) {
       case OPERAND: case CALLED:
-        return this.#pass(this.#at + 1, OPERATOR);
+        // On the next line it may begin a statement, as behind `var a`.
+        return !this.#hasLineBreakBefore() && this.#pass(this.#at + 1, OPERATOR);
       case OPERATOR:
         return this.#regularExpression();
       default:
@@ -450,6 +488,15 @@ class Lexer {
       at++;
     }
     return at;
+  }
+
+  #hasLineBreakBefore() {
+    for (let at = this.#end; at < this.#at; at++) {
+      if (isLineBreak(this.#text.charCodeAt(at))) {
+        return true;
+      }
+    }
+    return false;
   }
 
   /** What the last word is to a slash behind it. */

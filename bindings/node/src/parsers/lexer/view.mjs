@@ -1,4 +1,4 @@
-/** How the calls of a script are read that has no tree: all of it is one item, in which they are. */
+/** How declarations and calls are read that were found without a tree. */
 
 /**
  * @typedef {import("../../document/write_document.mjs").Description} Description
@@ -7,7 +7,7 @@
  * @typedef {import("../../document/relevant_nodes.mjs").RelevantNode} RelevantNode
  * @typedef {import("./lexer.mjs").Argument} Argument
  * @typedef {import("./lexer.mjs").Call} Call
- * @typedef {any} Node the item, a call, the callee or the argument of one
+ * @typedef {any} Node an item, a call, the callee or the argument of one
  */
 
 const OTHER = Object.freeze({ kind: "Other" });
@@ -36,9 +36,12 @@ export class LexerView {
     return end;
   }
 
-  /** @returns {Description} */
-  describe() {
-    return OTHER;
+  /**
+   * @param {Node} item
+   * @returns {Description}
+   */
+  describe({ described = OTHER }) {
+    return described;
   }
 
   /**
