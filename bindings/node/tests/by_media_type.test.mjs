@@ -1,17 +1,18 @@
-/** The documents of texts by the parser that is fastest. */
+/** The documents of texts by what is fastest have the answers of TypeScript's documents. */
 
 import assert from "node:assert/strict";
 import { test } from "node:test";
 
 import { toDocument } from "../src/parsers/by_media_type.mjs";
 import { toDocument as byTypeScript } from "../src/parsers/typescript/index.mjs";
+import { answerTo } from "./documents.mjs";
 
-/** What a function makes of a text: the document and the warnings, or the error. */
+/** What a function makes of a text: the answer to the document and the warnings, or the error. */
 function outcome(parse, text, mediaType) {
   const warnings = [];
   try {
     const options = { specifier: "file:///module", mediaType, warn: (warning) => warnings.push(warning) };
-    return { document: parse(text, options), warnings };
+    return { answer: answerTo(parse(text, options)), warnings };
   } catch ({ name, message, line, column }) {
     return { name, message, line, column };
   }
@@ -31,7 +32,7 @@ const TEXTS = {
 };
 
 for (const [name, text] of Object.entries(TEXTS)) {
-  test(`${name} is to the fastest parser what it is to TypeScript's`, () => {
+  test(`${name} has the answer that it has by TypeScript's parser`, () => {
     for (const mediaType of ["JavaScript", "Mjs", "Jsx", "TypeScript"]) {
       assert.deepEqual(outcome(toDocument, text, mediaType), outcome(byTypeScript, text, mediaType), mediaType);
     }
