@@ -27,6 +27,8 @@ const TEXTS = {
   decorators: `@a class B { @c d = require("e"); }`,
   "a sum of many": `require("a" +${" b +".repeat(60)} require("c"));`,
   "a syntax error": "let a = 1;\nlet b = ;\n",
+  "calls inside one another": `${"require(".repeat(300)}a${")".repeat(300)}`,
+  "calls that nest too deep": `${"require(".repeat(3000)}a${")".repeat(3000)}`,
   "a lone surrogate": "let a = '\ud800';",
   "a type": `type A = import("a").B; export {};`,
 };
