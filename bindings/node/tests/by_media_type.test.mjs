@@ -1,13 +1,14 @@
-/** The documents of texts by the parser that is fastest. */
+/** The documents of texts by what is fastest have the answers of TypeScript's documents. */
 
 import assert from "node:assert/strict";
 import { test } from "node:test";
 
 import { toDocument } from "../src/parsers/by_media_type.mjs";
 import { SourceFault, toDocument as byTypeScript } from "../src/parsers/typescript/index.mjs";
+import { answerTo } from "./documents.mjs";
 
 /**
- * What a function makes of a text: the document and the warnings, or the error.
+ * What a function makes of a text: the answer to the document and the warnings, or the error.
  * @param {typeof toDocument | typeof byTypeScript} parse
  * @param {string} text
  * @param {import("../src/index.mjs").ParsedMediaType} mediaType
@@ -17,7 +18,7 @@ function outcome(parse, text, mediaType) {
   const warnings = [];
   try {
     const options = { specifier: "file:///module", mediaType, warn: (/** @type {unknown} */ warning) => warnings.push(warning) };
-    return { document: parse(text, options), warnings };
+    return { answer: answerTo(parse(text, options)), warnings };
   } catch (error) {
     assert.ok(error instanceof SourceFault);
     const { name, message, line, column } = error;
@@ -34,12 +35,14 @@ const TEXTS = {
   decorators: `@a class B { @c d = require("e"); }`,
   "a sum of many": `require("a" +${" b +".repeat(60)} require("c"));`,
   "a syntax error": "let a = 1;\nlet b = ;\n",
+  "calls inside one another": `${"require(".repeat(300)}a${")".repeat(300)}`,
+  "calls that nest too deep": `${"require(".repeat(3000)}a${")".repeat(3000)}`,
   "a lone surrogate": "let a = '\ud800';",
   "a type": `type A = import("a").B; export {};`,
 };
 
 for (const [name, text] of Object.entries(TEXTS)) {
-  test(`${name} is to the fastest parser what it is to TypeScript's`, () => {
+  test(`${name} has the answer that it has by TypeScript's parser`, () => {
     for (const mediaType of /** @type {const} */ (["JavaScript", "Mjs", "Jsx", "TypeScript"])) {
       assert.deepEqual(outcome(toDocument, text, mediaType), outcome(byTypeScript, text, mediaType), mediaType);
     }
