@@ -4,7 +4,7 @@ import assert from "node:assert/strict";
 import { test } from "node:test";
 
 import { toDocument } from "../src/parsers/by_media_type.mjs";
-import { SourceFault, toDocument as byTypeScript } from "../src/parsers/typescript/index.mjs";
+import { toDocument as byTypeScript } from "../src/parsers/typescript/index.mjs";
 import { answerTo } from "./documents.mjs";
 
 /**
@@ -20,8 +20,7 @@ function outcome(parse, text, mediaType) {
     const options = { specifier: "file:///module", mediaType, warn: (/** @type {unknown} */ warning) => warnings.push(warning) };
     return { answer: answerTo(parse(text, options)), warnings };
   } catch (error) {
-    assert.ok(error instanceof SourceFault);
-    const { name, message, line, column } = error;
+    const { name, message, line, column } = /** @type {import("../src/parsers/typescript/index.mjs").SourceFault} */ (error);
     return { name, message, line, column };
   }
 }
