@@ -25,7 +25,7 @@ def test_a_fault_with_its_place() -> None:
     )
 
 
-# Reports as docs/FORMATS.md describes them, and what a person is told.
+# Reports as docs/FORMATS.md describes them, and the message of their error.
 LINES: list[tuple[FaultReport | None, str]] = [
     ({"fault": "Tree", "pointer": "", "expected": "an object"}, "Tree in the whole document: expected an object"),
     (

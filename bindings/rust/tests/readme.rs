@@ -50,7 +50,7 @@ fn the_example_prints_what_the_readme_says() {
     );
 }
 
-/// With a stand-in for the parser, which has the document of one file.
+/// With a stand-in for the parser, which prints the document of one file.
 #[test]
 fn the_example_with_a_parser() {
     let folder = program("parser", block("```rust,no_run\n"));

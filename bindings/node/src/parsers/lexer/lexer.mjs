@@ -90,7 +90,7 @@ const PARAGRAPH_SEPARATOR = 0x2029;
 
 /**
  * @param {string} text where it has a syntax error, what is found is of no use
- * @param {number} from behind the `#!` line
+ * @param {number} from after the `#!` line
  * @returns {Tokens | undefined} nothing where the lexer gives up
  */
 export function lex(text, from) {
@@ -284,7 +284,7 @@ class Lexer {
     return end;
   }
 
-  /** A number, but no octal one without a letter, behind which a dot may be of it or not. */
+  /** A number, but no octal number without a letter: a dot after that may belong to the number or not. */
   #number() {
     NUMBER.lastIndex = this.#at;
     return NUMBER.test(this.#text) && this.#pass(NUMBER.lastIndex, OPERAND);
@@ -337,7 +337,7 @@ class Lexer {
     }
   }
 
-  /** Whether a comma at this place is one behind an argument, or maybe behind a default export. */
+  /** Whether a comma at this offset follows an argument, or maybe a default export. */
   #isOutermostComma() {
     const { length } = this.#open;
     return length === 0 ? this.#hasDefault : this.#open[length - 1] === CALL;
@@ -462,7 +462,7 @@ class Lexer {
     this.#begin();
     switch (this.#last === WORD ? this.#wordToken() : this.#last) {
       case OPERAND: case CALLED:
-        // On the next line it may begin a statement, as behind `var a`.
+        // On the next line it may begin a statement, as after `var a`.
         return !this.#hasLineBreakBefore() && this.#pass(this.#at + 1, OPERATOR);
       case OPERATOR:
         return this.#regularExpression();
@@ -499,7 +499,7 @@ class Lexer {
     return false;
   }
 
-  /** What the last word is to a slash behind it. */
+  /** What the last word means for a slash after it. */
   #wordToken() {
     const word = this.#lastWord();
     if (WORDS_BEFORE_OPERAND.has(word)) {
