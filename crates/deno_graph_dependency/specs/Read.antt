@@ -1,3 +1,5 @@
 -- What every reader does.
 pub mod Answer
+pub mod Error
+pub mod Expected
 pub mod Partial

@@ -1,12 +1,14 @@
-ghost use Rattle.std.specs.Prelude.{◌≡◌, option_map};
+ghost use Rattle.std.specs.Prelude.{◌≡◌, Some, codes, option_map};
+ghost use Rattle.serde_json.specs.Data.{string};
+ghost use Rattle.serde_json.specs.Find.{get_member};
 ghost use Rattle.deno_graph_dependency.specs.Dependency.{static_of, dynamic_of, attributes_of};
 ghost use Rattle.deno_graph_dependency.specs.Json.Dependency.{json_of_dependency, reads_dependency, dependency_of_type, IsHeldDependency};
-ghost use Rattle.deno_graph_dependency.specs.ObjectReader.{readable};
+ghost use Rattle.deno_graph_dependency.specs.ObjectReader.{readable, value_of};
 ghost use Rattle.deno_graph_dependency.specs.Read.Answer.{Answers};
 
 use crate::dynamic_dependency::{DynamicDependencyDescriptor, read_dynamic};
 use crate::import_attributes::ImportAttributes;
-use crate::json_form::{FromJson, ObjectReader, ReadFault, TextWriter, ToJson};
+use crate::json_form::{Expected, FromJson, ObjectReader, ReadError, TextWriter, ToJson};
 use crate::static_dependency::{StaticDependencyDescriptor, read_static};
 use deno_graph_text::values::TryClone;
 use serde_json::Value;
@@ -112,7 +114,7 @@ impl FromJson for DependencyDescriptor {
     ghost reads = { reads_dependency };
 
     #[tactic(auto, using(crate::proofs::Reading::reading), unfolding(crate::specs::Json::Dependency::reads_dependency))]
-    fn from_json(alloc: Global, value: &Value) -> Result<DependencyDescriptor, ReadFault> {
+    fn from_json(alloc: Global, value: &Value) -> Result<DependencyDescriptor, ReadError> {
         let object = ObjectReader::new(alloc, value)?;
         let dependency_type = object.read_str("type")?;
         read_dependency(dependency_type, &object)
@@ -124,8 +126,10 @@ impl FromJson for DependencyDescriptor {
 fn read_dependency(
     dependency_type: &str,
     object: &ObjectReader,
-) -> Result<DependencyDescriptor, ReadFault>
-    ensures { Answers (dependency_of_type dependency_type.now (readable object.now)) result }
+) -> Result<DependencyDescriptor, ReadError>
+    ensures { get_member (codes "type") (readable object.now) ≡ Some (string dependency_type.now)
+        → Answers (value_of object.now)
+        (dependency_of_type dependency_type.now (readable object.now)) result }
 {
     match dependency_type {
         "static" => {
@@ -136,6 +140,6 @@ fn read_dependency(
             let descriptor = read_dynamic(object)?;
             Ok(DependencyDescriptor::Dynamic(descriptor))
         }
-        _ => Err(ReadFault::Shape),
+        _ => Err(object.member_error("type", Expected::Either("static", "dynamic"))),
     }
 }

@@ -1,14 +1,16 @@
-ghost use Rattle.std.specs.Prelude.{◌≡◌, refl, true};
+ghost use Rattle.std.specs.Prelude.{◌≡◌, Some, codes, refl, true};
+ghost use Rattle.serde_json.specs.Data.{string};
+ghost use Rattle.serde_json.specs.Find.{get_member};
 ghost use Rattle.deno_graph_dependency.specs.Ascending.{has_ascending_keys};
 ghost use Rattle.deno_graph_dependency.specs.DynamicDependency.{is_expr};
 ghost use Rattle.deno_graph_dependency.specs.Json.DynamicArgument.{json_of_argument, json_of_part, reads_argument, reads_part, part_entries, part_of_type};
-ghost use Rattle.deno_graph_dependency.specs.ObjectReader.{readable};
+ghost use Rattle.deno_graph_dependency.specs.ObjectReader.{readable, value_of};
 ghost use Rattle.deno_graph_dependency.specs.Read.Answer.{Answers};
 
 use crate::json_form::read::read_items;
 use crate::json_form::{
-    FromJson, MemberWriter, ObjectReader, ReadFault, TextWriter, ToJson, ToObject, object_value,
-    write_object,
+    Expected, FromJson, MemberWriter, ObjectReader, ReadError, TextWriter, ToJson, ToObject,
+    object_value, write_object,
 };
 use deno_graph_text::values::{Items, Text, TryClone};
 use serde_json::Value;
@@ -81,7 +83,7 @@ impl FromJson for DynamicArgument {
     ghost reads = { reads_argument };
 
     #[tactic(auto, unfolding(crate::specs::Json::DynamicArgument::reads_argument))]
-    fn from_json(alloc: Global, value: &Value) -> Result<DynamicArgument, ReadFault> {
+    fn from_json(alloc: Global, value: &Value) -> Result<DynamicArgument, ReadError> {
         match value {
             Value::Null => Ok(DynamicArgument::Expr),
             Value::String(text) => Ok(DynamicArgument::String(Text::from_str(alloc, text)?)),
@@ -89,7 +91,7 @@ impl FromJson for DynamicArgument {
                 let parts = read_items(alloc, values)?;
                 Ok(DynamicArgument::Template(parts))
             }
-            _ => Err(ReadFault::Shape),
+            _ => Err(ReadError::expected(alloc, Expected::Argument)),
         }
     }
 }
@@ -149,7 +151,7 @@ impl FromJson for DynamicTemplatePart {
     ghost reads = { reads_part };
 
     #[tactic(auto, using(crate::proofs::Reading::reading), unfolding(crate::specs::Json::DynamicArgument::reads_part))]
-    fn from_json(alloc: Global, value: &Value) -> Result<DynamicTemplatePart, ReadFault> {
+    fn from_json(alloc: Global, value: &Value) -> Result<DynamicTemplatePart, ReadError> {
         let object = ObjectReader::new(alloc, value)?;
         let part_type = object.read_str("type")?;
         read_part(part_type, &object)
@@ -158,8 +160,9 @@ impl FromJson for DynamicTemplatePart {
 
 /// The part that has this `type`.
 #[tactic(auto, unfolding(crate::specs::Json::DynamicArgument::part_of_type))]
-fn read_part(part_type: &str, object: &ObjectReader) -> Result<DynamicTemplatePart, ReadFault>
-    ensures { Answers (part_of_type part_type.now (readable object.now)) result }
+fn read_part(part_type: &str, object: &ObjectReader) -> Result<DynamicTemplatePart, ReadError>
+    ensures { get_member (codes "type") (readable object.now) ≡ Some (string part_type.now)
+        → Answers (value_of object.now) (part_of_type part_type.now (readable object.now)) result }
 {
     match part_type {
         "string" => {
@@ -167,6 +170,6 @@ fn read_part(part_type: &str, object: &ObjectReader) -> Result<DynamicTemplatePa
             Ok(DynamicTemplatePart::String { value })
         }
         "expr" => Ok(DynamicTemplatePart::Expr),
-        _ => Err(ReadFault::Shape),
+        _ => Err(object.member_error("type", Expected::Either("string", "expr"))),
     }
 }

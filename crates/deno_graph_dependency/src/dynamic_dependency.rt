@@ -2,15 +2,15 @@ ghost use Rattle.std.specs.Prelude.{◌≡◌, refl};
 ghost use Rattle.serde_json.specs.Data.{string};
 ghost use Rattle.deno_graph_dependency.specs.DynamicDependency.{is_plain_import};
 ghost use Rattle.deno_graph_dependency.specs.Json.DynamicDependency.{dynamic_entries, dynamic_kind_name, dynamic_kind_named, json_of_dynamic, reads_dynamic, reads_dynamic_kind, IsHeldDynamic};
-ghost use Rattle.deno_graph_dependency.specs.ObjectReader.{readable};
+ghost use Rattle.deno_graph_dependency.specs.ObjectReader.{readable, value_of};
 ghost use Rattle.deno_graph_dependency.specs.Read.Answer.{Answers};
 
 use crate::dynamic_argument::DynamicArgument;
 use crate::import_attributes::ImportAttributes;
 use crate::json_form::read::read_str;
 use crate::json_form::{
-    FromJson, MemberWriter, ObjectReader, ReadFault, TextWriter, ToJson, ToObject, object_value,
-    write_object,
+    Expected, FromJson, MemberWriter, ObjectReader, ReadError, TextWriter, ToJson, ToObject,
+    object_value, write_object,
 };
 use crate::specifier_with_range::SpecifierWithRange;
 use deno_graph_text::text::PositionRange;
@@ -78,23 +78,23 @@ impl FromJson for DynamicDependencyKind {
     ghost reads = { reads_dynamic_kind };
 
     #[tactic(auto, using(crate::proofs::Reading::reading), unfolding(crate::specs::Json::DynamicDependency::reads_dynamic_kind))]
-    fn from_json(_alloc: Global, value: &Value) -> Result<DynamicDependencyKind, ReadFault> {
-        let name = read_str(value)?;
-        kind_named(name)
+    fn from_json(alloc: Global, value: &Value) -> Result<DynamicDependencyKind, ReadError> {
+        let name = read_str(alloc, value)?;
+        kind_named(alloc, name)
     }
 }
 
 /// The kind that has this name.
-#[tactic(auto, unfolding(crate::specs::Json::DynamicDependency::dynamic_kind_named))]
-fn kind_named(name: &str) -> Result<DynamicDependencyKind, ReadFault>
-    ensures { Answers (dynamic_kind_named name.now) result }
+#[tactic(auto, unfolding(crate::specs::Json::DynamicDependency::dynamic_kind_named, crate::specs::Json::DynamicDependency::reads_dynamic_kind))]
+fn kind_named(alloc: Global, name: &str) -> Result<DynamicDependencyKind, ReadError>
+    ensures { Answers (string name.now) (dynamic_kind_named name.now) result }
 {
     match name {
         "import" => Ok(DynamicDependencyKind::Import),
         "importDefer" => Ok(DynamicDependencyKind::ImportDefer),
         "importSource" => Ok(DynamicDependencyKind::ImportSource),
         "require" => Ok(DynamicDependencyKind::Require),
-        _ => Err(ReadFault::Shape),
+        _ => Err(ReadError::expected(alloc, Expected::DynamicKind)),
     }
 }
 
@@ -161,8 +161,8 @@ impl ToObject for DynamicDependencyDescriptor {
 
 /// The dynamic dependency that has these members.
 #[tactic(auto, using(crate::proofs::Reading::reading), unfolding(crate::specs::Json::DynamicDependency::reads_dynamic))]
-pub(crate) fn read_dynamic(object: &ObjectReader) -> Result<DynamicDependencyDescriptor, ReadFault>
-    ensures { Answers (reads_dynamic (readable object.now)) result }
+pub(crate) fn read_dynamic(object: &ObjectReader) -> Result<DynamicDependencyDescriptor, ReadError>
+    ensures { Answers (value_of object.now) (reads_dynamic (readable object.now)) result }
 {
     let kind = object.read_or("kind", DynamicDependencyKind::Import)?;
     let types_specifier = object.read_or("typesSpecifier", None)?;

@@ -1,11 +1,12 @@
 ghost use Rattle.std.specs.Prelude.{◌≡◌, ◌↔◌, IsTrue, codes, option_map};
+ghost use Rattle.serde_json.specs.Data.{string};
 ghost use Rattle.deno_graph_dependency.specs.ImportAttributes.{is_none, attribute_at, IsAssetType};
 ghost use Rattle.deno_graph_dependency.specs.Json.ImportAttributes.{json_of_attribute, json_of_attributes, reads_attribute, reads_attributes, attributes_named, known_attributes, AreHeldAttributes};
-ghost use Rattle.deno_graph_dependency.specs.ObjectReader.{readable};
+ghost use Rattle.deno_graph_dependency.specs.ObjectReader.{readable, value_of};
 ghost use Rattle.deno_graph_dependency.specs.Read.Answer.{Answers};
 
 use crate::json_form::{
-    FromJson, MemberWriter, ObjectReader, ObjectWriter, ReadFault, TextWriter, ToJson,
+    Expected, FromJson, MemberWriter, ObjectReader, ObjectWriter, ReadError, TextWriter, ToJson,
 };
 use deno_graph_text::values::{Text, TextMap, TryClone};
 use serde_json::{Map, Value};
@@ -51,11 +52,11 @@ impl FromJson for ImportAttribute {
     ghost reads = { reads_attribute };
 
     #[tactic(auto, unfolding(crate::specs::Json::ImportAttributes::reads_attribute))]
-    fn from_json(alloc: Global, value: &Value) -> Result<ImportAttribute, ReadFault> {
+    fn from_json(alloc: Global, value: &Value) -> Result<ImportAttribute, ReadError> {
         match value {
             Value::Null => Ok(ImportAttribute::Unknown),
             Value::String(text) => Ok(ImportAttribute::Known(Text::from_str(alloc, text)?)),
-            _ => Err(ReadFault::Shape),
+            _ => Err(ReadError::expected(alloc, Expected::Attribute)),
         }
     }
 }
@@ -159,36 +160,36 @@ impl FromJson for ImportAttributes {
     ghost reads = { reads_attributes };
 
     #[tactic(auto, unfolding(crate::specs::Json::ImportAttributes::reads_attributes))]
-    fn from_json(alloc: Global, value: &Value) -> Result<ImportAttributes, ReadFault> {
+    fn from_json(alloc: Global, value: &Value) -> Result<ImportAttributes, ReadError> {
         match value {
-            Value::String(text) => read_name(text),
-            Value::Object(members) => read_known(&ObjectReader::of_members(alloc, members)),
-            _ => Err(ReadFault::Shape),
+            Value::String(text) => read_name(alloc, text),
+            Value::Object(members) => read_known(alloc, &ObjectReader::of_members(alloc, members)),
+            _ => Err(ReadError::expected(alloc, Expected::Attributes)),
         }
     }
 }
 
 /// The attributes that have a name alone.
-#[tactic(auto, unfolding(crate::specs::Json::ImportAttributes::attributes_named))]
-fn read_name(name: &str) -> Result<ImportAttributes, ReadFault>
-    ensures { Answers (attributes_named name.now) result }
+#[tactic(auto, unfolding(crate::specs::Json::ImportAttributes::attributes_named, crate::specs::Json::ImportAttributes::reads_attributes))]
+fn read_name(alloc: Global, name: &str) -> Result<ImportAttributes, ReadError>
+    ensures { Answers (string name.now) (attributes_named name.now) result }
 {
     match name {
         "none" => Ok(ImportAttributes::None),
         "unknown" => Ok(ImportAttributes::Unknown),
-        _ => Err(ReadFault::Shape),
+        _ => Err(ReadError::expected(alloc, Expected::Attributes)),
     }
 }
 
 /// The attributes of an object that has the one member `known`.
-#[tactic(auto, unfolding(crate::specs::Json::ImportAttributes::known_attributes))]
-fn read_known(object: &ObjectReader) -> Result<ImportAttributes, ReadFault>
-    ensures { Answers (known_attributes (readable object.now)) result }
+#[tactic(auto, unfolding(crate::specs::Json::ImportAttributes::known_attributes, crate::specs::Json::ImportAttributes::reads_attributes))]
+fn read_known(alloc: Global, object: &ObjectReader) -> Result<ImportAttributes, ReadError>
+    ensures { Answers (value_of object.now) (known_attributes (readable object.now)) result }
 {
     if object.member_count() == 1 {
         let known = object.read("known")?;
         Ok(ImportAttributes::Known(known))
     } else {
-        Err(ReadFault::Shape)
+        Err(ReadError::expected(alloc, Expected::Attributes))
     }
 }

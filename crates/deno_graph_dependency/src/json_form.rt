@@ -1,6 +1,7 @@
 //! Writing values to JSON and reading them from it, and floats in JSON.
 
-pub mod fault;
+pub mod error;
+pub mod expected;
 pub mod float;
 pub mod object;
 pub mod object_reader;
@@ -11,7 +12,8 @@ mod resolution_mode;
 pub mod text_writer;
 pub mod write;
 
-pub use fault::ReadFault;
+pub use error::{Mismatch, ReadError, Step};
+pub use expected::Expected;
 pub use float::has_float;
 pub use object::{MemberWriter, ToObject, object_value, write_object};
 pub use object_reader::ObjectReader;

@@ -1,10 +1,10 @@
 ghost use Rattle.std.specs.Prelude.{refl};
 ghost use Rattle.deno_graph_dependency.specs.Json.SpecifierWithRange.{json_of_specifier, reads_specifier, specifier_at, specifier_entries, specifier_of, IsHeldSpecifier};
-ghost use Rattle.deno_graph_dependency.specs.ObjectReader.{readable};
+ghost use Rattle.deno_graph_dependency.specs.ObjectReader.{readable, value_of};
 ghost use Rattle.deno_graph_dependency.specs.Read.Answer.{Answers};
 
 use crate::json_form::{
-    FromJson, MemberWriter, ObjectReader, ReadFault, TextWriter, ToJson, ToObject, object_value,
+    FromJson, MemberWriter, ObjectReader, ReadError, TextWriter, ToJson, ToObject, object_value,
     write_object,
 };
 use deno_graph_text::text::PositionRange;
@@ -60,7 +60,7 @@ impl FromJson for SpecifierWithRange {
     ghost reads = { reads_specifier };
 
     #[tactic(auto, using(crate::proofs::Reading::reading), unfolding(crate::specs::Json::SpecifierWithRange::reads_specifier))]
-    fn from_json(alloc: Global, value: &Value) -> Result<SpecifierWithRange, ReadFault> {
+    fn from_json(alloc: Global, value: &Value) -> Result<SpecifierWithRange, ReadError> {
         let object = ObjectReader::new(alloc, value)?;
         read_specifier(&object)
     }
@@ -68,8 +68,8 @@ impl FromJson for SpecifierWithRange {
 
 /// The specifier that has these members.
 #[tactic(auto, unfolding(crate::specs::Json::SpecifierWithRange::specifier_of))]
-pub fn read_specifier(object: &ObjectReader) -> Result<SpecifierWithRange, ReadFault>
-    ensures { Answers (specifier_of (readable object.now)) result }
+pub fn read_specifier(object: &ObjectReader) -> Result<SpecifierWithRange, ReadError>
+    ensures { Answers (value_of object.now) (specifier_of (readable object.now)) result }
 {
     read_specifier_at(object, "text", "range")
 }
@@ -78,10 +78,11 @@ pub fn read_specifier(object: &ObjectReader) -> Result<SpecifierWithRange, ReadF
 #[tactic(auto, using(crate::proofs::Reading::reading), unfolding(crate::specs::Json::SpecifierWithRange::specifier_at))]
 pub(crate) fn read_specifier_at(
     object: &ObjectReader,
-    text_key: &str,
-    range_key: &str,
-) -> Result<SpecifierWithRange, ReadFault>
-    ensures { Answers (specifier_at text_key.now range_key.now (readable object.now)) result }
+    text_key: &'static str,
+    range_key: &'static str,
+) -> Result<SpecifierWithRange, ReadError>
+    ensures { Answers (value_of object.now)
+        (specifier_at text_key.now range_key.now (readable object.now)) result }
 {
     let text = object.read(text_key)?;
     let range = object.read(range_key)?;

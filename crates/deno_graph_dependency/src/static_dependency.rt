@@ -1,14 +1,14 @@
 ghost use Rattle.std.specs.Prelude.{◌≡◌, refl};
 ghost use Rattle.serde_json.specs.Data.{string};
 ghost use Rattle.deno_graph_dependency.specs.Json.StaticDependency.{static_entries, static_kind_name, static_kind_named, json_of_static, reads_static, reads_static_kind, IsHeldStatic};
-ghost use Rattle.deno_graph_dependency.specs.ObjectReader.{readable};
+ghost use Rattle.deno_graph_dependency.specs.ObjectReader.{readable, value_of};
 ghost use Rattle.deno_graph_dependency.specs.Read.Answer.{Answers};
 
 use crate::import_attributes::ImportAttributes;
 use crate::json_form::read::read_str;
 use crate::json_form::{
-    FromJson, MemberWriter, ObjectReader, ReadFault, TextWriter, ToJson, ToObject, object_value,
-    write_object,
+    Expected, FromJson, MemberWriter, ObjectReader, ReadError, TextWriter, ToJson, ToObject,
+    object_value, write_object,
 };
 use crate::specifier_with_range::{SpecifierWithRange, read_specifier_at};
 use deno_graph_text::text::PositionRange;
@@ -74,16 +74,16 @@ impl FromJson for StaticDependencyKind {
     ghost reads = { reads_static_kind };
 
     #[tactic(auto, using(crate::proofs::Reading::reading), unfolding(crate::specs::Json::StaticDependency::reads_static_kind))]
-    fn from_json(_alloc: Global, value: &Value) -> Result<StaticDependencyKind, ReadFault> {
-        let name = read_str(value)?;
-        kind_named(name)
+    fn from_json(alloc: Global, value: &Value) -> Result<StaticDependencyKind, ReadError> {
+        let name = read_str(alloc, value)?;
+        kind_named(alloc, name)
     }
 }
 
 /// The kind that has this name.
-#[tactic(auto, unfolding(crate::specs::Json::StaticDependency::static_kind_named))]
-fn kind_named(name: &str) -> Result<StaticDependencyKind, ReadFault>
-    ensures { Answers (static_kind_named name.now) result }
+#[tactic(auto, unfolding(crate::specs::Json::StaticDependency::static_kind_named, crate::specs::Json::StaticDependency::reads_static_kind))]
+fn kind_named(alloc: Global, name: &str) -> Result<StaticDependencyKind, ReadError>
+    ensures { Answers (string name.now) (static_kind_named name.now) result }
 {
     match name {
         "import" => Ok(StaticDependencyKind::Import),
@@ -95,7 +95,7 @@ fn kind_named(name: &str) -> Result<StaticDependencyKind, ReadFault>
         "exportType" => Ok(StaticDependencyKind::ExportType),
         "exportEquals" => Ok(StaticDependencyKind::ExportEquals),
         "maybeTsModuleAugmentation" => Ok(StaticDependencyKind::MaybeTsModuleAugmentation),
-        _ => Err(ReadFault::Shape),
+        _ => Err(ReadError::expected(alloc, Expected::StaticKind)),
     }
 }
 
@@ -166,8 +166,8 @@ impl ToObject for StaticDependencyDescriptor {
 
 /// The static dependency that has these members.
 #[tactic(auto, using(crate::proofs::Reading::reading), unfolding(crate::specs::Json::StaticDependency::reads_static))]
-pub(crate) fn read_static(object: &ObjectReader) -> Result<StaticDependencyDescriptor, ReadFault>
-    ensures { Answers (reads_static (readable object.now)) result }
+pub(crate) fn read_static(object: &ObjectReader) -> Result<StaticDependencyDescriptor, ReadError>
+    ensures { Answers (value_of object.now) (reads_static (readable object.now)) result }
 {
     let kind = object.read("kind")?;
     let types_specifier = object.read_or("typesSpecifier", None)?;

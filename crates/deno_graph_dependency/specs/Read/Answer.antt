@@ -1,19 +1,21 @@
--- What a reader answers.
+-- What a reader returns.
 use Rattle.std.specs.Prelude.{◌≡◌, Option, Some, None, Result, MatchResult}
-use Rattle.deno_graph_dependency.specs.declared.json_form.fault.ReadFault.{ReadFault}
-use Rattle.deno_graph_dependency.specs.declared.json_form.fault.ReadFault.TheVariants.{Shape, OutOfMemory}
+use Rattle.serde_json.specs.Data.{Data, Members, object}
+use Rattle.deno_graph_dependency.specs.Read.Error.{IsIn, IsMismatch}
+use Rattle.deno_graph_dependency.specs.declared.json_form.error.ReadError.{ReadError}
+use Rattle.deno_graph_dependency.specs.declared.json_form.error.ReadError.TheVariants.{Mismatch, OutOfMemory}
 
--- the fault is Shape, and there is nothing to be read; or memory was refused
-abbrev pub IsRefusal : {A : Type 0} → Option A → ReadFault → Type 0
-IsRefusal wanted Shape = wanted ≡ None
-IsRefusal wanted OutOfMemory = Unit {0}
+-- nothing can be read of the value, and the error is in it; or an allocation failed
+abbrev pub IsRefusal : {A : Type 0} → Data → Option A → ReadError → Type 0
+IsRefusal value wanted (Mismatch found) = (wanted ≡ None) × IsIn value (Mismatch found)
+IsRefusal value wanted OutOfMemory = Unit {0}
 
--- the answer is what is to be read, or a refusal
-abbrev pub Answers : {A : Type 0} → Option A → Result A ReadFault → Type 0
-Answers wanted answer = MatchResult answer (λ x. wanted ≡ Some x) (IsRefusal wanted)
+-- Ok with what can be read of the value, or an error in the value
+abbrev pub Answers : {A : Type 0} → Data → Option A → Result A ReadError → Type 0
+Answers value wanted answer = MatchResult answer (λ x. wanted ≡ Some x) (IsRefusal value wanted)
 
--- The same of a reader that takes no memory: it is refused by Shape alone. Its answer is seen as a
--- value, such as a reference as what it points to.
-abbrev pub AnswersSeen : {A B : Type 0} → (B → A) → Option A → Result B ReadFault → Type 0
-AnswersSeen seen wanted answer =
-    MatchResult answer (λ x. wanted ≡ Some (seen x)) (λ fault. (fault ≡ Shape) × (wanted ≡ None))
+-- The same of a reader that allocates nothing: its error is always a mismatch. What it returns is compared
+-- as it is seen, such as a reference as what it points to.
+abbrev pub AnswersSeen : {A B : Type 0} → (B → A) → Data → Option A → Result B ReadError → Type 0
+AnswersSeen seen value wanted answer = MatchResult answer (λ x. wanted ≡ Some (seen x))
+    (λ error. IsMismatch error × (wanted ≡ None) × IsIn value error)

@@ -26,6 +26,16 @@ as_usize d = do
   n ← as_number d >>= as_u64
   if nat_lt n (2 ^ 64) then Some n else None
 
+-- the items of an array of exactly two
+abbrev pub two_items : Items → Option (Data × Data)
+two_items no_items = None
+two_items (item d no_items) = None
+two_items (item d (item e no_items)) = Some (d, e)
+two_items (item d (item e (item f ds))) = None
+
+abbrev pub pair_in : Data → Option (Data × Data)
+pair_in d = as_array d >>= two_items
+
 module _ {A : Type 0} (reads : Data → Option A) where
   -- null for no value, else the value as it is read
   unfoldable pub reads_optional : Data → Option (Option A)
@@ -62,21 +72,13 @@ module _ {A : Type 0} (reads : Data → Option A) where
     ms ← as_object d
     reads_members ms
 
-  -- exactly two items
-  abbrev pub reads_two : Items → Option (A × A)
-  reads_two no_items = None
-  reads_two (item d no_items) = None
-  reads_two (item d (item e no_items)) = do
-    x ← reads d
-    y ← reads e
-    Some (x, y)
-  reads_two (item d (item e (item f ds))) = None
-
   -- an array of exactly two
   unfoldable pub reads_pair : Data → Option (A × A)
   reads_pair d = do
-    items ← as_array d
-    reads_two items
+    (first, second) ← pair_in d
+    x ← reads first
+    y ← reads second
+    Some (x, y)
 
   -- what is read of the data, or the default where there are none
   abbrev pub read_or : A → Option Data → Option A

@@ -1,7 +1,7 @@
 ghost use Rattle.deno_graph_dependency.specs.Json.Position.{json_of_position, json_of_range, reads_position, reads_range, IsHeldPosition, IsHeldRange};
 
 use crate::json_form::read::read_pair;
-use crate::json_form::{FromJson, ReadFault, TextWriter, ToJson};
+use crate::json_form::{FromJson, ReadError, TextWriter, ToJson};
 use deno_graph_text::text::{Position, PositionRange};
 use serde_json::{Value, json};
 use std::alloc::{AllocError, Global};
@@ -27,8 +27,8 @@ impl FromJson for Position {
     ghost reads = { reads_position };
 
     #[tactic(auto, using(crate::proofs::Reading::reading), unfolding(crate::specs::Json::Position::reads_position))]
-    fn from_json(alloc: Global, value: &Value) -> Result<Position, ReadFault> {
-        let (line, character) = read_pair(alloc, value)?;
+    fn from_json(alloc: Global, value: &Value) -> Result<Position, ReadError> {
+        let (line, character) = read_pair(alloc, value, "two whole numbers, [line,character]")?;
         Ok(Position { line, character })
     }
 }
@@ -56,8 +56,8 @@ impl FromJson for PositionRange {
     ghost reads = { reads_range };
 
     #[tactic(auto, using(crate::proofs::Reading::reading), unfolding(crate::specs::Json::Position::reads_range))]
-    fn from_json(alloc: Global, value: &Value) -> Result<PositionRange, ReadFault> {
-        let (start, end) = read_pair(alloc, value)?;
+    fn from_json(alloc: Global, value: &Value) -> Result<PositionRange, ReadError> {
+        let (start, end) = read_pair(alloc, value, "two positions, [start,end]")?;
         Ok(PositionRange { start, end })
     }
 }

@@ -1,8 +1,11 @@
 ghost use Rattle.std.specs.Prelude.{◌≡◌};
+ghost use Rattle.serde_json.specs.Data.{string};
+ghost use Rattle.deno_graph_text.specs.ResolutionMode.{mode_named};
+ghost use Rattle.deno_graph_dependency.specs.Read.Answer.{Answers};
 ghost use Rattle.deno_graph_dependency.specs.Json.ResolutionMode.{json_of_mode, mode_name, reads_mode};
 
 use crate::json_form::read::read_str;
-use crate::json_form::{FromJson, ReadFault, TextWriter, ToJson};
+use crate::json_form::{Expected, FromJson, ReadError, TextWriter, ToJson};
 use deno_graph_text::values::TypeScriptTypesResolutionMode;
 use serde_json::Value;
 use std::alloc::{AllocError, Global};
@@ -33,11 +36,18 @@ impl FromJson for TypeScriptTypesResolutionMode {
     ghost reads = { reads_mode };
 
     #[tactic(auto, using(crate::proofs::Reading::reading), unfolding(crate::specs::Json::ResolutionMode::reads_mode))]
-    fn from_json(
-        _alloc: Global,
-        value: &Value,
-    ) -> Result<TypeScriptTypesResolutionMode, ReadFault> {
-        let name = read_str(value)?;
-        TypeScriptTypesResolutionMode::from_str(name).ok_or(ReadFault::Shape)
+    fn from_json(alloc: Global, value: &Value) -> Result<TypeScriptTypesResolutionMode, ReadError> {
+        let name = read_str(alloc, value)?;
+        mode_named(alloc, name)
+    }
+}
+
+/// The mode that has this name.
+fn mode_named(alloc: Global, name: &str) -> Result<TypeScriptTypesResolutionMode, ReadError>
+    ensures { Answers (string name.now) (mode_named name.now) result }
+{
+    match TypeScriptTypesResolutionMode::from_str(name) {
+        Some(mode) => Ok(mode),
+        None => Err(ReadError::expected(alloc, Expected::Either("import", "require"))),
     }
 }

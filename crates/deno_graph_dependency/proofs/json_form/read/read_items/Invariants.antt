@@ -1,5 +1,5 @@
--- All items are read where those that are left are, behind the items so far.
-use Rattle.std.proofs.Common.{◌≡◌}
+-- All items are read where those that are left are, after the items so far, one for each that was passed.
+use Rattle.std.proofs.Common.{◌≡◌, length}
 use Rattle.serde_json.specs.View.{items_view}
 use Rattle.deno_graph_dependency.specs.Read.Partial.{reads_items}
 use Rattle.deno_graph_dependency.proofs.Reading.{before, from}
@@ -7,5 +7,5 @@ use Rattle.deno_graph_dependency.proofs.json_form.read.read_items.Given as goal
 
 abbrev pub invariant-loop-value : goal.invariant-loop-value
 invariant-loop-value g l =
-    reads_items g.T.FromJson.reads (items_view l.value-items) ≡ before l.items
-    (from g.T.FromJson.reads l.value-items l.value-index)
+    (reads_items g.T.FromJson.reads (items_view l.value-items) ≡ before l.items
+    (from g.T.FromJson.reads l.value-items l.value-index)) × (length l.items ≡ l.value-index)

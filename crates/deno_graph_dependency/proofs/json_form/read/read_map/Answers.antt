@@ -1,6 +1,14 @@
 use Rattle.std.proofs.Common.{String, Global, ◌∙◌}
+use Rattle.serde_json.specs.Data.{object}
+use Rattle.serde_json.specs.View.{members_view}
 use Rattle.serde_json.specs.declared.value.Value.{Value}
-use Rattle.deno_graph_dependency.proofs.ReadMaps.{member_more, members_begin, members_refused, members_done}
+use Rattle.deno_graph_dependency.proofs.ReadMaps.{
+  member_at_key,
+  member_more,
+  members_begin,
+  members_refused,
+  members_done,
+}
 use Rattle.deno_graph_dependency.proofs.Reading.{refuses}
 use Rattle.deno_graph_dependency.proofs.json_form.read.read_map.Goals as goal
 
@@ -14,17 +22,21 @@ loop-key-init g c =
 pub loop-key-preserved : goal.loop-key-preserved
 loop-key-preserved g c =
     let e : String Global × Value = (c.in-Some.key.now, c.in-Some.value.now) in
+    let here = member_at_key g.T.FromJson.reads c.args.members.now.entries c.loop-key.key-iterator c.next.new.self
+    c.loop-key.map e c.as_str.result.now c.loop-key.invariant c.in-Some.ensures.steps c.as_str.ensures.value in
     member_more g.T.FromJson.reads c.args.members.now.entries c.loop-key.map c.insert.new.self
     c.loop-key.key-iterator c.next.new.self e c.in_ok-name.name c.in_ok-item.item
-    c.loop-key.invariant c.in-Some.ensures.steps c.in_ok-item.ensures
-    (c.in_ok-name.ensures ∙ c.as_str.ensures.value) c.in_ok-insert.ensures.ok
+    c.loop-key.invariant c.in-Some.ensures.steps (c.in_ok-item.ensures (object (members_view c.args.members.now.entries)) here)
+    (c.in_ok-name.ensures ∙ c.as_str-in-loop-key.ensures.value) c.in_ok-insert.ensures.ok
 
 pub returns-in_err-item : goal.returns-in_err-item
 returns-in_err-item g c =
     let e : String Global × Value = (c.in-Some.key.now, c.in-Some.value.now) in
-    refuses _ _ _ c.from_residual.ensures.1
-    (members_refused g.T.FromJson.reads c.args.members.now.entries c.loop-key.key-iterator c.next.new.self
-    c.loop-key.map e _ c.loop-key.invariant c.in-Some.ensures.steps c.in_err-item.ensures)
+    let here = member_at_key g.T.FromJson.reads c.args.members.now.entries c.loop-key.key-iterator c.next.new.self
+    c.loop-key.map e c.as_str.result.now c.loop-key.invariant c.in-Some.ensures.steps c.as_str.ensures.value in
+    refuses _ _ _ _ c.from_residual.ensures.1
+    (members_refused (object (members_view c.args.members.now.entries)) g.T.FromJson.reads c.args.members.now.entries c.loop-key.key-iterator c.next.new.self
+    c.loop-key.map e _ c.loop-key.invariant c.in-Some.ensures.steps (c.in_err-item.ensures (object (members_view c.args.members.now.entries)) here))
 
 pub returns : goal.returns
 returns g c = members_done g.T.FromJson.reads c.args.members.now.entries c.loop-key.key-iterator
