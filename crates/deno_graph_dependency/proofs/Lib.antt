@@ -1,5 +1,6 @@
 pub mod Ascending
 pub mod Floats
+pub mod Members
 pub mod Texts
 pub mod Written
 pub mod NoFloats

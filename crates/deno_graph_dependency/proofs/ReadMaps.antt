@@ -1,78 +1,28 @@
 -- Reading the members of an object as a map.
-use Rattle.std.proofs.Common.{
-  ◌≡◌,
-  ℕ,
-  List,
-  [],
-  ◌∷◌,
-  ◌++◌,
-  map,
-  Option,
-  Some,
-  String,
-  Global,
-  string_bytes,
-  refl,
-  sym,
-  ap,
-  ◌∙◌,
-  subst,
-  append-nil,
-  append_assoc,
-  arith,
-}
+use Rattle.std.proofs.Common.{◌≡◌, ℕ, List, [], ◌∷◌, ◌++◌, map, Option, Some, String, Global, string_bytes, refl, sym, ap, ◌∙◌, subst, append-nil}
 use Rattle.std.proofs.lemmas.Cmp.{nat_list_cmp_total}
 use Rattle.std.specs.Cmp.Lexicographic.{slice_cmp}
 use Rattle.std.specs.List.{AllByRecursion}
 use Rattle.std.specs.List.Sorted.{IsStrictlySortedBy}
 use Rattle.std.specs.Map.{keys_of}
-use Rattle.std.specs.Ordering.{nat_cmp, ordering_index, ordering_reverse}
+use Rattle.std.specs.Ordering.{nat_cmp, ordering_reverse}
 use Rattle.std.specs.declared.cmp.Ordering.TheVariants.{Less, Greater}
-use Rattle.serde_json.proofs.Views.{member_here, member_later}
-use Rattle.serde_json.specs.Data.{Data, object}
-use Rattle.serde_json.specs.Find.{get, get_member}
+use Rattle.serde_json.specs.Data.{Data}
 use Rattle.serde_json.specs.View.{view, members_view}
 use Rattle.serde_json.specs.declared.value.Value.{Value}
 use Rattle.std.specs.String.{string_cmp}
 use Rattle.deno_graph_text.proofs.TextEntries.{IsAscending-entries}
 use Rattle.deno_graph_text.specs.TextMap.{entry_of, insert_entry}
+use Rattle.deno_graph_dependency.proofs.Members.{AreAscending, IsRest, rest_begin, rest_next}
 use Rattle.deno_graph_dependency.proofs.Reading.{refused, before, before_more, before_nil}
 use Rattle.deno_graph_dependency.specs.Read.Answer.{IsRefusal}
 use Rattle.deno_graph_dependency.specs.Read.Partial.{reads_members}
 use Rattle.deno_graph_dependency.specs.declared.json_form.error.ReadError.{ReadError}
 
--- keys in ascending order
-abbrev pub AreAscending : List (List ℕ) → Type 0
-AreAscending keys = IsStrictlySortedBy (slice_cmp nat_cmp) keys
-
 key_among : (P : List ℕ → Type 0) (front : List (List ℕ)) (key : List ℕ) (rest : List (List ℕ))
     → AllByRecursion P (front ++ key ∷ rest) → P key
 key_among P [] key rest h = h.0
 key_among P (k ∷ front) key rest h = key_among P front key rest h.1
-
-less_than_itself : (s : List ℕ) → slice_cmp nat_cmp s s ≡ Less → ⊥
-less_than_itself s is =
-    let other : Less ≡ Greater = sym is ∙ nat_list_cmp_total.antisymm s s ∙ ap ordering_reverse is in
-    absurd (omega (arith, ap ordering_index other))
-
--- a key that is after others is none of them
-entry_among : (P : List ℕ → Type 0) (front : List (String Global × Value)) (e : String Global × Value)
-    (rest : List (String Global × Value))
-    → AllByRecursion P (keys_of (map entry_of (front ++ e ∷ rest))) → P (string_bytes e.0)
-entry_among P [] e rest h = h.0
-entry_among P (f ∷ front) e rest h = entry_among P front e rest h.1
-
--- a member is found by its key, after members whose keys are below it
-found_after : (front : List (String Global × Value)) (e : String Global × Value)
-    (rest : List (String Global × Value)) → AreAscending (keys_of (map entry_of (front ++ e ∷ rest)))
-    → get_member (string_bytes e.0) (members_view (front ++ e ∷ rest)) ≡ Some (view e.1)
-unfolding IsStrictlySortedBy
-found_after [] e rest sorted = member_here (string_bytes e.0) e rest refl
-found_after (f ∷ front) e rest sorted =
-    let below = entry_among (λ k. slice_cmp nat_cmp (string_bytes f.0) k ≡ Less) front e rest sorted.0 in
-    let other : string_bytes e.0 ≡ string_bytes f.0 → ⊥ = λ same. less_than_itself (string_bytes f.0)
-    (subst (λ k. slice_cmp nat_cmp (string_bytes f.0) k ≡ Less) same below) in
-    member_later (string_bytes e.0) f (front ++ e ∷ rest) other ∙ found_after front e rest sorted.1
 
 module _ {A : Type 0} where
   -- a key above all others goes to the end
@@ -97,9 +47,7 @@ module _ {A : Type 0} where
     pub values : reads_members reads (members_view all) ≡ before read
         (reads_members reads (members_view left))
     pub ordered : AreAscending (keys_of read ++ keys_of (map entry_of left))
-    pub front : List (String Global × Value)
-    pub whole : all ≡ front ++ left
-    pub sorted : AreAscending (keys_of (map entry_of all))
+    pub passed : IsRest all left
 
   -- one entry more is read
   pub member_more : (reads : Data → Option A) (all : List (String Global × Value))
@@ -123,9 +71,7 @@ module _ {A : Type 0} where
         ordered = subst (λ es. AreAscending (keys_of es ++ keys_of (map entry_of rest))) (sym made)
             (subst AreAscending (sym (keys_of-more read (string_bytes e.0) x (keys_of (map entry_of rest))))
             ordered);
-        front = so_far.front ++ e ∷ [];
-        whole = so_far.whole ∙ ap (λ es. so_far.front ++ es) first ∙ sym (append_assoc so_far.front (e ∷ []) rest);
-        sorted = so_far.sorted;
+        passed = rest_next all left rest e so_far.passed first;
       }
 
   -- before the first
@@ -135,20 +81,8 @@ module _ {A : Type 0} where
   members_begin reads all left read ordered whole none = rw (whole, none) (record {
     values = sym (before_nil (reads_members reads (members_view all)));
     ordered = IsAscending-entries all ordered;
-    front = [];
-    whole = refl;
-    sorted = IsAscending-entries all ordered;
+    passed = rest_begin all all ordered refl;
   })
-
-  -- the member that comes next is found by its key
-  pub member_at_key : (reads : Data → Option A) (all left rest : List (String Global × Value))
-      (read : List (List ℕ × A)) (e : String Global × Value) (key : List ℕ) → IsSoFar reads all read left
-      → left ≡ e ∷ rest → key ≡ string_bytes e.0
-      → get key (object (members_view all)) ≡ Some (view e.1)
-  member_at_key reads all left rest read e key so_far first same =
-      let whole : all ≡ so_far.front ++ e ∷ rest = so_far.whole ∙ ap (λ es. so_far.front ++ es) first in
-      rw same (ap (λ es. get_member (string_bytes e.0) (members_view es)) whole
-      ∙ found_after so_far.front e rest (subst (λ es. AreAscending (keys_of (map entry_of es))) whole so_far.sorted))
 
   -- a member that is refused refuses all
   pub members_refused : (value : Data) (reads : Data → Option A) (all left rest : List (String Global × Value))

@@ -1,44 +1,15 @@
 -- How a reader ends: each step of a partial function, and the fault that a `?` returns.
-use Rattle.std.proofs.Common.{
-  ◌≡◌,
-  ℕ,
-  ◌+◌,
-  ◌<◌,
-  ◌≤◌,
-  length,
-  get_or,
-  drop,
-  List,
-  [],
-  ◌∷◌,
-  ◌++◌,
-  map,
-  Option,
-  Some,
-  None,
-  option_map,
-  ok_or,
-  Result,
-  IsErrAnd,
-  refl,
-  sym,
-  ap,
-  subst,
-  ◌∙◌,
-  append_assoc,
-  append-nil,
-  arith,
-}
+use Rattle.std.proofs.Common.{◌≡◌, ℕ, ◌+◌, ◌<◌, ◌≤◌, length, get_or, drop, List, [], ◌∷◌, ◌++◌, map, Option, Some, None, Result, IsErrAnd, refl, sym, ap, subst, ◌∙◌, append_assoc, append-nil, arith}
 use Rattle.std.proofs.lemmas.List.{at_drop_more, at_drop_all}
 use Rattle.std.proofs.lemmas.Option.{none-some}
 use Rattle.std.proofs.lemmas.Result.{err_from_is_err_and}
 use Rattle.std.specs.Option.{IsSomeAnd, unwrap_or}
 use Rattle.serde_json.specs.Data.{Data, null, boolean, number, array, object, string, Items, no_items, item, Members, no_members}
-use Rattle.serde_json.specs.Find.{as_array, as_object, as_str, at, get, get_item, get_member}
+use Rattle.serde_json.specs.Find.{as_array, as_object, as_str, at, get_member}
 use Rattle.serde_json.specs.View.{view, items_of, items_view}
 use Rattle.serde_json.specs.declared.value.Value.{Value}
 use Rattle.serde_json.proofs.Views.{get_item_within}
-use Rattle.deno_graph_dependency.specs.Read.Answer.{IsRefusal, Answers, AnswersSeen}
+use Rattle.deno_graph_dependency.specs.Read.Answer.{IsRefusal, Answers}
 use Rattle.deno_graph_dependency.specs.Read.Error.{IsIn, IsMismatch, mismatch, step_into, value_at}
 use Rattle.deno_graph_dependency.specs.Read.Expected.{IsNot}
 use Rattle.deno_graph_dependency.specs.Read.Partial.{◌>>=◌, member_at, reads_items, two_items}

@@ -14,7 +14,7 @@ pub mod write;
 
 pub use error::{Mismatch, ReadError, Step};
 pub use expected::Expected;
-pub use float::has_float;
+pub use float::{find_float, has_float};
 pub use object::{MemberWriter, ToObject, object_value, write_object};
 pub use object_reader::ObjectReader;
 pub use object_writer::ObjectWriter;

@@ -2,15 +2,15 @@
 use Rattle.std.specs.Prelude.{◌≡◌, false, true, None}
 use Rattle.serde_json.specs.Data.{Data}
 use Rattle.serde_json.specs.Written.{has_float}
-use Rattle.deno_graph_dependency.specs.declared.json_form.fault.ReadFault.{ReadFault}
-use Rattle.deno_graph_dependency.specs.declared.json_form.fault.ReadFault.TheVariants as read
+use Rattle.deno_graph_dependency.specs.declared.json_form.error.ReadError.{ReadError}
+use Rattle.deno_graph_dependency.specs.declared.json_form.error.ReadError.TheVariants as read
 use Rattle.deno_graph_info.specs.declared.analysis.fault.InfoFault.{InfoFault}
 use Rattle.deno_graph_info.specs.declared.analysis.fault.InfoFault.TheVariants.{Shape, Float, OutOfMemory}
 use Rattle.deno_graph_info.specs.Json.ModuleInfo.{reads_info}
 
--- the fault of the same name
-abbrev pub fault_of : ReadFault → InfoFault
-fault_of read.Shape = Shape
+-- the fault of a reader's error
+abbrev pub fault_of : ReadError → InfoFault
+fault_of (read.Mismatch _) = Shape
 fault_of read.OutOfMemory = OutOfMemory
 
 -- why nothing is read of the data: they have a float; they have none, and not the form that is read; or

@@ -1,6 +1,6 @@
 -- What a reader returns.
 use Rattle.std.specs.Prelude.{◌≡◌, Option, Some, None, Result, MatchResult}
-use Rattle.serde_json.specs.Data.{Data, Members, object}
+use Rattle.serde_json.specs.Data.{Data}
 use Rattle.deno_graph_dependency.specs.Read.Error.{IsIn, IsMismatch}
 use Rattle.deno_graph_dependency.specs.declared.json_form.error.ReadError.{ReadError}
 use Rattle.deno_graph_dependency.specs.declared.json_form.error.ReadError.TheVariants.{Mismatch, OutOfMemory}

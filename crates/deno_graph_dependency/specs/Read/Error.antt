@@ -1,5 +1,5 @@
 -- Why a value can't be read: a value in it isn't what was expected. And where that value is.
-use Rattle.std.specs.Prelude.{◌≡◌, List, [], ◌∷◌, Option, Some, IsSomeAnd}
+use Rattle.std.specs.Prelude.{List, [], ◌∷◌, Option, Some, IsSomeAnd}
 use Rattle.serde_json.specs.Data.{Data}
 use Rattle.serde_json.specs.Find.{at, get}
 use Rattle.deno_graph_dependency.specs.Read.Expected.{IsNot}

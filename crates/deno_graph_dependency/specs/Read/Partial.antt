@@ -10,6 +10,9 @@ use Rattle.std.specs.Prelude.{
   None,
   option_and_then,
   nat_lt,
+  Bool,
+  true,
+  false,
   if◌then◌else◌,
 }
 use Rattle.serde_json.specs.Data.{Data, null, Items, no_items, item, Members, no_members, member}
@@ -25,6 +28,11 @@ unfoldable pub as_usize : Data → Option ℕ
 as_usize d = do
   n ← as_number d >>= as_u64
   if nat_lt n (2 ^ 64) then Some n else None
+
+-- nothing is read of data with a float
+abbrev pub unless_float : Bool → Option (Unit {0})
+unless_float true = None
+unless_float false = Some tt
 
 -- the items of an array of exactly two
 abbrev pub two_items : Items → Option (Data × Data)

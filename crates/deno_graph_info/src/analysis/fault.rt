@@ -1,4 +1,4 @@
-use deno_graph_dependency::json_form::ReadFault;
+use deno_graph_dependency::json_form::ReadError;
 use thiserror::Error;
 
 /// Why no `ModuleInfo` was read.
@@ -14,16 +14,16 @@ pub enum InfoFault {
     OutOfMemory,
 }
 
-impl From<ReadFault> for InfoFault {
+impl From<ReadError> for InfoFault {
     ghost use Rattle.std.specs.Prelude.{◌≡◌};
     ghost use Rattle.deno_graph_info.specs.InfoFault.{fault_of};
 
-    ghost from_gives = { λ fault info_fault. info_fault ≡ fault_of fault };
+    ghost from_gives = { λ error fault. fault ≡ fault_of error };
 
-    fn from(fault: ReadFault) -> InfoFault {
-        match fault {
-            ReadFault::Shape => InfoFault::Shape,
-            ReadFault::OutOfMemory => InfoFault::OutOfMemory,
+    fn from(error: ReadError) -> InfoFault {
+        match error {
+            ReadError::Mismatch(_) => InfoFault::Shape,
+            ReadError::OutOfMemory => InfoFault::OutOfMemory,
         }
     }
 }

@@ -4,7 +4,7 @@ ghost use Rattle.deno_graph_info.specs.Json.JsDocImportInfo.{js_doc_import_entri
 use crate::analysis::specifier_with_mode::{put_specifier_with_mode, read_specifier_with_mode};
 use deno_graph_dependency::SpecifierWithRange;
 use deno_graph_dependency::json_form::{
-    FromJson, MemberWriter, ObjectReader, ReadFault, TextWriter, ToJson, ToObject, object_value,
+    FromJson, MemberWriter, ObjectReader, ReadError, TextWriter, ToJson, ToObject, object_value,
     write_object,
 };
 use deno_graph_text::values::{TryClone, TypeScriptTypesResolutionMode};
@@ -58,7 +58,7 @@ impl FromJson for JsDocImportInfo {
     ghost reads = { reads_js_doc_import };
 
     #[tactic(auto, using(deno_graph_dependency::proofs::Reading::reading), unfolding(crate::specs::Json::JsDocImportInfo::reads_js_doc_import))]
-    fn from_json(alloc: Global, value: &Value) -> Result<JsDocImportInfo, ReadFault> {
+    fn from_json(alloc: Global, value: &Value) -> Result<JsDocImportInfo, ReadError> {
         let object = ObjectReader::new(alloc, value)?;
         let (specifier, resolution_mode) = read_specifier_with_mode(&object)?;
         Ok(JsDocImportInfo {

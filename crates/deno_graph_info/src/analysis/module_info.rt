@@ -8,7 +8,7 @@ use crate::analysis::fault::InfoFault;
 use crate::analysis::js_doc_import_info::JsDocImportInfo;
 use crate::analysis::type_script_reference::TypeScriptReference;
 use deno_graph_dependency::json_form::{
-    FromJson, MemberWriter, ObjectReader, ReadFault, TextWriter, ToJson, ToObject, has_float,
+    FromJson, MemberWriter, ObjectReader, ReadError, TextWriter, ToJson, ToObject, has_float,
     object_value, text_of, write_object,
 };
 use deno_graph_dependency::{DependencyDescriptor, SpecifierWithRange};
@@ -158,7 +158,7 @@ impl FromJson for ModuleInfo {
     ghost reads = { reads_info };
 
     #[tactic(auto, using(deno_graph_dependency::proofs::Reading::reading), unfolding(crate::specs::Json::ModuleInfo::reads_info))]
-    fn from_json(alloc: Global, value: &Value) -> Result<ModuleInfo, ReadFault> {
+    fn from_json(alloc: Global, value: &Value) -> Result<ModuleInfo, ReadError> {
         let object = ObjectReader::new(alloc, value)?;
         let is_script = object.read_or("script", false)?;
         let dependencies = object.read_list("dependencies")?;

@@ -3,11 +3,11 @@
 ghost use Rattle.std.specs.Prelude.{◌≡◌, OnOk};
 ghost use Rattle.deno_graph_dependency.specs.Json.SpecifierWithRange.{IsHeldSpecifier};
 ghost use Rattle.deno_graph_dependency.specs.Object.{with_entries};
-ghost use Rattle.deno_graph_dependency.specs.ObjectReader.{readable};
+ghost use Rattle.deno_graph_dependency.specs.ObjectReader.{readable, value_of};
 ghost use Rattle.deno_graph_dependency.specs.Read.Answer.{Answers};
 ghost use Rattle.deno_graph_info.specs.Json.SpecifierWithMode.{specifier_with_mode, specifier_with_mode_entries};
 
-use deno_graph_dependency::json_form::{MemberWriter, ObjectReader, ReadFault};
+use deno_graph_dependency::json_form::{MemberWriter, ObjectReader, ReadError};
 use deno_graph_dependency::{SpecifierWithRange, read_specifier};
 use deno_graph_text::values::TypeScriptTypesResolutionMode;
 use std::alloc::AllocError;
@@ -31,8 +31,8 @@ pub(crate) fn put_specifier_with_mode<W: MemberWriter>(
 #[tactic(auto, using(deno_graph_dependency::proofs::Reading::reading), unfolding(crate::specs::Json::SpecifierWithMode::specifier_with_mode))]
 pub(crate) fn read_specifier_with_mode(
     object: &ObjectReader,
-) -> Result<(SpecifierWithRange, Option<TypeScriptTypesResolutionMode>), ReadFault>
-    ensures { Answers (specifier_with_mode (readable object.now)) result }
+) -> Result<(SpecifierWithRange, Option<TypeScriptTypesResolutionMode>), ReadError>
+    ensures { Answers (value_of object.now) (specifier_with_mode (readable object.now)) result }
 {
     let specifier = read_specifier(object)?;
     let resolution_mode = object.read_or("resolutionMode", None)?;

@@ -1,13 +1,15 @@
-ghost use Rattle.std.specs.Prelude.{◌≡◌, refl, true};
+ghost use Rattle.std.specs.Prelude.{◌≡◌, Some, codes, refl, true};
+ghost use Rattle.serde_json.specs.Data.{string};
+ghost use Rattle.serde_json.specs.Find.{get_member};
 ghost use Rattle.deno_graph_dependency.specs.Ascending.{has_ascending_keys};
-ghost use Rattle.deno_graph_dependency.specs.ObjectReader.{readable};
+ghost use Rattle.deno_graph_dependency.specs.ObjectReader.{readable, value_of};
 ghost use Rattle.deno_graph_dependency.specs.Read.Answer.{Answers};
 ghost use Rattle.deno_graph_info.specs.Json.TypeScriptReference.{json_of_reference, reads_reference, reference_entries, reference_of_type, reference_to_types, IsHeldReference};
 
 use crate::analysis::specifier_with_mode::{put_specifier_with_mode, read_specifier_with_mode};
 use deno_graph_dependency::json_form::{
-    FromJson, MemberWriter, ObjectReader, ReadFault, TextWriter, ToJson, ToObject, object_value,
-    write_object,
+    Expected, FromJson, MemberWriter, ObjectReader, ReadError, TextWriter, ToJson, ToObject,
+    object_value, write_object,
 };
 use deno_graph_dependency::{SpecifierWithRange, read_specifier};
 use deno_graph_text::values::{TryClone, TypeScriptTypesResolutionMode};
@@ -89,7 +91,7 @@ impl FromJson for TypeScriptReference {
     ghost reads = { reads_reference };
 
     #[tactic(auto, using(deno_graph_dependency::proofs::Reading::reading), unfolding(crate::specs::Json::TypeScriptReference::reads_reference))]
-    fn from_json(alloc: Global, value: &Value) -> Result<TypeScriptReference, ReadFault> {
+    fn from_json(alloc: Global, value: &Value) -> Result<TypeScriptReference, ReadError> {
         let object = ObjectReader::new(alloc, value)?;
         let reference_type = object.read_str("type")?;
         read_reference(reference_type, &object)
@@ -101,8 +103,10 @@ impl FromJson for TypeScriptReference {
 fn read_reference(
     reference_type: &str,
     object: &ObjectReader,
-) -> Result<TypeScriptReference, ReadFault>
-    ensures { Answers (reference_of_type reference_type.now (readable object.now)) result }
+) -> Result<TypeScriptReference, ReadError>
+    ensures { get_member (codes "type") (readable object.now) ≡ Some (string reference_type.now)
+        → Answers (value_of object.now)
+        (reference_of_type reference_type.now (readable object.now)) result }
 {
     match reference_type {
         "path" => {
@@ -110,14 +114,14 @@ fn read_reference(
             Ok(TypeScriptReference::Path(specifier))
         }
         "types" => read_types(object),
-        _ => Err(ReadFault::Shape),
+        _ => Err(object.member_error("type", Expected::Either("path", "types"))),
     }
 }
 
 /// The reference to types that has these members.
 #[tactic(auto, using(deno_graph_dependency::proofs::Reading::reading), unfolding(crate::specs::Json::TypeScriptReference::reference_to_types))]
-fn read_types(object: &ObjectReader) -> Result<TypeScriptReference, ReadFault>
-    ensures { Answers (reference_to_types (readable object.now)) result }
+fn read_types(object: &ObjectReader) -> Result<TypeScriptReference, ReadError>
+    ensures { Answers (value_of object.now) (reference_to_types (readable object.now)) result }
 {
     let (specifier, resolution_mode) = read_specifier_with_mode(object)?;
     Ok(TypeScriptReference::Types {

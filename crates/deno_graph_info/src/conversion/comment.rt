@@ -2,7 +2,7 @@
 
 ghost use Rattle.deno_graph_info.specs.Comment.{reads_stored_comment};
 
-use deno_graph_dependency::json_form::{FromJson, ObjectReader, ReadFault};
+use deno_graph_dependency::json_form::{FromJson, ObjectReader, ReadError};
 use deno_graph_text::text::PositionRange;
 use deno_graph_text::values::Text;
 use serde_json::Value;
@@ -21,7 +21,7 @@ impl FromJson for Comment {
     ghost reads = { reads_stored_comment };
 
     #[tactic(auto, unfolding(crate::specs::Comment::reads_stored_comment))]
-    fn from_json(alloc: Global, value: &Value) -> Result<Comment, ReadFault> {
+    fn from_json(alloc: Global, value: &Value) -> Result<Comment, ReadError> {
         let object = ObjectReader::new(alloc, value)?;
         let text = object.read("text")?;
         let range = object.read("range")?;

@@ -12,7 +12,7 @@ use crate::conversion::fault::ConvertFault;
 use crate::conversion::types::types_named;
 use deno_graph_dependency::SpecifierWithRange;
 use deno_graph_dependency::json_form::object_reader::find_member;
-use deno_graph_dependency::json_form::{ObjectReader, ReadFault, ToJson, has_float};
+use deno_graph_dependency::json_form::{ObjectReader, ReadError, ToJson, has_float};
 use deno_graph_text::values::Items;
 use serde_json::{Map, Value, put};
 use std::alloc::{AllocError, Global};
@@ -178,8 +178,8 @@ fn read_comments(alloc: Global, dependency: &Value) -> Result<Option<Items<Comme
     };
     match ObjectReader::of_members(alloc, members).read("leadingComments") {
         Ok(comments) => Ok(Some(comments)),
-        Err(ReadFault::Shape) => Ok(None),
-        Err(ReadFault::OutOfMemory) => Err(AllocError),
+        Err(ReadError::Mismatch(_)) => Ok(None),
+        Err(ReadError::OutOfMemory) => Err(AllocError),
     }
 }
 

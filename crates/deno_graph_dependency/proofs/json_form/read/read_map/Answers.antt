@@ -2,8 +2,8 @@ use Rattle.std.proofs.Common.{String, Global, ◌∙◌}
 use Rattle.serde_json.specs.Data.{object}
 use Rattle.serde_json.specs.View.{members_view}
 use Rattle.serde_json.specs.declared.value.Value.{Value}
+use Rattle.deno_graph_dependency.proofs.Members.{rest_here}
 use Rattle.deno_graph_dependency.proofs.ReadMaps.{
-  member_at_key,
   member_more,
   members_begin,
   members_refused,
@@ -22,8 +22,8 @@ loop-key-init g c =
 pub loop-key-preserved : goal.loop-key-preserved
 loop-key-preserved g c =
     let e : String Global × Value = (c.in-Some.key.now, c.in-Some.value.now) in
-    let here = member_at_key g.T.FromJson.reads c.args.members.now.entries c.loop-key.key-iterator c.next.new.self
-    c.loop-key.map e c.as_str.result.now c.loop-key.invariant c.in-Some.ensures.steps c.as_str.ensures.value in
+    let here = rest_here c.args.members.now.entries c.loop-key.key-iterator c.next.new.self e
+    c.as_str.result.now c.loop-key.invariant.passed c.in-Some.ensures.steps c.as_str.ensures.value in
     member_more g.T.FromJson.reads c.args.members.now.entries c.loop-key.map c.insert.new.self
     c.loop-key.key-iterator c.next.new.self e c.in_ok-name.name c.in_ok-item.item
     c.loop-key.invariant c.in-Some.ensures.steps (c.in_ok-item.ensures (object (members_view c.args.members.now.entries)) here)
@@ -32,8 +32,8 @@ loop-key-preserved g c =
 pub returns-in_err-item : goal.returns-in_err-item
 returns-in_err-item g c =
     let e : String Global × Value = (c.in-Some.key.now, c.in-Some.value.now) in
-    let here = member_at_key g.T.FromJson.reads c.args.members.now.entries c.loop-key.key-iterator c.next.new.self
-    c.loop-key.map e c.as_str.result.now c.loop-key.invariant c.in-Some.ensures.steps c.as_str.ensures.value in
+    let here = rest_here c.args.members.now.entries c.loop-key.key-iterator c.next.new.self e
+    c.as_str.result.now c.loop-key.invariant.passed c.in-Some.ensures.steps c.as_str.ensures.value in
     refuses _ _ _ _ c.from_residual.ensures.1
     (members_refused (object (members_view c.args.members.now.entries)) g.T.FromJson.reads c.args.members.now.entries c.loop-key.key-iterator c.next.new.self
     c.loop-key.map e _ c.loop-key.invariant c.in-Some.ensures.steps (c.in_err-item.ensures (object (members_view c.args.members.now.entries)) here))

@@ -6,7 +6,7 @@ use Rattle.deno_graph_info.proofs.analysis.specifier_with_mode.read_specifier_wi
 pub returns-in_err-resolution_mode : goal.returns-in_err-resolution_mode
 unfolding specifier_with_mode
 returns-in_err-resolution_mode c = rw c.in_ok-specifier.ensures
-    (exits _ _ _ _ c.from_residual-in_err-resolution_mode.ensures.1 c.in_err-resolution_mode.ensures)
+    (exits _ _ _ _ _ c.from_residual-in_err-resolution_mode.ensures.1 c.in_err-resolution_mode.ensures)
 
 pub returns : goal.returns
 unfolding specifier_with_mode

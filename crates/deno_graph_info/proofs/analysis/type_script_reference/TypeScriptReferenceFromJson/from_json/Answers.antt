@@ -1,0 +1,11 @@
+use Rattle.deno_graph_dependency.proofs.Reading.{member_on, object_on}
+use Rattle.deno_graph_dependency.specs.ObjectReader.{readable}
+use Rattle.deno_graph_info.specs.Json.TypeScriptReference.{reads_reference}
+use Rattle.deno_graph_info.proofs.analysis.type_script_reference.TypeScriptReferenceFromJson.from_json.Goals as goal
+
+pub returns : goal.returns
+unfolding reads_reference
+returns c =
+    object_on _ _ (readable c.in_ok-object.object) _ c.in_ok-object.ensures
+    (member_on _ _ _ _ _ _ c.in_ok-reference_type.ensures
+    (c.read_reference.ensures c.in_ok-reference_type.ensures))
