@@ -1,5 +1,24 @@
 -- Reading the members of an object as a map.
-use Rattle.std.proofs.Common.{◌≡◌, ℕ, List, [], ◌∷◌, ◌++◌, map, Option, Some, String, Global, string_bytes, refl, sym, ap, ◌∙◌, subst, append-nil}
+use Rattle.std.proofs.Common.{
+  ◌≡◌,
+  ℕ,
+  List,
+  [],
+  ◌∷◌,
+  ◌++◌,
+  map,
+  Option,
+  Some,
+  String,
+  Global,
+  string_bytes,
+  refl,
+  sym,
+  ap,
+  ◌∙◌,
+  subst,
+  append-nil,
+}
 use Rattle.std.proofs.lemmas.Cmp.{nat_list_cmp_total}
 use Rattle.std.specs.Cmp.Lexicographic.{slice_cmp}
 use Rattle.std.specs.List.{AllByRecursion}
@@ -85,7 +104,8 @@ module _ {A : Type 0} where
   })
 
   -- a member that is refused refuses all
-  pub members_refused : (value : Data) (reads : Data → Option A) (all left rest : List (String Global × Value))
+  pub members_refused : (value : Data) (reads : Data → Option A)
+      (all left rest : List (String Global × Value))
       (read : List (List ℕ × A)) (e : String Global × Value) (error : ReadError)
       → IsSoFar reads all read left → left ≡ e ∷ rest → IsRefusal value (reads (view e.1)) error
       → IsRefusal value (reads_members reads (members_view all)) error

@@ -1,10 +1,50 @@
 -- How a reader ends: each step of a partial function, and the fault that a `?` returns.
-use Rattle.std.proofs.Common.{◌≡◌, ℕ, ◌+◌, ◌<◌, ◌≤◌, length, get_or, drop, List, [], ◌∷◌, ◌++◌, map, Option, Some, None, Result, IsErrAnd, refl, sym, ap, subst, ◌∙◌, append_assoc, append-nil, arith}
+use Rattle.std.proofs.Common.{
+  ◌≡◌,
+  ℕ,
+  ◌+◌,
+  ◌<◌,
+  ◌≤◌,
+  length,
+  get_or,
+  drop,
+  List,
+  [],
+  ◌∷◌,
+  ◌++◌,
+  map,
+  Option,
+  Some,
+  None,
+  Result,
+  IsErrAnd,
+  refl,
+  sym,
+  ap,
+  subst,
+  ◌∙◌,
+  append_assoc,
+  append-nil,
+  arith,
+}
 use Rattle.std.proofs.lemmas.List.{at_drop_more, at_drop_all}
 use Rattle.std.proofs.lemmas.Option.{none-some}
 use Rattle.std.proofs.lemmas.Result.{err_from_is_err_and}
 use Rattle.std.specs.Option.{IsSomeAnd, unwrap_or}
-use Rattle.serde_json.specs.Data.{Data, null, boolean, number, array, object, string, Items, no_items, item, Members, no_members}
+use Rattle.serde_json.specs.Data.{
+  Data,
+  null,
+  boolean,
+  number,
+  array,
+  object,
+  string,
+  Items,
+  no_items,
+  item,
+  Members,
+  no_members,
+}
 use Rattle.serde_json.specs.Find.{as_array, as_object, as_str, at, get_member}
 use Rattle.serde_json.specs.View.{view, items_of, items_view}
 use Rattle.serde_json.specs.declared.value.Value.{Value}
@@ -24,7 +64,8 @@ pub goes_on : {A B : Type 0} (o : Option A) (f : A → Option B) (x : A) (r : Op
 goes_on o f x r is later = ap (λ v. v >>= f) is ∙ later
 
 -- the exit of a `?` that refuses the whole
-pub refuses : {A : Type 0} (value : Data) (wanted : Option A) (error : ReadError) (answer : Result A ReadError)
+pub refuses : {A : Type 0} (value : Data) (wanted : Option A) (error : ReadError)
+    (answer : Result A ReadError)
     → IsErrAnd answer (λ other. other ≡ error) → IsRefusal value wanted error → Answers value wanted answer
 refuses value wanted error answer is h = let p = err_from_is_err_and answer is in rw (p.1, p.2) h
 
@@ -43,7 +84,8 @@ place_around path step expected outer inner is h =
     subst (λ o. IsSomeAnd o (IsNot expected)) (sym (value_at_more path step outer inner is)) h
 
 -- an error in the value, of which nothing can be read
-pub refusal : {A : Type 0} (value : Data) (wanted : Option A) (error : ReadError) → wanted ≡ None → IsIn value error
+pub refusal : {A : Type 0} (value : Data) (wanted : Option A) (error : ReadError) → wanted ≡ None
+    → IsIn value error
     → IsRefusal value wanted error
 refusal value wanted (Mismatch found) none place = (none, place)
 refusal value wanted OutOfMemory none place = tt
@@ -107,7 +149,8 @@ is_object (array t) ms is = absurd (none-some _ is)
 
 module _ {B : Type 0} where
   -- a string is read on as its text, an array as its items, an object as its members
-  pub string_on : (d : Data) (f : List ℕ → Option B) (s : List ℕ) (answer : Result B ReadError) → as_str d ≡ Some s
+  pub string_on : (d : Data) (f : List ℕ → Option B) (s : List ℕ) (answer : Result B ReadError)
+      → as_str d ≡ Some s
       → Answers (string s) (f s) answer → Answers d (as_str d >>= f) answer
   string_on d f s answer is h = rw (is_string d s is) h
 
@@ -152,8 +195,8 @@ module _ {A : Type 0} where
   before_nil (Some ys) = refl
 
   -- an item that is refused refuses all
-  pub items_refused : (value : Data) (reads : Data → Option A) (all : Option (List A)) (xs : List A) (d : Data)
-      (ds : Items) (error : ReadError) → all ≡ before xs (reads_items reads (item d ds))
+  pub items_refused : (value : Data) (reads : Data → Option A) (all : Option (List A)) (xs : List A)
+      (d : Data) (ds : Items) (error : ReadError) → all ≡ before xs (reads_items reads (item d ds))
       → IsRefusal value (reads d) error → IsRefusal value all error
   unfolding reads_items
   items_refused value reads all xs d ds error is h =

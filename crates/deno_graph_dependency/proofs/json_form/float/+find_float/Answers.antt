@@ -13,17 +13,20 @@ use Rattle.deno_graph_dependency.proofs.json_form.float.+find_float.Goals as goa
 pub find_float_in_items-returns-in-Err : goal.find_float_in_items-returns-in-Err
 find_float_in_items-returns-in-Err t c =
     let all = c.deref-item-items.result.now in
-    let here = item_here all c.loop-item.item-index c.loop-item.number c.item-item.result c.loop-item-test.true
+    let here = item_here all c.loop-item.item-index c.loop-item.number c.item-item.result
+    c.loop-item-test.true
     c.item-item.is c.loop-item.invariant.1 in
     let around = refused_around (array (items_view all)) (view c.item-item.result)
     (unless_float (has_float (view c.item-item.result))) c.in-Err.error c.in_item.result
-    (c.in_item.ensures.place (array (items_view all)) (view c.item-item.result) here) c.in_item.ensures.mismatch
+    (c.in_item.ensures.place (array (items_view all)) (view c.item-item.result) here)
+    c.in_item.ensures.mismatch
     c.in-Err.ensures in
     let h = float_refusal (array (items_view all)) (has_float (view c.item-item.result))
     (items_have_float (items_view all)) c.in_item.result
     (item_hit all c.loop-item.item-index c.item-item.result c.loop-item-test.true c.item-item.is
     c.loop-item.invariant.0) around in
-    subst (λ vs. IsRefusal (array (items_view vs)) (unless_float (items_have_float (items_view vs))) c.in_item.result)
+    subst (λ vs. IsRefusal (array (items_view vs)) (unless_float (items_have_float (items_view vs)))
+    c.in_item.result)
     c.deref-item-items.ensures.value h
 
 pub find_float_in_members-loop-name-init : goal.find_float_in_members-loop-name-init
@@ -31,7 +34,8 @@ find_float_in_members-loop-name-init t c =
     let is = c.into_iter-name-iterator.ensures.into_iter_gives ∙ c.iter-name-items.ensures.rest in
     rw is (record {
       floats = refl;
-      passed = rest_begin c.args.members.now.entries c.args.members.now.entries c.iter-name-items.ensures.ordered refl;
+      passed = rest_begin c.args.members.now.entries c.args.members.now.entries
+          c.iter-name-items.ensures.ordered refl;
     })
 
 pub find_float_in_members-returns-in-Err : goal.find_float_in_members-returns-in-Err
@@ -43,7 +47,8 @@ find_float_in_members-returns-in-Err t c =
     float_refusal (object (members_view all)) (has_float (view e.1)) _ c.in_member.result
     (member_hit all c.loop-name.name-iterator c.next.new.self e c.loop-name.invariant.floats
     c.in-Some.ensures.steps)
-    (refused_around (object (members_view all)) (view e.1) (unless_float (has_float (view e.1))) c.in-Err.error
+    (refused_around (object (members_view all)) (view e.1) (unless_float (has_float (view e.1)))
+    c.in-Err.error
     c.in_member.result (c.in_member.ensures.place (object (members_view all)) (view e.1) here)
     c.in_member.ensures.mismatch c.in-Err.ensures)
 

@@ -28,7 +28,8 @@ loop-value-preserved g c =
     c.loop-value-test.true c.value-item.is (c.len-number.ensures ∙ c.loop-value.invariant.1) in (
       list_more g.T.FromJson.reads all c.loop-value.value-index c.value-item.result
           c.loop-value.items c.push.new.self c.in_ok-item.item
-          c.loop-value-test.true c.value-item.is c.loop-value.invariant.0 (c.in_ok-item.ensures (array (items_view all)) here)
+          c.loop-value-test.true c.value-item.is c.loop-value.invariant.0 (c.in_ok-item.ensures (array
+          (items_view all)) here)
           c.in_ok-push.ensures.ok,
       ap (λ xs. length xs) c.in_ok-push.ensures.ok ∙ length-append c.loop-value.items (c.in_ok-item.item ∷ [])
           ∙ ap (λ n. n + 1) c.loop-value.invariant.1,
@@ -41,7 +42,8 @@ returns-in_err-item g c =
     c.loop-value-test.true c.value-item.is (c.len-number.ensures ∙ c.loop-value.invariant.1) in
     let h = list_refused g.T.FromJson.reads all (array (items_view all)) c.loop-value.value-index
     c.value-item.result c.loop-value.items c.in_err-item.field-0.0
-    c.loop-value-test.true c.value-item.is c.loop-value.invariant.0 (c.in_err-item.ensures (array (items_view all)) here) in
+    c.loop-value-test.true c.value-item.is c.loop-value.invariant.0 (c.in_err-item.ensures (array
+    (items_view all)) here) in
     refuses _ _ _ _ c.from_residual.ensures.1 (subst
     (λ vs. IsRefusal (array (items_view vs)) (reads_items g.T.FromJson.reads (items_view vs))
     c.in_err-item.field-0.0)

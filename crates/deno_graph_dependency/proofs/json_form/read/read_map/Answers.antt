@@ -26,7 +26,8 @@ loop-key-preserved g c =
     c.as_str.result.now c.loop-key.invariant.passed c.in-Some.ensures.steps c.as_str.ensures.value in
     member_more g.T.FromJson.reads c.args.members.now.entries c.loop-key.map c.insert.new.self
     c.loop-key.key-iterator c.next.new.self e c.in_ok-name.name c.in_ok-item.item
-    c.loop-key.invariant c.in-Some.ensures.steps (c.in_ok-item.ensures (object (members_view c.args.members.now.entries)) here)
+    c.loop-key.invariant c.in-Some.ensures.steps (c.in_ok-item.ensures (object (members_view
+    c.args.members.now.entries)) here)
     (c.in_ok-name.ensures ∙ c.as_str-in-loop-key.ensures.value) c.in_ok-insert.ensures.ok
 
 pub returns-in_err-item : goal.returns-in_err-item
@@ -35,8 +36,10 @@ returns-in_err-item g c =
     let here = rest_here c.args.members.now.entries c.loop-key.key-iterator c.next.new.self e
     c.as_str.result.now c.loop-key.invariant.passed c.in-Some.ensures.steps c.as_str.ensures.value in
     refuses _ _ _ _ c.from_residual.ensures.1
-    (members_refused (object (members_view c.args.members.now.entries)) g.T.FromJson.reads c.args.members.now.entries c.loop-key.key-iterator c.next.new.self
-    c.loop-key.map e _ c.loop-key.invariant c.in-Some.ensures.steps (c.in_err-item.ensures (object (members_view c.args.members.now.entries)) here))
+    (members_refused (object (members_view c.args.members.now.entries)) g.T.FromJson.reads
+    c.args.members.now.entries c.loop-key.key-iterator c.next.new.self
+    c.loop-key.map e _ c.loop-key.invariant c.in-Some.ensures.steps (c.in_err-item.ensures (object
+    (members_view c.args.members.now.entries)) here))
 
 pub returns : goal.returns
 returns g c = members_done g.T.FromJson.reads c.args.members.now.entries c.loop-key.key-iterator

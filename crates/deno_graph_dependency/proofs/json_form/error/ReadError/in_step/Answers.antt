@@ -9,4 +9,5 @@ pub returns-in-Ok-clause-place : goal.returns-in-Ok-clause-place
 returns-in-Ok-clause-place c = λ outer inner is h.
     let found = c.in-Mismatch.field-0 in
     subst (λ path. IsSomeAnd (value_at path outer) (IsNot found.expected)) (sym c.in-Ok.ensures.ok)
-    (place_around found.path c.args.step found.expected outer inner is (subst (IsIn inner) c.in-Mismatch.is h))
+    (place_around found.path c.args.step found.expected outer inner is (subst (IsIn inner) c.in-Mismatch.is
+    h))
