@@ -17,6 +17,7 @@ mod pointer;
 
 pub use fault::TapeFault;
 use json::Scratch;
+pub use pointer::{Step, push_step};
 use std::alloc::Global;
 
 /// One node of a tape.

@@ -28,10 +28,12 @@ impl<'a> Tape<'a> {
     }
 }
 
-/// How a value is found in an array or an object.
+/// A step from a JSON value to a value right in it.
 #[derive(Clone, Copy)]
-enum Step<'a> {
+pub enum Step<'a> {
+    /// To the item of this number, from zero.
     Index(usize),
+    /// To the member of this name.
     Name(&'a str),
 }
 
@@ -60,7 +62,9 @@ fn step_to<'a>(value: Element<'a>, number: usize) -> Option<(Step<'a>, Element<'
     None
 }
 
-fn push_step(pointer: &mut String, step: Step<'_>) -> Result<(), AllocError>
+/// Appends a step to a JSON Pointer: `/` and a number, or `/` and a name with `~` as `~0` and `/` as
+/// `~1`.
+pub fn push_step(pointer: &mut String, step: Step<'_>) -> Result<(), AllocError>
     ensures { OnOk result (string_bytes pointer.new
         ≡ string_bytes pointer.old ++ part_text (part_of_step step.entry)) }
 {

@@ -1,4 +1,5 @@
 pub mod Faults
 mod LinesTaken
 pub mod Modules
+pub mod StoredModules
 pub mod Written

@@ -13,8 +13,9 @@ use Rattle.modinfo_notation.specs.Document.{HasNotationFault, IsDocumentOf}
 use Rattle.modinfo_notation.specs.declared.document.Document.{Document}
 use Rattle.modinfo_notation.specs.declared.fault.NotationFault.{NotationFault}
 use Rattle.modinfo_notation.specs.declared.fault.NotationFault.TheVariants.{OutOfMemory}
-use Rattle.modinfo_report.specs.Report.{CanBeConverted, CannotBeConverted, MatchReport}
+use Rattle.modinfo_report.specs.Report.{CanBeConverted, CannotBeConverted, MatchReport, PointsInto}
 use Rattle.modinfo_report.specs.declared.report.Report.{Report}
+use Rattle.modinfo_report.specs.declared.report.Report.TheVariants.{Valid, Wrong}
 use Rattle.modinfo.specs.Reach.{Asks, IsQuestionFault}
 
 -- The text states a valid source: a document whose specifier is a URL, and whose tree and comments fit its
@@ -71,3 +72,8 @@ StatesNoQuestion text = (read_text text ≡ None)
 -- fault.
 abbrev pub ReportsOnQuestion : List ℕ → Report → Type 0
 ReportsOnQuestion text = MatchReport (StatesQuestion text) (StatesNoQuestion text)
+
+-- A report that stored information is wrong points to a value in it that isn't what the report expects there.
+abbrev pub IsPlacedIn : Data → Report → Type 0
+IsPlacedIn value (Valid _) = Unit {0}
+IsPlacedIn value (Wrong wrong) = PointsInto value wrong

@@ -17,13 +17,20 @@ use Rattle.serde_json.specs.Find.{as_object, as_str, get}
 use Rattle.serde_json.specs.Read.{read as read_text}
 use Rattle.serde_json.specs.Written.{compact_text, has_float}
 use Rattle.deno_graph_dependency.specs.Object.{array_of}
-use Rattle.deno_graph_dependency.specs.Read.Partial.{◌>>=◌, reads_members}
+use Rattle.deno_graph_dependency.specs.Read.Partial.{
+  ◌>>=◌,
+  member_at,
+  reads_map,
+  reads_members,
+  unless_float,
+}
 use Rattle.deno_graph_info.specs.InfoFault.{IsInfoFault}
 use Rattle.deno_graph_info.specs.Json.ModuleInfo.{reads_info}
 use Rattle.deno_graph_info.specs.Reach.{IsReach}
 use Rattle.deno_graph_info.specs.declared.analysis.fault.InfoFault.{InfoFault}
 use Rattle.deno_graph_info.specs.declared.analysis.fault.InfoFault.TheVariants as info
 use Rattle.deno_graph_info.specs.declared.analysis.module_info.ModuleInfo.{ModuleInfo}
+use Rattle.modinfo.specs.declared.reach.StoredInfo.{StoredInfo}
 use Rattle.modinfo.specs.declared.fault.Fault.{Fault}
 use Rattle.modinfo.specs.declared.fault.Fault.TheVariants.{Info, OutOfMemory}
 
@@ -50,6 +57,21 @@ reads_question d = do
 -- A `ModuleInfo`, where no number in its JSON is a float.
 unfoldable pub reads_stored : Data → Option ModuleInfo
 reads_stored d = if has_float d then None else reads_info d
+
+-- The same as it is held.
+unfoldable pub reads_stored_info : Data → Option StoredInfo
+reads_stored_info d = do
+  whole ← unless_float (has_float d)
+  info ← reads_info d
+  Some (record { info = info })
+
+-- The modules and the root, where the JSON of each module is that of a `ModuleInfo`.
+unfoldable pub reads_modules : Data → Option (List (List ℕ × StoredInfo) × List ℕ)
+reads_modules d = do
+  ms ← as_object d
+  root ← member_at as_str (codes "root") ms
+  modules ← member_at (reads_map reads_stored_info) (codes "modules") ms
+  Some (modules, root)
 
 -- The value asks which of these modules the root reaches.
 abbrev pub Asks : Data → List (List ℕ × ModuleInfo) → List ℕ → Type 0

@@ -8,13 +8,14 @@ ghost use Rattle.serde_json.specs.View.{members_view, view};
 ghost use Rattle.serde_json.specs.Written.{compact_text};
 ghost use Rattle.deno_graph_text.specs.TextMap.{entries_of};
 ghost use Rattle.deno_graph_dependency.specs.Object.{array_of};
+ghost use Rattle.deno_graph_dependency.specs.Read.Answer.{Answers};
 ghost use Rattle.deno_graph_dependency.specs.Read.Partial.{reads_members};
 ghost use Rattle.modinfo.specs.Answer.{IsNoReach};
-ghost use Rattle.modinfo.specs.Reach.{Asks, IsNoInfos, IsNoQuestion, IsReachText, modules_in, reads_stored, root_in};
+ghost use Rattle.modinfo.specs.Reach.{Asks, IsNoInfos, IsNoQuestion, IsReachText, modules_in, reads_modules, reads_stored, reads_stored_info, root_in};
 
 use crate::fault::Fault;
 use crate::input::parse_json;
-use deno_graph_dependency::json_form::text_of;
+use deno_graph_dependency::json_form::{FromJson, ObjectReader, ReadError, find_float, text_of};
 use deno_graph_info::analysis::{InfoFault, ModuleInfo};
 use deno_graph_info::reach::reach;
 use deno_graph_source::values::{Items, Text, TextMap};
@@ -55,6 +56,38 @@ pub fn read_question(alloc: Global, document: Value) -> Result<Question, Fault>
     };
     let infos = read_infos(alloc, modules)?.into_map();
     Ok(Question { infos, root })
+}
+
+/// Reads the modules and the root of a document, which is kept. The error says where in the document
+/// something else was expected, or that an allocation failed.
+#[tactic(auto, using(deno_graph_dependency::proofs::Reading::reading), unfolding(crate::specs::Reach::reads_modules))]
+pub fn read_modules(
+    alloc: Global,
+    document: &Value,
+) -> Result<(TextMap<StoredInfo>, Text), ReadError>
+    ensures { Answers (view document.now) (reads_modules (view document.now)) result }
+{
+    let object = ObjectReader::new(alloc, document)?;
+    let root = object.read("root")?;
+    let modules = object.read("modules")?;
+    Ok((modules, root))
+}
+
+/// The stored information of a module.
+#[derive(Drop)]
+pub struct StoredInfo {
+    info: ModuleInfo,
+}
+
+impl FromJson for StoredInfo {
+    ghost reads = { reads_stored_info };
+
+    #[tactic(auto, using(deno_graph_dependency::proofs::Reading::reading), unfolding(crate::specs::Reach::reads_stored_info))]
+    fn from_json(alloc: Global, value: &Value) -> Result<StoredInfo, ReadError> {
+        find_float(alloc, value)?;
+        let info = ModuleInfo::from_json(alloc, value)?;
+        Ok(StoredInfo { info })
+    }
 }
 
 /// A copy of the member `root`, `None` where the document has no such string.

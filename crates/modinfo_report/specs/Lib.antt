@@ -1,1 +1,2 @@
+pub mod Pointer
 pub mod Report

@@ -1,11 +1,18 @@
 -- What a report says.
-use Rattle.std.specs.Prelude.{◌≡◌, ◌≢◌, Bool, [], true, false}
+use Rattle.std.specs.Prelude.{◌≡◌, ◌≢◌, Bool, [], true, false, IsSomeAnd}
+use Rattle.std.specs.String.{string_bytes}
 use Rattle.serde_json.specs.Data.{Data}
 use Rattle.serde_json.specs.Written.{has_float}
+use Rattle.deno_graph_dependency.specs.Read.Error.{IsIn}
+use Rattle.deno_graph_dependency.specs.Read.Expected.{words}
+use Rattle.deno_graph_dependency.specs.declared.json_form.error.Mismatch.{Mismatch}
+use Rattle.deno_graph_dependency.specs.declared.json_form.error.ReadError.TheVariants as read
 use Rattle.deno_graph_info.specs.Conversion.{IsConverted, IsConvertFault}
 use Rattle.deno_graph_info.specs.declared.conversion.fault.ConvertFault.{ConvertFault}
 use Rattle.deno_graph_info.specs.declared.conversion.fault.ConvertFault.TheVariants as convert
+use Rattle.modinfo_report.specs.Pointer.{pointer_text}
 use Rattle.modinfo_report.specs.declared.report.Report.{Report}
+use Rattle.modinfo_report.specs.declared.report.Wrong.{Wrong as WrongDocument}
 use Rattle.modinfo_report.specs.declared.warning.Warnings.{Warnings}
 use Rattle.modinfo_report.specs.declared.report.Report.TheVariants.{Valid, Wrong}
 
@@ -31,3 +38,13 @@ CanBeConverted before = (has_float before ≡ false) × ((after : Data) × IsCon
 abbrev pub CannotBeConverted : Data → Type 0
 CannotBeConverted before = (fault : ConvertFault) × (fault ≢ convert.OutOfMemory)
     × IsConvertFault before fault
+
+-- the pointer of the report spells the path of the mismatch, and the report has in words what was expected
+abbrev pub Reports : Mismatch → WrongDocument → Type 0
+Reports mismatch wrong =
+    IsSomeAnd wrong.pointer (λ pointer. string_bytes pointer ≡ pointer_text mismatch.path)
+    × (string_bytes wrong.expected ≡ words mismatch.expected)
+
+-- the pointer of the report leads to a value that isn't what the report says is expected there
+abbrev pub PointsInto : Data → WrongDocument → Type 0
+PointsInto value wrong = (mismatch : Mismatch) × IsIn value (read.Mismatch mismatch) × Reports mismatch wrong

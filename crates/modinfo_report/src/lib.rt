@@ -3,9 +3,6 @@
 #![tactic(auto)]
 
 mod conversion;
-mod first_wrong;
-mod form;
-mod modules;
 mod notation;
 mod place;
 mod pointer;
@@ -13,11 +10,11 @@ mod report;
 mod source;
 mod syntax;
 mod text_place;
+mod token;
 mod warning;
 mod warnings;
 
 pub use conversion::{convert_fault, wrong_stored};
-pub use modules::report_modules;
 pub use notation::{wrong_notation, wrong_specifier};
 pub use report::{Report, Wrong};
 pub use source::wrong_source;

@@ -1,9 +1,10 @@
-ghost use Rattle.std.specs.Prelude.{◌↔◌, IsTrue};
-ghost use Rattle.modinfo_report.specs.Report.{LetsPass};
+ghost use Rattle.std.specs.Prelude.{◌≡◌, ◌↔◌, IfOk, IsTrue, Some};
+ghost use Rattle.modinfo_report.specs.Report.{LetsPass, Reports};
 
+use crate::pointer::pointer_of;
 use crate::text_place::TextPlace;
 use crate::warning::{Warning, Warnings};
-use deno_graph_dependency::json_form::TextWriter;
+use deno_graph_dependency::json_form::{Mismatch, TextWriter};
 use deno_graph_source::text::SourceRange;
 use std::alloc::{AllocError, Global};
 
@@ -39,7 +40,10 @@ impl Wrong {
     }
 
     /// A fault of the value to which this JSON Pointer leads.
-    pub(crate) fn of_value(fault: String, pointer: String, expected: String) -> Wrong {
+    pub(crate) fn of_value(fault: String, pointer: String, expected: String) -> Wrong
+        ensures pointer { result.pointer ≡ Some pointer }
+        ensures expected { result.expected ≡ expected }
+    {
         Wrong {
             fault,
             pointer: Some(pointer),
@@ -48,6 +52,19 @@ impl Wrong {
             at: None,
             expected,
         }
+    }
+
+    /// A fault of a value that isn't what was expected. The only error is that an allocation failed.
+    pub fn of_mismatch(
+        alloc: Global,
+        fault: String,
+        mismatch: &Mismatch,
+    ) -> Result<Wrong, AllocError>
+        ensures { IfOk result (Reports mismatch.now) }
+    {
+        let pointer = pointer_of(alloc, &mismatch.path)?;
+        let expected = mismatch.expected.to_words(alloc)?;
+        Ok(Wrong::of_value(fault, pointer, expected))
     }
 
     /// A fault of a text, which is no JSON from there on.

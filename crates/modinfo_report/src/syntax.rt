@@ -3,9 +3,9 @@
 ghost use Rattle.std.specs.Prelude.{IfOk, ⊤};
 ghost use Rattle.modinfo_report.specs.Report.{MatchReport};
 
-use crate::first_wrong::first_wrong;
 use crate::report::{Report, Wrong};
 use crate::text_place::TextPlace;
+use crate::token::invalid_byte;
 use flat_json::{Tape, TapeFault};
 use json::Scratch;
 use modinfo_notation::NotationFault;
@@ -21,10 +21,10 @@ pub fn wrong_json(alloc: Global, text: &str) -> Result<Wrong, AllocError> {
     }
 }
 
-/// The fault of a text that is no JSON or, from the token behind `offset` bytes on, isn't read, since
-/// that is a number or a string that isn't taken. The only error is that memory was refused.
+/// The fault of a text that is no JSON, whose token at `offset` is refused. The only error is that an
+/// allocation failed.
 pub fn wrong_text(alloc: Global, text: &str, offset: usize) -> Result<Wrong, AllocError> {
-    let offset = first_wrong(alloc, text)?.unwrap_or(offset);
+    let offset = invalid_byte(text, offset);
     let fault = format!(in alloc; "{}", NotationFault::Json { offset })?;
     let expected = String::from_str(alloc, "one JSON value, at most 127 deep")?;
     Ok(Wrong::of_text(fault, TextPlace::new(text, offset), expected))

@@ -1,57 +1,60 @@
 //! Documents of `convert` and `reach`: stored information.
 
-ghost use Rattle.std.specs.Prelude.{◌≡◌, IfOk, option_map};
+ghost use Rattle.std.specs.Prelude.{◌≡◌, IfOk, Some, option_map, true};
+ghost use Rattle.serde_json.specs.Data.{Data};
 ghost use Rattle.serde_json.specs.Read.{read as read_text};
 ghost use Rattle.serde_json.specs.View.{view};
+ghost use Rattle.serde_json.specs.Written.{has_float};
 ghost use Rattle.modinfo_report.specs.Report.{MatchReport};
-ghost use Rattle.modinfo.specs.Check.{AsksNone, AsksSome, ReportsOnQuestion, ReportsOnStored, ReportsOnValue};
+ghost use Rattle.modinfo.specs.Check.{AsksNone, AsksSome, IsPlacedIn, ReportsOnQuestion, ReportsOnStored, ReportsOnValue};
 
-use crate::fault::Fault;
-use crate::reach::read_question;
-use deno_graph_info::analysis::ConvertFault;
-use modinfo_report::{
-    Report, Warnings, Wrong, convert_fault, report_modules, wrong_json, wrong_stored,
-};
+use crate::reach::read_modules;
+use deno_graph_dependency::json_form::{Expected, Mismatch, ReadError};
+use deno_graph_info::analysis::{ConvertFault, InfoFault};
+use modinfo_report::{Report, Warnings, Wrong, convert_fault, wrong_json, wrong_stored};
 use serde_json::Value;
 use std::alloc::{AllocError, Global};
 
 /// Checks a document of `reach`, a root and the information of many modules: `Valid` where it can be
 /// read, `Wrong` where it has a fault. The only error is that an allocation failed.
 pub fn check_modules(alloc: Global, text: &str) -> Result<Report, AllocError>
-    ensures { IfOk result (ReportsOnQuestion text.now) }
+    ensures verdict { IfOk result (ReportsOnQuestion text.now) }
+    ensures place { (value : Data) → read_text text.now ≡ Some value → IfOk result (IsPlacedIn value) }
 {
     match read_json(alloc, text)? {
-        Some(value) => report_question(alloc, text, value),
+        Some(value) => report_question(alloc, &value),
         None => Ok(Report::Wrong(wrong_json(alloc, text)?)),
     }
 }
 
-fn report_question(alloc: Global, text: &str, value: Value) -> Result<Report, AllocError>
-    ensures { IfOk result (MatchReport (AsksSome (view value)) (AsksNone (view value))) }
+fn report_question(alloc: Global, value: &Value) -> Result<Report, AllocError>
+    ensures verdict { IfOk result (MatchReport (AsksSome (view value.now)) (AsksNone (view value.now))) }
+    ensures place { IfOk result (IsPlacedIn (view value.now)) }
 {
-    match read_question(alloc, value) {
+    match read_modules(alloc, value) {
         Ok(_) => Ok(Report::Valid(Warnings::new(alloc))),
-        Err(Fault::OutOfMemory) => Err(AllocError),
-        Err(fault) => Ok(Report::Wrong(wrong_question(alloc, text, &fault)?)),
+        Err(ReadError::Mismatch(mismatch)) => {
+            let fault = format!(in alloc; "{}", fault_of(&mismatch))?;
+            Ok(Report::Wrong(Wrong::of_mismatch(alloc, fault, &mismatch)?))
+        }
+        Err(ReadError::OutOfMemory) => Err(AllocError),
     }
 }
 
-/// Where the text of a document of `reach` has its fault. Reads the text once more, since the value
-/// is gone.
-fn wrong_question(alloc: Global, text: &str, fault: &Fault) -> Result<Wrong, AllocError> {
-    if let Some(value) = read_json(alloc, text)? {
-        if let Report::Wrong(wrong) = report_modules(alloc, &value)? {
-            return Ok(wrong);
-        }
+/// The fault that `reach` has where something else was expected.
+fn fault_of(mismatch: &Mismatch) -> InfoFault {
+    match mismatch.expected {
+        Expected::Integer => InfoFault::Float,
+        _ => InfoFault::Shape,
     }
-    let name = String::from_str(alloc, fault.name())?;
-    Ok(Wrong::new(name, String::from_str(alloc, "what reach reads")?))
 }
 
 /// Checks a document of `convert`, the stored information of one module: `Valid` where it can be
 /// converted, `Wrong` where it can't. The only error is that an allocation failed.
 pub fn check_stored(alloc: Global, text: &str) -> Result<Report, AllocError>
-    ensures { IfOk result (ReportsOnStored text.now) }
+    ensures verdict { IfOk result (ReportsOnStored text.now) }
+    ensures place { (value : Data) → read_text text.now ≡ Some value → has_float value ≡ true
+        → IfOk result (IsPlacedIn value) }
 {
     match read_json(alloc, text)? {
         Some(mut value) => report_stored(alloc, &mut value),
@@ -60,7 +63,8 @@ pub fn check_stored(alloc: Global, text: &str) -> Result<Report, AllocError>
 }
 
 fn report_stored(alloc: Global, value: &mut Value) -> Result<Report, AllocError>
-    ensures { IfOk result (ReportsOnValue (view value.old)) }
+    ensures verdict { IfOk result (ReportsOnValue (view value.old)) }
+    ensures place { has_float (view value.old) ≡ true → IfOk result (IsPlacedIn (view value.old)) }
 {
     match convert_fault(alloc, value) {
         None => Ok(Report::Valid(Warnings::new(alloc))),

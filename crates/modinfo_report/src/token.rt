@@ -1,18 +1,35 @@
-//! Strings, numbers and words of JSON: each from where it begins to behind its end. An error is the
-//! number of bytes before the first that is wrong.
+//! Where a token of JSON (RFC 8259) goes wrong.
+
+/// The offset of the first byte with which the token at `start` is no string, no number and no word of
+/// JSON. Returns `start` where no token starts like that, and where the token itself is right.
+pub fn invalid_byte(text: &str, start: usize) -> usize {
+    let bytes = text.as_bytes();
+    let end = match bytes.get(start) {
+        Some(b'"') => string_end(bytes, start),
+        Some(b'-' | b'0'..=b'9') => number_end(bytes, start),
+        Some(b't') => word_end(bytes, start, b"true"),
+        Some(b'f') => word_end(bytes, start, b"false"),
+        Some(b'n') => word_end(bytes, start, b"null"),
+        _ => Err(start),
+    };
+    match end {
+        Ok(_) => start,
+        Err(invalid) => invalid,
+    }
+}
 
 /// Where a string is.
 #[derive(Clone, Copy)]
 enum InString {
     Plain,
-    /// Behind a backslash.
+    /// After a backslash.
     Escape,
-    /// So many hexadecimal digits are still to come.
+    /// In an escape `\\u` with this number of hexadecimal digits left.
     Digits(u8),
 }
 
-/// The end of the string that begins with the quote at `start`.
-pub fn string_end(bytes: &[u8], start: usize) -> Result<usize, usize> {
+/// The end of the string that starts with the quote at `start`, or the offset of the first invalid byte.
+fn string_end(bytes: &[u8], start: usize) -> Result<usize, usize> {
     let mut place = InString::Plain;
     let inside = start.saturating_add(1);
     for (passed, byte) in bytes.get(inside..).unwrap_or(&[]).iter().enumerate() {
@@ -35,9 +52,9 @@ pub fn string_end(bytes: &[u8], start: usize) -> Result<usize, usize> {
     Err(bytes.len())
 }
 
-/// The end of the number that begins at `start`.
-pub fn number_end(bytes: &[u8], start: usize) -> Result<usize, usize> {
-    let whole = behind_one_of(bytes, start, b"-");
+/// The end of the number that starts at `start`, or the offset of the first invalid byte.
+fn number_end(bytes: &[u8], start: usize) -> Result<usize, usize> {
+    let whole = after_one_of(bytes, start, b"-");
     let point = match bytes.get(whole) {
         Some(b'0') => whole.saturating_add(1),
         _ => digits_end(bytes, whole)?,
@@ -48,14 +65,14 @@ pub fn number_end(bytes: &[u8], start: usize) -> Result<usize, usize> {
     };
     match bytes.get(exponent) {
         Some(b'e' | b'E') => {
-            let digits = behind_one_of(bytes, exponent.saturating_add(1), b"+-");
+            let digits = after_one_of(bytes, exponent.saturating_add(1), b"+-");
             digits_end(bytes, digits)
         }
         _ => Ok(exponent),
     }
 }
 
-/// The end of the digits from `start` on, of which there has to be one.
+/// The end of the digits at `start`, of which there has to be one.
 fn digits_end(bytes: &[u8], start: usize) -> Result<usize, usize> {
     let rest = bytes.get(start..).unwrap_or(&[]);
     let digits = rest
@@ -68,16 +85,16 @@ fn digits_end(bytes: &[u8], start: usize) -> Result<usize, usize> {
     Ok(start.saturating_add(digits))
 }
 
-/// The place behind the byte at `at`, where that is one of these, else `at`.
-fn behind_one_of(bytes: &[u8], at: usize, these: &[u8]) -> usize {
+/// The offset after the byte at `at` where that is one of `these`, else `at`.
+fn after_one_of(bytes: &[u8], at: usize, these: &[u8]) -> usize {
     match bytes.get(at) {
         Some(byte) if these.contains(byte) => at.saturating_add(1),
         _ => at,
     }
 }
 
-/// The end of the word, of which the first letter is at `start`.
-pub fn word_end(bytes: &[u8], start: usize, word: &[u8]) -> Result<usize, usize> {
+/// The end of the word that starts at `start`, or the offset of the first invalid byte.
+fn word_end(bytes: &[u8], start: usize, word: &[u8]) -> Result<usize, usize> {
     let mut at = start;
     for letter in word {
         if bytes.get(at) != Some(letter) {
