@@ -13,7 +13,7 @@ from typing import Any
 
 sys.path.append(str(Path(__file__).resolve().parents[1]))
 
-from formats import Format, Schema, choices
+from formats import Format, Schema, choices, literals
 
 TEXTS = ["./a.ts", "é/😀.js", "", '"\\\n', "*", "node:fs", "resolution-mode", "import", "type", "require"]
 LINE_COMMENTS = [
@@ -87,8 +87,8 @@ class Generator:
         schema = self.format.resolved(schema)
         if schema.get("title") == "DocumentNode" or not schema:
             return None
-        if "const" in schema or "enum" in schema:
-            return self.random.choice(schema.get("enum") or [schema["const"]])
+        if literals(schema):
+            return self.random.choice(literals(schema))
         if choices(schema):
             return self.value(self.random.choice(choices(schema)))
         if schema["type"] == "array":
