@@ -2,8 +2,8 @@
 
 What they have besides the keywords of JSON Schema:
 
-- `title` names a type. `x-typescript`, `x-python` and `x-rust` are its name in one language, or null if there is
-  no such type there. `x-rattle` is its `Role` in Rattle.
+- `title` names a type. `x-typescript`, `x-python` and `x-rust` are its name in one language, or null without
+  a type there. `x-rattle` is its `Role` in Rattle.
 - `x-name` names a part of a tuple, `x-variants` the variants of an enum in Rust, `x-none` that of a missing
   member, and `x-rust` in a member without a title its field. An object repeats the members of `x-extends`.
 - `x-values` says what each value of an `enum` means.
