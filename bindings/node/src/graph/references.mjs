@@ -5,16 +5,18 @@
  * @typedef {import("./graph.mjs").Reference} Reference
  * @typedef {import("./graph.mjs").ReferenceKind} ReferenceKind
  * @typedef {import("./graph.mjs").Resolution} Resolution
- * @typedef {import("../document/module_info.mjs").StaticDependencyKind} StaticDependencyKind
  * @typedef {import("../document/module_info.mjs").DynamicDependencyKind} DynamicDependencyKind
+ * @typedef {import("../document/module_info.mjs").PositionRange} PositionRange
+ * @typedef {import("../document/module_info.mjs").ResolutionMode} ResolutionMode
+ * @typedef {import("../document/module_info.mjs").StaticDependencyKind} StaticDependencyKind
  *
  * @typedef {object} Named an object of a `ModuleInfo` that names a module
  * @property {any} node the object itself, which gets the member `resolved`
  * @property {ReferenceKind} kind
  * @property {string | undefined} specifier nothing where the text isn't known as a whole
- * @property {[[number, number], [number, number]]} range
+ * @property {PositionRange} range
  * @property {Syntax} syntax
- * @property {"import" | "require"} [mode] what an attribute or a comment asks for
+ * @property {ResolutionMode} [mode] what an attribute or a comment asks for
  *
  * @typedef {"import" | "dynamic" | "require" | "types" | "path" | "jsx" | "augmentation"} Syntax
  *   which rules the specifier is resolved by; `types` is `/// <reference types=".." />`

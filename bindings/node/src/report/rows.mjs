@@ -1,17 +1,21 @@
 /**
  * The rows of a module's table: its dependencies and their ranges.
  *
- * @typedef {[number, number]} Position line and character, both from zero
- * @typedef {[Position, Position]} Range
+ * @typedef {import("../document/module_info.mjs").DynamicArgument} DynamicArgument
+ * @typedef {import("../document/module_info.mjs").ImportAttributes} ImportAttributes
+ * @typedef {import("../document/module_info.mjs").JsDocImportInfo} JsDocImportInfo
+ * @typedef {import("../document/module_info.mjs").Position} Position
+ * @typedef {import("../document/module_info.mjs").PositionRange} Range
+ * @typedef {import("../document/module_info.mjs").ResolutionMode} ResolutionMode
  *
  * @typedef {object} Row
  * @property {import("./kinds.mjs").Kind} kind
  * @property {string} word the kind's name in a `ModuleInfo`, as `importType` or `jsxImportSource`
- * @property {string | { type: string, value?: string }[] | null} name the specifier, or the
- *   known parts of an argument; null if it is unknown
+ * @property {DynamicArgument | null} name the specifier, or the known parts of an argument; null if
+ *   it is unknown
  * @property {Range} range
- * @property {"unknown" | { known: Record<string, string | null> }} [attributes]
- * @property {string} [mode] a resolution mode that a comment names
+ * @property {ImportAttributes} [attributes]
+ * @property {ResolutionMode} [mode] what a comment names
  * @property {boolean} [sideEffect]
  * @property {{ text: string, range: Range, resolved?: Resolution }} [types] the module of its types,
  *   which the comment before it names
@@ -68,7 +72,7 @@ function isReference({ kind, resolved }) {
 /**
  * @param {import("./kinds.mjs").Kind} kind
  * @param {string} word
- * @param {{ text: string, range: Range, resolutionMode?: string, resolved?: Resolution }} specifier
+ * @param {JsDocImportInfo & { resolved?: Resolution }} specifier
  * @returns {Row}
  */
 function commentRow(kind, word, { text, range, resolutionMode, resolved }) {
