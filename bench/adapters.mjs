@@ -144,7 +144,7 @@ function timeTable(commands, list, { folder, rounds, files }) {
 }
 
 /**
- * The dependencies by `modinfo`, of each file that has an answer.
+ * The dependencies by `modinfo`, of each file that has a result.
  * @param {string} list
  * @returns {Map<string, Dependency[] | undefined>}
  */

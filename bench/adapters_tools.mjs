@@ -20,7 +20,7 @@ import { parseWithTypeScript } from "../bindings/node/src/parsers/typescript/par
 
 const require = createRequire("/usr/share/nodejs/");
 
-/** For each tool what makes a function that reads a text and answers the offsets. */
+/** By tool: makes a function that reads a text and returns the offsets. */
 const TOOLS = {
   /** The parser that the adapter has, with the adapter's options. */
   "typescript": async () => {
@@ -36,7 +36,7 @@ const TOOLS = {
     return (text) => {
       const { importedFiles, referencedFiles, typeReferenceDirectives } =
         preProcessFile(text, true, true);
-      // A reference's offset is behind its quote.
+      // A reference's offset is after its quote.
       const references = [...referencedFiles, ...typeReferenceDirectives];
       return [...importedFiles.map(({ pos }) => pos), ...references.map(({ pos }) => pos - 1)];
     };
@@ -47,7 +47,7 @@ const TOOLS = {
     await init;
     return (text, path) => {
       const [imports] = parse(text, path);
-      // A static specifier's offset is behind its quote; `import.meta` is no dependency.
+      // A static specifier's offset is after its quote; `import.meta` is no dependency.
       return imports.filter(({ d }) => d !== -2).map(({ s, d }) => (d === -1 ? s - 1 : s));
     };
   },

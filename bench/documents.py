@@ -153,7 +153,7 @@ def heads(count):
 
 
 def one_start(count):
-    """Imports that all start behind one long comment."""
+    """Imports that all start after one long comment."""
     text = " " * (10 * count)
     comment = f"/*{text}*/"
     statement, node = imported(0, len(comment))
@@ -162,7 +162,7 @@ def one_start(count):
 
 
 def two_starts(count):
-    """Imports that start in turn behind one long comment and behind another."""
+    """Imports that start after one long comment and after another, alternately."""
     text = " " * (5 * count)
     comment = f"/*{text}*/"
     starts = [len(comment), 2 * len(comment)]

@@ -14,12 +14,12 @@ def bare_imports(count):
 
 
 def unclosed_imports(count):
-    """Dynamic imports without a brace behind them."""
+    """Dynamic imports without a brace after them."""
     return jsdoc("{import('a')" * count)
 
 
 def late_brace(count):
-    """Dynamic imports with one brace behind all of them, so that each is one."""
+    """Dynamic imports with one brace after all of them, so that each is one."""
     return jsdoc("{import('a')" * count + "}")
 
 
@@ -29,17 +29,17 @@ def unclosed_names(count):
 
 
 def long_quote(count):
-    """Declarations whose names end at one brace, and a long specifier behind it."""
+    """Declarations whose names end at one brace, and a long specifier after it."""
     return jsdoc("@import {" * count + '} from "' + "a" * (10 * count) + '"')
 
 
 def long_space(count):
-    """Declarations whose names end at one brace, and much white space behind it."""
+    """Declarations whose names end at one brace, and much white space after it."""
     return jsdoc("@import {" * count + "}" + " " * (10 * count) + 'from "a"')
 
 
 def long_attributes(count):
-    """Declarations whose names end at one brace, and many attributes behind it."""
+    """Declarations whose names end at one brace, and many attributes after it."""
     return jsdoc("@import {" * count + '} from "a" with {' + 'k:"v",' * count + 'k:"v"}')
 
 

@@ -1,5 +1,5 @@
 #!/usr/bin/env python3
-"""Measures what a module costs by its size: its parser, its document, its analysis and its answer.
+"""Measures what a module costs by its size: its parser, its document, its analysis and its output.
 
     bench/adapters_setup
     ./modinfo --prove
@@ -148,7 +148,7 @@ def row(name: str, costs: Costs) -> str:
 
 
 HEADING = (
-    "| source, bytes | modules | source | document | answer | instructions, millions | of them for a byte "
+    "| source, bytes | modules | source | document | output | instructions, millions | of them for a byte "
     "| analysis, ms | MB held | parser, ms |\n|---|---|---|---|---|---|---|---|---|---|"
 )
 

@@ -3,7 +3,7 @@
     PYTHON bench/threads.py [DOCUMENT]
 
 PYTHON is that of a venv with the wheel. Each thread makes the same calls on the document's bytes, by the
-library alone and with the answer read as JSON, which needs Python's lock. Prints for each the seconds that one
+library alone and with the result read as JSON, which needs Python's lock. Prints for each the seconds that one
 thread takes for its calls, those of eight threads together, and the processors that they used.
 """
 

@@ -24,14 +24,14 @@ AHEAD = 4
 
 DESCRIPTION = """\
 Analyzes documents on the machines of a Dask cluster, whose workers have the Python package modinfo.
-Each line of the output answers a document, in the order of the input, in the form of
-`modinfo analyze --lines`: {"answer":MODULEINFO} or {"fault":NAME}. With --pipe the workers put the lines
-through a command instead, which answers each with a line."""
+Each line of the output is the result for a document, in the order of the input, as
+`modinfo analyze --lines` prints it: {"answer":MODULEINFO} or {"fault":NAME}. With --pipe the workers put
+the lines through a command instead, which prints a line for each."""
 
 EPILOG = """\
-Status 0, whatever the answers are; 1 where the work can't go on, with what was answered so far written;
-2 for words that aren't the usage. Where a worker ends, what it had is done again by the others. A run
-that ended is continued behind the lines that are answered: tail -n +$(($(wc -l < ANSWERS) + 1)) FILE."""
+Status 0, whatever the results are; 1 if the work can't go on, with the results so far written; 2 for a
+usage error. If a worker ends, others do its work again. To continue a run that ended, pass the lines
+that have no result yet: tail -n +$(($(wc -l < RESULTS) + 1)) FILE."""
 
 
 def parser() -> argparse.ArgumentParser:

@@ -62,6 +62,6 @@ def _folder_lines(folder: Path) -> Iterator[bytes]:
 
 
 def _whole_lines(file: Iterable[bytes]) -> Iterator[bytes]:
-    """The lines of a file. What is behind the last line feed is a line too."""
+    """The lines of a file. A text after the last line feed is a line too."""
     for line in file:
         yield line if line.endswith(b"\n") else line + b"\n"

@@ -1,5 +1,5 @@
 #!/usr/bin/env python3
-"""Analyzes the files whose answers aren't stored yet, stores them, and writes the answers of all."""
+"""Analyzes the files whose results aren't stored yet, stores these, and writes the results of all."""
 
 import argparse
 import hashlib
@@ -29,7 +29,7 @@ MEDIA_TYPES = {
     ".mjs": "Mjs",
     ".cjs": "Cjs",
 }
-# An answer of bindings/node/src/cli/files.mjs. What is behind the specifier doesn't depend on the file's name.
+# A result of bindings/node/src/cli/files.mjs. The text after the specifier doesn't depend on the file's name.
 ANSWER = re.compile(rb'\{"specifier":"(?:[^"\\]|\\.)*",("info":.*\n)')
 # The characters of a path that a URL has as they are, beside letters, digits and `-._`.
 PLAIN = "/!$&'()*+,:;=@"
@@ -40,20 +40,20 @@ WAIT_SECONDS = 60.0
 
 DESCRIPTION = """\
 Reads paths of files from the standard input, one a line, and writes a line for each, in their order, as
-bindings/node/src/cli/files.mjs does. Only the files without a stored answer go through COMMAND, which reads their
-paths and writes a line for each. An answer is stored under a hash of the file's bytes, its media type
+bindings/node/src/cli/files.mjs does. Only the files without a stored result go through COMMAND, which reads their
+paths and writes a line for each. A result is stored under a hash of the file's bytes, its media type
 and VERSION, so a file with another name has it too. A fault isn't stored.
 
 Several runs may use one store at a time.
 
-Status 0; 1 where COMMAND doesn't write a line for each path, or the store or the output can't be
+Status 0; 1 if COMMAND doesn't write a line for each path, or the store or the output can't be
 written: what was stored until then is kept."""
 
 
 class Store:
-    """Answers by their keys, in a file of SQLite that several runs may use at once.
+    """Results by their keys, in a file of SQLite that several runs may use at once.
 
-    A transaction is open only while answers that are there are written. Another run waits for its end.
+    A transaction is open only while results are written. Another run waits for its end.
     """
 
     def __init__(self, path: str) -> None:

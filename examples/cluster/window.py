@@ -11,7 +11,7 @@ Work = Callable[[bytes], bytes]
 
 
 class PartitionFault(Exception):
-    """A partition has no answers, also when it was tried again."""
+    """A partition has no results, also when it was tried again."""
 
     def __init__(self, partition: Partition, cause: BaseException) -> None:
         super().__init__(f"lines {partition.first} to {partition.last}: {type(cause).__name__}: {cause}")
@@ -20,7 +20,7 @@ class PartitionFault(Exception):
 def results_in_order(
     client: Client, work: Work, partitions: Iterable[Partition], window: int, retries: int
 ) -> Iterator[tuple[Partition, bytes]]:
-    """Each partition with what the workers answer to its lines.
+    """Each partition with the lines that the workers return for it.
 
     At most `window` partitions are under way, or done and waiting for an earlier one; no more are read and
     held. What a worker had that ended is done again by another.

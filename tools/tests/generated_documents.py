@@ -13,7 +13,7 @@ from typing import Any
 
 sys.path.append(str(Path(__file__).resolve().parents[1]))
 
-from formats import Format, Schema, choices
+from formats import Format, Schema, choices, literals
 
 TEXTS = ["./a.ts", "é/😀.js", "", '"\\\n', "*", "node:fs", "resolution-mode", "import", "type", "require"]
 LINE_COMMENTS = [
@@ -39,9 +39,9 @@ DEEPEST = 3
 class Generator:
     """Makes one document."""
 
-    def __init__(self, number: int) -> None:
+    def __init__(self, number: int, of: Format) -> None:
         self.random = Random(number)
-        self.format = Format("document")
+        self.format = of
         self.source = ""
         self.comments: list[dict[str, Any]] = []
 
@@ -59,7 +59,8 @@ class Generator:
         for side in "leading", "trailing":
             if side in document:
                 document[side] = [
-                    {"pos": self.random.choice(places), "comments": self.sorted_sample(self.comments)} for _ in range(2)
+                    {"pos": self.random.choice(places), "comments": self.sorted_sample(self.comments)}
+                    for _ in range(self.random.randrange(3))
                 ]
         return {**document, "specifier": "file:///a.ts", "source": self.source, "program": program}
 
@@ -87,8 +88,8 @@ class Generator:
         schema = self.format.resolved(schema)
         if schema.get("title") == "DocumentNode" or not schema:
             return None
-        if "const" in schema or "enum" in schema:
-            return self.random.choice(schema.get("enum") or [schema["const"]])
+        if literals(schema):
+            return self.random.choice(literals(schema))
         if choices(schema):
             return self.value(self.random.choice(choices(schema)))
         if schema["type"] == "array":
@@ -140,7 +141,8 @@ class Generator:
 
 
 def documents(count: int) -> list[dict[str, Any]]:
-    return [Generator(number).document() for number in range(count)]
+    of = Format("document")
+    return [Generator(number, of).document() for number in range(count)]
 
 
 def lines(values: list[dict[str, Any]]) -> str:

@@ -98,8 +98,8 @@ pub struct StaticDependencyDescriptor {
 #[derive(Copy, Clone, Debug, PartialEq, Eq, Deserialize, Serialize, Default)]
 #[serde(rename_all = "camelCase")]
 pub enum DynamicDependencyKind {
-    #[default]
     /// `import`
+    #[default]
     Import,
     /// `importDefer`
     ImportDefer,

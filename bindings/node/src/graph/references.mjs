@@ -5,14 +5,18 @@
  * @typedef {import("./graph.mjs").Reference} Reference
  * @typedef {import("./graph.mjs").ReferenceKind} ReferenceKind
  * @typedef {import("./graph.mjs").Resolution} Resolution
+ * @typedef {import("../document/module_info.mjs").DynamicDependencyKind} DynamicDependencyKind
+ * @typedef {import("../document/module_info.mjs").PositionRange} PositionRange
+ * @typedef {import("../document/module_info.mjs").ResolutionMode} ResolutionMode
+ * @typedef {import("../document/module_info.mjs").StaticDependencyKind} StaticDependencyKind
  *
  * @typedef {object} Named an object of a `ModuleInfo` that names a module
  * @property {any} node the object itself, which gets the member `resolved`
  * @property {ReferenceKind} kind
  * @property {string | undefined} specifier nothing where the text isn't known as a whole
- * @property {[[number, number], [number, number]]} range
+ * @property {PositionRange} range
  * @property {Syntax} syntax
- * @property {"import" | "require"} [mode] what an attribute or a comment asks for
+ * @property {ResolutionMode} [mode] what an attribute or a comment asks for
  *
  * @typedef {"import" | "dynamic" | "require" | "types" | "path" | "jsx" | "augmentation"} Syntax
  *   which rules the specifier is resolved by; `types` is `/// <reference types=".." />`
@@ -22,7 +26,10 @@ import { textOfArgument } from "./arguments.mjs";
 
 const RUN_KINDS = new Set(["static", "dynamic", "require", "jsx"]);
 
-/** @type {Map<string, { kind: ReferenceKind, syntax: Syntax }>} */
+/**
+ * The dependencies whose kind isn't their type, by their kinds in a `ModuleInfo`.
+ * @type {Map<StaticDependencyKind | DynamicDependencyKind, { kind: "type" | "require", syntax: Syntax }>}
+ */
 const BY_WORD = new Map([
   ["importType", { kind: "type", syntax: "import" }],
   ["exportType", { kind: "type", syntax: "import" }],
@@ -46,6 +53,16 @@ const PRAGMAS = [
  */
 export function isRunKind(kind) {
   return RUN_KINDS.has(kind);
+}
+
+/**
+ * The kind of a dependency: its type, or that it is for types alone, or a `require`.
+ * @param {{ type: "static" | "dynamic", kind?: StaticDependencyKind | DynamicDependencyKind }} dependency
+ *   of a `ModuleInfo`
+ * @returns {"static" | "dynamic" | "type" | "require"}
+ */
+export function kindOf({ type, kind = "import" }) {
+  return BY_WORD.get(kind)?.kind ?? type;
 }
 
 /**

@@ -35,24 +35,3 @@ export const KINDS = [
     light: "#5b4bb0", dark: "#b3a6ff", dash: "", dot: "style=solid",
   },
 ];
-
-/**
- * The kinds of dependencies that import no value, by their names in a `ModuleInfo`.
- * @type {Map<string, Kind>}
- */
-const BY_WORD = new Map([
-  ["importType", "type"],
-  ["exportType", "type"],
-  ["maybeTsModuleAugmentation", "type"],
-  ["require", "require"],
-  ["importEquals", "require"],
-  ["exportEquals", "require"],
-]);
-
-/**
- * @param {{ type: "static" | "dynamic", kind?: string }} dependency of a `ModuleInfo`
- * @returns {Kind}
- */
-export function kindOf({ type, kind }) {
-  return BY_WORD.get(kind ?? "") ?? type;
-}
