@@ -34,7 +34,7 @@ returns-in_err-document-clause-check g c subcommand is_strict is =
 -- the line is the answer, and a line feed
 pub returns-clause-answer : goal.returns-clause-answer
 returns-clause-answer g c subcommand is =
-    let found = c.in_ok-line.ensures.answer subcommand is in (
+    let found = rw is at c.in_ok-line.ensures in (
       c.in_ok-document.document.items,
       c.in_ok-document.ensures,
       (
