@@ -74,9 +74,10 @@
  * it sees. The document, the room and `*length`
  * don't overlap, and no other thread writes to them during the call. Calls may run side by side in
  * many threads, but not in a signal handler, nor in the forked child of a process with threads.
- * Memory comes from the process's `malloc`, `realloc` and `free`, and is given back before the call
- * returns. Trees use the stack: 192 KiB were enough for the deepest documents, whose JSON nests 127
- * deep. On x86-64 the processor has to have x86-64-v2 (SSE4.2 and POPCNT).
+ * The document is read where it is, and not copied. Memory comes from the process's `malloc`, `realloc`
+ * and `free`, and is given back before the call returns. Trees use the stack: 192 KiB were enough for
+ * the deepest documents, whose JSON nests 127 deep. On x86-64 the processor has to have x86-64-v2
+ * (SSE4.2 and POPCNT).
  */
 #ifndef MODINFO_H
 #define MODINFO_H

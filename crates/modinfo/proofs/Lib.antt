@@ -1,4 +1,5 @@
 pub mod Faults
+mod LinesSplit
 mod LinesTaken
 pub mod Modules
 pub mod StoredModules

@@ -53,6 +53,7 @@ use Rattle.std.specs.Io.Iter.{u64_saturate}
 use Rattle.std.specs.Io.KnownBytes.{Appends, Consumes, IsAtEnd}
 use Rattle.std.specs.Prelude.{Option, All, ◌≢◌}
 use Rattle.std.specs.Result.{IsErrAnd}
+use Rattle.std.specs.String.{string_bytes}
 use Rattle.std.proofs.BufReadLemmas.{drop_through-append, take_through_nonempty, through_part}
 use Rattle.std.proofs.KnownBytes.{Appends-nil, Appends-trans}
 use Rattle.std.proofs.lemmas.List.{take-append-le}
@@ -60,6 +61,8 @@ use Rattle.std.proofs.lemmas.List.Elements.{All-more, All-nil}
 use Rattle.std.proofs.lemmas.Result.{err_from_is_err_and}
 use Rattle.modinfo.specs.Answer.{IsAnswerText, IsDocumentFault}
 use Rattle.modinfo.specs.Lines.{
+  IsPrintFault,
+  IsPrinted,
   PrintsLine,
   PrintsLines,
   TakesLines,
@@ -77,6 +80,7 @@ use Rattle.modinfo.specs.declared.fault.Fault.{Fault}
 use Rattle.modinfo.specs.declared.fault.Fault.TheVariants.{OutOfMemory}
 use Rattle.modinfo.specs.declared.subcommand.Subcommand.{Subcommand}
 use Rattle.modinfo.specs.declared.subcommand.Subcommand.TheVariants.{Analyze, Convert, Reach}
+use Rattle.modinfo.specs.declared.task.Printed.{Printed}
 use Rattle.modinfo.specs.declared.task.Task.{Task}
 use Rattle.modinfo.specs.declared.task.Task.TheVariants.{Answer, Check}
 
@@ -274,7 +278,7 @@ and_true true = refl
 and_true false = refl
 
 -- what is printed for a line after others
-PrintsLines-more : (task : Task) (lines : List (List ℕ)) (line : List ℕ) (passes next : Bool)
+pub PrintsLines-more : (task : Task) (lines : List (List ℕ)) (line : List ℕ) (passes next : Bool)
     (printed text : List ℕ) → PrintsLines task lines passes printed → PrintsLine task line next text
     → PrintsLines task (lines ++ line ∷ []) (passes && next) (printed ++ text)
 PrintsLines-more task _ line _ next _ text none one =
@@ -322,28 +326,20 @@ AppendsFront-more a b c sent waiting p q = (
 )
 
 -- a document's answer or report
-pub PrintsLine-framed : (task : Task) (line text : List ℕ) (passes : Bool)
-    → ((subcommand : Subcommand) → task ≡ Answer subcommand
-    → IsTrue passes × IsAnswerText subcommand line text)
-    → ((subcommand : Subcommand) (is_strict : Bool) → task ≡ Check subcommand is_strict
-    → PrintsReport subcommand is_strict line passes text)
-    → PrintsLine task line passes (framed task text)
-PrintsLine-framed (Answer subcommand) line text passes answers reports =
-    let answer = answers subcommand refl in
-    subst (λ b. PrintsLine (Answer subcommand) line b (framed (Answer subcommand) text)) (sym answer.0)
-    (answered text answer.1)
-PrintsLine-framed (Check subcommand is_strict) line text passes answers reports =
-    reported text (reports subcommand is_strict refl)
+pub PrintsLine-framed : (task : Task) (line : List ℕ) (printed : Printed) → IsPrinted task line printed
+    → PrintsLine task line printed.is_passed (framed task (string_bytes printed.line))
+PrintsLine-framed (Answer subcommand) line printed is =
+    let text = string_bytes printed.line in
+    subst (λ b. PrintsLine (Answer subcommand) line b (framed (Answer subcommand) text)) (sym is.0)
+    (answered text is.1)
+PrintsLine-framed (Check subcommand is_strict) line printed is = reported (string_bytes printed.line) is
 
 -- a document's fault
-pub PrintsLine-faulted : (task : Task) (line : List ℕ) (fault : Fault)
-    → ((subcommand : Subcommand) → task ≡ Answer subcommand → IsDocumentFault subcommand line fault)
-    → ((subcommand : Subcommand) (is_strict : Bool) → task ≡ Check subcommand is_strict → fault ≡ OutOfMemory)
+pub PrintsLine-faulted : (task : Task) (line : List ℕ) (fault : Fault) → IsPrintFault task line fault
     → PrintsLine task line (passes_without task) (fault_line fault)
-PrintsLine-faulted (Answer subcommand) line fault answers reports = faulted fault (answers subcommand refl)
-PrintsLine-faulted (Check subcommand is_strict) line fault answers reports =
-    subst (λ f. PrintsLine (Check subcommand is_strict) line false (fault_line f))
-    (sym (reports subcommand is_strict refl)) refused
+PrintsLine-faulted (Answer subcommand) line fault has = faulted fault has
+PrintsLine-faulted (Check subcommand is_strict) line fault has =
+    subst (λ f. PrintsLine (Check subcommand is_strict) line false (fault_line f)) (sym has) refused
 
 -- memory may be refused for each document
 IsDocumentFault-refused : (subcommand : Subcommand) (line : List ℕ)

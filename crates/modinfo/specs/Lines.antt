@@ -17,8 +17,10 @@ use Rattle.std.specs.Prelude.{
   None,
   Some,
   IfSome,
+  IsTrue,
   if◌then◌else◌,
 }
+use Rattle.std.specs.String.{string_bytes}
 use Rattle.modinfo.specs.Answer.{IsAnswerText, IsDocumentFault}
 use Rattle.modinfo.specs.Fault.{name_of_fault}
 use Rattle.modinfo.specs.Run.{AppendsFront, IsFailure, PrintsReport, error_line}
@@ -27,6 +29,7 @@ use Rattle.modinfo.specs.declared.fault.Fault.TheVariants.{OutOfMemory}
 use Rattle.modinfo.specs.declared.lines.Next.{Next}
 use Rattle.modinfo.specs.declared.lines.Next.TheVariants.{End, Line, Skipped}
 use Rattle.modinfo.specs.declared.subcommand.Subcommand.{Subcommand}
+use Rattle.modinfo.specs.declared.task.Printed.{Printed}
 use Rattle.modinfo.specs.declared.task.Task.{Task}
 use Rattle.modinfo.specs.declared.task.Task.TheVariants.{Answer, Check}
 
@@ -53,6 +56,18 @@ fault_line fault = codes "{\"fault\":\"" ++ name_of_fault fault ++ codes "\"}\n"
 abbrev pub passes_without : Task → Bool
 passes_without (Answer subcommand) = true
 passes_without (Check subcommand is_strict) = false
+
+-- What is printed for a document, without what is around it in a line.
+abbrev pub IsPrinted : Task → List ℕ → Printed → Type 0
+IsPrinted (Answer subcommand) document printed = IsTrue printed.is_passed
+    × IsAnswerText subcommand document (string_bytes printed.line)
+IsPrinted (Check subcommand is_strict) document printed =
+    PrintsReport subcommand is_strict document printed.is_passed (string_bytes printed.line)
+
+-- Why nothing is printed for a document: it has this fault, of a check that an allocation failed.
+abbrev pub IsPrintFault : Task → List ℕ → Fault → Type 0
+IsPrintFault (Answer subcommand) document fault = IsDocumentFault subcommand document fault
+IsPrintFault (Check subcommand is_strict) document fault = fault ≡ OutOfMemory
 
 -- What is printed for one line of the input, and whether the line passes.
 pub data PrintsLine : Task → List ℕ → Bool → List ℕ → Type 0 where

@@ -4,10 +4,9 @@ ghost use Rattle.std.specs.Prelude.{◌≡◌, Some, IfSome, IsUtf8, MatchResult
 ghost use Rattle.serde_json.specs.View.{view};
 ghost use Rattle.serde_json.specs.Read.{read as read_text};
 ghost use Rattle.modinfo_notation.specs.Document.{IsDocumentOf};
-ghost use Rattle.modinfo.specs.Answer.{IsModuleOf, IsNoJson, IsNoModule, IsReadFailure};
+ghost use Rattle.modinfo.specs.Answer.{IsNoJson, IsNoModule, IsReadFailure};
 
 use crate::fault::Fault;
-use deno_graph_source::tree::ParsedSource;
 use modinfo_notation::{Document, parse_document};
 use serde_json::Value;
 use simdutf8::basic;
@@ -16,26 +15,19 @@ use std::io::{ErrorKind, Read};
 
 const CHUNK: usize = 65536;
 
-/// The source of a document in the notation, whose tree has to fit it.
-pub fn parse_source(alloc: Global, input: Vec<u8>) -> Result<ParsedSource, Fault>
-    ensures { MatchResult result (IsModuleOf input.items) (IsNoModule input.items) }
+/// Reads a document in the notation.
+pub fn document_of(alloc: Global, bytes: &[u8]) -> Result<Document, Fault>
+    ensures { MatchResult result (IsDocumentOf bytes.now) (IsNoModule bytes.now) }
 {
-    Ok(document_of(alloc, input)?.into_source(alloc)?)
+    Ok(parse_document(alloc, text_of(bytes)?)?)
 }
 
-// The bytes are gone before the tree is held against its source.
-fn document_of(alloc: Global, input: Vec<u8>) -> Result<Document, Fault>
-    ensures { MatchResult result (IsDocumentOf input.items) (IsNoModule input.items) }
+/// Reads bytes that are one JSON value.
+pub fn parse_json(alloc: Global, bytes: &[u8]) -> Result<Value, Fault>
+    ensures { MatchResult result (λ value. read_text bytes.now ≡ Some (view value))
+        (IsNoJson bytes.now) }
 {
-    Ok(parse_document(alloc, text_of(input.as_slice())?)?)
-}
-
-/// The one JSON value that the input is.
-pub fn parse_json(alloc: Global, input: Vec<u8>) -> Result<Value, Fault>
-    ensures { MatchResult result (λ value. read_text input.items ≡ Some (view value))
-        (IsNoJson input.items) }
-{
-    Ok(Value::from_str(alloc, text_of(input.as_slice())?)?)
+    Ok(Value::from_str(alloc, text_of(bytes)?)?)
 }
 
 fn text_of(bytes: &[u8]) -> Result<&str, Fault>

@@ -11,6 +11,7 @@ mod lines;
 mod output;
 mod program;
 mod reach;
+mod request;
 pub mod subcommand;
 pub mod task;
 

@@ -1,16 +1,17 @@
 //! A document a line, and a line printed for each.
 
-ghost use Rattle.std.specs.Prelude.{◌≡◌, ◌++◌, ◌∷◌, ℕ, List, [], MatchOption, MatchResult, OnOk, Option, true};
+ghost use Rattle.std.specs.Prelude.{◌≡◌, ◌++◌, ◌∷◌, ◌<◌, ℕ, Bool, IfOk, List, [], length, MatchOption, MatchResult, OnOk, Option, true};
 ghost use Rattle.std.specs.Io.Buffered.{reader_remaining};
 ghost use Rattle.std.specs.Io.{StopsAt};
 ghost use Rattle.std.specs.Io.BufRead.{ends_with_byte, strip_last};
 ghost use Rattle.std.specs.Io.KnownBytes.{Appends, Consumes, IsAtEnd};
-ghost use Rattle.modinfo.specs.Lines.{LeavesFirstLines, LeavesLines, PrintsLine, TakesLines, TakesNext, fault_line, framed, passes_without};
+ghost use Rattle.modinfo.specs.Lines.{IsPrintFault, IsPrinted, LeavesFirstLines, LeavesLines, PrintsLine, PrintsLines};
+ghost use Rattle.modinfo.specs.Lines.{TakesLines, TakesNext, fault_line, framed, lines_of, passes_without};
 ghost use Rattle.modinfo.specs.Run.{AppendsFront, IsFailure};
 
 use crate::fault::Fault;
 use crate::output::write_front;
-use crate::task::Task;
+use crate::task::{Printed, Task};
 use memchr::memchr;
 use std::alloc::{AllocError, Global};
 use std::io::{BufRead, BufReader, ErrorKind, Read, Write};
@@ -85,7 +86,7 @@ fn hand_on<W: Write>(output: &mut W, waiting: &mut Vec<u8>, is_due: bool) -> Res
 }
 
 /// Reads a line, and appends what is printed for it to what waits. Returns whether the line passes,
-/// or `None` at the end of the input.
+/// or `None` at the end of the input. A line that is whole in the buffer is read there.
 fn answer_next<R: Read>(
     alloc: Global,
     task: Task,
@@ -101,8 +102,14 @@ fn answer_next<R: Read>(
         × PrintsLine task line passes printed
         × (waiting.new.items ≡ waiting.old.items ++ printed))) IsFailure }
 {
+    let buffer = input.buffer();
+    if let Some(length) = memchr(b'\n', buffer) {
+        let passes = print_line(alloc, task, &buffer[..length], waiting)?;
+        input.consume(length + 1);
+        return Ok(Some(passes));
+    }
     match next_line(alloc, input)? {
-        Next::Line(line) => Ok(Some(print_line(alloc, task, line, waiting)?)),
+        Next::Line(line) => Ok(Some(print_owned(alloc, task, line, waiting)?)),
         Next::Skipped => Ok(Some(print_refused(task, waiting)?)),
         Next::End => Ok(None),
     }
@@ -170,8 +177,44 @@ fn skip_rest<R: Read>(input: &mut BufReader<R, Global>, first: Vec<u8>) -> Resul
     }
 }
 
+/// What is printed for each line of a text, in the same order. The only fault is `OutOfMemory`.
+pub fn print_lines(alloc: Global, task: Task, documents: &[u8]) -> Result<Vec<u8>, Fault>
+    ensures { IfOk result (λ printed. (passes : Bool)
+        × PrintsLines task (lines_of documents.now) passes printed.items) }
+{
+    let mut printed = Vec::new(alloc);
+    let mut rest = documents;
+    'lines: while !rest.is_empty() {
+        let (line, after) = split_line(rest);
+        print_line(alloc, task, line, &mut printed)?;
+        rest = after;
+    }
+    Ok(printed)
+}
+
+/// The first line of a text without its line feed, and what is after it.
+fn split_line(text: &[u8]) -> (&[u8], &[u8])
+    ensures lines { 0 < length text.now → lines_of text.now ≡ result.0.now ∷ lines_of result.1.now }
+    ensures shorter { 0 < length text.now → length result.1.now < length text.now }
+{
+    match memchr(b'\n', text) {
+        Some(at) => (&text[..at], &text[at + 1..]),
+        None => (text, &[]),
+    }
+}
+
 /// Appends what is printed for a line, and returns whether the line passes.
-fn print_line(
+fn print_line(alloc: Global, task: Task, line: &[u8], waiting: &mut Vec<u8>) -> Result<bool, Fault>
+    ensures { MatchResult result
+        (λ passes. (printed : List ℕ) × PrintsLine task line.now passes printed
+        × (waiting.new.items ≡ waiting.old.items ++ printed))
+        (λ fault. fault ≡ Fault.OutOfMemory) }
+{
+    put_printed(task, task.print(alloc, line), waiting)
+}
+
+/// Like `print_line`, but drops the line as soon as its document is read.
+fn print_owned(
     alloc: Global,
     task: Task,
     line: Vec<u8>,
@@ -182,7 +225,21 @@ fn print_line(
         × (waiting.new.items ≡ waiting.old.items ++ printed))
         (λ fault. fault ≡ Fault.OutOfMemory) }
 {
-    match task.print(alloc, line) {
+    put_printed(task, task.print_bytes(alloc, line), waiting)
+}
+
+/// Appends the line of an answer, of a report or of a fault, and returns whether it passes.
+fn put_printed(
+    task: Task,
+    printed: Result<Printed, Fault>,
+    waiting: &mut Vec<u8>,
+) -> Result<bool, Fault>
+    ensures { (line : List ℕ) → MatchResult printed (IsPrinted task line) (IsPrintFault task line)
+        → MatchResult result (λ passes. (text : List ℕ) × PrintsLine task line passes text
+        × (waiting.new.items ≡ waiting.old.items ++ text))
+        (λ fault. fault ≡ Fault.OutOfMemory) }
+{
+    match printed {
         Ok(printed) => match put_framed(task, printed.line.as_str(), waiting) {
             Ok(()) => Ok(printed.is_passed),
             Err(_) => print_refused(task, waiting),

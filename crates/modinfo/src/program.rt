@@ -195,7 +195,7 @@ fn answer_document<R: Read, W: Write>(
     let Printed {
         mut line,
         is_passed,
-    } = task.print(alloc, document)?;
+    } = task.print_bytes(alloc, document)?;
     line.push('\n')?;
     print(output, line.as_str())?;
     Ok(is_passed)

@@ -1,9 +1,10 @@
 //! Documents of `reach`: a root, and the information of modules by their keys.
 
-ghost use Rattle.std.specs.Prelude.{◌≡◌, map, IfOk, MatchResult, None, Some, option_map};
+ghost use Rattle.std.specs.Prelude.{◌≡◌, ℕ, map, IfOk, List, MatchResult, None, Some, option_map};
 ghost use Rattle.std.specs.String.{string_bytes};
 ghost use Rattle.serde_json.specs.Data.{string};
 ghost use Rattle.serde_json.specs.Find.{as_object, get_member};
+ghost use Rattle.serde_json.specs.Read.{read as read_text};
 ghost use Rattle.serde_json.specs.View.{members_view, view};
 ghost use Rattle.serde_json.specs.Written.{compact_text};
 ghost use Rattle.deno_graph_text.specs.TextMap.{entries_of};
@@ -14,7 +15,6 @@ ghost use Rattle.modinfo.specs.Answer.{IsNoReach};
 ghost use Rattle.modinfo.specs.Reach.{Asks, IsNoInfos, IsNoQuestion, IsReachText, modules_in, reads_modules, reads_stored, reads_stored_info, root_in};
 
 use crate::fault::Fault;
-use crate::input::parse_json;
 use deno_graph_dependency::json_form::{FromJson, ObjectReader, ReadError, find_float, text_of};
 use deno_graph_info::analysis::{InfoFault, ModuleInfo};
 use deno_graph_info::reach::reach;
@@ -32,11 +32,11 @@ pub struct Question {
 
 /// The keys that the root reaches, as compact JSON. The error is a fault of the document, or
 /// `OutOfMemory` where an allocation fails.
-pub fn reach_text(alloc: Global, input: Vec<u8>) -> Result<String, Fault>
-    ensures { MatchResult result (λ text. IsReachText input.items (string_bytes text))
-        (IsNoReach input.items) }
+pub fn reach_text(alloc: Global, document: Value) -> Result<String, Fault>
+    ensures { (text : List ℕ) → read_text text ≡ Some (view document) → MatchResult result
+        (λ printed. IsReachText text (string_bytes printed)) (IsNoReach text) }
 {
-    let question = read_question(alloc, parse_json(alloc, input)?)?;
+    let question = read_question(alloc, document)?;
     let keys = reach(alloc, &question.infos, question.root.as_str())?;
     Ok(keys_text(alloc, keys)?)
 }

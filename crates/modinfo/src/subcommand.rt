@@ -2,21 +2,14 @@
 
 ghost use Rattle.std.specs.Prelude.{◌≡◌, ◌≢◌, ℕ, IfOk, IfSome, List, MatchResult, None};
 ghost use Rattle.std.specs.String.{string_bytes};
-ghost use Rattle.serde_json.specs.View.{view};
-ghost use Rattle.deno_graph_source.specs.ParsedSource.{ParsedModule};
 ghost use Rattle.modinfo_report.specs.Report.{MatchReport};
-ghost use Rattle.deno_graph_ast.specs.InfoOfModule.{IsInfoOfModule};
-ghost use Rattle.modinfo.specs.Answer.{IsAnswerLine, IsAnswerText, IsConversionOf, IsConvertedText, name_of};
-ghost use Rattle.modinfo.specs.Answer.{IsDocumentFault, IsInfoText, IsInputFault, IsModuleOf, IsFaultyDocument};
-ghost use Rattle.modinfo.specs.Answer.{IsNoConversion, IsNoModule, IsValidDocument};
+ghost use Rattle.modinfo.specs.Answer.{IsAnswerLine, IsAnswerText, IsDocumentFault, IsFaultyDocument};
+ghost use Rattle.modinfo.specs.Answer.{IsInputFault, IsValidDocument, name_of};
 
 use crate::check::{Report, check_document, check_modules, check_stored, report_bytes};
 use crate::fault::Fault;
-use crate::input::{parse_json, parse_source, read_to_end};
-use crate::reach::reach_text;
-use deno_graph_ast::module_info;
-use deno_graph_info::analysis::{ModuleInfo, module_graph_1_into_2};
-use serde_json::Value;
+use crate::input::read_to_end;
+use crate::request::Request;
 use simdutf8::compat;
 use std::alloc::{AllocError, Global};
 use std::io::Read;
@@ -58,12 +51,14 @@ impl Subcommand {
         self.answer_line(alloc, bytes)
     }
 
-    /// Like `answer`, for a document in memory, of which a copy is made.
+    /// Like `answer`, for a document in memory, which is read where it is.
     pub fn answer_slice(self, alloc: Global, document: &[u8]) -> Result<String, Fault>
         ensures { MatchResult result (λ line. IsAnswerLine self document.now (string_bytes line))
             (IsDocumentFault self document.now) }
     {
-        self.answer_line(alloc, Vec::from_slice(alloc, document)?)
+        let mut line = self.answer_text(alloc, document)?;
+        line.push('\n')?;
+        Ok(line)
     }
 
     fn answer_line(self, alloc: Global, input: Vec<u8>) -> Result<String, Fault>
@@ -77,15 +72,21 @@ impl Subcommand {
 
     /// What is printed for a whole document: compact JSON, without a line feed. The error is a fault
     /// of the document, or `OutOfMemory` where an allocation fails.
+    pub fn answer_text(self, alloc: Global, document: &[u8]) -> Result<String, Fault>
+        ensures { MatchResult result (λ text. IsAnswerText self document.now (string_bytes text))
+            (IsDocumentFault self document.now) }
+    {
+        Request::read(alloc, self, document)?.answer(alloc)
+    }
+
+    /// Like `answer_text`. Drops the input before the tree is checked, to halve the peak memory.
     pub fn answer_bytes(self, alloc: Global, input: Vec<u8>) -> Result<String, Fault>
         ensures { MatchResult result (λ text. IsAnswerText self input.items (string_bytes text))
             (IsDocumentFault self input.items) }
     {
-        match self {
-            Subcommand::Analyze => analyze(alloc, input),
-            Subcommand::Convert => convert(alloc, input),
-            Subcommand::Reach => reach_text(alloc, input),
-        }
+        let request = Request::read(alloc, self, input.as_slice())?;
+        drop(input);
+        request.answer(alloc)
     }
 }
 
@@ -105,36 +106,4 @@ impl Subcommand {
             Subcommand::Reach => check_modules(alloc, text),
         }
     }
-}
-
-fn analyze(alloc: Global, input: Vec<u8>) -> Result<String, Fault>
-    ensures { MatchResult result (λ text. IsInfoText input.items (string_bytes text))
-        (IsNoModule input.items) }
-{
-    Ok(info_of(alloc, input)?.to_json(alloc)?)
-}
-
-// The tree is gone before what was found is written.
-fn info_of(alloc: Global, input: Vec<u8>) -> Result<ModuleInfo, Fault>
-    ensures { MatchResult result
-        (λ info. (module_ : ParsedModule) × IsModuleOf input.items module_ × IsInfoOfModule module_ info)
-        (IsNoModule input.items) }
-{
-    let source = parse_source(alloc, input)?;
-    Ok(module_info(alloc, &source)?)
-}
-
-fn convert(alloc: Global, input: Vec<u8>) -> Result<String, Fault>
-    ensures { MatchResult result (λ text. IsConvertedText input.items (string_bytes text))
-        (IsNoConversion input.items) }
-{
-    Ok(converted(alloc, input)?.to_string(alloc)?)
-}
-
-fn converted(alloc: Global, input: Vec<u8>) -> Result<Value, Fault>
-    ensures { MatchResult result (λ after. IsConversionOf input.items (view after))
-        (IsNoConversion input.items) }
-{
-    let before = parse_json(alloc, input)?;
-    Ok(module_graph_1_into_2(alloc, before)?)
 }

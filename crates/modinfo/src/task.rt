@@ -1,10 +1,8 @@
-ghost use Rattle.std.specs.Prelude.{◌≡◌, ◌⊎◌, Bool, IfOk, IsTrue, true, MatchBool, MatchResult};
-ghost use Rattle.std.specs.String.{string_bytes};
-ghost use Rattle.modinfo.specs.Answer.{IsAnswerText, IsDocumentFault, IsFaultyDocument, IsValidDocument};
-ghost use Rattle.modinfo.specs.Lines.{PrintsLines, lines_of};
+ghost use Rattle.std.specs.Prelude.{◌≡◌, Bool, IfOk, MatchResult};
+ghost use Rattle.modinfo.specs.Lines.{IsPrintFault, IsPrinted, PrintsLines, lines_of};
 
 use crate::fault::Fault;
-use crate::lines::answer_lines;
+use crate::lines::print_lines;
 use crate::subcommand::Subcommand;
 use std::alloc::{AllocError, Global};
 
@@ -33,33 +31,38 @@ pub struct Printed {
 impl Task {
     /// What is printed for a document. The error is a fault of the document, or `OutOfMemory` where
     /// an allocation fails; of a check the second alone.
-    pub fn print(self, alloc: Global, document: Vec<u8>) -> Result<Printed, Fault>
-        ensures answer { (subcommand : Subcommand) → self ≡ Task.Answer subcommand
-            → MatchResult result (λ printed. IsTrue printed.is_passed
-            × IsAnswerText subcommand document.items (string_bytes printed.line))
-            (IsDocumentFault subcommand document.items) }
-        ensures check { (subcommand : Subcommand) → (is_strict : Bool)
-            → self ≡ Task.Check subcommand is_strict
-            → MatchResult result (λ printed. MatchBool printed.is_passed
-            (IsValidDocument subcommand document.items)
-            (IsFaultyDocument subcommand document.items ⊎ (is_strict ≡ true)))
-            (λ fault. fault ≡ Fault.OutOfMemory) }
+    pub fn print(self, alloc: Global, document: &[u8]) -> Result<Printed, Fault>
+        ensures { MatchResult result (IsPrinted self document.now) (IsPrintFault self document.now) }
     {
         match self {
             Task::Answer(subcommand) => Ok(Printed {
-                line: subcommand.answer_bytes(alloc, document)?,
+                line: subcommand.answer_text(alloc, document)?,
                 is_passed: true,
             }),
             Task::Check {
                 subcommand,
                 is_strict,
             } => {
-                let report = subcommand.check(alloc, document.as_slice())?;
+                let report = subcommand.check(alloc, document)?;
                 Ok(Printed {
                     line: report.to_line(alloc)?,
                     is_passed: report.passes(is_strict),
                 })
             }
+        }
+    }
+
+    /// Like `print`. Without a check, drops the document before its tree is checked, to halve the peak
+    /// memory.
+    pub fn print_bytes(self, alloc: Global, document: Vec<u8>) -> Result<Printed, Fault>
+        ensures { MatchResult result (IsPrinted self document.items) (IsPrintFault self document.items) }
+    {
+        match self {
+            Task::Answer(subcommand) => Ok(Printed {
+                line: subcommand.answer_bytes(alloc, document)?,
+                is_passed: true,
+            }),
+            Task::Check { .. } => self.print(alloc, document.as_slice()),
         }
     }
 
@@ -69,9 +72,8 @@ impl Task {
         ensures { IfOk result (λ printed. (passes : Bool)
             × PrintsLines self (lines_of documents.now) passes printed.items) }
     {
-        let mut printed = Vec::new(alloc);
-        match answer_lines(alloc, self, documents, &mut printed) {
-            Ok(_) => Ok(printed),
+        match print_lines(alloc, self, documents) {
+            Ok(printed) => Ok(printed),
             Err(_) => Err(AllocError),
         }
     }

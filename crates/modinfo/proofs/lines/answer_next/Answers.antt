@@ -1,6 +1,8 @@
-use Rattle.std.proofs.Common.{sym, subst}
+use Rattle.std.proofs.Common.{◌==◌, take, sym, subst}
+use Rattle.std.specs.Io.Buffered.{reader_buffer, reader_capacity, reader_inner}
 use Rattle.modinfo.specs.Lines.{PrintsLine, fault_line}
 use Rattle.modinfo.specs.declared.fault.Fault.TheVariants.{OutOfMemory}
+use Rattle.modinfo.proofs.LinesSplit.{TakesLines-buffered}
 use Rattle.modinfo.proofs.LinesTaken.{PrintsLine-refused}
 use Rattle.modinfo.proofs.lines.answer_next.Goals as goal
 
@@ -13,5 +15,19 @@ returns-in_ok-print_refused-in-Skipped g c =
       taken,
       subst (λ b. PrintsLine c.args.task line b (fault_line OutOfMemory)) (sym passes)
           (PrintsLine-refused c.args.task line),
+      put,
+    )
+
+-- the line is whole in the buffer
+pub returns-in-Some : goal.returns-in-Some
+returns-in-Some g c =
+    let (printed, one, put) = c.in_ok-passes.ensures in
+    let reader = c.args.input.now in (
+      take c.in-Some.length c.buffer-buffer.result.now,
+      printed,
+      TakesLines-buffered (reader_capacity reader == 0) c.buffer-buffer.result.now (reader_buffer reader)
+          (g.R.Read.remaining (reader_inner reader)) _ c.in-Some.length c.buffer-buffer.ensures
+          c.in-Some.ensures c.consume.ensures.bytes,
+      one,
       put,
     )

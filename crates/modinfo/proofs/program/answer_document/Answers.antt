@@ -2,6 +2,7 @@ use Rattle.std.proofs.Common.{[], rules, unwrap_or}
 use Rattle.std.proofs.KnownBytes.{Keeps-refl}
 use Rattle.std.proofs.lemmas.Result.{err_from_is_err_and}
 use Rattle.std.specs.String.{string_bytes}
+use Rattle.modinfo.specs.declared.fault.Fault.TheVariants.{OutOfMemory}
 use Rattle.modinfo.proofs.Faults.{failed_run, read_failure}
 use Rattle.modinfo.proofs.Written.{known_or_none}
 use Rattle.modinfo.proofs.program.answer_document.Goals as goal
@@ -31,10 +32,23 @@ returns-in_err-document-clause-check g c subcommand is_strict is =
       ),
     )
 
+-- no memory for the line feed
+pub returns-in_err-push-clause-answer : goal.returns-in_err-push-clause-answer
+returns-in_err-push-clause-answer g c subcommand is =
+    let pushed = c.from_residual-in_err-push in
+    let f = err_from_is_err_and pushed.result pushed.ensures.1 in (
+      c.in_ok-document.document.items,
+      c.in_ok-document.ensures,
+      rw (f.1, f.2) (
+        failed_run subcommand c.in_ok-document.document.items OutOfMemory tt,
+        λ apart. Keeps-refl _,
+      ),
+    )
+
 -- the line is the answer, and a line feed
 pub returns-clause-answer : goal.returns-clause-answer
 returns-clause-answer g c subcommand is =
-    let found = c.in_ok-line.ensures.answer subcommand is in (
+    let found = rw is at c.in_ok-line.ensures in (
       c.in_ok-document.document.items,
       c.in_ok-document.ensures,
       (
