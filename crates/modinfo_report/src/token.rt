@@ -1,21 +1,49 @@
 //! Where a token of JSON (RFC 8259) goes wrong.
 
-/// The offset of the first byte with which the token at `start` is no string, no number and no word of
-/// JSON. Returns `start` where no token starts like that, and where the token itself is right.
+/// The offset of the first invalid byte of a text whose token at `start` is refused: in the token, or
+/// after a name that lacks its colon. Returns `start` where the token can't be there or isn't taken.
 pub fn invalid_byte(text: &str, start: usize) -> usize {
     let bytes = text.as_bytes();
     let end = match bytes.get(start) {
-        Some(b'"') => string_end(bytes, start),
-        Some(b'-' | b'0'..=b'9') => number_end(bytes, start),
-        Some(b't') => word_end(bytes, start, b"true"),
-        Some(b'f') => word_end(bytes, start, b"false"),
-        Some(b'n') => word_end(bytes, start, b"null"),
-        _ => Err(start),
+        Some(b'"') => string_end(bytes, start).map(|end| after_string(bytes, start, end)),
+        Some(b'-' | b'0'..=b'9') => number_end(bytes, start).map(|end| after_word(
+            bytes, start, end,
+        )),
+        Some(b't') => word_end(bytes, start, b"true").map(|end| after_word(bytes, start, end)),
+        Some(b'f') => word_end(bytes, start, b"false").map(|end| after_word(bytes, start, end)),
+        Some(b'n') => word_end(bytes, start, b"null").map(|end| after_word(bytes, start, end)),
+        _ => Ok(start),
     };
     match end {
-        Ok(_) => start,
-        Err(invalid) => invalid,
+        Ok(offset) | Err(offset) => offset,
     }
+}
+
+/// Where a string that ends at `end` is refused: at its start, or after it where it is a name.
+fn after_string(bytes: &[u8], start: usize, end: usize) -> usize {
+    let before = bytes.get(..start).unwrap_or(&[]);
+    let string = bytes.get(start..end).unwrap_or(&[]);
+    let previous = before.iter().rev().find(|byte| !is_space(**byte));
+    if matches!(previous, Some(b'{' | b',')) && !string.contains(&b'\\') {
+        let after = bytes.get(end..).unwrap_or(&[]);
+        let spaces = after.iter().position(|byte| !is_space(*byte));
+        end.saturating_add(spaces.unwrap_or(after.len()))
+    } else {
+        start
+    }
+}
+
+/// Where a number or a word that ends at `end` is refused: at its start, or at a byte that goes on with
+/// it.
+fn after_word(bytes: &[u8], start: usize, end: usize) -> usize {
+    match bytes.get(end) {
+        Some(b'0'..=b'9' | b'a'..=b'z' | b'A'..=b'Z' | b'.' | b'+' | b'-' | b'_') => end,
+        _ => start,
+    }
+}
+
+fn is_space(byte: u8) -> bool {
+    matches!(byte, b' ' | b'\t' | b'\n' | b'\r')
 }
 
 /// Where a string is.
