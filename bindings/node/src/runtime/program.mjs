@@ -31,9 +31,9 @@ environment variable MODINFO names; else, in the repository, the one that \`./mo
 export function modinfoPath() {
   const path = installedPath() || process.env.MODINFO || builtPath();
   if (!path) {
+    const remedy = REPOSITORY ? "run ./modinfo --prove" : `npm install ${PACKAGE}`;
     throw new ProgramEnd(
-      `the program modinfo is not installed: npm install ${PACKAGE}, or set the environment variable ` +
-        "MODINFO to its path",
+      `the program modinfo is not installed: ${remedy}, or set the environment variable MODINFO to its path`,
     );
   }
   return absolute(path);
