@@ -129,7 +129,16 @@ with_modules ms root members rooted is (inl (stored, all_stored, all_read)) =
     inl (
       (stored, root),
       rw (rooted, by_members (get_member (codes "modules") ms), is, all_stored) refl,
-      (infos_of stored, root, (record { modules = members; root = root }, rw (rooted, is) refl, refl, all_read)),
+      (
+        infos_of stored,
+        root,
+        (
+          record { modules = members; root = root },
+          rw (rooted, is) refl,
+          refl,
+          all_read,
+        ),
+      ),
     )
 with_modules ms root members rooted is (inr (none, told, apart, first)) =
     let fault : IsQuestionFault (object ms) told = rw (rooted, is) first
@@ -137,7 +146,8 @@ with_modules ms root members rooted is (inr (none, told, apart, first)) =
     inr (rw (rooted, by_members (get_member (codes "modules") ms), is, none) refl, (told, apart, fault))
 
 by_parts : (ms : Members) (root : Option (List ℕ)) (members : Option Members)
-    → (get_member (codes "root") ms >>= as_str) ≡ root → (get_member (codes "modules") ms >>= as_object) ≡ members
+    → (get_member (codes "root") ms >>= as_str) ≡ root
+    → (get_member (codes "modules") ms >>= as_object) ≡ members
     → Outcome (object ms)
 unfolding reads_modules reads_question member_at
 by_parts ms None members rooted is = inr (
@@ -149,7 +159,8 @@ by_parts ms (Some root) None rooted is = inr (
   rw (rooted, by_members (get_member (codes "modules") ms), is) refl,
   lacks (object ms) (rw (rooted, is) refl),
 )
-by_parts ms (Some root) (Some members) rooted is = with_modules ms root members rooted is (all_modules members)
+by_parts ms (Some root) (Some members) rooted is =
+    with_modules ms root members rooted is (all_modules members)
 
 pub outcome : (value : Data) → Outcome value
 unfolding reads_modules
@@ -161,7 +172,8 @@ outcome (string s) = inr (refl, lacks (string s) refl)
 outcome (array ds) = inr (refl, lacks (array ds) refl)
 outcome (object ms) = by_parts ms _ _ refl refl
 
-pub asks_some : (value : Data) (found : List (List ℕ × StoredInfo) × List ℕ) → reads_modules value ≡ Some found
+pub asks_some : (value : Data) (found : List (List ℕ × StoredInfo) × List ℕ)
+    → reads_modules value ≡ Some found
     → AsksSome value
 asks_some value found is = elim (outcome value) [
   | inl o ↦
