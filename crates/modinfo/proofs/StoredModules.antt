@@ -90,8 +90,8 @@ AllModules ms = ((stored : List (List ℕ × StoredInfo)) × (reads_members read
 one_more : (key : List ℕ) (d : Data) (ms : Members) → OneModule d → AllModules ms
     → AllModules (member key d ms)
 unfolding reads_members
-one_more key d ms (inr (none, told, apart, fault)) others = inr (rw none refl, (told, apart, inl fault))
-one_more key d ms (inl (found, stored, read)) (inr (none, told, apart, first)) =
+one_more key d ms (inr (none, (told, apart, fault))) others = inr (rw none refl, (told, apart, inl fault))
+one_more key d ms (inl (found, stored, read)) (inr (none, (told, apart, first))) =
     inr (rw (stored, none) refl, (told, apart, inr ((λ is. absurd (none-some found (sym is ∙ read))), first)))
 one_more key d ms (inl (found, stored, read)) (inl (others, all_stored, all_read)) =
     inl ((key, record { info = found }) ∷ others, rw (stored, all_stored) refl, rw (read, all_read) refl)
@@ -140,7 +140,7 @@ with_modules ms root members rooted is (inl (stored, all_stored, all_read)) =
         ),
       ),
     )
-with_modules ms root members rooted is (inr (none, told, apart, first)) =
+with_modules ms root members rooted is (inr (none, (told, apart, first))) =
     let fault : IsQuestionFault (object ms) told = rw (rooted, is) first
     in
     inr (rw (rooted, by_members (get_member (codes "modules") ms), is, none) refl, (told, apart, fault))

@@ -20,7 +20,7 @@ usage: modinfo analyze | convert | reach [--lines]
        modinfo check [analyze | convert | reach] [--lines] [--strict]
        modinfo -h | --help | --version
 
-Each command reads one JSON document from the standard input, and prints its answer as one line of
+Each command reads one JSON document from the standard input, and prints its result as one line of
 JSON.
 
   analyze   reads {"specifier":URL,"mediaType":NAME,"source":TEXT,"program":TREE,..}, a parsed module;
@@ -30,26 +30,26 @@ JSON.
             ascending
   check     reads a document of that command, of analyze where none is named; prints {"valid":true}
             with warnings where there are any, or {"fault":NAME,"pointer":..,"expected":..}, where
-            the pointer leads to the value that is at fault
-  --lines   each line of the input is a document, and each line of the output the answer to one, in
-            the same order: {"answer":ANSWER} or {"fault":NAME}, of check the report alone
+            the pointer leads to the value with the fault
+  --lines   each line of the input is a document, and each line of the output the result of one, in
+            the same order: {"answer":RESULT} or {"fault":NAME}, of check the report alone
   --strict  a warning counts as a fault does
 
-Status 0: answered; with --lines whatever the answers are. Status 1: a line `modinfo: NAME` on the
-error output, and no answer; of check a document with a fault, with --lines too. Status 2: other
-words.
+Status 0: the result is printed; with --lines whatever the results are. Status 1: a line
+`modinfo: NAME` on the error output, and no result; of check a document with a fault, with --lines
+too. Status 2: other words.
 
   Input            a read fails, or the input isn't UTF-8
   Json             it is no JSON, nests deeper than 127, or has a number too large for a float
-  Tree             analyze: the JSON isn't in the notation
+  Tree             analyze: the JSON isn't a module document
   Specifier        analyze: the specifier is no URL
   RangeReversed, RangeOutside, RangeOffBoundary, CommentText, CommentsOverlap, Shape
                    analyze: the tree or the comments don't fit the source
-  Shape            reach: the JSON hasn't the form that is read
+  Shape            reach: a value in the JSON isn't what is expected there
   Float            convert, reach: a number isn't held as a whole number
   ColumnOverflow   convert: a column is above 2^64 - 1
   Output           a write fails
-  OutOfMemory      memory was refused
+  OutOfMemory      an allocation failed
 
 Example:
 

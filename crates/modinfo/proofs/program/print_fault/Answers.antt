@@ -1,5 +1,3 @@
-use Rattle.std.proofs.Common.{ap, sym, subst, ◌++◌, codes}
-use Rattle.modinfo.specs.Run.{AppendsFront}
 use Rattle.modinfo.proofs.Written.{front_after, front_of_both}
 use Rattle.modinfo.proofs.program.print_fault.Goals as goal
 

@@ -1,4 +1,4 @@
-use Rattle.std.proofs.Common.{String, Global, sym, ap, ◌∙◌}
+use Rattle.std.proofs.Common.{String, Global}
 use Rattle.std.proofs.lemmas.Result.{err_from_is_err_and}
 use Rattle.serde_json.specs.declared.value.Value.{Value}
 use Rattle.deno_graph_dependency.proofs.ReadMaps.{member_more, members_begin, members_done}

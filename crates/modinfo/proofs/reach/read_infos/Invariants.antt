@@ -1,7 +1,6 @@
 -- The modules so far are those that were read of the members so far, and a first fault of the members that
 -- are left
 -- is the first of all.
-use Rattle.std.proofs.Common.{ℕ}
 use Rattle.serde_json.specs.View.{members_view}
 use Rattle.deno_graph_info.specs.declared.analysis.fault.InfoFault.{InfoFault}
 use Rattle.deno_graph_dependency.proofs.ReadMaps.{IsSoFar}
