@@ -319,8 +319,19 @@ def by_work_left(closure: Closure) -> list[Crate]:
     return sorted(closure.crates, key=lambda crate: (-left[crate.name], crate.name))
 
 
+def print_help() -> bool:
+    """Prints the docstring of the script, where its first word is -h or --help. Returns whether it did."""
+    if sys.argv[1:2] not in (["-h"], ["--help"]):
+        return False
+    print((sys.modules["__main__"].__doc__ or "").rstrip())
+    return True
+
+
 def run_script(script: str, main: Callable[[], int]) -> int:
-    """Returns the exit status of a script. Prints an error as one line on the error output."""
+    """Returns the exit status of a script. Prints its help, where its first word is -h or --help, or an error as one
+    line on the error output."""
+    if print_help():
+        return 0
     try:
         return main()
     except (BuildError, OSError) as error:
