@@ -3,10 +3,14 @@
  * Measures bindings/node/src/cli/files.mjs beside the parser alone and beside tools that list
  * dependencies, on the same files, and compares the dependencies that each finds.
  *
- *     bench/adapters_setup
- *     node bench/adapters.mjs [--files N] [--rounds N] [--folder PATH]
+ * usage: node bench/adapters.mjs [--files N] [--rounds N] [--folder PATH]
+ * example: bench/adapters_setup && node bench/adapters.mjs --files 500
  *
- * MODINFO names the program; else it is build/modinfo.
+ *   --files N      how many files, evenly spread over all of the folder; else 5500
+ *   --rounds N     how often each tool runs, of which the fastest counts; else 3
+ *   --folder PATH  the folder of the files; else /usr/share/nodejs, where Debian's packages are
+ *
+ * The environment variable MODINFO names the program; else it is build/modinfo.
  */
 
 import { spawnSync } from "node:child_process";
@@ -19,6 +23,9 @@ import { fileURLToPath } from "node:url";
 import { parseArgs } from "node:util";
 
 import { mediaTypeOf } from "../bindings/node/src/document/media_types.mjs";
+import { printHelp } from "./help.mjs";
+
+printHelp(import.meta.url);
 
 const FILES = fileURLToPath(new URL("../bindings/node/src/cli/files.mjs", import.meta.url));
 const TOOLS = fileURLToPath(new URL("adapters_tools.mjs", import.meta.url));

@@ -1,13 +1,16 @@
 #!/usr/bin/env python3
 """Measures how many lines a second go through one process, GNU parallel and workers of Dask.
 
-    examples/cluster/setup
-    build/cluster/bin/python bench/cluster.py [--files N] [--times N] [--rounds N]
+usage: build/cluster/bin/python bench/cluster.py [--files N] [--times N] [--rounds N]
+example: examples/cluster/setup && build/cluster/bin/python bench/cluster.py --files 500
 
-It takes so many files of Debian's node packages, evenly spread, makes a document of each, and prints
-tables: what the documents take, so many times one after another, what the files take with their parser,
-and what partitions of several sizes take. Of the rounds, in each of which all take their turn, the
-fastest counts. All ways have to write the same bytes.
+  --files N   files of Debian's node packages, evenly spread; else 5000. Each is parsed to a document
+  --times N   how often the documents are repeated; else 10
+  --rounds N  how often each way is measured, of which the fastest counts; else 3
+
+Prints tables: what the documents take, what the files take with their parser, and what partitions of
+several sizes take. All ways have to write the same bytes. `examples/cluster/setup` installs Dask and GNU
+parallel.
 """
 
 import argparse
@@ -21,12 +24,17 @@ from contextlib import ExitStack
 from dataclasses import dataclass
 from pathlib import Path
 
-import psutil  # type: ignore[import]
-
 ROOT = Path(__file__).resolve().parent.parent
 EXAMPLE = ROOT / "examples/cluster"
-sys.path[:0] = [str(EXAMPLE), str(EXAMPLE / "tests")]
+sys.path[:0] = [str(EXAMPLE), str(EXAMPLE / "tests"), str(ROOT / "tools")]
 
+from building import print_help  # noqa: E402
+
+# Also where psutil and Dask, which are imported below, are missing.
+if __name__ == "__main__" and print_help():
+    sys.exit(0)
+
+import psutil  # type: ignore[import]  # noqa: E402
 from distributed import Client  # noqa: E402
 from local import PATIENCE, Local, local_cluster  # noqa: E402
 
@@ -187,7 +195,7 @@ def quoted(command: str) -> str:
 
 
 def main() -> None:
-    words = argparse.ArgumentParser(description=__doc__, formatter_class=argparse.RawDescriptionHelpFormatter)
+    words = argparse.ArgumentParser(prog="bench/cluster.py")
     words.add_argument("--files", type=int, default=5000)
     words.add_argument("--times", type=int, default=10)
     words.add_argument("--rounds", type=int, default=3)

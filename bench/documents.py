@@ -1,4 +1,4 @@
-"""Documents in the notation of `modinfo analyze`, as large as asked for."""
+"""Module documents of any size."""
 
 import json
 

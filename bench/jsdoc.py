@@ -53,7 +53,7 @@ def declared_lists(count):
     return jsdoc("@import a from 'b' with {" + 'k:"@import x from \'q\' with {z",y:"v",' * count + 'k:"v"}')
 
 
-def space_behind_lists(count):
+def space_after_lists(count):
     """Such dynamic imports, and much white space before each mark that closes their lists."""
     space = " " * (10 * count)
     lists = '{import("a",{with:{' + 'a{import(\':"\',{with:{x",y:"v",' * count + 'k:"v"'
@@ -104,7 +104,7 @@ ONE_COMMENT = {
     "attributes": long_attributes,
     "lists": lists_in_lists,
     "declared": declared_lists,
-    "list space": space_behind_lists,
+    "list space": space_after_lists,
 }
 MANY_COMMENTS = {
     "ascending": ascending,

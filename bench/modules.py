@@ -1,12 +1,13 @@
 #!/usr/bin/env python3
 """Measures what a module costs by its size: its parser, its document, its analysis and its output.
 
-    bench/adapters_setup
-    ./modinfo --prove
-    bench/modules.py [--files N] [--sample N]
+usage: bench/modules.py [--files N] [--sample N]
+example: bench/adapters_setup && ./modinfo --prove && bench/modules.py --files 500
 
-It takes so many files of Debian's node packages, evenly spread over all of them in the order of their
-paths, or all, and prints a table with a row for each class of sizes and one for the mix.
+  --files N   files of Debian's node packages, evenly spread over all in the order of their paths; else all
+  --sample N  how many modules of each class of sizes are measured; else 1000
+
+Prints a table with a row for each class of sizes and one for the mix.
 """
 
 import argparse
@@ -14,11 +15,16 @@ import json
 import re
 import resource
 import subprocess
+import sys
 from dataclasses import dataclass
 from pathlib import Path
 from urllib.parse import unquote, urlsplit
 
 ROOT = Path(__file__).resolve().parent.parent
+sys.path.append(str(ROOT / "tools"))
+
+from building import run_script  # noqa: E402
+
 MODINFO = ROOT / "build/modinfo"
 ANALYZE = [str(MODINFO), "analyze", "--lines"]
 ADAPTER = ["node", str(ROOT / "bindings/node/src/cli/typescript.mjs"), "--lines", "--jobs", "1", "-"]
@@ -162,10 +168,10 @@ def print_process(modules: list[Module]) -> None:
     print(f"it holds {megabytes(ADAPTER, names_of(spread(modules, WARM))):.0f} MB at most\n\n{HEADING}", flush=True)
 
 
-def main() -> None:
-    words = argparse.ArgumentParser(description=__doc__, formatter_class=argparse.RawDescriptionHelpFormatter)
-    words.add_argument("--files", type=int, help="so many; else all")
-    words.add_argument("--sample", type=int, default=1000, help="so many of a class are measured (%(default)s)")
+def main() -> int:
+    words = argparse.ArgumentParser(prog="bench/modules.py")
+    words.add_argument("--files", type=int)
+    words.add_argument("--sample", type=int, default=1000)
     options = words.parse_args()
     modules = modules_of(choose_files(options.files))
     print_process(modules)
@@ -177,7 +183,8 @@ def main() -> None:
             print(row(name, costs_of(of_class, options.sample)), flush=True)
         above = most
     print(row("the mix", costs_of(modules, len(modules))))
+    return 0
 
 
 if __name__ == "__main__":
-    main()
+    sys.exit(run_script("bench/modules.py", main))

@@ -1,15 +1,28 @@
-"""What the threads of modinfo.analyze_lines gain, for documents of several sizes.
+#!/usr/bin/env python3
+"""Measures how much faster modinfo.analyze_lines is with more threads, for documents of several sizes.
 
-    PYTHON bench/python_lines.py
+usage: PYTHON bench/python_lines.py
+example: build/cluster/bin/python bench/python_lines.py
 
-PYTHON is that of a venv with the wheel. For each size the same lines are analyzed with each number of jobs in turn,
-three times. Prints the least seconds of each on the clock and, after a slash, of the processors.
+PYTHON is that of a venv with the wheel, as `examples/cluster/setup` makes one. For each size the same lines
+are analyzed with each number of jobs in turn, three times. Prints the least seconds of each on the clock and,
+after a slash, of the processors.
 """
 
 import json
+import sys
 import time
+from pathlib import Path
 
-import modinfo
+sys.path.append(str(Path(__file__).resolve().parent.parent / "tools"))
+
+from building import print_help  # noqa: E402
+
+# Also where the package is missing.
+if print_help():
+    sys.exit(0)
+
+import modinfo  # noqa: E402
 
 JOBS = (1, 2, 4)
 IMPORTS = (8, 40, 400, 4_000)

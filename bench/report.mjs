@@ -2,10 +2,13 @@
 /**
  * Measures the cost of reports: to make, and in a browser.
  *
- *     node bench/report.mjs [--jobs N] [--program FILE] FOLDER ..
+ * usage: node bench/report.mjs [--jobs N] [--program FILE] FOLDER ..
+ * example: node bench/report.mjs /usr/share/nodejs/undici
  *
- * `--program` names another report.mjs, as that of an older clone. In the place of a folder there
- * may be a page that is made already, whose name ends in .html, with an address in it after `#`.
+ *   --jobs N        threads that parse; else one for each processor
+ *   --program FILE  another report.mjs, as that of an older clone
+ *   FOLDER          a folder, or a page that is made already, whose name ends in .html, with an
+ *                   address in it after `#`
  */
 
 import { spawn } from "node:child_process";
@@ -15,7 +18,10 @@ import { basename, join, resolve } from "node:path";
 import { fileURLToPath, pathToFileURL } from "node:url";
 import { parseArgs } from "node:util";
 
+import { printHelp } from "./help.mjs";
 import { pageCost } from "./report_page.mjs";
+
+printHelp(import.meta.url);
 
 const PROGRAM = fileURLToPath(new URL("../bindings/node/src/cli/report.mjs", import.meta.url));
 

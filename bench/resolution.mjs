@@ -1,12 +1,17 @@
+#!/usr/bin/env node
 /**
  * Compares what `modinfo-files` resolves with what node itself does, in real packages.
  *
- *     node bench/resolution.mjs [--files N] [--folder PATH] [--list]
+ * usage: node bench/resolution.mjs [--files N] [--folder PATH] [--list]
+ * example: node bench/resolution.mjs --files 500
  *
- * It takes N files of JavaScript of a folder of packages, evenly spread over all of them; without N
- * 5,000 of /usr/share/nodejs, where Debian's packages are. Each specifier that is known is resolved
- * by `modinfo-files --resolve`, and by a node that runs nothing of it (resolution_by_node.mjs). The
- * folder is looked at as `node_modules`, so that packages find each other.
+ *   --files N      how many files of JavaScript, evenly spread over all of the folder; else 5000
+ *   --folder PATH  a folder of packages; else /usr/share/nodejs, where Debian's packages are
+ *   --list         prints each specifier that is resolved otherwise
+ *
+ * Each specifier that is known is resolved by `modinfo-files --resolve`, and by a node that runs
+ * nothing of the packages (resolution_by_node.mjs). The folder is read as `node_modules`, so that
+ * packages find each other.
  *
  * Then it compares the cycles of some packages with those that a textbook's search finds, over
  * node's resolution of what acorn finds (resolution_cycles.mjs). Status 1 where anything differs.
@@ -21,7 +26,10 @@ import { fileURLToPath, pathToFileURL } from "node:url";
 import { parseArgs } from "node:util";
 
 import { textOfArgument } from "../bindings/node/src/graph/arguments.mjs";
+import { printHelp } from "./help.mjs";
 import { compareCycles } from "./resolution_cycles.mjs";
+
+printHelp(import.meta.url);
 
 const FILES = fileURLToPath(new URL("../bindings/node/src/cli/files.mjs", import.meta.url));
 const BY_NODE = fileURLToPath(new URL("./resolution_by_node.mjs", import.meta.url));
@@ -66,7 +74,7 @@ function spread(all, count) {
 }
 
 /**
- * The specifiers of files, with what `modinfo-files` says of each.
+ * The specifiers of files, with what `modinfo-files` prints of each.
  * @param {string[]} files
  */
 function specifiersOf(files) {

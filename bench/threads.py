@@ -1,10 +1,13 @@
-"""Calls of the package for Python in one thread and in eight: how many ran at once.
+#!/usr/bin/env python3
+"""Measures calls of the package for Python in one thread and in eight, and how many run at once.
 
-    PYTHON bench/threads.py [DOCUMENT]
+usage: PYTHON bench/threads.py [DOCUMENT]
+example: build/cluster/bin/python bench/threads.py
 
-PYTHON is that of a venv with the wheel. Each thread makes the same calls on the document's bytes, by the
-library alone and with the result read as JSON, which needs Python's lock. Prints for each the seconds that one
-thread takes for its calls, those of eight threads together, and the processors that they used.
+PYTHON is that of a venv with the wheel, as `examples/cluster/setup` makes one. Each thread makes the same
+calls on the document's bytes, by the library alone and with the result read as JSON, which needs Python's
+lock. Prints for each the seconds that one thread takes for its calls, those of eight threads together, and
+the processors that they used.
 """
 
 import sys
@@ -13,7 +16,15 @@ import time
 from collections.abc import Callable
 from pathlib import Path
 
-import modinfo
+sys.path.append(str(Path(__file__).resolve().parent.parent / "tools"))
+
+from building import print_help  # noqa: E402
+
+# Also where the package is missing.
+if print_help():
+    sys.exit(0)
+
+import modinfo  # noqa: E402
 
 THREADS = 8
 SECONDS = 2.0

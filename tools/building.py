@@ -41,7 +41,8 @@ def printed(*command: str) -> str:
     try:
         return subprocess.run(command, stdout=subprocess.PIPE, check=True, text=True).stdout.rstrip("\n")
     except OSError as error:
-        raise BuildError(f"can't run {command[0]}: {error.strerror}") from error
+        hint = "; put the folder of the kit's rt on the path" if command[0] == "rt" else ""
+        raise BuildError(f"can't run {command[0]}: {error.strerror}{hint}") from error
     except subprocess.CalledProcessError as error:
         raise BuildError(f"{' '.join(command)} ended with status {error.returncode}") from error
 
@@ -83,7 +84,8 @@ def run(*words: str | Path) -> None:
 def need(*tools: str) -> None:
     for tool in tools:
         if not shutil.which(tool):
-            raise BuildError(f"{tool} is not on the path")
+            remedy = "packaging/setup aarch64" if "aarch64" in tool else "apt-get install binutils gcc"
+            raise BuildError(f"{tool} isn't on the path: {remedy} installs it")
 
 
 @contextmanager
@@ -260,7 +262,7 @@ class Build:
     def _end_crate(self) -> None:
         """Waits for a crate. Its stamp is written only where its sources, and those below, didn't change meanwhile."""
         if not self._running:
-            raise BuildError("crates.txt has crates that need one another")
+            raise BuildError(f"crates.txt has crates that need one another, among {', '.join(self._left())}")
         ended = os.waitid(os.P_ALL, 0, os.WEXITED | os.WNOWAIT)
         assert ended is not None
         crate, process, jobs = self._running.pop(ended.si_pid)
@@ -277,6 +279,9 @@ class Build:
             written = STAGE / f"{crate.name}.stamp"
             written.write_text(self._stamp(crate))
             os.replace(written, stamp_of(crate))
+
+    def _left(self) -> list[str]:
+        return sorted(crate.name for crate in self._crates if crate.name not in self._state)
 
     def not_built(self) -> list[Crate]:
         """The crates that aren't built, or whose sources have changed since."""
@@ -319,8 +324,19 @@ def by_work_left(closure: Closure) -> list[Crate]:
     return sorted(closure.crates, key=lambda crate: (-left[crate.name], crate.name))
 
 
+def print_help() -> bool:
+    """Prints the docstring of the script, where its first word is -h or --help. Returns whether it did."""
+    if sys.argv[1:2] not in (["-h"], ["--help"]):
+        return False
+    print((sys.modules["__main__"].__doc__ or "").rstrip())
+    return True
+
+
 def run_script(script: str, main: Callable[[], int]) -> int:
-    """Returns the exit status of a script. Prints an error as one line on the error output."""
+    """Returns the exit status of a script. Prints its help, where its first word is -h or --help, or an error as one
+    line on the error output."""
+    if print_help():
+        return 0
     try:
         return main()
     except (BuildError, OSError) as error:

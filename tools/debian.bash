@@ -1,5 +1,7 @@
 # shellcheck shell=bash
-# Installs packages of Debian, for the setup scripts.
+# Installs packages of Debian, for the setup scripts, and prints their help.
+# shellcheck source=tools/help.bash
+source "$(dirname "${BASH_SOURCE[0]}")/help.bash"
 
 # The status where a package can't be installed.
 unavailable=69

@@ -31,7 +31,7 @@ def library() -> Path:
     if not path.is_file():
         fail(
             f"{path} isn't there. The package is built with the library modinfo: set MODINFO_LIB_DIR to the folder of "
-            f"{LIBRARY}, which tools/build_library of the repository makes and the package libmodinfo1 of Debian "
+            f"{LIBRARY}, which tools/build_library of the repository makes and the package libmodinfo0 of Debian "
             "installs; or install the wheel that bindings/python/make_wheel makes"
         )
     return path

@@ -31,7 +31,9 @@ the lines through a command instead, which prints a line for each."""
 EPILOG = """\
 Status 0, whatever the results are; 1 if the work can't go on, with the results so far written; 2 for a
 usage error. If a worker ends, others do its work again. To continue a run that ended, pass the lines
-that have no result yet: tail -n +$(($(wc -l < RESULTS) + 1)) FILE."""
+that have no result yet: tail -n +$(($(wc -l < RESULTS) + 1)) FILE.
+
+Example: build/cluster/bin/python examples/cluster/analyze.py --scheduler tcp://127.0.0.1:8786 documents.jsonl"""
 
 
 def parser() -> argparse.ArgumentParser:
@@ -122,7 +124,7 @@ def run(client: Client, words: argparse.Namespace) -> None:
 
 def main(arguments: Sequence[str] | None = None) -> int:
     words = parser().parse_args(arguments)
-    # On a busy machine connections of the client time out while it closes, which says nothing of the answers.
+    # On a busy machine connections of the client time out while it closes, which changes no result.
     logging.getLogger("asyncio").setLevel(logging.CRITICAL)
     # A partition is meant to be a part of its task.
     warnings.filterwarnings("ignore", message="Large object of size")

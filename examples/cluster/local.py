@@ -61,7 +61,7 @@ class Local:
 
 @contextmanager
 def local_cluster(folder: Path, workers: int) -> Iterator[Local]:
-    """A cluster that ends with the `with`. Its folder gets the scheduler's address and what all of them say."""
+    """A cluster that ends with the `with`. Its folder gets the scheduler's address and what all of them print."""
     with ExitStack() as stack:
         local = Local(folder, stack)
         for _ in range(workers):

@@ -14,5 +14,7 @@ def pipe_partition(command: str, lines: bytes) -> bytes:
     run = subprocess.run(command, shell=True, input=lines, stdout=subprocess.PIPE)
     read, written = lines.count(b"\n"), run.stdout.count(b"\n")
     if written != read or not run.stdout.endswith(b"\n"):
-        raise RuntimeError(f"{command} read {read} lines and wrote {written}, status {run.returncode}")
+        raise RuntimeError(
+            f"{command} read {read} lines and wrote {written}, status {run.returncode}; it must write one for each"
+        )
     return run.stdout

@@ -40,14 +40,17 @@ WAIT_SECONDS = 60.0
 
 DESCRIPTION = """\
 Reads paths of files from the standard input, one a line, and writes a line for each, in their order, as
-bindings/node/src/cli/files.mjs does. Only the files without a stored result go through COMMAND, which reads their
-paths and writes a line for each. A result is stored under a hash of the file's bytes, its media type
+bindings/node/src/cli/files.mjs does. Only the files without a stored result go through COMMAND, which reads
+their paths and writes a line for each. A result is stored under a hash of the file's bytes, its media type
 and VERSION, so a file with another name has it too. A fault isn't stored.
 
 Several runs may use one store at a time.
 
 Status 0; 1 if COMMAND doesn't write a line for each path, or the store or the output can't be
-written: what was stored until then is kept."""
+written: what was stored until then is kept.
+
+Example:
+  ls *.ts | examples/cluster/stored.py --version 1 build/store 'node bindings/node/src/cli/files.mjs -'"""
 
 
 class Store:
@@ -93,7 +96,7 @@ class Store:
 
 
 def key_of(path: str, version: str) -> bytes | None:
-    """None for a file that can't be read, or whose name says no media type."""
+    """None for a file that can't be read, or whose name has no media type."""
     name = path.lower()
     media_type = next((known for ending, known in MEDIA_TYPES.items() if name.endswith(ending)), None)
     if media_type is None:
@@ -117,7 +120,10 @@ def lines_of(command: str, paths: list[str]) -> Iterator[bytes]:
                 if count <= len(paths):
                     yield line
     if count != len(paths):
-        raise RuntimeError(f"{command} read {len(paths)} lines and wrote {count}, status {process.returncode}")
+        raise RuntimeError(
+            f"{command} read {len(paths)} lines and wrote {count}, status {process.returncode}; "
+            "it must write one for each"
+        )
 
 
 def lines_by_path(store: Store, version: str, command: str, paths: list[str]) -> Iterator[bytes]:
@@ -130,7 +136,7 @@ def lines_by_path(store: Store, version: str, command: str, paths: list[str]) ->
         elif answer := store.answer(key):
             yield b'{"specifier":"%b",%b' % (url_of(path), answer)
         else:
-            raise RuntimeError(f"{path}: its answer was removed from the store during the run")
+            raise RuntimeError(f"{path}: its result was removed from the store during the run; run it again")
 
 
 def analyze_missing(store: Store, version: str, command: str, keys: dict[str, bytes | None]) -> dict[str, bytes]:

@@ -1,7 +1,6 @@
 /* Analyzes each of the named documents in this one process, and prints what ./modinfo prints.
  *
- *     analyze DOCUMENT ..
- *     analyze --again COUNT DOCUMENT     the same document COUNT times; prints peak memory alone
+ * --again analyzes the same document COUNT times, and prints the peak memory alone.
  */
 #include <stdio.h>
 #include <stdlib.h>
@@ -15,9 +14,16 @@ struct bytes {
     size_t length;
 };
 
-static void stop(const char *what)
+static const char usage[] =
+    "usage: analyze DOCUMENT ..\n"
+    "       analyze --again COUNT DOCUMENT\n"
+    "example: analyze examples/small-module.json\n\n"
+    "Analyzes each document in this one process, and prints what ./modinfo prints. With --again analyzes the\n"
+    "document COUNT times, and prints the peak memory.\n";
+
+static void stop(const char *what, const char *name)
 {
-    fprintf(stderr, "analyze: %s\n", what);
+    fprintf(stderr, "analyze: %s %s\n", what, name);
     exit(2);
 }
 
@@ -25,12 +31,12 @@ static struct bytes read_file(const char *name)
 {
     FILE *file = fopen(name, "rb");
     if (file == NULL || fseek(file, 0, SEEK_END) != 0)
-        stop(name);
+        stop("can't read", name);
     long length = ftell(file);
     rewind(file);
     struct bytes read = {malloc((size_t)length + 1), (size_t)length};
     if (read.at == NULL || fread(read.at, 1, read.length, file) != read.length)
-        stop(name);
+        stop("can't read", name);
     fclose(file);
     return read;
 }
@@ -43,7 +49,7 @@ static uint8_t analyze(struct bytes document, struct bytes *answer, size_t *leng
         return status;
     answer->at = realloc(answer->at, *length);
     if (answer->at == NULL)
-        stop("no memory");
+        stop("out of memory:", "the output has no room");
     answer->length = *length;
     return modinfo_analyze(document.at, document.length, answer->at, answer->length, length);
 }
@@ -72,13 +78,15 @@ static int again(long count, const char *name)
     size_t length = 0;
     for (long call = 0; call < count; call++)
         if (analyze(document, &answer, &length) != MODINFO_ANSWERED)
-            stop(name);
+            stop("no output for", name);
     printf("%ld calls, %ld KiB at most\n", count, peak_kilobytes());
     return 0;
 }
 
 int main(int count, char **words)
 {
+    if (count == 2 && (strcmp(words[1], "-h") == 0 || strcmp(words[1], "--help") == 0))
+        return fputs(usage, stdout) < 0;
     if (count == 4 && strcmp(words[1], "--again") == 0)
         return again(atol(words[2]), words[3]);
     struct bytes answer = {malloc(1), 1};

@@ -1,6 +1,7 @@
 """Analyzes each of the named documents in this one process, and prints what ./modinfo prints.
 
-    python3 analyze.py LIBRARY DOCUMENT ..
+usage: python3 analyze.py LIBRARY DOCUMENT ..
+example: python3 examples/embedding/analyze.py build/libmodinfo.so examples/small-module.json
 
 LIBRARY is libmodinfo.so, which `tools/build_library` makes.
 """
@@ -44,6 +45,12 @@ class Modinfo:
 
 
 def main():
+    if sys.argv[1:2] in (["-h"], ["--help"]):
+        print(__doc__.rstrip())
+        return 0
+    if len(sys.argv) < 3:
+        print("usage: python3 analyze.py LIBRARY DOCUMENT ..", file=sys.stderr)
+        return 2
     modinfo = Modinfo(sys.argv[1])
     status = 0
     for name in sys.argv[2:]:

@@ -1,9 +1,10 @@
-"""Replays the rows of the program (docs/ROWS.md) through the library, in one process.
+"""Replays the test cases of the program (docs/ROWS.md) through the library, in one process.
 
-    python3 rows.py LIBRARY FOLDER
+usage: python3 rows.py LIBRARY FOLDER
+example: python3 examples/embedding/rows.py build/libmodinfo.so crates/test_replay/data
 
-Each row is called with room for just its answer, and with one byte less: then nothing may be written,
-and the length that is needed has to be named. Behind the room are bytes that no call may touch.
+Each test case is called with room for just its output, and with one byte less: then nothing may be
+written, and the length that is needed has to be returned. After the room are bytes that no call may touch.
 """
 
 import ctypes
@@ -88,7 +89,7 @@ def calls(folder):
 
 
 def called(modinfo, function, document, room):
-    """The status, the length, and the room with the bytes behind it."""
+    """The status, the length, and the room with the bytes after it."""
     length = ctypes.c_size_t()
     answer = ctypes.create_string_buffer(b"\xa5" * room + GUARD, room + len(GUARD))
     call = getattr(modinfo.library, f"modinfo_{function}")
@@ -108,6 +109,12 @@ def fails(modinfo, function, document, status, wanted):
 
 
 def main():
+    if sys.argv[1:2] in (["-h"], ["--help"]):
+        print(__doc__.rstrip())
+        return 0
+    if len(sys.argv) != 3:
+        print("usage: python3 rows.py LIBRARY FOLDER", file=sys.stderr)
+        return 2
     modinfo, folder = Modinfo(sys.argv[1]), Path(sys.argv[2])
     count = wrong = 0
     for name, function, document, status, wanted in calls(folder):
@@ -116,7 +123,7 @@ def main():
         if failure is not None:
             wrong += 1
             print(f"{name}: {failure}: {called(modinfo, function, document, 4096)[:2]}", file=sys.stderr)
-    print(f"rows: {count}, of which {wrong} answer otherwise")
+    print(f"test cases: {count}, of which {wrong} failed")
     return 1 if wrong or count == 0 else 0
 
 

@@ -34,7 +34,7 @@ test("before the first token all lead it", () => {
   assert.deepEqual(filed("/*a*/ ;"), [">6a"]);
 });
 
-test("behind a line break they lead the next token", () => {
+test("after a line break they lead the next token", () => {
   assert.deepEqual(filed("x;\n/*a*/ //b\ny"), [">13a", ">13b"]);
   assert.deepEqual(filed("x; //a\n//b\ny"), ["<2a", ">11b"]);
   assert.deepEqual(filed("x; /*a\n*/ /*b*/ y"), ["<2a\n", ">16b"]);
@@ -78,7 +78,7 @@ test("a block comment trails what a value, a brace or a semicolon ends", () => {
   assert.deepEqual(filed("f() /*a*/;x"), ["<3a"]);
 });
 
-test("behind the last token they trail the program", () => {
+test("after the last token they trail the program", () => {
   assert.deepEqual(filed("x = //a\n y /*b*/ //c\n/*d*/\n"), ["<3a", "<27b", "<27c", "<27d"]);
   assert.deepEqual(filed("#!/a\n//b\n"), ["<9b"]);
   assert.deepEqual(filed("\n//a\n/*b*/"), [">0a", ">0b"]);

@@ -57,7 +57,7 @@ for (const name of names) {
   }
 }
 
-test("the schemas refuse what is in neither notation", () => {
+test("the schemas refuse what has neither format", () => {
   const document = read("side-effect-import.json");
   /** @param {(document: AnyDocument) => object} change */
   const broken = (change) => fault(change(structuredClone(document)), readSchema("document"));

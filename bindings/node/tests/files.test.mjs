@@ -119,7 +119,7 @@ test("what has no answer is a fault, and the others go on", () => {
   const messages = {
     "none.js": ["Input", "no such file or folder"],
     "bytes.js": ["Input", "the file is not UTF-8"],
-    "text.txt": ["MediaType", "the name doesn't end as that of a file which is read"],
+    "text.txt": ["MediaType", "files with this ending are not read"],
     "deep.js": ["Depth", "the text nests too deep for the parser"],
     "large.js": ["Input", "the file has more than 67108864 bytes (--max-bytes allows more)"],
   };

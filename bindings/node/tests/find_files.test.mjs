@@ -63,7 +63,7 @@ test("other paths are taken as they are, in their order", async () => {
   assert.deepEqual(found, [{ path: file }, { path: file }]);
 });
 
-test("a folder that can't be read is told, and the others are read", async () => {
+test("a folder that can't be read is reported, and the others are read", async () => {
   const folder = folderOf({ "a/c.js": "", "b.js": "" });
   chmodSync(folder, 0o755);
   chmodSync(join(folder, "a"), 0);

@@ -123,7 +123,7 @@ test("an entry that can't be read or parsed is an error, and nothing is listed",
   const errors = {
     "none.js": "none.js: no such file or folder",
     "wrong.js": "wrong.js:1:7: Expression expected.\nlet = ;\n      ^",
-    "text.txt": "text.txt: the name doesn't end as that of a file which is read",
+    "text.txt": "text.txt: files with this ending are not read",
   };
   for (const [entry, message] of Object.entries(errors)) {
     const expected = { stderr: `${NAME}: ${message}\n`, status: 2 };

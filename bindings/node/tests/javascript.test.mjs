@@ -280,7 +280,7 @@ test("the options are checked", () => {
 });
 
 test("what follows an await at the top is read once", () => {
-  const behind = `\nimport "a";\nrequire("b");\n/* c */`;
+  const after = `\nimport "a";\nrequire("b");\n/* c */`;
   for (const await_ of [
     "await { d };", "await [1, ...d];", "await [1,\n...(await d).e, f]; let g = await { h: [...i] };",
     "(await\n'd')(e);", "for await (const d of (await\n'e')('f')) { g; }", "tag`${await\n'd' +\ne}`;",
@@ -288,7 +288,7 @@ test("what follows an await at the top is read once", () => {
     "let d = await /* e */ { f: import.meta }; /* g */",
   ]) {
     for (const mediaType of ["JavaScript", "Mjs"]) {
-      assert.deepEqual(dependencies(await_ + behind, mediaType), [
+      assert.deepEqual(dependencies(await_ + after, mediaType), [
         { kind: "import", specifier: "a", sideEffect: true }, { kind: "require", argument: "b" },
       ], await_);
     }

@@ -32,7 +32,7 @@ const READ = {
   "what looks like a call in comments": `// require("a")\n/* require("b") */ require("c")`,
   "what looks like a call in regular expressions": `a = /require("b")/; if (a) /require("c")/.test(d); return_ / e`,
   "a slash in a class of characters": `a = /[/"]/.test(b) ? require("c") : 1 / 2 / require("d")`,
-  "a division behind parentheses": `(a) / require("b") / 2; a(b) / require("c") / 2`,
+  "a division after parentheses": `(a) / require("b") / 2; a(b) / require("c") / 2`,
   "templates in templates": "`a${`b${require('c')}`}${{ d: `}` }}`; require('e')",
   "a key": `a = { import: 1, export: require("b"), require: 2 }`,
   imports: `import "a"; import b from "b"; import { c, d as e, } from 'c';\nimport * as f from "f"\nimport g, { h } from "g";` +
@@ -59,7 +59,7 @@ for (const [name, text] of Object.entries(READ)) {
   });
 }
 
-test("a division behind a method with the name of a keyword, which acorn 8.8 refuses", () => {
+test("a division after a method with the name of a keyword, which acorn 8.8 can't parse", () => {
   const text = `a.if(b) / require("c") / 2`;
   const document = lexed(text);
   assert.ok(document);
@@ -68,10 +68,10 @@ test("a division behind a method with the name of a keyword, which acorn 8.8 ref
 
 const LEFT = {
   "a syntax error": `require("a"); let b = ;`,
-  "a syntax error behind a function": "function a() { return 1 + }",
+  "a syntax error after a function": "function a() { return 1 + }",
   "a name that is declared twice": `import a from "a"; let a;`,
   "an import in a block": `{ import "a" }`,
-  "an import behind a condition": `if (a)\nimport "b"`,
+  "an import after a condition": `if (a)\nimport "b"`,
   "an import of a keyword": `import { if } from "a"`,
   "an export of a keyword": "export { this };",
   "two default expressions": "export default a, b",
@@ -88,9 +88,9 @@ const LEFT = {
   "new": `new require("a")`,
   "a method": `class A { require(a) {} }`,
   "a function": `function require(a) { return import("b"); }`,
-  "a slash behind a brace": `{} /require("a")/.test(b)`,
+  "a slash after a brace": `{} /require("a")/.test(b)`,
   "a slash on the next line": `var a\n/require("b")/.test(c)`,
-  "a slash behind two signs": `a++ / require("b") / 2`,
+  "a slash after two signs": `a++ / require("b") / 2`,
   "an HTML-like comment": `a\n<!-- require("b")`,
   "the end of an HTML-like comment": `a\n--> require("b")`,
   JSX: `a = <b>{require("c")}</b>`,

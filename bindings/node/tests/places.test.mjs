@@ -33,7 +33,7 @@ const documents = readdirSync(EXAMPLES)
   .filter((text) => "program" in JSON.parse(text));
 
 /**
- * The members that each object of the notation has to have, by the name of the member that it is in.
+ * The members that each object of a module document has to have, by the name of the member that it is in.
  * @type {Record<string, string[]>}
  */
 const REQUIRED = {

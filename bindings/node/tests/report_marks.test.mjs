@@ -94,7 +94,7 @@ test("each part of a ModuleInfo is marked, in the order of the source", () => {
   assert.deepEqual([ofTypes.row, ofTypes.kind], [2, "pragma"]);
 });
 
-test("kinds are told apart by what ModuleInfo calls them", () => {
+test("kinds have the names of ModuleInfo", () => {
   const range = [[0, 0], [0, 0]];
   /** @type {(type: string, names: (string | undefined)[]) => string[]} */
   const kinds = (type, names) => names.map((kind) => rowsOf({

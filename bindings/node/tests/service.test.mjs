@@ -1,4 +1,4 @@
-/** The program behind its pipe. */
+/** The program, which a pipe connects with the service. */
 
 import assert from "node:assert/strict";
 import { spawnSync } from "node:child_process";

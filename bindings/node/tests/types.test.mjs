@@ -106,7 +106,7 @@ function moduleOf(schema) {
   return [...definitions, `export type Root = ${typeOf(schema)};`].join("\n");
 }
 
-/** Types are the same where nothing tells them apart. */
+/** Types are the same where nothing differs. */
 const SAME = `
 type Same<A, B> = (<T>() => T extends A ? 1 : 2) extends (<T>() => T extends B ? 1 : 2) ? true : false;`;
 

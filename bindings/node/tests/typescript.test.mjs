@@ -149,7 +149,7 @@ test("a tree is that of the text", () => {
   }
 });
 
-test("a tree that has more than the text, behind an await at the top", () => {
+test("a tree that has more than the text, after an await at the top", () => {
   const text = `await [1, ...a];\nimport "b";`;
   const tree = typescript.createSourceFile("a.ts", text, typescript.ScriptTarget.Latest);
   const document = documentOf(toDocument, text, "TypeScript", { typescript, tree });
@@ -177,7 +177,7 @@ test("module declarations", () => {
   assert.deepEqual(place(`declare module 'a';`), [[0, 15], [0, 18]]);
 });
 
-test("an exported module declaration begins behind the export", () => {
+test("an exported module declaration begins after the export", () => {
   const [item] = body(`export /* a */ declare module "b" { import "c"; }`);
   assert.equal(item.kind, "ExportOther");
   assert.deepEqual(item.children[0].range, [15, 49]);

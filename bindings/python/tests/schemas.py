@@ -1,4 +1,4 @@
-"""What types say and what the schemas in docs/ say, in one form."""
+"""Types of Python, and types of the schemas in docs/, in one form."""
 
 import json
 from types import NoneType, UnionType
@@ -10,13 +10,13 @@ NAMES = {str: "string", int: "integer", bool: "boolean", NoneType: "null"}
 
 
 class Schema:
-    """A schema, and what it says of types in the form that `typed` gives."""
+    """A schema, and its types in the form that `typed` returns."""
 
     def __init__(self, name: str) -> None:
         self.whole = json.loads((ROOT / f"docs/{name}.schema.json").read_text())
 
     def described(self, schema: Any = None) -> Any:
-        """What the schema says, or what a part of it does."""
+        """The type that the schema, or a part of it, describes."""
         schema = self._resolved(self.whole if schema is None else schema)
         for several in "oneOf", "anyOf":
             if several in schema:

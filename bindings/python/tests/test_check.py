@@ -154,8 +154,8 @@ def test_another_command(command: Any) -> None:
         modinfo.check({}, command)
 
 
-def test_that_memory_is_refused(monkeypatch: pytest.MonkeyPatch) -> None:
-    """A stand-in for the library's function, to which memory is refused."""
+def test_out_of_memory(monkeypatch: pytest.MonkeyPatch) -> None:
+    """A stand-in for the library's function, whose allocations fail."""
 
     def refuse(document: bytes, document_length: int, answer: int, room: int, length: int) -> int:
         ctypes.memmove(answer, b"OutOfMemory", 11)

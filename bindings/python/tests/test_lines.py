@@ -1,4 +1,4 @@
-"""Many documents, one a line, against the rows of docs/ROWS.md that run `modinfo analyze --lines`."""
+"""Many documents, one a line, against the test cases of docs/ROWS.md that run `modinfo analyze --lines`."""
 
 import io
 from collections.abc import Callable, Iterable, Iterator

@@ -1,4 +1,4 @@
-"""`python -m modinfo`, against the rows of docs/ROWS.md that run the program."""
+"""`python -m modinfo`, against the test cases of docs/ROWS.md that run the program."""
 
 import subprocess
 import sys

@@ -1,4 +1,4 @@
-"""What happens where memory is refused to this package: a process that may have little more than it has."""
+"""Out of memory in this package: a process that may have little more memory than it has."""
 
 import subprocess
 import sys

@@ -1,4 +1,4 @@
-"""The rows of docs/ROWS.md that run the program on one command, through the package."""
+"""The test cases of docs/ROWS.md that run the program on one command, through the package."""
 
 import json
 from typing import get_args

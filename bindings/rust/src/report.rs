@@ -78,11 +78,11 @@ fn member<'r>(object: &'r str, name: &str) -> Option<&'r str> {
     loop {
         let (key, value) = rest.split_at(value_length(rest));
         let value = value.strip_prefix(':')?;
-        let (value, behind) = value.split_at(value_length(value));
+        let (value, after) = value.split_at(value_length(value));
         if key.strip_prefix('"').and_then(|key| key.strip_suffix('"')) == Some(name) {
             return Some(value);
         }
-        rest = behind.strip_prefix(',')?;
+        rest = after.strip_prefix(',')?;
     }
 }
 

@@ -1,4 +1,4 @@
-//! The examples and the rows, one by one and in many threads at once.
+//! The examples and the test cases, one by one and in many threads at once.
 
 mod repository;
 

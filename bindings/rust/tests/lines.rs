@@ -1,4 +1,4 @@
-//! The rows and examples of one document, many documents at once.
+//! The test cases and examples of one document, many documents at once.
 
 mod repository;
 
@@ -28,7 +28,7 @@ fn documents_of(calls: &[Call]) -> Vec<u8> {
     documents.join(&b'\n')
 }
 
-/// What is printed for the calls of a command, by the rows.
+/// What is printed for the calls of a command, by the test cases.
 fn wanted_of(command: &str, calls: &[Call]) -> String {
     let line = |call: &Call| match &call.wanted {
         Ok(report) if command.starts_with("check") => format!("{report}\n"),

@@ -1,4 +1,4 @@
-//! Calls to which the process's allocator refuses memory. The library itself takes its memory from the C library, and
+//! Calls in which allocations of the process fail. The library itself takes its memory from the C library, and
 //! isn't touched by this allocator.
 
 // Clippy of Rust 1.63 takes the constant inside `thread_local!` for one of this file.
@@ -28,7 +28,7 @@ impl Refusing {
     }
 }
 
-// SAFETY: each call is handed on to `System` as it is, or returns null, which says that memory is refused.
+// SAFETY: each call is handed on to `System` as it is, or returns null, which means out of memory.
 unsafe impl GlobalAlloc for Refusing {
     unsafe fn alloc(&self, layout: Layout) -> *mut u8 {
         if Refusing::grants() {

@@ -11,7 +11,7 @@ from conftest import ROOT, analyzed
 
 BLOCK = re.compile(r"^```bash\n(.*?)^```$", re.DOTALL | re.MULTILINE)
 PARTS = ["bench", "bindings", "build", "docs", "examples"]
-# In the place of ssh: what it would run on the machine that is named, behind the options, runs here, with
+# In the place of ssh: what it would run on the machine that is named, after the options, runs here, with
 # the environment variable SHELL, which sshd sets and the machine of these tests may lack.
 SSH = """#!/bin/sh
 while [ "${1#-}" != "$1" ]; do

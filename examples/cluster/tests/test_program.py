@@ -36,7 +36,7 @@ def test_a_folder_of_documents(cluster: Local) -> None:
 
 
 def test_a_run_that_is_continued(cluster: Local, documents: Path, answers: bytes, tmp_path: Path) -> None:
-    """What --help says of a run that has ended."""
+    """The advice of --help on a run that has ended."""
     done = 77
     begun = tmp_path / "answers.jsonl"
     begun.write_bytes(b"".join(answers.splitlines(keepends=True)[:done]))

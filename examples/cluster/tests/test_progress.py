@@ -1,4 +1,4 @@
-"""What is told on a terminal, and elsewhere not."""
+"""The progress is printed on a terminal, and not elsewhere."""
 
 import io
 
@@ -22,9 +22,9 @@ def test_a_terminal_and_another_stream(is_terminal: bool) -> None:
     progress.add(lines=1500, size=2_000_000, workers=4)
     progress.add(lines=500, size=500_000, workers=3)
     progress.clear()
-    told = stream.getvalue()
+    printed = stream.getvalue()
     if is_terminal:
-        assert "1,500 lines, 2.0 MB, " in told and ", 4 workers" in told
-        assert "2,000 lines, 2.5 MB, " in told and told.endswith(", 3 workers\r\x1b[K")
+        assert "1,500 lines, 2.0 MB, " in printed and ", 4 workers" in printed
+        assert "2,000 lines, 2.5 MB, " in printed and printed.endswith(", 3 workers\r\x1b[K")
     else:
-        assert told == ""
+        assert printed == ""

@@ -131,7 +131,7 @@ function checkWords(values, paths, question) {
     throw new UsageFault(`an entry must be a file, and ${printable(folder)} is a folder`);
   }
   if (values.resolve && (question || entries.length > 0)) {
-    throw new UsageFault("--resolve is for the lines of files; the graph has it by --json");
+    throw new UsageFault("--resolve is for the lines of files; for a graph, use --json without --resolve");
   }
 }
 

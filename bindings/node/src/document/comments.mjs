@@ -281,7 +281,7 @@ function wordBefore(text, end) {
 }
 
 /**
- * Behind the last character before an offset that is no white space.
+ * The offset after the last character before an offset that is no white space.
  * @param {string} text
  * @param {number} offset
  */

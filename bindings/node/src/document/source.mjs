@@ -60,7 +60,7 @@ export class Source {
       throw new SourceFault("a lone surrogate is no UTF-8", text, text.search(LONE_SURROGATE));
     }
     this.text = text;
-    /** Behind the `#!` line, or 0 where there is none. */
+    /** The offset after the `#!` line, or 0 where there is none. */
     this.shebangEnd = SHEBANG.exec(text)?.[0].length ?? 0;
     this.#bytes = Buffer.byteLength(text) === text.length ? undefined : new ByteOffsets(text);
   }

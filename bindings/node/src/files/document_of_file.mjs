@@ -25,7 +25,7 @@ const decoder = new TextDecoder("utf-8", { fatal: true, ignoreBOM: true });
 export function documentOfFile(toDocument, path, { mediaTypes, maxBytes }) {
   const mediaType = mediaTypeOf(path);
   if (mediaType === undefined || !mediaTypes.includes(mediaType)) {
-    throw new FileFault("MediaType", "the name doesn't end as that of a file which is read");
+    throw new FileFault("MediaType", "files with this ending are not read");
   }
   const specifier = pathToFileURL(path).href;
   return documentOf(toDocument, decode(readRegularFile(path, maxBytes)), { specifier, mediaType });

@@ -2,7 +2,7 @@
 
 import { createRequire } from "node:module";
 
-/** Where Debian's packages put modules; its own node looks there by itself, others don't. */
+/** Where Debian's packages put modules. Debian's node looks there without this, others don't. */
 const DEBIAN_MODULES = "/usr/share/nodejs";
 
 const require = createRequire(import.meta.url);

@@ -73,7 +73,7 @@ shown("the graph has each module of a small project, with a box around those of 
   assert.ok((await texts(".node text")).every((label) => !label.includes("/")));
 });
 
-shown("edges are told apart by kind, and those between two folders are one with a count", async () => {
+shown("edges differ by kind, and those between two folders are one with a count", async () => {
   await open(example);
   const edges = await texts(".edge title");
   for (const edge of [

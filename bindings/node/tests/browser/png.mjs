@@ -72,7 +72,7 @@ function crc32(bytes) {
 /**
  * The rows without the filters that the format has put on them.
  * https://www.w3.org/TR/png-3/#9Filters
- * @param {Buffer} rows each behind the number of its filter
+ * @param {Buffer} rows each after the number of its filter
  * @param {number} width in bytes
  * @param {number} height
  */

@@ -72,7 +72,7 @@ export function wrong(dependency: DependencyDescriptor, document: ModuleDocument
     report.valid && report.fault.length,
     // @ts-expect-error warnings may be missing
     report.valid && report.warnings.length,
-    // @ts-expect-error a check refuses no document for lack of memory
+    // @ts-expect-error a check has no document with the fault OutOfMemory
     report.fault === "OutOfMemory",
     // @ts-expect-error a key is either a string or an identifier
     document.program.body.push({ kind: "KeyValue", range: [0, 1], key: { str: "a", ident: "a" }, children: [] }),

@@ -87,9 +87,9 @@ def check(document: Document, command: Command = "analyze") -> Report:
 def analyze_lines(lines: Iterable[Buffer], jobs: int = 1) -> Iterator[bytes]:
     """Returns for each line what `modinfo analyze --lines` prints for it, with a line feed.
 
-    A line is the JSON of one document, with or without a line feed after it. For one that is refused, also for
-    want of memory, `{"fault":NAME}` is returned, and the next line is read. `jobs` threads work side by side; with more
-    than one, lines are read ahead. Raises TypeError where a line isn't bytes.
+    A line is the JSON of one document, with or without a line feed after it. Where a document has a fault, or an
+    allocation fails, `{"fault":NAME}` is returned, and the next line is read. `jobs` threads work side by side; with
+    more than one, lines are read ahead. Raises TypeError where a line isn't bytes.
     """
     return answer_lines(_library.COMMANDS["analyze"].answer, _in_answer, lines, jobs)
 

@@ -62,8 +62,8 @@ class Parser:
             self._process = subprocess.Popen(self._command, stdin=pipe, stdout=pipe, stderr=pipe)
         except OSError as error:
             raise ParserError(
-                f"{shown(self._command[0])} can't be run: {error.strerror}. It is a program of the package for node, "
-                "modinfo; another one is named by command=[..]"
+                f"{shown(self._command[0])} can't be run: {error.strerror}. Install the package modinfo for node, "
+                "or name another program by command=[..]"
             ) from error
         self._threads = [Thread(target=self._write_paths), Thread(target=self._read_messages)]
         for thread in self._threads:
@@ -80,7 +80,7 @@ class Parser:
 
     def __iter__(self) -> Iterator[tuple[str, bytes]]:
         if self._process is None or self._process.stdout is None:
-            raise ValueError("a Parser is read inside its with statement")
+            raise ValueError("a Parser can be read only inside its with statement")
         for line in self._process.stdout:
             yield self._specifier(line), line
         self._join()

@@ -66,7 +66,7 @@ pub fn examples() -> Vec<Call> {
     .collect()
 }
 
-/// The rows of docs/ROWS.md that run the program on one document.
+/// The test cases of docs/ROWS.md that run the program on one document.
 pub fn rows() -> Vec<Call> {
     let folder = root().join("crates/test_replay/data");
     files(&folder, ".rows")
@@ -91,7 +91,7 @@ fn read(path: &Path) -> String {
     fs::read_to_string(path).unwrap_or_else(|error| panic!("{}: {error}", path.display()))
 }
 
-/// A row's lines: the word, and the rest of the line.
+/// The lines of a test case: the word, and the rest of the line.
 type Row = Vec<(String, String)>;
 
 pub fn blocks(text: &str) -> Vec<Row> {
@@ -110,7 +110,7 @@ pub fn blocks(text: &str) -> Vec<Row> {
     rows
 }
 
-/// What the lines with a word say, with line feeds between them.
+/// The text of the lines with a word, with line feeds between them.
 pub fn field(row: &Row, word: &str) -> Option<String> {
     let lines: Vec<_> = row
         .iter()
@@ -120,7 +120,7 @@ pub fn field(row: &Row, word: &str) -> Option<String> {
     (!lines.is_empty()).then(|| lines.join("\n"))
 }
 
-/// Whether the words behind the program's name are those of one document.
+/// Whether the words after the program's name are those of one document.
 fn is_call(words: &str) -> bool {
     let command = words.strip_prefix("check ").unwrap_or(words);
     ["analyze", "convert", "reach"].contains(&command) || words == "check"

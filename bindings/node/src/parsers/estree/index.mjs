@@ -36,7 +36,7 @@ export function toDocument(text, options) {
   const given = tree && { tree, comments: comments ?? tree.comments };
   const parsed = given ?? parseWithAcorn(source, mediaType);
   if (!parsed.comments) {
-    throw new TypeError("a tree needs its comments");
+    throw new TypeError("a tree needs its comments: pass the option comments");
   }
   const program = parsed.tree.type === "File" ? parsed.tree.program : parsed.tree;
   const [, ...ranges] = [program, ...parsed.comments].map(rangeOf);

@@ -30,7 +30,7 @@
 
 import { readDeclaration } from "./declarations.mjs";
 
-/** The last token, as far as that tells what follows. */
+/** The last token, as far as what may follow depends on it. */
 const OPERATOR = 0;
 const OPERAND = 1;
 const WORD = 2;
