@@ -1,6 +1,4 @@
-"""The JSON schemas in docs/, as tools/generate_formats reads them.
-
-What they have besides the keywords of JSON Schema:
+"""The JSON schemas in docs/, as tools/generate_formats reads them. Besides the keywords of JSON Schema:
 
 - `title` names a type. `x-typescript`, `x-python` and `x-rust` are its name in one language, or null without
   a type there. `x-rattle` is its `Role` in Rattle.
@@ -36,8 +34,8 @@ class Format:
             properties = dict(self.shared)
             for member, schema in {**part["if"]["properties"], **node.get("properties", {})}.items():
                 properties[member] = {**properties.get(member, {}), **schema}
-            required = [*self.node["required"], *node.get("required", [])]
-            node.update(type="object", properties=properties, required=required)
+            node["required"] = [*self.node["required"], *node.get("required", [])]
+            node.update(type="object", properties=properties)
             self.nodes.append(node)
             self.node.setdefault("oneOf", []).append(part["then"])
 
@@ -68,10 +66,8 @@ class Format:
 
 
 def choices(schema: Schema) -> list[Schema]:
-    found: list[Schema] = schema.get("oneOf") or schema.get("anyOf") or []
-    return found
+    return [*schema.get("oneOf", schema.get("anyOf", []))]
 
 
 def literals(schema: Schema) -> list[Any]:
-    values: list[Any] = [schema["const"]] if "const" in schema else schema.get("enum", [])
-    return values
+    return [schema["const"]] if "const" in schema else [*schema.get("enum", [])]
