@@ -63,9 +63,9 @@
  *                       fault; "range":[START,END] is the range of the source that this value is or
  *                       has, where there is one, in bytes from zero. With CommentsOverlap "other"
  *                       leads to the first of the two comments. With Input and Json there is no
- *                       pointer, but "at":{"line":N,"column":N,"offset":N}, the position after which
- *                       the document stops being UTF-8 or JSON: in lines and characters from zero,
- *                       and in bytes.
+ *                       pointer, but "at":{"line":N,"column":N,"offset":N}: where the document stops
+ *                       being UTF-8, or the first token that can't be read goes wrong, in lines and
+ *                       characters from zero, and in bytes.
  *
  * A POINTER is a JSON Pointer (RFC 6901) into the document. The pointer to the whole document is empty.
  *

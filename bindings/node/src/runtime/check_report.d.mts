@@ -61,8 +61,8 @@ export interface FaultReport {
   other?: JsonPointer;
   /** The range that is at fault, or that of the node or the comment. */
   range?: [start: number, end: number];
-  /** For `Json` and `Input`: the first byte that is in no JSON value nested at most 127 deep, or in
-   * no UTF-8. */
+  /** For `Input`: the first byte that is in no UTF-8. For `Json`: the first invalid byte of the
+   * first token that can't be read, or the start of the token. */
   at?: TextPlace;
   /** What was expected there, in words that later versions may change. */
   expected: string;
