@@ -29,8 +29,8 @@ use Rattle.std.proofs.lemmas.Bool.{cases_Bool, false≢true}
 use Rattle.std.proofs.lemmas.Cmp.{nat_list_cmp_total}
 use Rattle.std.proofs.lemmas.Map.Text.{is_eq-slice_cmp}
 use Rattle.std.proofs.lemmas.Slice.Eq.{bytes_eq-Decides}
-use Rattle.deno_graph_text.specs.TextMap.{value_at, insert_entry, IsAscending}
-use Rattle.deno_graph_dependency.specs.declared.import_attributes.ImportAttribute.{ImportAttribute}
+use Rattle.deno_graph_base.specs.TextMap.{value_at, insert_entry, IsAscending}
+use Rattle.deno_graph_info.specs.declared.analysis.import_attributes.ImportAttribute.{ImportAttribute}
 use Rattle.deno_graph_dep.specs.Attributes.{Entries}
 use Rattle.deno_graph_dep.specs.AttributeSteps.{Puts}
 

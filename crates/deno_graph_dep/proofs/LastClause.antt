@@ -38,8 +38,8 @@ use Rattle.std.proofs.lemmas.Bool.{cases_lt, false_from_ne_true, or_cases, or_pa
 use Rattle.std.proofs.lemmas.Option.{none-some, cond_some, slice_get_read, slice_get_past}
 use Rattle.deno_graph_source.specs.declared.tree.node.Node.{Node}
 use Rattle.deno_graph_source.specs.Node.{kind_of, is_object}
-use Rattle.deno_graph_dependency.specs.declared.import_attributes.ImportAttributes.{ImportAttributes}
-use Rattle.deno_graph_dependency.specs.declared.import_attributes.ImportAttributes.TheVariants as attributes
+use Rattle.deno_graph_info.specs.declared.analysis.import_attributes.ImportAttributes.{ImportAttributes}
+use Rattle.deno_graph_info.specs.declared.analysis.import_attributes.ImportAttributes.TheVariants as attributes
 use Rattle.deno_graph_dep.specs.Attributes.{
   static_key,
   value_node,

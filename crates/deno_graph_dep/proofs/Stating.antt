@@ -35,10 +35,10 @@ use Rattle.deno_graph_source.specs.declared.tree.node.Kind.TheVariants.{
   Call,
 }
 use Rattle.deno_graph_source.specs.declared.tree.node.Node.{Node}
-use Rattle.deno_graph_dependency.specs.declared.dynamic_dependency.DynamicDependencyKind.{
+use Rattle.deno_graph_info.specs.declared.analysis.dynamic_dependency.DynamicDependencyKind.{
   DynamicDependencyKind,
 }
-use Rattle.deno_graph_dependency.specs.declared.dynamic_dependency.DynamicDependencyKind.TheVariants as dynamic_kind
+use Rattle.deno_graph_info.specs.declared.analysis.dynamic_dependency.DynamicDependencyKind.TheVariants as dynamic_kind
 use Rattle.deno_graph_dep.specs.DependencyRules.{is_dependency, is_listed, is_module_call, is_require}
 use Rattle.deno_graph_dep.specs.DependencyKind.{call_kind}
 use Rattle.deno_graph_dep.specs.Argument.{HasForm, expression}

@@ -45,9 +45,9 @@ use Rattle.std.proofs.lemmas.Slice.Eq.{bytes_eq-Decides}
 use Rattle.deno_graph_source.specs.Node.{kind_of, children_of, is_object}
 use Rattle.deno_graph_source.specs.declared.tree.node.Arg.{Arg}
 use Rattle.deno_graph_source.specs.declared.tree.node.Node.{Node}
-use Rattle.deno_graph_text.specs.TextMap.{value_at, IsAscending}
-use Rattle.deno_graph_dependency.specs.declared.import_attributes.ImportAttributes.{ImportAttributes}
-use Rattle.deno_graph_dependency.specs.declared.import_attributes.ImportAttributes.TheVariants as attributes
+use Rattle.deno_graph_base.specs.TextMap.{value_at, IsAscending}
+use Rattle.deno_graph_info.specs.declared.analysis.import_attributes.ImportAttributes.{ImportAttributes}
+use Rattle.deno_graph_info.specs.declared.analysis.import_attributes.ImportAttributes.TheVariants as attributes
 use Rattle.deno_graph_dep.specs.Attributes.{
   value_node,
   has_static_keys,

@@ -6,7 +6,7 @@ use Rattle.deno_graph_source.specs.declared.tree.node.Kind.TheVariants.{Str, Tem
 use Rattle.deno_graph_source.specs.declared.tree.node.BinaryOp.{BinaryOp}
 use Rattle.deno_graph_source.specs.declared.tree.node.BinaryOp.TheVariants.{Add}
 use Rattle.deno_graph_source.specs.declared.tree.node.Node.{Node}
-use Rattle.deno_graph_text.specs.JsString.{lossy_text}
+use Rattle.deno_graph_base.specs.JsString.{lossy_text}
 use Rattle.deno_graph_source.specs.Node.{kind_of, children_of}
 use Rattle.deno_graph_dep.specs.declared.argument.DynamicArgument.{DynamicArgument}
 use Rattle.deno_graph_dep.specs.declared.argument.DynamicArgument.TheVariants as argument

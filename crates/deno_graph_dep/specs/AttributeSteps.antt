@@ -3,8 +3,8 @@ use Rattle.std.specs.Prelude.{◌≡◌, ℕ, ◌&&◌, if◌then◌else◌, Lis
 use Rattle.std.specs.Str.{bytes_eq}
 use Rattle.deno_graph_source.specs.declared.tree.node.Node.{Node}
 use Rattle.deno_graph_source.specs.Node.{kind_of, is_object}
-use Rattle.deno_graph_text.specs.TextMap.{value_at, IsAscending}
-use Rattle.deno_graph_dependency.specs.declared.import_attributes.ImportAttribute.{ImportAttribute}
+use Rattle.deno_graph_base.specs.TextMap.{value_at, IsAscending}
+use Rattle.deno_graph_info.specs.declared.analysis.import_attributes.ImportAttribute.{ImportAttribute}
 use Rattle.deno_graph_dep.specs.Attributes.{value_node, has_static_keys, Entries}
 
 -- the object literal that is the value of a property, where each of its properties has a static key

@@ -29,13 +29,13 @@ use Rattle.deno_graph_source.specs.declared.tree.node.Kind.TheVariants.{Str, Key
 use Rattle.deno_graph_source.specs.declared.tree.node.Node.{Node}
 use Rattle.deno_graph_source.specs.declared.tree.node.PropKey.{PropKey}
 use Rattle.deno_graph_source.specs.declared.tree.node.PropKey.TheVariants as key
-use Rattle.deno_graph_text.specs.JsString.{readable_text}
+use Rattle.deno_graph_base.specs.JsString.{readable_text}
 use Rattle.deno_graph_source.specs.Node.{kind_of, children_of, is_object}
-use Rattle.deno_graph_text.specs.TextMap.{value_at, IsAscending}
-use Rattle.deno_graph_dependency.specs.declared.import_attributes.ImportAttribute.{ImportAttribute}
-use Rattle.deno_graph_dependency.specs.declared.import_attributes.ImportAttribute.TheVariants as attribute
-use Rattle.deno_graph_dependency.specs.declared.import_attributes.ImportAttributes.{ImportAttributes}
-use Rattle.deno_graph_dependency.specs.declared.import_attributes.ImportAttributes.TheVariants as attributes
+use Rattle.deno_graph_base.specs.TextMap.{value_at, IsAscending}
+use Rattle.deno_graph_info.specs.declared.analysis.import_attributes.ImportAttribute.{ImportAttribute}
+use Rattle.deno_graph_info.specs.declared.analysis.import_attributes.ImportAttribute.TheVariants as attribute
+use Rattle.deno_graph_info.specs.declared.analysis.import_attributes.ImportAttributes.{ImportAttributes}
+use Rattle.deno_graph_info.specs.declared.analysis.import_attributes.ImportAttributes.TheVariants as attributes
 
 -- a static key: an identifier, or a string without lone surrogates
 abbrev pub key_text : PropKey → Option (List ℕ)

@@ -17,12 +17,12 @@ use Rattle.deno_graph_source.specs.declared.tree.node.Callee.TheVariants as call
 use Rattle.deno_graph_source.specs.declared.tree.node.ImportPhase.{ImportPhase}
 use Rattle.deno_graph_source.specs.declared.tree.node.ImportPhase.TheVariants.{Evaluation, Source, Defer}
 use Rattle.deno_graph_source.specs.declared.tree.node.Node.{Node}
-use Rattle.deno_graph_dependency.specs.declared.dynamic_dependency.DynamicDependencyKind.{
+use Rattle.deno_graph_info.specs.declared.analysis.dynamic_dependency.DynamicDependencyKind.{
   DynamicDependencyKind,
 }
-use Rattle.deno_graph_dependency.specs.declared.dynamic_dependency.DynamicDependencyKind.TheVariants as dynamic_kind
-use Rattle.deno_graph_dependency.specs.declared.static_dependency.StaticDependencyKind.{StaticDependencyKind}
-use Rattle.deno_graph_dependency.specs.declared.static_dependency.StaticDependencyKind.TheVariants as static_kind
+use Rattle.deno_graph_info.specs.declared.analysis.dynamic_dependency.DynamicDependencyKind.TheVariants as dynamic_kind
+use Rattle.deno_graph_info.specs.declared.analysis.static_dependency.StaticDependencyKind.{StaticDependencyKind}
+use Rattle.deno_graph_info.specs.declared.analysis.static_dependency.StaticDependencyKind.TheVariants as static_kind
 use Rattle.deno_graph_dep.specs.DependencyRules.{is_require}
 
 -- what an import by this phase is, as a call

@@ -22,7 +22,7 @@ use Rattle.std.specs.Prelude.{
 }
 use Rattle.std.specs.List.{list_any, starts_with}
 use Rattle.std.specs.Str.{bytes_eq}
-use Rattle.deno_graph_text.specs.JsString.{lossy_text}
+use Rattle.deno_graph_base.specs.JsString.{lossy_text}
 use Rattle.deno_graph_source.specs.Node.{kind_of, children_of}
 use Rattle.deno_graph_source.specs.declared.tree.node.Callee.{Callee}
 use Rattle.deno_graph_source.specs.declared.tree.node.Callee.TheVariants as callee

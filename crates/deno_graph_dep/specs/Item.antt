@@ -1,13 +1,13 @@
 -- What a dependency says, by values alone.
 use Rattle.std.specs.Prelude.{ℕ, List, Bool}
-use Rattle.deno_graph_text.specs.SourceRange.{IsTextRange}
-use Rattle.deno_graph_text.specs.declared.text.position.SourceRange.{SourceRange}
+use Rattle.deno_graph_base.specs.SourceRange.{IsTextRange}
+use Rattle.deno_graph_base.specs.declared.text.position.SourceRange.{SourceRange}
 use Rattle.deno_graph_source.specs.declared.tree.comments.DependencyComment.{DependencyComment}
-use Rattle.deno_graph_dependency.specs.declared.dynamic_dependency.DynamicDependencyKind.{
+use Rattle.deno_graph_info.specs.declared.analysis.dynamic_dependency.DynamicDependencyKind.{
   DynamicDependencyKind,
 }
-use Rattle.deno_graph_dependency.specs.declared.import_attributes.ImportAttributes.{ImportAttributes}
-use Rattle.deno_graph_dependency.specs.declared.static_dependency.StaticDependencyKind.{StaticDependencyKind}
+use Rattle.deno_graph_info.specs.declared.analysis.import_attributes.ImportAttributes.{ImportAttributes}
+use Rattle.deno_graph_info.specs.declared.analysis.static_dependency.StaticDependencyKind.{StaticDependencyKind}
 use Rattle.deno_graph_dep.specs.Argument.{Form, form_seen}
 use Rattle.deno_graph_dep.specs.declared.descriptor.DependencyDescriptor.{DependencyDescriptor}
 use Rattle.deno_graph_dep.specs.declared.descriptor.DependencyDescriptor.TheVariants.{Static, Dynamic}

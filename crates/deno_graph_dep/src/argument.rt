@@ -5,9 +5,9 @@ ghost use Rattle.deno_graph_source.specs.Node.{kind_of, children_of, nodes_in, I
 ghost use Rattle.deno_graph_dep.specs.Argument.{HasForm, form_seen, part_seen, part_of, quasi_part, template_form, template_parts, is_sum, is_binary, is_string};
 ghost use Rattle.deno_graph_dep.specs.Value.{SpellsItsText};
 
+use deno_graph_base::text::JsString;
+use deno_graph_base::values::Items;
 use deno_graph_source::tree::{BinaryOp, Kind, Node};
-use deno_graph_text::text::JsString;
-use deno_graph_text::values::Items;
 use std::alloc::{AllocError, Global};
 
 /// A part of a template or of a sum of strings.

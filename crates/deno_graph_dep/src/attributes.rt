@@ -6,9 +6,9 @@ ghost use Rattle.deno_graph_source.specs.Node.{kind_of, children_of, is_object};
 ghost use Rattle.deno_graph_dep.specs.Attributes.{static_key, static_value, text_of_kind, has_static_keys, declared, attribute_of, DeclarationGives, ObjectGives, LookedAtGive, CallGives};
 ghost use Rattle.deno_graph_dep.specs.AttributeSteps.{known_object, Puts};
 
-use deno_graph_dependency::{ImportAttribute, ImportAttributes};
+use deno_graph_base::values::{Text, TextMap};
+use deno_graph_info::analysis::{ImportAttribute, ImportAttributes};
 use deno_graph_source::tree::{Arg, Kind, Node, PropKey};
-use deno_graph_text::values::{Text, TextMap};
 use std::alloc::{AllocError, Global};
 
 /// The attributes of an import or export declaration, whose clause is the object literal after

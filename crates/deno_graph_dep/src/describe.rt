@@ -22,7 +22,7 @@ use crate::attributes::{
 use crate::descriptor::{
     DependencyDescriptor, DynamicDependencyDescriptor, StaticDependencyDescriptor,
 };
-use deno_graph_dependency::{DynamicDependencyKind, ImportAttributes, StaticDependencyKind};
+use deno_graph_info::analysis::{DynamicDependencyKind, ImportAttributes, StaticDependencyKind};
 use deno_graph_source::tree::{
     Arg, Callee, Comments, DependencyComment, ImportPhase, Kind, Node, StrLit,
 };

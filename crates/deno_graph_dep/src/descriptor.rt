@@ -2,10 +2,10 @@ ghost use Rattle.std.specs.Prelude.{◌≡◌, IfOk};
 ghost use Rattle.deno_graph_dep.specs.Item.{dynamic_item_of, item_of, static_item_of};
 
 use crate::argument::DynamicArgument;
-use deno_graph_dependency::{DynamicDependencyKind, ImportAttributes, StaticDependencyKind};
+use deno_graph_base::text::SourceRange;
+use deno_graph_base::values::TryClone;
+use deno_graph_info::analysis::{DynamicDependencyKind, ImportAttributes, StaticDependencyKind};
 use deno_graph_source::tree::DependencyComment;
-use deno_graph_text::text::SourceRange;
-use deno_graph_text::values::TryClone;
 use std::alloc::{AllocError, Global};
 
 /// A dependency with its specifier in the source, such as an import or an export. Borrows from the

@@ -17,7 +17,7 @@ use Rattle.std.proofs.Common.{
   ◌∙◌,
 }
 use Rattle.serde_json.specs.Data.{Data, array, Items, no_items, item}
-use Rattle.deno_graph_dependency.specs.declared.specifier_with_range.SpecifierWithRange.{SpecifierWithRange}
+use Rattle.deno_graph_info.specs.declared.analysis.specifier_with_range.SpecifierWithRange.{SpecifierWithRange}
 use Rattle.deno_graph_pragmas.specs.Finders.{deno_types_pattern, quoteless_deno_types_pattern}
 use Rattle.deno_graph_pragmas.specs.Split.{TextPart, HasOnePart}
 use Rattle.deno_graph_info.specs.Conversion.{

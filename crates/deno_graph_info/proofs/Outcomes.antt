@@ -26,7 +26,7 @@ use Rattle.std.proofs.Common.{
 use Rattle.std.proofs.lemmas.Result.{err_from_is_err_and}
 use Rattle.serde_json.specs.Data.{Data}
 use Rattle.std.specs.Prelude.{codes, List}
-use Rattle.deno_graph_dependency.specs.declared.specifier_with_range.SpecifierWithRange.{SpecifierWithRange}
+use Rattle.deno_graph_info.specs.declared.analysis.specifier_with_range.SpecifierWithRange.{SpecifierWithRange}
 use Rattle.deno_graph_info.specs.Conversion.{
   without_value_at,
   with_types,
@@ -35,7 +35,7 @@ use Rattle.deno_graph_info.specs.Conversion.{
   DependencyOverflows,
 }
 use Rattle.deno_graph_info.specs.ConvertFault.{IsColumnFault}
-use Rattle.deno_graph_text.specs.declared.text.position.PositionRange.{PositionRange}
+use Rattle.deno_graph_base.specs.declared.text.position.PositionRange.{PositionRange}
 use Rattle.deno_graph_pragmas.specs.Finders.{deno_types_pattern, quoteless_deno_types_pattern}
 use Rattle.deno_graph_pragmas.specs.Match.{pragma_part_of}
 use Rattle.deno_graph_pragmas.specs.Split.{HasSplit, IsCaptured}

@@ -32,9 +32,9 @@ use Rattle.serde_json.specs.Data.{
 }
 use Rattle.serde_json.specs.Find.{as_array, as_object}
 use Rattle.serde_json.specs.Written.{has_float}
-use Rattle.deno_graph_dependency.specs.Read.Partial.{◌>>=◌, member_at, reads_array}
-use Rattle.deno_graph_dependency.specs.Json.SpecifierWithRange.{json_of_specifier}
-use Rattle.deno_graph_dependency.specs.declared.specifier_with_range.SpecifierWithRange.{SpecifierWithRange}
+use Rattle.deno_graph_json.specs.Read.Partial.{◌>>=◌, member_at, reads_array}
+use Rattle.deno_graph_info.specs.Json.SpecifierWithRange.{json_of_specifier}
+use Rattle.deno_graph_info.specs.declared.analysis.specifier_with_range.SpecifierWithRange.{SpecifierWithRange}
 use Rattle.deno_graph_info.specs.Comment.{reads_stored_comment}
 use Rattle.deno_graph_info.specs.Types.{AreTypes, HasNoColumn}
 use Rattle.deno_graph_info.specs.declared.conversion.comment.Comment.{Comment}

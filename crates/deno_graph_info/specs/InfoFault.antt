@@ -2,8 +2,8 @@
 use Rattle.std.specs.Prelude.{◌≡◌, false, true, None}
 use Rattle.serde_json.specs.Data.{Data}
 use Rattle.serde_json.specs.Written.{has_float}
-use Rattle.deno_graph_dependency.specs.declared.json_form.error.ReadError.{ReadError}
-use Rattle.deno_graph_dependency.specs.declared.json_form.error.ReadError.TheVariants as read
+use Rattle.deno_graph_json.specs.declared.error.ReadError.{ReadError}
+use Rattle.deno_graph_json.specs.declared.error.ReadError.TheVariants as read
 use Rattle.deno_graph_info.specs.declared.analysis.fault.InfoFault.{InfoFault}
 use Rattle.deno_graph_info.specs.declared.analysis.fault.InfoFault.TheVariants.{Shape, Float, OutOfMemory}
 use Rattle.deno_graph_info.specs.Json.ModuleInfo.{reads_info}

@@ -4,11 +4,11 @@ use Rattle.std.specs.Prelude.{◌≡◌, ℕ, List, Bool, All, Contains, Option,
 use Rattle.std.specs.Cmp.Lexicographic.{slice_cmp}
 use Rattle.std.specs.List.Sorted.{IsStrictlySortedBy}
 use Rattle.std.specs.Ordering.{nat_cmp}
-use Rattle.deno_graph_text.specs.TextMap.{value_at}
-use Rattle.deno_graph_dependency.specs.declared.dependency.DependencyDescriptor.{DependencyDescriptor}
-use Rattle.deno_graph_dependency.specs.declared.dependency.DependencyDescriptor.TheVariants.{Static, Dynamic}
-use Rattle.deno_graph_dependency.specs.declared.dynamic_argument.DynamicArgument.{DynamicArgument}
-use Rattle.deno_graph_dependency.specs.declared.dynamic_argument.DynamicArgument.TheVariants.{
+use Rattle.deno_graph_base.specs.TextMap.{value_at}
+use Rattle.deno_graph_info.specs.declared.analysis.dependency.DependencyDescriptor.{DependencyDescriptor}
+use Rattle.deno_graph_info.specs.declared.analysis.dependency.DependencyDescriptor.TheVariants.{Static, Dynamic}
+use Rattle.deno_graph_info.specs.declared.analysis.dynamic_argument.DynamicArgument.{DynamicArgument}
+use Rattle.deno_graph_info.specs.declared.analysis.dynamic_argument.DynamicArgument.TheVariants.{
   String,
   Template,
   Expr,

@@ -17,8 +17,8 @@ use Rattle.std.specs.Prelude.{
   IsSome,
 }
 use Rattle.std.specs.Borrow.{Bor}
-use Rattle.deno_graph_text.specs.TextMap.{value_at}
-use Rattle.deno_graph_dependency.specs.declared.dependency.DependencyDescriptor.{DependencyDescriptor}
+use Rattle.deno_graph_base.specs.TextMap.{value_at}
+use Rattle.deno_graph_info.specs.declared.analysis.dependency.DependencyDescriptor.{DependencyDescriptor}
 use Rattle.deno_graph_info.specs.Reach.{IsModuleKey, named_specifier}
 use Rattle.deno_graph_info.specs.declared.analysis.module_info.ModuleInfo.{ModuleInfo}
 

@@ -3,12 +3,12 @@
 ghost use Rattle.std.specs.Prelude.{◌≡◌, map, IfOk, OnOk, option_map};
 ghost use Rattle.std.specs.Map.{keys_of};
 ghost use Rattle.std.specs.String.{string_bytes};
-ghost use Rattle.deno_graph_text.specs.TextMap.{entries_of, IsAscending};
+ghost use Rattle.deno_graph_base.specs.TextMap.{entries_of, IsAscending};
 ghost use Rattle.deno_graph_info.specs.Reach.{IsReach, named_specifier};
 ghost use Rattle.deno_graph_info.specs.ReachSteps.{Grows, NamesIn, infos_of};
 
 use crate::analysis::{DependencyDescriptor, DynamicArgument, ModuleInfo};
-use deno_graph_text::values::{Text, TextMap};
+use deno_graph_base::values::{Text, TextMap};
 use std::alloc::{AllocError, Global};
 use std::collections::BTreeMap;
 

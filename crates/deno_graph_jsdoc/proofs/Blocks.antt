@@ -8,8 +8,8 @@ use Rattle.deno_graph_jsdoc.specs.JsDocGrammar.{◌·◌, Is, IsSpace, IsIdent, 
 use Rattle.deno_graph_jsdoc.specs.JsDocGrammar.{AreFurther, AreAttributes, IsBlock, IsModeBlock, IsWith}
 use Rattle.deno_graph_jsdoc.specs.JsDocGrammar.{resolution_mode_value, mode_of, Begins, Anything, NoSpace}
 use Rattle.deno_graph_jsdoc.specs.JsDocReading.{IsModeBlockEnd, Reads}
-use Rattle.deno_graph_text.specs.ResolutionMode.{mode_named}
-use Rattle.deno_graph_text.specs.declared.values.resolution_mode.TypeScriptTypesResolutionMode.{
+use Rattle.deno_graph_base.specs.ResolutionMode.{mode_named}
+use Rattle.deno_graph_base.specs.declared.values.resolution_mode.TypeScriptTypesResolutionMode.{
   TypeScriptTypesResolutionMode,
 }
 use Rattle.deno_graph_jsdoc.proofs.Alphabetic.{Alphabetic-is_whitespace}

@@ -15,11 +15,11 @@ use denote.Ref.{Bor}
 use lib.Utf8.{encodes}
 use Rattle.deno_graph_jsdoc.specs.JsDocGrammar.{Attribute, resolution_mode_value}
 use Rattle.deno_graph_jsdoc.specs.JsDocReading.{text_of}
-use Rattle.deno_graph_text.specs.ResolutionMode.{mode_named}
-use Rattle.deno_graph_text.specs.declared.values.resolution_mode.TypeScriptTypesResolutionMode.TheVariants.{
+use Rattle.deno_graph_base.specs.ResolutionMode.{mode_named}
+use Rattle.deno_graph_base.specs.declared.values.resolution_mode.TypeScriptTypesResolutionMode.TheVariants.{
   Require,
 }
-use Rattle.deno_graph_text.specs.declared.values.resolution_mode.TypeScriptTypesResolutionMode.TheVariants.{
+use Rattle.deno_graph_base.specs.declared.values.resolution_mode.TypeScriptTypesResolutionMode.TheVariants.{
   Import,
 }
 

@@ -6,8 +6,8 @@ use Rattle.std.specs.Char.Unicode.Alphabetic.{is_alphabetic}
 use Rattle.std.specs.List.{AllByRecursion, find}
 use Rattle.std.specs.Str.{bytes_eq}
 use Rattle.deno_graph_jsdoc.specs.Characters.{double_quote, apostrophe, hyphen, colon, closing_brace}
-use Rattle.deno_graph_text.specs.ResolutionMode.{mode_named}
-use Rattle.deno_graph_text.specs.declared.values.resolution_mode.TypeScriptTypesResolutionMode.{
+use Rattle.deno_graph_base.specs.ResolutionMode.{mode_named}
+use Rattle.deno_graph_base.specs.declared.values.resolution_mode.TypeScriptTypesResolutionMode.{
   TypeScriptTypesResolutionMode,
 }
 

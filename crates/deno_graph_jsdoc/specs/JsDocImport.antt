@@ -5,7 +5,7 @@ use Rattle.deno_graph_jsdoc.specs.Characters.{closing_brace}
 use Rattle.deno_graph_jsdoc.specs.JsDocGrammar.{◌·◌, Begins, NoSpace, Is, IsSpace, IsGap, Lacks}
 use Rattle.deno_graph_jsdoc.specs.JsDocGrammar.{IsClause, IsQuote, IsWith, IsSecond, IsUpTo}
 use Rattle.deno_graph_jsdoc.specs.declared.import.JsDocImport.{JsDocImport}
-use Rattle.deno_graph_text.specs.declared.values.resolution_mode.TypeScriptTypesResolutionMode.{
+use Rattle.deno_graph_base.specs.declared.values.resolution_mode.TypeScriptTypesResolutionMode.{
   TypeScriptTypesResolutionMode,
 }
 

@@ -3,7 +3,7 @@
 ghost use Rattle.std.specs.Prelude.{◌≡◌, IfOk, map};
 ghost use Rattle.deno_graph_jsdoc.specs.JsDocImport.{import_of};
 
-use deno_graph_text::values::TypeScriptTypesResolutionMode;
+use deno_graph_base::values::TypeScriptTypesResolutionMode;
 use std::alloc::{AllocError, Global};
 use std::ops::Range;
 

@@ -41,7 +41,7 @@ use Rattle.std.proofs.lemmas.Bool.Decides.{Decides-eqb}
 use Rattle.deno_graph_source.specs.Check.{AreNeighbours, Passes, RunsInto}
 use Rattle.deno_graph_source.specs.FaultPlace.{Overlap}
 use Rattle.deno_graph_source.specs.Source.{IsSpelled, SharesByte, spelling}
-use Rattle.deno_graph_text.specs.declared.text.position.SourceRange.{SourceRange}
+use Rattle.deno_graph_base.specs.declared.text.position.SourceRange.{SourceRange}
 use Rattle.deno_graph_source.specs.declared.tree.comments.CommentKind.{CommentKind}
 use Rattle.deno_graph_source.specs.declared.tree.comments.CommentKind.TheVariants.{Line, Block}
 use Rattle.deno_graph_source.specs.declared.tree.comments.DependencyComment.{DependencyComment}

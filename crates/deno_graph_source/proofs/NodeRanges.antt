@@ -12,7 +12,7 @@ use Rattle.deno_graph_source.specs.Node.{
   nodes_in,
   node_ranges,
 }
-use Rattle.deno_graph_text.specs.declared.text.position.SourceRange.{SourceRange}
+use Rattle.deno_graph_base.specs.declared.text.position.SourceRange.{SourceRange}
 use Rattle.deno_graph_source.specs.declared.tree.node.Node.{Node}
 use Rattle.deno_graph_source.proofs.Lists.{Contains-cons, Contains-flat_map, flat_map-flat_map}
 use Rattle.deno_graph_source.proofs.Nodes.{nodes_in-is}

@@ -43,8 +43,8 @@ use Rattle.deno_graph_source.specs.Node.{
 }
 use Rattle.deno_graph_source.specs.NodePath.{NodePath, LeadsTo, node_at}
 use Rattle.deno_graph_source.specs.Source.{HasOverlap, IsSpelled, IsValid, HasFault, ranges_of}
-use Rattle.deno_graph_text.specs.SourceRange.{IsTextRange}
-use Rattle.deno_graph_text.specs.declared.text.position.SourceRange.{SourceRange}
+use Rattle.deno_graph_base.specs.SourceRange.{IsTextRange}
+use Rattle.deno_graph_base.specs.declared.text.position.SourceRange.{SourceRange}
 use Rattle.deno_graph_source.specs.declared.tree.check.found.Found.{Found}
 use Rattle.deno_graph_source.specs.declared.tree.check.found.Found.TheVariants.{
   Program as FoundProgram,

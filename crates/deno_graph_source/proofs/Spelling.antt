@@ -2,7 +2,7 @@
 use Rattle.std.proofs.Common.{◌≡◌, ℕ, List, ◌++◌, sym, ap, ◌∙◌, refl, codes, get_or, arith}
 use Rattle.std.proofs.lemmas.List.{append_cancel_left, append_cancel_right}
 use Rattle.deno_graph_source.specs.Source.{IsSpelled, spelling}
-use Rattle.deno_graph_text.specs.SourceRange.{slice_of}
+use Rattle.deno_graph_base.specs.SourceRange.{slice_of}
 use Rattle.deno_graph_source.specs.declared.tree.comments.CommentKind.{CommentKind}
 use Rattle.deno_graph_source.specs.declared.tree.comments.CommentKind.TheVariants.{Line, Block}
 use Rattle.deno_graph_source.specs.declared.tree.comments.DependencyComment.{DependencyComment}

@@ -22,8 +22,8 @@ use Rattle.deno_graph_source.specs.Node.{
   program_ranges,
 }
 use Rattle.deno_graph_source.specs.Source.{IsValid, ranges_of}
-use Rattle.deno_graph_text.specs.SourceRange.{IsTextRange}
-use Rattle.deno_graph_text.specs.declared.text.position.SourceRange.{SourceRange}
+use Rattle.deno_graph_base.specs.SourceRange.{IsTextRange}
+use Rattle.deno_graph_base.specs.declared.text.position.SourceRange.{SourceRange}
 use Rattle.deno_graph_source.specs.declared.tree.comments.DependencyComment.{DependencyComment}
 use Rattle.deno_graph_source.specs.declared.tree.node.Node.{Node}
 use Rattle.deno_graph_source.specs.declared.tree.node.Program.{Program}

@@ -27,8 +27,8 @@ use Rattle.deno_graph_source.specs.FaultPlace.{RangeHas, CommentHas, PartHas}
 use Rattle.deno_graph_source.specs.Found.{IsFoundBelow, IsFoundInBody, IsFoundAmong}
 use Rattle.deno_graph_source.specs.Node.{held_ranges, literal_of, nodes_in, nodes_of, IsShaped}
 use Rattle.deno_graph_source.specs.Source.{IsSpelled, IsValid, HasFault}
-use Rattle.deno_graph_text.specs.SourceRange.{IsTextRange}
-use Rattle.deno_graph_text.specs.declared.text.position.SourceRange.{SourceRange}
+use Rattle.deno_graph_base.specs.SourceRange.{IsTextRange}
+use Rattle.deno_graph_base.specs.declared.text.position.SourceRange.{SourceRange}
 use Rattle.deno_graph_source.specs.declared.tree.check.found.FoundComment.{FoundComment}
 use Rattle.deno_graph_source.specs.declared.tree.check.found.FoundNode.{FoundNode}
 use Rattle.deno_graph_source.specs.declared.tree.check.found.FoundPart.{FoundPart}

@@ -14,7 +14,7 @@ use Rattle.deno_graph_source.specs.Node.{
 }
 use Rattle.deno_graph_source.specs.NodePath.{LeadsTo}
 use Rattle.deno_graph_source.specs.Source.{IsReversed, IsOutside, IsOffBoundary, IsSpelled, SharesByte}
-use Rattle.deno_graph_text.specs.declared.text.position.SourceRange.{SourceRange}
+use Rattle.deno_graph_base.specs.declared.text.position.SourceRange.{SourceRange}
 use Rattle.deno_graph_source.specs.declared.tree.comments.DependencyComment.{DependencyComment}
 use Rattle.deno_graph_source.specs.declared.tree.fault.SourceFault.{SourceFault}
 use Rattle.deno_graph_source.specs.declared.tree.fault.SourceFault.TheVariants.{

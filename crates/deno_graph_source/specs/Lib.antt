@@ -10,9 +10,9 @@ pub mod NodePath
 pub mod ParsedSource
 pub mod SharedModule
 pub mod Source
-pub use Rattle.deno_graph_text.specs.JsString
-pub use Rattle.deno_graph_text.specs.Position
-pub use Rattle.deno_graph_text.specs.PositionRange
-pub use Rattle.deno_graph_text.specs.SourceRange
-pub use Rattle.deno_graph_text.specs.ResolutionMode
-pub use Rattle.deno_graph_text.specs.TextMap
+pub use Rattle.deno_graph_base.specs.JsString
+pub use Rattle.deno_graph_base.specs.Position
+pub use Rattle.deno_graph_base.specs.PositionRange
+pub use Rattle.deno_graph_base.specs.SourceRange
+pub use Rattle.deno_graph_base.specs.ResolutionMode
+pub use Rattle.deno_graph_base.specs.TextMap

@@ -3,8 +3,8 @@ use Rattle.std.specs.Prelude.{◌≡◌, ◌≢◌, ℕ, ◌<◌, ◌≤◌, Lis
 use Rattle.std.specs.Str.{IsCharBoundary}
 use Rattle.deno_graph_source.specs.Comments.{FiledComments, comments_of}
 use Rattle.deno_graph_source.specs.Node.{nodes_of, program_ranges, IsShaped}
-use Rattle.deno_graph_text.specs.SourceRange.{IsTextRange, slice_of}
-use Rattle.deno_graph_text.specs.declared.text.position.SourceRange.{SourceRange}
+use Rattle.deno_graph_base.specs.SourceRange.{IsTextRange, slice_of}
+use Rattle.deno_graph_base.specs.declared.text.position.SourceRange.{SourceRange}
 use Rattle.deno_graph_source.specs.declared.tree.comments.CommentKind.{CommentKind}
 use Rattle.deno_graph_source.specs.declared.tree.comments.CommentKind.TheVariants.{Line, Block}
 use Rattle.deno_graph_source.specs.declared.tree.comments.DependencyComment.{DependencyComment}

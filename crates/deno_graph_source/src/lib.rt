@@ -4,4 +4,4 @@
 
 pub mod tree;
 
-pub use deno_graph_text::{text, values};
+pub use deno_graph_base::{text, values};

@@ -11,7 +11,7 @@ pub mod parsed_source;
 
 pub use check::{source_fault, source_fault_place};
 pub use comments::{CommentKind, Comments, DependencyComment};
-pub use deno_graph_text::values::ResolutionMode;
+pub use deno_graph_base::values::ResolutionMode;
 pub use fault::SourceFault;
 pub use fault_place::{
     CommentPlace, CommentSide, FaultPlace, NodePart, ShapeRule, SourceFaultPlace,

@@ -3,7 +3,7 @@ use Rattle.std.specs.Prelude.{Bool, ◌&&◌, List, Option, Some, None, find, co
 use Rattle.std.specs.Str.{bytes_eq}
 use Rattle.deno_graph_source.specs.ParsedSource.{ParsedModule}
 use Rattle.deno_graph_source.specs.contracts.tree.media_type.MediaTypePartialEq.TheImpl as media_types
-use Rattle.deno_graph_parser.specs.Parsing.{
+use Rattle.deno_graph_analyzer.specs.Parsing.{
   ParseFunction,
   Input,
   Outcome,
@@ -11,7 +11,7 @@ use Rattle.deno_graph_parser.specs.Parsing.{
   specifier_text,
   outcome_of,
 }
-use Rattle.deno_graph_parser.specs.declared.parse_error.ParseDiagnostic.{ParseDiagnostic}
+use Rattle.deno_graph_analyzer.specs.declared.parse_error.ParseDiagnostic.{ParseDiagnostic}
 
 -- the source has the specifier, the text and the media type of the input
 abbrev pub is_for : Input → ParsedModule → Bool

@@ -37,7 +37,7 @@ use Rattle.serde_json.specs.Data.{
 }
 use Rattle.serde_json.specs.Find.{as_object, as_str, get_member}
 use Rattle.serde_json.specs.Written.{has_float}
-use Rattle.deno_graph_dependency.specs.Read.Partial.{◌>>=◌, member_at, reads_map, reads_members, unless_float}
+use Rattle.deno_graph_json.specs.Read.Partial.{◌>>=◌, member_at, reads_map, reads_members, unless_float}
 use Rattle.deno_graph_info.specs.InfoFault.{IsInfoFault}
 use Rattle.deno_graph_info.specs.Json.ModuleInfo.{reads_info}
 use Rattle.deno_graph_info.specs.declared.analysis.fault.InfoFault.{InfoFault}

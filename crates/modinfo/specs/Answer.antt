@@ -10,10 +10,10 @@ use Rattle.deno_graph_info.specs.Conversion.{IsConverted, IsConvertFault}
 use Rattle.deno_graph_info.specs.Json.ModuleInfo.{json_of_info}
 use Rattle.deno_graph_info.specs.declared.analysis.module_info.ModuleInfo.{ModuleInfo}
 use Rattle.deno_graph_info.specs.declared.conversion.fault.ConvertFault.TheVariants as convert
-use Rattle.deno_graph_ast.specs.InfoOfModule.{IsInfoOfModule}
-use Rattle.modinfo_notation.specs.Document.{HasNotationFault, IsDocumentOf, IsSourceOf}
-use Rattle.modinfo_notation.specs.declared.document.Document.{Document}
-use Rattle.modinfo_notation.specs.declared.fault.NotationFault.{NotationFault}
+use Rattle.deno_graph_module_info.specs.InfoOfModule.{IsInfoOfModule}
+use Rattle.modinfo_document.specs.Document.{HasNotationFault, IsDocumentOf, IsSourceOf}
+use Rattle.modinfo_document.specs.declared.document.Document.{Document}
+use Rattle.modinfo_document.specs.declared.fault.NotationFault.{NotationFault}
 use Rattle.modinfo.specs.Check.{
   StatesConvertible,
   StatesNoConvertible,

@@ -9,13 +9,13 @@ use Rattle.deno_graph_source.specs.Source.{IsValid}
 use Rattle.deno_graph_info.specs.declared.analysis.fault.InfoFault.{InfoFault}
 use Rattle.deno_graph_info.specs.declared.analysis.fault.InfoFault.TheVariants.{OutOfMemory as NoMemory}
 use Rattle.deno_graph_info.specs.declared.analysis.module_info.ModuleInfo.{ModuleInfo}
-use Rattle.modinfo_notation.specs.Document.{HasNotationFault, IsDocumentOf}
-use Rattle.modinfo_notation.specs.declared.document.Document.{Document}
-use Rattle.modinfo_notation.specs.declared.fault.NotationFault.{NotationFault}
-use Rattle.modinfo_notation.specs.declared.fault.NotationFault.TheVariants.{OutOfMemory}
-use Rattle.modinfo_report.specs.Report.{CanBeConverted, CannotBeConverted, MatchReport, PointsInto}
-use Rattle.modinfo_report.specs.declared.report.Report.{Report}
-use Rattle.modinfo_report.specs.declared.report.Report.TheVariants.{Valid, Wrong}
+use Rattle.modinfo_document.specs.Document.{HasNotationFault, IsDocumentOf}
+use Rattle.modinfo_document.specs.declared.document.Document.{Document}
+use Rattle.modinfo_document.specs.declared.fault.NotationFault.{NotationFault}
+use Rattle.modinfo_document.specs.declared.fault.NotationFault.TheVariants.{OutOfMemory}
+use Rattle.modinfo_document.specs.Report.{CanBeConverted, CannotBeConverted, MatchReport, PointsInto}
+use Rattle.modinfo_document.specs.declared.report.Report.{Report}
+use Rattle.modinfo_document.specs.declared.report.Report.TheVariants.{Valid, Wrong}
 use Rattle.modinfo.specs.Reach.{Asks, IsQuestionFault}
 
 -- The text states a valid source: a document whose specifier is a URL, and whose tree and comments fit its

@@ -16,8 +16,8 @@ use Rattle.serde_json.specs.Data.{Data, string, Members, no_members, member}
 use Rattle.serde_json.specs.Find.{as_object, as_str, get}
 use Rattle.serde_json.specs.Read.{read as read_text}
 use Rattle.serde_json.specs.Written.{compact_text, has_float}
-use Rattle.deno_graph_dependency.specs.Object.{array_of}
-use Rattle.deno_graph_dependency.specs.Read.Partial.{
+use Rattle.deno_graph_json.specs.Object.{array_of}
+use Rattle.deno_graph_json.specs.Read.Partial.{
   ◌>>=◌,
   member_at,
   reads_map,

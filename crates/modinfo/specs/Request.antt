@@ -2,7 +2,7 @@
 use Rattle.std.specs.Prelude.{◌≡◌, ℕ, List, Some}
 use Rattle.serde_json.specs.Read.{read as read_text}
 use Rattle.serde_json.specs.View.{view}
-use Rattle.modinfo_notation.specs.Document.{IsDocumentOf}
+use Rattle.modinfo_document.specs.Document.{IsDocumentOf}
 use Rattle.modinfo.specs.declared.request.Request.{Request}
 use Rattle.modinfo.specs.declared.request.Request.TheVariants as request
 use Rattle.modinfo.specs.declared.subcommand.Subcommand.{Subcommand}

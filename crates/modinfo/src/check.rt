@@ -4,5 +4,5 @@ mod document;
 mod stored;
 
 pub use document::check_document;
-pub use modinfo_report::{Report, TextPlace, Warning, Warnings, Wrong, report_bytes};
+pub use modinfo_document::report::{Report, TextPlace, Warning, Warnings, Wrong, report_bytes};
 pub use stored::{check_modules, check_stored};

@@ -3,7 +3,7 @@ ghost use Rattle.modinfo.specs.Fault.{name_of_conversion, name_of_fault, name_of
 
 use deno_graph_info::analysis::{ConvertFault, InfoFault};
 use deno_graph_source::tree::SourceFault;
-use modinfo_notation::NotationFault;
+use modinfo_document::NotationFault;
 use std::alloc::{AllocError, AllocFailed};
 use std::error::Error;
 use std::fmt;

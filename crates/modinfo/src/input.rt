@@ -3,11 +3,11 @@
 ghost use Rattle.std.specs.Prelude.{◌≡◌, Some, IfSome, IsUtf8, MatchResult};
 ghost use Rattle.serde_json.specs.View.{view};
 ghost use Rattle.serde_json.specs.Read.{read as read_text};
-ghost use Rattle.modinfo_notation.specs.Document.{IsDocumentOf};
+ghost use Rattle.modinfo_document.specs.Document.{IsDocumentOf};
 ghost use Rattle.modinfo.specs.Answer.{IsNoJson, IsNoModule, IsReadFailure};
 
 use crate::fault::Fault;
-use modinfo_notation::{Document, parse_document};
+use modinfo_document::{Document, parse_document};
 use serde_json::Value;
 use simdutf8::basic;
 use std::alloc::Global;

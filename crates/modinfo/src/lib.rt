@@ -16,8 +16,8 @@ pub mod subcommand;
 pub mod task;
 
 pub use fault::Fault;
-pub use modinfo_notation as notation;
-pub use modinfo_notation::parse_document;
+pub use modinfo_document as document;
+pub use modinfo_document::parse_document;
 pub use program::serve;
 pub use subcommand::Subcommand;
 pub use task::Task;

@@ -7,17 +7,17 @@ ghost use Rattle.serde_json.specs.Find.{as_object, get_member};
 ghost use Rattle.serde_json.specs.Read.{read as read_text};
 ghost use Rattle.serde_json.specs.View.{members_view, view};
 ghost use Rattle.serde_json.specs.Written.{compact_text};
-ghost use Rattle.deno_graph_text.specs.TextMap.{entries_of};
-ghost use Rattle.deno_graph_dependency.specs.Object.{array_of};
-ghost use Rattle.deno_graph_dependency.specs.Read.Answer.{Answers};
-ghost use Rattle.deno_graph_dependency.specs.Read.Partial.{reads_members};
+ghost use Rattle.deno_graph_base.specs.TextMap.{entries_of};
+ghost use Rattle.deno_graph_json.specs.Object.{array_of};
+ghost use Rattle.deno_graph_json.specs.Read.Answer.{Answers};
+ghost use Rattle.deno_graph_json.specs.Read.Partial.{reads_members};
 ghost use Rattle.modinfo.specs.Answer.{IsNoReach};
 ghost use Rattle.modinfo.specs.Reach.{Asks, IsNoInfos, IsNoQuestion, IsReachText, modules_in, reads_modules, reads_stored, reads_stored_info, root_in};
 
 use crate::fault::Fault;
-use deno_graph_dependency::json_form::{FromJson, ObjectReader, ReadError, find_float, text_of};
 use deno_graph_info::analysis::{InfoFault, ModuleInfo};
 use deno_graph_info::reach::reach;
+use deno_graph_json::{FromJson, ObjectReader, ReadError, find_float, text_of};
 use deno_graph_source::values::{Items, Text, TextMap};
 use serde_json::{Map, Value};
 use std::alloc::{AllocError, Global};
@@ -60,7 +60,7 @@ pub fn read_question(alloc: Global, document: Value) -> Result<Question, Fault>
 
 /// Reads the modules and the root of a document, which is kept. The error says where in the document
 /// something else was expected, or that an allocation failed.
-#[tactic(auto, using(deno_graph_dependency::proofs::Reading::reading), unfolding(crate::specs::Reach::reads_modules))]
+#[tactic(auto, using(deno_graph_json::proofs::Reading::reading), unfolding(crate::specs::Reach::reads_modules))]
 pub fn read_modules(
     alloc: Global,
     document: &Value,
@@ -82,7 +82,7 @@ pub struct StoredInfo {
 impl FromJson for StoredInfo {
     ghost reads = { reads_stored_info };
 
-    #[tactic(auto, using(deno_graph_dependency::proofs::Reading::reading), unfolding(crate::specs::Reach::reads_stored_info))]
+    #[tactic(auto, using(deno_graph_json::proofs::Reading::reading), unfolding(crate::specs::Reach::reads_stored_info))]
     fn from_json(alloc: Global, value: &Value) -> Result<StoredInfo, ReadError> {
         find_float(alloc, value)?;
         let info = ModuleInfo::from_json(alloc, value)?;

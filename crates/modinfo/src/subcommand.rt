@@ -2,7 +2,7 @@
 
 ghost use Rattle.std.specs.Prelude.{◌≡◌, ◌≢◌, ℕ, IfOk, IfSome, List, MatchResult, None};
 ghost use Rattle.std.specs.String.{string_bytes};
-ghost use Rattle.modinfo_report.specs.Report.{MatchReport};
+ghost use Rattle.modinfo_document.specs.Report.{MatchReport};
 ghost use Rattle.modinfo.specs.Answer.{IsAnswerLine, IsAnswerText, IsDocumentFault, IsFaultyDocument};
 ghost use Rattle.modinfo.specs.Answer.{IsInputFault, IsValidDocument, name_of};
 

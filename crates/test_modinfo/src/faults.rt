@@ -3,7 +3,7 @@
 use deno_graph_info::analysis::{ConvertFault, InfoFault};
 use deno_graph_source::tree::SourceFault;
 use modinfo::Fault;
-use modinfo::notation::{Expected, Misfit, NotationFault};
+use modinfo::document::{Expected, Misfit, NotationFault};
 use serde_json::{Error, Value};
 use std::alloc::{AllocError, AllocFailed};
 use std::process::Abort;

@@ -1,11 +1,11 @@
 //! The names of a document's members: of those that `known_members` names each is read, and no
 //! other.
 
+use deno_graph_json::{Element, Tape};
 use deno_graph_source::tree::CommentSide;
-use flat_json::{Element, Tape};
 use json::Scratch;
-use modinfo::notation::kind::KINDS;
-use modinfo::notation::{Role, comment_at, known_members, node_at, parse_document};
+use modinfo::document::kind::KINDS;
+use modinfo::document::{Role, comment_at, known_members, node_at, parse_document};
 use std::process::Abort;
 
 /// A document of which each object has every member that is read of it, so that it would be read

@@ -1,7 +1,7 @@
 use deno_graph_info::analysis::InfoFault;
+use deno_graph_json::TapeFault;
 use deno_graph_source::tree::SourceFault;
-use flat_json::TapeFault;
-use modinfo::notation::NotationFault;
+use modinfo::document::NotationFault;
 use std::alloc::{AllocError, AllocFailed};
 use std::io::{self, ErrorKind};
 use thiserror::Error;

@@ -2,9 +2,9 @@
 use Rattle.std.specs.Prelude.{List, Option, Some}
 use Rattle.serde_json.specs.Data.{Data}
 use Rattle.serde_json.specs.Find.{as_object}
-use Rattle.deno_graph_dependency.specs.Object.{Entry, object_of}
-use Rattle.deno_graph_dependency.specs.Read.Partial.{◌>>=◌}
-use Rattle.deno_graph_dependency.specs.Json.SpecifierWithRange.{IsHeldSpecifier}
+use Rattle.deno_graph_json.specs.Object.{Entry, object_of}
+use Rattle.deno_graph_json.specs.Read.Partial.{◌>>=◌}
+use Rattle.deno_graph_info.specs.Json.SpecifierWithRange.{IsHeldSpecifier}
 use Rattle.deno_graph_info.specs.declared.analysis.js_doc_import_info.JsDocImportInfo.{JsDocImportInfo}
 use Rattle.deno_graph_info.specs.Json.SpecifierWithMode.{specifier_with_mode, specifier_with_mode_entries}
 

@@ -2,18 +2,18 @@
 use Rattle.std.specs.Prelude.{List, [], ◌∷◌, codes, false, option_map, Option, Some, None, All, IfSome}
 use Rattle.serde_json.specs.Data.{Data}
 use Rattle.serde_json.specs.Find.{as_bool, as_object}
-use Rattle.deno_graph_dependency.specs.Json.Dependency.{
+use Rattle.deno_graph_info.specs.Json.Dependency.{
   json_of_dependency,
   reads_dependency,
   IsHeldDependency,
 }
-use Rattle.deno_graph_dependency.specs.Object.{Entry, object_of, array_of, if_true, if_any}
-use Rattle.deno_graph_dependency.specs.Json.SpecifierWithRange.{
+use Rattle.deno_graph_json.specs.Object.{Entry, object_of, array_of, if_true, if_any}
+use Rattle.deno_graph_info.specs.Json.SpecifierWithRange.{
   json_of_specifier,
   reads_specifier,
   IsHeldSpecifier,
 }
-use Rattle.deno_graph_dependency.specs.Read.Partial.{◌>>=◌, member_or, reads_array, reads_optional}
+use Rattle.deno_graph_json.specs.Read.Partial.{◌>>=◌, member_or, reads_array, reads_optional}
 use Rattle.deno_graph_info.specs.declared.analysis.module_info.ModuleInfo.{ModuleInfo}
 use Rattle.deno_graph_info.specs.Json.JsDocImportInfo.{
   json_of_js_doc_import,

@@ -14,15 +14,15 @@ use Rattle.std.specs.Prelude.{
 }
 use Rattle.serde_json.specs.Data.{Data, string, Members}
 use Rattle.serde_json.specs.Find.{as_object, as_str}
-use Rattle.deno_graph_text.specs.declared.values.resolution_mode.TypeScriptTypesResolutionMode.{
+use Rattle.deno_graph_base.specs.declared.values.resolution_mode.TypeScriptTypesResolutionMode.{
   TypeScriptTypesResolutionMode,
 }
-use Rattle.deno_graph_dependency.specs.declared.specifier_with_range.SpecifierWithRange.{SpecifierWithRange}
-use Rattle.deno_graph_dependency.specs.Object.{Entry, object_of}
-use Rattle.deno_graph_dependency.specs.Json.Position.{json_of_range}
-use Rattle.deno_graph_dependency.specs.Json.ResolutionMode.{json_of_mode}
-use Rattle.deno_graph_dependency.specs.Read.Partial.{◌>>=◌, member_at}
-use Rattle.deno_graph_dependency.specs.Json.SpecifierWithRange.{specifier_of, IsHeldSpecifier}
+use Rattle.deno_graph_info.specs.declared.analysis.specifier_with_range.SpecifierWithRange.{SpecifierWithRange}
+use Rattle.deno_graph_json.specs.Object.{Entry, object_of}
+use Rattle.deno_graph_json.specs.Json.Position.{json_of_range}
+use Rattle.deno_graph_json.specs.Json.ResolutionMode.{json_of_mode}
+use Rattle.deno_graph_json.specs.Read.Partial.{◌>>=◌, member_at}
+use Rattle.deno_graph_info.specs.Json.SpecifierWithRange.{specifier_of, IsHeldSpecifier}
 use Rattle.deno_graph_info.specs.declared.analysis.type_script_reference.TypeScriptReference.{
   TypeScriptReference,
 }

@@ -1,4 +1,4 @@
-use deno_graph_dependency::json_form::ReadError;
+use deno_graph_json::ReadError;
 use thiserror::Error;
 
 /// Why no `ModuleInfo` was read.

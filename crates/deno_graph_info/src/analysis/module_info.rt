@@ -7,12 +7,12 @@ ghost use Rattle.deno_graph_info.specs.Json.ModuleInfo.{info_entries, json_of_in
 use crate::analysis::fault::InfoFault;
 use crate::analysis::js_doc_import_info::JsDocImportInfo;
 use crate::analysis::type_script_reference::TypeScriptReference;
-use deno_graph_dependency::json_form::{
+use crate::analysis::{DependencyDescriptor, SpecifierWithRange};
+use deno_graph_base::values::{Items, TryClone};
+use deno_graph_json::{
     FromJson, MemberWriter, ObjectReader, ReadError, TextWriter, ToJson, ToObject, has_float,
     object_value, text_of, write_object,
 };
-use deno_graph_dependency::{DependencyDescriptor, SpecifierWithRange};
-use deno_graph_text::values::{Items, TryClone};
 use serde_json::Value;
 use std::alloc::{AllocError, Global};
 
@@ -157,7 +157,7 @@ impl ToObject for ModuleInfo {
 impl FromJson for ModuleInfo {
     ghost reads = { reads_info };
 
-    #[tactic(auto, using(deno_graph_dependency::proofs::Reading::reading), unfolding(crate::specs::Json::ModuleInfo::reads_info))]
+    #[tactic(auto, using(deno_graph_json::proofs::Reading::reading), unfolding(crate::specs::Json::ModuleInfo::reads_info))]
     fn from_json(alloc: Global, value: &Value) -> Result<ModuleInfo, ReadError> {
         let object = ObjectReader::new(alloc, value)?;
         let is_script = object.read_or("script", false)?;

@@ -1,15 +1,15 @@
 //! A specifier with the resolution mode that is stated beside it, as members of an object.
 
 ghost use Rattle.std.specs.Prelude.{◌≡◌, OnOk};
-ghost use Rattle.deno_graph_dependency.specs.Json.SpecifierWithRange.{IsHeldSpecifier};
-ghost use Rattle.deno_graph_dependency.specs.Object.{with_entries};
-ghost use Rattle.deno_graph_dependency.specs.ObjectReader.{readable, value_of};
-ghost use Rattle.deno_graph_dependency.specs.Read.Answer.{Answers};
+ghost use Rattle.deno_graph_info.specs.Json.SpecifierWithRange.{IsHeldSpecifier};
+ghost use Rattle.deno_graph_json.specs.Object.{with_entries};
+ghost use Rattle.deno_graph_json.specs.ObjectReader.{readable, value_of};
+ghost use Rattle.deno_graph_json.specs.Read.Answer.{Answers};
 ghost use Rattle.deno_graph_info.specs.Json.SpecifierWithMode.{specifier_with_mode, specifier_with_mode_entries};
 
-use deno_graph_dependency::json_form::{MemberWriter, ObjectReader, ReadError};
-use deno_graph_dependency::{SpecifierWithRange, read_specifier};
-use deno_graph_text::values::TypeScriptTypesResolutionMode;
+use crate::analysis::{SpecifierWithRange, read_specifier};
+use deno_graph_base::values::TypeScriptTypesResolutionMode;
+use deno_graph_json::{MemberWriter, ObjectReader, ReadError};
 use std::alloc::AllocError;
 
 /// Puts both, the mode if there is one.
@@ -28,7 +28,7 @@ pub(crate) fn put_specifier_with_mode<W: MemberWriter>(
 }
 
 /// Both, as these members have them.
-#[tactic(auto, using(deno_graph_dependency::proofs::Reading::reading), unfolding(crate::specs::Json::SpecifierWithMode::specifier_with_mode))]
+#[tactic(auto, using(deno_graph_json::proofs::Reading::reading), unfolding(crate::specs::Json::SpecifierWithMode::specifier_with_mode))]
 pub(crate) fn read_specifier_with_mode(
     object: &ObjectReader,
 ) -> Result<(SpecifierWithRange, Option<TypeScriptTypesResolutionMode>), ReadError>

@@ -2,9 +2,9 @@
 
 ghost use Rattle.deno_graph_info.specs.Comment.{reads_stored_comment};
 
-use deno_graph_dependency::json_form::{FromJson, ObjectReader, ReadError};
-use deno_graph_text::text::PositionRange;
-use deno_graph_text::values::Text;
+use deno_graph_base::text::PositionRange;
+use deno_graph_base::values::Text;
+use deno_graph_json::{FromJson, ObjectReader, ReadError};
 use serde_json::Value;
 use std::alloc::Global;
 

@@ -7,13 +7,13 @@ ghost use Rattle.serde_json.specs.Written.{has_float as holds_float};
 ghost use Rattle.deno_graph_info.specs.Conversion.{AnyOverflows, AreConverted, DependencyOverflows, IsConverted, IsConvertedDependency, IsConvertFault, Overflows, comments_in, dependencies_in, with_types, without_value_at};
 ghost use Rattle.deno_graph_info.specs.ConvertFault.{IsColumnFault};
 
+use crate::analysis::SpecifierWithRange;
 use crate::conversion::comment::Comment;
 use crate::conversion::fault::ConvertFault;
 use crate::conversion::types::types_named;
-use deno_graph_dependency::SpecifierWithRange;
-use deno_graph_dependency::json_form::object_reader::find_member;
-use deno_graph_dependency::json_form::{ObjectReader, ReadError, ToJson, has_float};
-use deno_graph_text::values::Items;
+use deno_graph_base::values::Items;
+use deno_graph_json::object_reader::find_member;
+use deno_graph_json::{ObjectReader, ReadError, ToJson, has_float};
 use serde_json::{Map, Value, put};
 use std::alloc::{AllocError, Global};
 
@@ -67,7 +67,7 @@ fn convert_value(alloc: Global, value: Value) -> Result<Value, ConvertFault>
 }
 
 /// Whether it is an object with an array `dependencies`.
-#[tactic(auto, unfolding(crate::specs::Conversion::dependencies_in, deno_graph_dependency::specs::Read::Partial::member_at))]
+#[tactic(auto, unfolding(crate::specs::Conversion::dependencies_in, deno_graph_json::specs::Read::Partial::member_at))]
 fn has_dependencies(value: &Value) -> bool
     ensures { IsTrue result ↔ IsSome (dependencies_in (view value.now)) }
 {

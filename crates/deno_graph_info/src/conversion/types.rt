@@ -4,12 +4,12 @@ ghost use Rattle.std.specs.Prelude.{◌≡◌, ◌≤◌, ◌<◌, ◌^◌, ◌+
 ghost use Rattle.deno_graph_info.specs.ConvertFault.{IsColumnFault};
 ghost use Rattle.deno_graph_info.specs.Types.{AreTypes, HasNoColumn};
 
+use crate::analysis::SpecifierWithRange;
 use crate::conversion::comment::Comment;
 use crate::conversion::fault::ConvertFault;
-use deno_graph_dependency::SpecifierWithRange;
+use deno_graph_base::text::{Position, PositionRange};
+use deno_graph_base::values::{Items, Text};
 use deno_graph_pragmas::finders::find_deno_types;
-use deno_graph_text::text::{Position, PositionRange};
-use deno_graph_text::values::{Items, Text};
 use std::alloc::Global;
 use std::ops::Range;
 

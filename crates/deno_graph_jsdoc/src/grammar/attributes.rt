@@ -8,11 +8,11 @@ ghost use Rattle.deno_graph_jsdoc.specs.JsDocKnown.{AreKnown};
 ghost use Rattle.deno_graph_jsdoc.specs.JsDocReading.{IsModeBlockEnd, Reads, EndOfIdent};
 ghost use Rattle.deno_graph_jsdoc.specs.JsDocReading.{rest_and_text, rest_and_mode};
 ghost use Rattle.deno_graph_jsdoc.specs.JsDocReading.{rest_and_attribute, text_of};
-ghost use Rattle.deno_graph_text.specs.ResolutionMode.{mode_named};
+ghost use Rattle.deno_graph_base.specs.ResolutionMode.{mode_named};
 
 use super::known::{KnownList, known_from};
 use super::parts::{ident, quote, skip_space, token, word};
-use deno_graph_text::values::TypeScriptTypesResolutionMode;
+use deno_graph_base::values::TypeScriptTypesResolutionMode;
 
 /// What is behind attributes in braces, and the mode that they give: the one that the first
 /// `resolution-mode` names.

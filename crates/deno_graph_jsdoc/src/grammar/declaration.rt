@@ -17,7 +17,7 @@ use super::attributes::block;
 use super::known::KnownList;
 use super::parts::{gap, ident, quote, skip_space, through_brace, token, word};
 use crate::import::{JsDocImport, NoParse};
-use deno_graph_text::values::TypeScriptTypesResolutionMode;
+use deno_graph_base::values::TypeScriptTypesResolutionMode;
 
 /// The import declaration with which `input` begins, and what is behind it.
 ///

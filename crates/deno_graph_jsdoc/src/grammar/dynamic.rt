@@ -17,7 +17,7 @@ use super::known::KnownList;
 use super::parts::{quote, skip_space, through_brace, token, word};
 use super::spaces::{KnownSpace, skip_known};
 use crate::import::{JsDocImport, NoParse};
-use deno_graph_text::values::TypeScriptTypesResolutionMode;
+use deno_graph_base::values::TypeScriptTypesResolutionMode;
 
 /// The dynamic import in braces with which `input` begins, and what is behind it.
 ///

@@ -8,7 +8,7 @@ ghost use Rattle.deno_graph_jsdoc.specs.JsDocReading.{IsModeBlockEnd, Reads, res
 
 use super::attributes::attributes;
 use super::parts::skip_space;
-use deno_graph_text::values::TypeScriptTypesResolutionMode;
+use deno_graph_base::values::TypeScriptTypesResolutionMode;
 use std::alloc::{AllocError, Global};
 
 /// What attributes give, from one of them on.

@@ -6,7 +6,7 @@ ghost use Rattle.std.specs.Ordering.{nat_cmp};
 ghost use Rattle.deno_graph_source.specs.ByPosition.{AddsItem};
 ghost use Rattle.std.specs.Option.{option_copied};
 
-use deno_graph_text::values::{Items, TryClone};
+use deno_graph_base::values::{Items, TryClone};
 use std::alloc::{AllocError, Global};
 use std::collections::BTreeMap;
 use std::marker::Model;

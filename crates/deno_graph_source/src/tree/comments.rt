@@ -4,8 +4,8 @@ ghost use Rattle.std.specs.Option.{option_copied};
 
 use crate::tree::by_position::ByPosition;
 use crate::tree::fault_place::{CommentPlace, CommentSide};
-use deno_graph_text::text::SourceRange;
-use deno_graph_text::values::{Items, Text, TryClone};
+use deno_graph_base::text::SourceRange;
+use deno_graph_base::values::{Items, Text, TryClone};
 use std::alloc::{AllocError, Global};
 use std::marker::Model;
 

@@ -1,7 +1,7 @@
 ghost use Rattle.std.specs.Prelude.{◌≡◌, IfOk};
 
 use crate::tree::fault::SourceFault;
-use deno_graph_text::values::{Items, TryClone};
+use deno_graph_base::values::{Items, TryClone};
 use std::alloc::{AllocError, Global};
 
 /// A fault of a source, and where it is.

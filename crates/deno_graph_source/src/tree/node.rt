@@ -2,8 +2,8 @@ ghost use Rattle.std.specs.Prelude.{◌≡◌, IfOk, IsTrue};
 ghost use Rattle.std.specs.Option.{option_copied};
 ghost use Rattle.deno_graph_source.specs.KindGroups.{is_export, is_import};
 
-use deno_graph_text::text::{JsString, SourceRange};
-use deno_graph_text::values::{Items, Text, TryClone};
+use deno_graph_base::text::{JsString, SourceRange};
+use deno_graph_base::values::{Items, Text, TryClone};
 use std::alloc::{AllocError, Global};
 
 /// A string literal: its value, and its range with the quotes.

@@ -2,20 +2,20 @@
 
 ghost use Rattle.std.specs.Prelude.{◌≡◌, ℕ, IfOk, IfSome, IsNone, List, None, Ok};
 ghost use Rattle.std.specs.Rc.{rc_str_bytes};
-ghost use Rattle.flat_json.specs.View.{IsValueOf, tape_value};
+ghost use Rattle.deno_graph_json.specs.View.{IsValueOf, tape_value};
 ghost use Rattle.url.specs.Parts.{Parts};
 ghost use Rattle.url.specs.Parser.{parse_url};
 ghost use Rattle.deno_graph_source.specs.Source.{HasFault, IsValid};
-ghost use Rattle.modinfo_notation.specs.Document.{IsDocumentOf};
+ghost use Rattle.modinfo_document.specs.Document.{IsDocumentOf};
 ghost use Rattle.modinfo.specs.Check.{ReportsOn};
 
+use deno_graph_json::{Tape, TapeFault};
 use deno_graph_source::tree::{SourceFaultPlace, source_fault_place};
-use flat_json::{Tape, TapeFault};
 use json::Scratch;
-use modinfo_notation::{Document, NotationFault, read_document};
-use modinfo_report::{
+use modinfo_document::report::{
     Report, find_warnings, wrong_notation, wrong_source, wrong_specifier, wrong_text,
 };
+use modinfo_document::{Document, NotationFault, read_document};
 use std::alloc::{AllocError, Global};
 
 /// Checks a document of `analyze`: `Valid` where it states a valid source, `Wrong` where it has a

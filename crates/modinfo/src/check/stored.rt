@@ -5,13 +5,13 @@ ghost use Rattle.serde_json.specs.Data.{Data};
 ghost use Rattle.serde_json.specs.Read.{read as read_text};
 ghost use Rattle.serde_json.specs.View.{view};
 ghost use Rattle.serde_json.specs.Written.{has_float};
-ghost use Rattle.modinfo_report.specs.Report.{MatchReport};
+ghost use Rattle.modinfo_document.specs.Report.{MatchReport};
 ghost use Rattle.modinfo.specs.Check.{AsksNone, AsksSome, IsPlacedIn, ReportsOnQuestion, ReportsOnStored, ReportsOnValue};
 
 use crate::reach::read_modules;
-use deno_graph_dependency::json_form::{Expected, Mismatch, ReadError};
 use deno_graph_info::analysis::{ConvertFault, InfoFault};
-use modinfo_report::{Report, Warnings, Wrong, convert_fault, wrong_json, wrong_stored};
+use deno_graph_json::{Expected, Mismatch, ReadError};
+use modinfo_document::report::{Report, Warnings, Wrong, convert_fault, wrong_json, wrong_stored};
 use serde_json::Value;
 use std::alloc::{AllocError, Global};
 

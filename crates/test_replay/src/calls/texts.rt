@@ -2,10 +2,10 @@
 
 use crate::answer::{named, valued};
 use crate::row_fault::RowFault;
+use deno_graph_json::Tape;
 use deno_graph_source::text::{JsString, Position, PositionRange, SourceRange, SourceTextInfo};
-use flat_json::Tape;
 use json::Scratch;
-use modinfo::notation::literal::read_string;
+use modinfo::document::literal::read_string;
 use serde_json::{Value, json};
 use std::alloc::Global;
 use std::rc::RcStr;

@@ -1,5 +1,5 @@
 use Rattle.std.proofs.Common.{◌≡◌, length, vec_len, arith, sym, ◌∙◌}
-use Rattle.deno_graph_text.specs.TextMap.{entries_of}
+use Rattle.deno_graph_base.specs.TextMap.{entries_of}
 use Rattle.deno_graph_info.proofs.Reaching.{
   underway-begin,
   underway-step,

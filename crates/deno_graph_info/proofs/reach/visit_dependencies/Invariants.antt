@@ -1,6 +1,6 @@
 -- The dependencies so far are visited.
 use Rattle.std.proofs.Common.{take}
-use Rattle.deno_graph_text.specs.TextMap.{entries_of}
+use Rattle.deno_graph_base.specs.TextMap.{entries_of}
 use Rattle.deno_graph_info.specs.ReachSteps.{Grows, NamesIn, infos_of}
 use Rattle.deno_graph_info.proofs.reach.visit_dependencies.Given as goal
 

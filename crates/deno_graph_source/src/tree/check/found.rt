@@ -3,7 +3,7 @@ ghost use Rattle.std.specs.Prelude.{◌≡◌, [], ◌∷◌, ◌++◌, reverse,
 use crate::tree::comments::{Comments, DependencyComment};
 use crate::tree::fault::SourceFault;
 use crate::tree::fault_place::{FaultPlace, NodePart, SourceFaultPlace};
-use deno_graph_text::values::Items;
+use deno_graph_base::values::Items;
 use std::alloc::AllocError;
 
 /// A fault of a source, with what it is a fault of: comments by themselves, and not yet by the

@@ -10,7 +10,7 @@ use crate::tree::check::ranges::check_range;
 use crate::tree::fault::SourceFault;
 use crate::tree::fault_place::{NodePart, ShapeRule};
 use crate::tree::node::{Arg, Callee, Kind, Node, Program};
-use deno_graph_text::text::SourceRange;
+use deno_graph_base::text::SourceRange;
 use std::alloc::{AllocError, Global};
 
 /// Looks for a fault of the nodes of a program.

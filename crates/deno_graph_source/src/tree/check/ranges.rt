@@ -2,7 +2,7 @@ ghost use Rattle.std.specs.Prelude.{◌∷◌, []};
 ghost use Rattle.deno_graph_source.specs.Check.{JudgesRanges};
 
 use crate::tree::fault::SourceFault;
-use deno_graph_text::text::SourceRange;
+use deno_graph_base::text::SourceRange;
 
 /// Looks for a fault of a range against the text.
 pub(crate) fn check_range(text: &str, range: SourceRange) -> Result<(), SourceFault>

@@ -1,4 +1,4 @@
-use Rattle.modinfo_notation.proofs.OneDocument.{one_document, one_source}
+use Rattle.modinfo_document.proofs.OneDocument.{one_document, one_source}
 use Rattle.modinfo.proofs.laws.each_text_states_one_module.Goals as goal
 
 pub returns : goal.returns

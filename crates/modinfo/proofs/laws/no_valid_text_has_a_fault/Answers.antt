@@ -1,4 +1,4 @@
-use Rattle.modinfo_notation.proofs.OneDocument.{valid_refutes}
+use Rattle.modinfo_document.proofs.OneDocument.{valid_refutes}
 use Rattle.modinfo.proofs.laws.no_valid_text_has_a_fault.Goals as goal
 
 pub returns : goal.returns

@@ -3,7 +3,7 @@
 -- is the first of all.
 use Rattle.serde_json.specs.View.{members_view}
 use Rattle.deno_graph_info.specs.declared.analysis.fault.InfoFault.{InfoFault}
-use Rattle.deno_graph_dependency.proofs.ReadMaps.{IsSoFar}
+use Rattle.deno_graph_json.proofs.ReadMaps.{IsSoFar}
 use Rattle.modinfo.specs.Reach.{IsFirstFault, reads_stored}
 use Rattle.modinfo.proofs.reach.read_infos.Given as goal
 

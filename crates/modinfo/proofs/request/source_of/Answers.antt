@@ -1,8 +1,8 @@
 use Rattle.std.proofs.Common.{inr, refl, List, ℕ}
 use Rattle.std.proofs.lemmas.Result.{err_from_is_err_and}
-use Rattle.modinfo_notation.specs.declared.fault.NotationFault.{NotationFault}
-use Rattle.modinfo_notation.specs.declared.fault.NotationFault.TheVariants as notation
-use Rattle.modinfo_notation.specs.Document.{HasNotationFault}
+use Rattle.modinfo_document.specs.declared.fault.NotationFault.{NotationFault}
+use Rattle.modinfo_document.specs.declared.fault.NotationFault.TheVariants as notation
+use Rattle.modinfo_document.specs.Document.{HasNotationFault}
 use Rattle.modinfo.specs.Answer.{IsNoModule}
 use Rattle.modinfo.specs.Fault.{fault_of_notation}
 use Rattle.modinfo.proofs.request.source_of.Goals as goal

@@ -1,4 +1,4 @@
-use Rattle.deno_graph_dependency.proofs.Reading.{exits}
+use Rattle.deno_graph_json.proofs.Reading.{exits}
 use Rattle.deno_graph_info.specs.Json.SpecifierWithMode.{specifier_with_mode}
 use Rattle.deno_graph_info.proofs.analysis.specifier_with_mode.read_specifier_with_mode.Goals as goal
 

@@ -7,7 +7,7 @@ use Rattle.deno_graph_source.proofs.SourceFaults.{overlap_sorted, valid_sorted}
 use Rattle.deno_graph_source.specs.Check.{IsSound}
 use Rattle.deno_graph_source.specs.Found.{IsFoundInBody}
 use Rattle.deno_graph_source.specs.Node.{nodes_of}
-use Rattle.deno_graph_text.specs.SourceRange.{IsTextRange}
+use Rattle.deno_graph_base.specs.SourceRange.{IsTextRange}
 use Rattle.deno_graph_source.proofs.tree.check.find_fault.Goals as goal
 
 pub returns-in-Some-check_neighbours : goal.returns-in-Some-check_neighbours

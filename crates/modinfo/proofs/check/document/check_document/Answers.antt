@@ -1,5 +1,5 @@
 use Rattle.std.proofs.Common.{Err, ap, inl, rules}
-use Rattle.modinfo_notation.specs.declared.fault.NotationFault.TheVariants.{Json}
+use Rattle.modinfo_document.specs.declared.fault.NotationFault.TheVariants.{Json}
 use Rattle.modinfo.proofs.check.document.check_document.Goals as goal
 
 -- the text states what was read

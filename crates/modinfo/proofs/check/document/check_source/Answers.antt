@@ -1,5 +1,5 @@
 use Rattle.std.proofs.Common.{inr, rules}
-use Rattle.modinfo_notation.specs.declared.fault.NotationFault.TheVariants.{Source}
+use Rattle.modinfo_document.specs.declared.fault.NotationFault.TheVariants.{Source}
 use Rattle.modinfo.proofs.check.document.check_source.Goals as goal
 
 -- the document is stated, and its source has the fault that was found

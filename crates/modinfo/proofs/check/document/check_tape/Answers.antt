@@ -1,4 +1,4 @@
-use Rattle.flat_json.specs.View.{tape_value}
+use Rattle.deno_graph_json.specs.View.{tape_value}
 use Rattle.modinfo.proofs.check.document.check_tape.Goals as goal
 
 -- the text states the document that was read

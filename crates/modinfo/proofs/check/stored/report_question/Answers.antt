@@ -1,6 +1,6 @@
 use Rattle.std.proofs.Common.{subst}
 use Rattle.serde_json.specs.View.{view}
-use Rattle.deno_graph_dependency.specs.Read.Answer.{IsRefusal}
+use Rattle.deno_graph_json.specs.Read.Answer.{IsRefusal}
 use Rattle.modinfo.proofs.StoredModules.{asks_none, asks_some}
 use Rattle.modinfo.specs.Reach.{reads_modules}
 use Rattle.modinfo.proofs.check.stored.report_question.Goals as goal

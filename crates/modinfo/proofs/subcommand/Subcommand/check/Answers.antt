@@ -1,8 +1,8 @@
 use Rattle.std.proofs.Common.{ℕ, List, Result, Ok, Err, IfOk, inr}
 use Rattle.std.specs.declared.alloc.AllocError.{AllocError}
-use Rattle.modinfo_report.specs.Report.{MatchReport}
-use Rattle.modinfo_report.specs.declared.report.Report.{Report}
-use Rattle.modinfo_report.specs.declared.report.Report.TheVariants.{Valid, Wrong}
+use Rattle.modinfo_document.specs.Report.{MatchReport}
+use Rattle.modinfo_document.specs.declared.report.Report.{Report}
+use Rattle.modinfo_document.specs.declared.report.Report.TheVariants.{Valid, Wrong}
 use Rattle.modinfo.specs.Answer.{IsFaultyDocument, IsValidDocument}
 use Rattle.modinfo.specs.Check.{ReportsOn}
 use Rattle.modinfo.specs.declared.subcommand.Subcommand.TheVariants.{Analyze}

@@ -1,7 +1,7 @@
 use Rattle.std.proofs.Common.{◌≡◌, ℕ, List, Option, ap, ◌∙◌}
 use Rattle.std.proofs.lemmas.Result.{on_ok_weaker}
 use Rattle.serde_json.specs.Data.{Data}
-use Rattle.deno_graph_dependency.specs.Object.{with_present}
+use Rattle.deno_graph_json.specs.Object.{with_present}
 use Rattle.deno_graph_info.proofs.analysis.module_info.ModuleInfoToObject.put_members.Goals as goal
 
 -- an entry more

@@ -7,7 +7,7 @@ use Rattle.std.proofs.lemmas.Option.{slice_get-get_or}
 use Rattle.deno_graph_source.proofs.Judgements.{returned}
 use Rattle.deno_graph_source.proofs.NodePaths.{some_and}
 use Rattle.deno_graph_source.specs.FaultPlace.{RangeHas}
-use Rattle.deno_graph_text.specs.SourceRange.{IsTextRange}
+use Rattle.deno_graph_base.specs.SourceRange.{IsTextRange}
 use Rattle.deno_graph_source.specs.declared.tree.check.found.FoundPart.{FoundPart}
 use Rattle.deno_graph_source.specs.declared.tree.fault_place.NodePart.TheVariants.{Argument}
 use Rattle.deno_graph_source.specs.declared.tree.node.Arg.{Arg}

@@ -1,0 +1,266 @@
+-- How a reader ends: each step of a partial function, and the fault that a `?` returns.
+use Rattle.std.proofs.Common.{
+  ◌≡◌,
+  ℕ,
+  ◌+◌,
+  ◌<◌,
+  ◌≤◌,
+  length,
+  get_or,
+  drop,
+  List,
+  [],
+  ◌∷◌,
+  ◌++◌,
+  map,
+  Option,
+  Some,
+  None,
+  Result,
+  IsErrAnd,
+  refl,
+  sym,
+  ap,
+  subst,
+  ◌∙◌,
+  append_assoc,
+  append-nil,
+  arith,
+}
+use Rattle.std.proofs.lemmas.List.{at_drop_more, at_drop_all}
+use Rattle.std.proofs.lemmas.Option.{none-some}
+use Rattle.std.proofs.lemmas.Result.{err_from_is_err_and}
+use Rattle.std.specs.Option.{IsSomeAnd, unwrap_or}
+use Rattle.serde_json.specs.Data.{
+  Data,
+  null,
+  boolean,
+  number,
+  array,
+  object,
+  string,
+  Items,
+  no_items,
+  item,
+  Members,
+  no_members,
+}
+use Rattle.serde_json.specs.Find.{as_array, as_object, as_str, at, get_member}
+use Rattle.serde_json.specs.View.{view, items_of, items_view}
+use Rattle.serde_json.specs.declared.value.Value.{Value}
+use Rattle.serde_json.proofs.Views.{get_item_within}
+use Rattle.deno_graph_json.specs.Read.Answer.{IsRefusal, Answers}
+use Rattle.deno_graph_json.specs.Read.Error.{IsIn, IsMismatch, mismatch, step_into, value_at}
+use Rattle.deno_graph_json.specs.Read.Expected.{IsNot}
+use Rattle.deno_graph_json.specs.Read.Partial.{◌>>=◌, member_at, reads_items, two_items}
+use Rattle.deno_graph_json.specs.declared.error.Step.{Step}
+use Rattle.deno_graph_json.specs.declared.expected.Expected.{Expected}
+use Rattle.deno_graph_json.specs.declared.error.ReadError.{ReadError}
+use Rattle.deno_graph_json.specs.declared.error.ReadError.TheVariants.{Mismatch, OutOfMemory}
+
+-- a step that has a value goes on with it
+pub goes_on : {A B : Type 0} (o : Option A) (f : A → Option B) (x : A) (r : Option B) → o ≡ Some x → f x ≡ r
+    → (o >>= f) ≡ r
+goes_on o f x r is later = ap (λ v. v >>= f) is ∙ later
+
+-- the exit of a `?` that refuses the whole
+pub refuses : {A : Type 0} (value : Data) (wanted : Option A) (error : ReadError)
+    (answer : Result A ReadError)
+    → IsErrAnd answer (λ other. other ≡ error) → IsRefusal value wanted error → Answers value wanted answer
+refuses value wanted error answer is h = let p = err_from_is_err_and answer is in rw (p.1, p.2) h
+
+-- a step more around a path
+value_at_more : (path : List Step) (step : Step) (outer inner : Data) → step_into step outer ≡ Some inner
+    → value_at (path ++ step ∷ []) outer ≡ value_at path inner
+value_at_more [] step outer inner is = is
+value_at_more (first ∷ path) step outer inner is =
+    ap (λ o. o >>= step_into first) (value_at_more path step outer inner is)
+
+-- an error in a value is one in the value around it
+pub place_around : (path : List Step) (step : Step) (expected : Expected) (outer inner : Data)
+    → step_into step outer ≡ Some inner → IsIn inner (mismatch path expected)
+    → IsIn outer (mismatch (path ++ step ∷ []) expected)
+place_around path step expected outer inner is h =
+    subst (λ o. IsSomeAnd o (IsNot expected)) (sym (value_at_more path step outer inner is)) h
+
+-- an error in the value, of which nothing can be read
+pub refusal : {A : Type 0} (value : Data) (wanted : Option A) (error : ReadError) → wanted ≡ None
+    → IsIn value error
+    → IsRefusal value wanted error
+refusal value wanted (Mismatch found) none place = (none, place)
+refusal value wanted OutOfMemory none place = tt
+
+-- a refusal of a value is one of the value around it
+pub refused_around : {A : Type 0} (outer inner : Data) (wanted : Option A) (old new : ReadError)
+    → (IsIn inner old → IsIn outer new) → (IsMismatch new → IsMismatch old) → IsRefusal inner wanted old
+    → IsRefusal outer wanted new
+refused_around outer inner wanted (Mismatch found) (Mismatch other) place mismatch h = (h.0, place h.1)
+refused_around outer inner wanted OutOfMemory (Mismatch other) place mismatch h = absurd (mismatch tt)
+refused_around outer inner wanted old OutOfMemory place mismatch h = tt
+
+module _ {A B : Type 0} (value : Data) (wanted : Option A) (f : A → Option B) where
+  -- a step that is refused refuses the whole
+  pub refused : (error : ReadError) → IsRefusal value wanted error → IsRefusal value (wanted >>= f) error
+  refused (Mismatch found) h = (ap (λ o. o >>= f) h.0, h.1)
+  refused OutOfMemory h = h
+
+  -- the exit of a `?`
+  pub exits : (error : ReadError) (answer : Result B ReadError) → IsErrAnd answer (λ other. other ≡ error)
+      → IsRefusal value wanted error → Answers value (wanted >>= f) answer
+  exits error answer is h = let p = err_from_is_err_and answer is in rw (p.1, p.2) (refused error h)
+
+  -- the exit of a `?` after a reader that allocates nothing
+  pub exits_mismatch : (error : ReadError) (answer : Result B ReadError)
+      → IsErrAnd answer (λ other. other ≡ error)
+      → IsMismatch error × (wanted ≡ None) × IsIn value error
+      → Answers value (wanted >>= f) answer
+  exits_mismatch error answer is h = exits error answer is (refusal value wanted error h.1 h.2)
+
+  -- a step that has a value goes on with it
+  pub answers_on : (x : A) (answer : Result B ReadError) → wanted ≡ Some x → Answers value (f x) answer
+      → Answers value (wanted >>= f) answer
+  answers_on x answer is h =
+      let Goal : Option A → Type 0 = λ o. Answers value (o >>= f) answer in subst Goal (sym is) h
+
+-- the data of a string, of an array and of an object
+is_string : (d : Data) (s : List ℕ) → as_str d ≡ Some s → d ≡ string s
+is_string (string t) s is = ap (λ o. string (unwrap_or o [])) is
+is_string null s is = absurd (none-some _ is)
+is_string (boolean b) s is = absurd (none-some _ is)
+is_string (number n) s is = absurd (none-some _ is)
+is_string (array t) s is = absurd (none-some _ is)
+is_string (object t) s is = absurd (none-some _ is)
+
+is_array : (d : Data) (ds : Items) → as_array d ≡ Some ds → d ≡ array ds
+is_array (array t) ds is = ap (λ o. array (unwrap_or o no_items)) is
+is_array null ds is = absurd (none-some _ is)
+is_array (boolean b) ds is = absurd (none-some _ is)
+is_array (number n) ds is = absurd (none-some _ is)
+is_array (string t) ds is = absurd (none-some _ is)
+is_array (object t) ds is = absurd (none-some _ is)
+
+is_object : (d : Data) (ms : Members) → as_object d ≡ Some ms → d ≡ object ms
+is_object (object t) ms is = ap (λ o. object (unwrap_or o no_members)) is
+is_object null ms is = absurd (none-some _ is)
+is_object (boolean b) ms is = absurd (none-some _ is)
+is_object (number n) ms is = absurd (none-some _ is)
+is_object (string t) ms is = absurd (none-some _ is)
+is_object (array t) ms is = absurd (none-some _ is)
+
+module _ {B : Type 0} where
+  -- a string is read on as its text, an array as its items, an object as its members
+  pub string_on : (d : Data) (f : List ℕ → Option B) (s : List ℕ) (answer : Result B ReadError)
+      → as_str d ≡ Some s
+      → Answers (string s) (f s) answer → Answers d (as_str d >>= f) answer
+  string_on d f s answer is h = rw (is_string d s is) h
+
+  pub array_on : (d : Data) (f : Items → Option B) (ds : Items) (answer : Result B ReadError)
+      → as_array d ≡ Some ds → Answers (array ds) (f ds) answer → Answers d (as_array d >>= f) answer
+  array_on d f ds answer is h = rw (is_array d ds is) h
+
+  pub object_on : (d : Data) (f : Members → Option B) (ms : Members) (answer : Result B ReadError)
+      → as_object d ≡ Some ms → Answers (object ms) (f ms) answer → Answers d (as_object d >>= f) answer
+  object_on d f ms answer is h = rw (is_object d ms is) h
+
+  -- a member that is a string is read on as its text
+  pub member_on : (d : Data) (key : List ℕ) (ms : Members) (f : List ℕ → Option B) (s : List ℕ)
+      (answer : Result B ReadError) → get_member key ms ≡ Some (string s) → Answers d (f s) answer
+      → Answers d (member_at as_str key ms >>= f) answer
+  unfolding member_at
+  member_on d key ms f s answer is h = rw is h
+
+-- how a reader that reads step by step ends
+pub ruleset reading = (goes_on, exits, exits_mismatch, string_on, array_on, object_on, member_on, answers_on)
+
+-- ---- lists
+
+module _ {A : Type 0} where
+  -- the items that were read, before those that are still to be read
+  abbrev pub before : List A → Option (List A) → Option (List A)
+  before xs rest = rest >>= (λ ys. Some (xs ++ ys))
+
+  pub before_more : (xs : List A) (x : A) (rest : Option (List A))
+      → before xs (rest >>= (λ ys. Some (x ∷ ys))) ≡ before (xs ++ x ∷ []) rest
+  before_more xs x None = refl
+  before_more xs x (Some ys) = ap Some (sym (append_assoc xs (x ∷ []) ys))
+
+  -- one item more is read
+  pub items_more : (reads : Data → Option A) (xs : List A) (d : Data) (ds : Items) (x : A) → reads d ≡ Some x
+      → before xs (reads_items reads (item d ds)) ≡ before (xs ++ x ∷ []) (reads_items reads ds)
+  unfolding reads_items
+  items_more reads xs d ds x is = rw is (before_more xs x (reads_items reads ds))
+
+  pub before_nil : (rest : Option (List A)) → before [] rest ≡ rest
+  before_nil None = refl
+  before_nil (Some ys) = refl
+
+  -- an item that is refused refuses all
+  pub items_refused : (value : Data) (reads : Data → Option A) (all : Option (List A)) (xs : List A)
+      (d : Data) (ds : Items) (error : ReadError) → all ≡ before xs (reads_items reads (item d ds))
+      → IsRefusal value (reads d) error → IsRefusal value all error
+  unfolding reads_items
+  items_refused value reads all xs d ds error is h =
+      rw is (refused value _ _ error (refused value (reads d) _ error h))
+
+  -- no item is left
+  pub items_done : (reads : Data → Option A) (all : Option (List A)) (xs : List A)
+      → all ≡ before xs (reads_items reads no_items) → all ≡ Some xs
+  unfolding reads_items
+  items_done reads all xs is = is ∙ ap Some (append-nil xs)
+
+-- ---- an array, item by item
+
+-- the item after so many is the one of this number
+pub item_here : (all : List Value) (i place : ℕ) (v : Value) → i < length all → v ≡ get_or all i v → place ≡ i
+    → at place (array (items_view all)) ≡ Some (view v)
+item_here all i place v below is same =
+    rw same (sym (get_item_within all i v below) ∙ ap (λ w. Some (view w)) (sym is))
+
+module _ {A : Type 0} (reads : Data → Option A) (all : List Value) where
+  -- what is read of the items from a number on
+  abbrev pub from : ℕ → Option (List A)
+  from i = reads_items reads (items_of (map view (drop i all)))
+
+  -- the item with a number, and those behind it
+  from_here : (i : ℕ) (v : Value) → i < length all → v ≡ get_or all i v
+      → from i ≡ reads_items reads (item (view v) (items_of (map view (drop (i + 1) all))))
+  from_here i v below is =
+      at_drop_more (λ vs. reads_items reads (items_of (map view vs))) all i v below
+      ∙ ap (λ w. reads_items reads (item (view w) (items_of (map view (drop (i + 1) all))))) (sym is)
+
+  pub list_more : (i : ℕ) (v : Value) (xs new : List A) (x : A) → i < length all → v ≡ get_or all i v
+      → reads_items reads (items_view all) ≡ before xs (from i) → reads (view v) ≡ Some x → new ≡ xs ++ x ∷ []
+      → reads_items reads (items_view all) ≡ before new (from (i + 1))
+  list_more i v xs new x below is so_far read pushed =
+      so_far ∙ ap (before xs) (from_here i v below is)
+      ∙ items_more reads xs (view v) (items_of (map view (drop (i + 1) all))) x read
+      ∙ ap (λ ys. before ys (from (i + 1))) (sym pushed)
+
+  pub list_refused : (value : Data) (i : ℕ) (v : Value) (xs : List A) (error : ReadError) → i < length all
+      → v ≡ get_or all i v → reads_items reads (items_view all) ≡ before xs (from i)
+      → IsRefusal value (reads (view v)) error
+      → IsRefusal value (reads_items reads (items_view all)) error
+  list_refused value i v xs error below is so_far h =
+      items_refused value reads _ xs (view v) (items_of (map view (drop (i + 1) all))) error
+      (so_far ∙ ap (before xs) (from_here i v below is)) h
+
+  pub list_done : (i : ℕ) (xs : List A) → length all ≤ i
+      → reads_items reads (items_view all) ≡ before xs (from i) → reads_items reads (items_view all) ≡ Some xs
+  list_done i xs past so_far =
+      items_done reads _ xs (so_far
+      ∙ ap (before xs) (at_drop_all (λ vs. reads_items reads (items_of (map view vs))) all i past))
+
+-- ---- an array of two
+
+pub two_there : (vs : List Value) (v w : Value) → length vs ≡ 2 → v ≡ get_or vs 0 v → w ≡ get_or vs 1 w
+    → two_items (items_view vs) ≡ Some (view v, view w)
+two_there [] v w two first second = absurd (omega arith)
+two_there (x ∷ []) v w two first second = absurd (omega arith)
+two_there (x ∷ y ∷ []) v w two first second = rw (first, second)
+two_there (x ∷ y ∷ z ∷ vs) v w two first second = absurd (omega arith)
+
+pub not_two : (vs : List Value) → (length vs ≡ 2 → ⊥) → two_items (items_view vs) ≡ None
+not_two [] other = refl
+not_two (x ∷ []) other = refl
+not_two (x ∷ y ∷ []) other = absurd (other refl)
+not_two (x ∷ y ∷ z ∷ vs) other = refl

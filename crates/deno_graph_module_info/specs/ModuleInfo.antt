@@ -1,0 +1,153 @@
+-- What the analysis of one module says.
+use Rattle.std.specs.Prelude.{◌≡◌, ◌↔◌, ℕ, List, map, All, IfSome, IsTrue, Option}
+use Rattle.std.specs.List.{AllZip}
+use Rattle.deno_graph_source.specs.Comments.{FiledComments, comments_of}
+use Rattle.deno_graph_source.specs.Source.{IsSpelled}
+use Rattle.deno_graph_source.specs.declared.tree.comments.DependencyComment.{DependencyComment}
+use Rattle.deno_graph_source.specs.declared.tree.media_type.MediaType.{MediaType}
+use Rattle.deno_graph_source.specs.declared.tree.node.Program.{Program}
+use Rattle.deno_graph_info.specs.declared.analysis.dependency.DependencyDescriptor.{DependencyDescriptor}
+use Rattle.deno_graph_info.specs.declared.analysis.dependency.DependencyDescriptor.TheVariants.{Static, Dynamic}
+use Rattle.deno_graph_info.specs.declared.analysis.dynamic_argument.DynamicArgument.{DynamicArgument}
+use Rattle.deno_graph_info.specs.declared.analysis.dynamic_argument.DynamicArgument.TheVariants as argument
+use Rattle.deno_graph_info.specs.declared.analysis.dynamic_argument.DynamicTemplatePart.{DynamicTemplatePart}
+use Rattle.deno_graph_info.specs.declared.analysis.dynamic_argument.DynamicTemplatePart.TheVariants as part
+use Rattle.deno_graph_info.specs.declared.analysis.dynamic_dependency.DynamicDependencyDescriptor.{
+  DynamicDependencyDescriptor,
+}
+use Rattle.deno_graph_info.specs.declared.analysis.module_info.ModuleInfo.{ModuleInfo}
+use Rattle.deno_graph_info.specs.declared.analysis.specifier_with_range.SpecifierWithRange.{SpecifierWithRange}
+use Rattle.deno_graph_info.specs.declared.analysis.static_dependency.StaticDependencyDescriptor.{
+  StaticDependencyDescriptor,
+}
+use Rattle.deno_graph_dep.specs.Argument.{Form, ArgumentPart, text, parts, expression, known, unknown}
+use Rattle.deno_graph_dep.specs.Dependencies.{AreDependencies}
+use Rattle.deno_graph_dep.specs.Item.{Item, StaticItem, DynamicItem, static_item, dynamic_item, HasTextRanges}
+use Rattle.deno_graph_module_info.specs.JsDocInfo.{CoversInEqualQuotes, IsJsDocList}
+use Rattle.deno_graph_module_info.specs.CommentImports.{reads_jsdoc}
+use Rattle.deno_graph_module_info.specs.HeadTail.{head_comments, tail_comments}
+use Rattle.deno_graph_module_info.specs.Pragma.{
+  comments_for_jsx,
+  comments_for_types,
+  jsx_import_source_pragma,
+  jsx_import_source_types_pragma,
+  positions_of,
+  self_types_pragma,
+  source_mapping_url_pragma,
+  NamesFirst,
+  NamesLast,
+  NamesDependencyTypes,
+}
+use Rattle.deno_graph_module_info.specs.References.{AreReferences, CoversReference}
+use Rattle.deno_graph_module_info.specs.Script.{IsScript}
+use Rattle.deno_graph_module_info.specs.Spelled.{CoversAsWritten, CoversBare, CoversQuoted}
+
+-- a static dependency with the positions of its specifier, and these types
+abbrev pub static_dependency_of :
+    List ℕ → StaticItem → Option SpecifierWithRange → StaticDependencyDescriptor
+static_dependency_of source item types = record {
+  kind = item.kind;
+  types_specifier = types;
+  specifier = item.specifier;
+  specifier_range = positions_of source item.specifier_range;
+  is_side_effect = item.is_side_effect;
+  import_attributes = item.import_attributes;
+}
+
+-- a part of an argument as a value of its own
+abbrev pub template_part_of : ArgumentPart → DynamicTemplatePart
+template_part_of (known known_text) = part.String known_text
+template_part_of unknown = part.Expr
+
+-- an argument as a value of its own
+abbrev pub argument_of_form : Form → DynamicArgument
+argument_of_form (text known_text) = argument.String known_text
+argument_of_form (parts ps) = argument.Template (map template_part_of ps)
+argument_of_form expression = argument.Expr
+
+-- a dynamic dependency with the positions of its argument, and these types
+abbrev pub dynamic_dependency_of :
+    List ℕ → DynamicItem → Option SpecifierWithRange → DynamicDependencyDescriptor
+dynamic_dependency_of source item types = record {
+  kind = item.kind;
+  types_specifier = types;
+  argument = argument_of_form item.argument;
+  argument_range = positions_of source item.argument_range;
+  import_attributes = item.import_attributes;
+}
+
+-- a dependency with its positions in the text, and these types
+abbrev pub dependency_of : List ℕ → Item → Option SpecifierWithRange → DependencyDescriptor
+dependency_of source (static_item item) types = Static (static_dependency_of source item types)
+dependency_of source (dynamic_item item) types = Dynamic (dynamic_dependency_of source item types)
+
+-- the comments before a dependency
+abbrev pub comments_before : Item → List DependencyComment
+comments_before (static_item item) = item.leading_comments
+comments_before (dynamic_item item) = item.leading_comments
+
+-- the ranges of a dependency are ranges of the text, and the comments before it are in the text
+-- as they say
+pub record FitsText (source : List ℕ) (item : Item) : Type 0 where
+  pub ranges : HasTextRanges source item
+  pub comments : All (IsSpelled source) (comments_before item)
+
+-- the dependency is the item with its positions in the text, and the types that the comments before
+-- it name
+pub record Describes (source : List ℕ) (item : Item)
+    (dependency : DependencyDescriptor) : Type 0 where
+  pub types : Option SpecifierWithRange
+  pub names_types : NamesDependencyTypes source (comments_before item) types
+  pub is : dependency ≡ dependency_of source item types
+
+-- what comments name as the types of a dependency
+abbrev pub types_of : DependencyDescriptor → Option SpecifierWithRange
+types_of (Static dependency) = dependency.types_specifier
+types_of (Dynamic dependency) = dependency.types_specifier
+
+-- the range of the specifier of its types covers it as it is written
+abbrev pub CoversTypes : List ℕ → DependencyDescriptor → Type 0
+CoversTypes source dependency = IfSome (types_of dependency) (CoversAsWritten source)
+
+-- The dependencies of a program: those of its listing, each once and in tree order, with their
+-- positions in the text and the types that the comments before them name.
+pub record AreDescribed (source : List ℕ) (program : Program) (comments : FiledComments)
+    (dependencies : List DependencyDescriptor) : Type 0 where
+  pub items : List Item
+  pub are_dependencies : AreDependencies comments program.body items
+  pub describe : AllZip (Describes source) items dependencies
+
+-- What is said of a module: its dependencies, whether it is a script, and what the pragmas in the
+-- comments at its head and at its tail name.
+pub record IsModuleInfo (source : List ℕ) (media_type : MediaType)
+    (program : Program) (comments : FiledComments) (info : ModuleInfo) : Type 0 where
+  pub is_script : IsTrue info.is_script ↔ IsScript program.body
+  pub dependencies : AreDescribed source program comments info.dependencies
+  pub ts_references : AreReferences source (head_comments program comments) info.ts_references
+  pub self_types_specifier :
+      NamesFirst source self_types_pragma
+      (comments_for_types media_type (head_comments program comments))
+      info.self_types_specifier
+  pub jsx_import_source :
+      NamesFirst source jsx_import_source_pragma
+      (comments_for_jsx media_type (head_comments program comments))
+      info.jsx_import_source
+  pub jsx_import_source_types :
+      NamesFirst source jsx_import_source_types_pragma
+      (comments_for_jsx media_type (head_comments program comments))
+      info.jsx_import_source_types
+  pub jsdoc_imports :
+      IsJsDocList (reads_jsdoc media_type) source (comments_of comments) info.jsdoc_imports
+  pub source_map_url :
+      NamesLast source source_mapping_url_pragma (tail_comments program comments) info.source_map_url
+
+-- each range of a specifier that a comment names covers that specifier in the source: with a quote
+-- on each side where it is quoted, and else by itself
+pub record HasExactRanges (source : List ℕ) (info : ModuleInfo) : Type 0 where
+  pub dependencies : All (CoversTypes source) info.dependencies
+  pub ts_references : All (CoversReference source) info.ts_references
+  pub self_types_specifier : IfSome info.self_types_specifier (CoversQuoted source)
+  pub jsx_import_source : IfSome info.jsx_import_source (CoversBare source)
+  pub jsx_import_source_types : IfSome info.jsx_import_source_types (CoversBare source)
+  pub jsdoc_imports : All (λ import. CoversInEqualQuotes source import.specifier) info.jsdoc_imports
+  pub source_map_url : IfSome info.source_map_url (CoversBare source)

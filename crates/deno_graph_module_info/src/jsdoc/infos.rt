@@ -1,0 +1,88 @@
+//! The list of JSDoc imports of a module.
+
+ghost use Rattle.std.specs.Prelude.{◌≡◌, map, true, IfOk};
+ghost use Rattle.std.specs.List.{All};
+ghost use Rattle.deno_graph_jsdoc.specs.JsDocImport.{import_of};
+ghost use Rattle.deno_graph_module_info.specs.JsDocInfo.{CoversInEqualQuotes, IsJsDocList, info_of};
+ghost use Rattle.deno_graph_module_info.specs.CommentImports.{AreApart, IsQuotedAt, reads_jsdoc};
+ghost use Rattle.deno_graph_source.specs.Source.{IsSpelled};
+
+use crate::jsdoc::imports::{imports_of, reads_jsdoc};
+use deno_graph_base::text::{PositionRange, SourceRange, SourceTextInfo};
+use deno_graph_base::values::Text;
+use deno_graph_info::analysis::{JsDocImportInfo, SpecifierWithRange};
+use deno_graph_jsdoc::JsDocImport;
+use deno_graph_source::tree::{DependencyComment, MediaType};
+use std::alloc::{AllocError, Global};
+
+/// The imports that the JSDoc comments among `comments` state, by ascending start, each once. Their
+/// ranges take in the two quotes. None in files of other types than JavaScript, Jsx, Mjs and Cjs.
+///
+/// The comments are those of a valid source: each is written in the text at its range, and unequal
+/// ones share no byte. Their order, and how often each is there, makes no difference. The only
+/// error is that memory was refused.
+pub fn jsdoc_imports(
+    alloc: Global,
+    media_type: MediaType,
+    text_info: &SourceTextInfo,
+    comments: &[&DependencyComment],
+) -> Result<Vec<JsDocImportInfo>, AllocError>
+    requires spelled { All (IsSpelled text_info.now) (map (λ comment. comment.now) comments.now) }
+    requires apart { AreApart (map (λ comment. comment.now) comments.now) }
+    ensures list { IfOk result (λ infos. IsJsDocList (reads_jsdoc media_type) text_info.now
+        (map (λ comment. comment.now) comments.now) infos.items) }
+    ensures covers { IfOk result
+        (λ infos. All (λ info. CoversInEqualQuotes text_info.now info.specifier) infos.items) }
+{
+    if !reads_jsdoc(media_type) {
+        return Ok(Vec::new(alloc));
+    }
+    infos_of(alloc, text_info, comments)
+}
+
+/// What is said of the imports that the JSDoc comments among `comments` state, by ascending start,
+/// each once.
+pub(crate) fn infos_of(
+    alloc: Global,
+    text_info: &SourceTextInfo,
+    comments: &[&DependencyComment],
+) -> Result<Vec<JsDocImportInfo>, AllocError>
+    requires spelled { All (IsSpelled text_info.now) (map (λ comment. comment.now) comments.now) }
+    requires apart { AreApart (map (λ comment. comment.now) comments.now) }
+    ensures list { IfOk result (λ infos. IsJsDocList true text_info.now
+        (map (λ comment. comment.now) comments.now) infos.items) }
+    ensures covers { IfOk result
+        (λ infos. All (λ info. CoversInEqualQuotes text_info.now info.specifier) infos.items) }
+{
+    let imports = imports_of(alloc, comments)?;
+    let mut infos = Vec::new(alloc);
+    for import in &imports {
+        infos.push(info_of(alloc, text_info, import)?)?;
+    }
+    Ok(infos)
+}
+
+/// What is said of an import whose range is counted from the start of the source.
+fn info_of(
+    alloc: Global,
+    text_info: &SourceTextInfo,
+    import: &JsDocImport<'_>,
+) -> Result<JsDocImportInfo, AllocError>
+    requires { IsQuotedAt text_info.now (import_of import.now) }
+    ensures info { IfOk result (λ info. info ≡ info_of text_info.now (import_of import.now)) }
+    ensures covers { IfOk result (λ info. CoversInEqualQuotes text_info.now info.specifier) }
+{
+    let length = text_info.text().len();
+    prove!(import.specifier_range.end < length);
+    let range = SourceRange {
+        start: import.specifier_range.start - 1,
+        end: import.specifier_range.end + 1,
+    };
+    Ok(JsDocImportInfo {
+        specifier: SpecifierWithRange {
+            text: Text::from_str(alloc, import.specifier)?,
+            range: PositionRange::from_source_range(range, text_info),
+        },
+        resolution_mode: import.resolution_mode,
+    })
+}

@@ -1,0 +1,12 @@
+pub mod Answer
+pub mod Comments
+pub mod Document
+pub mod Fault
+pub mod Kind
+pub mod Literal
+pub mod Misfit
+pub mod Node
+pub mod Partial
+pub mod Place
+pub mod Pointer
+pub mod Report

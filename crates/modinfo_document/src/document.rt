@@ -1,0 +1,104 @@
+//! Documents: modules as a parser hands them over.
+
+ghost use Rattle.std.specs.Prelude.{◌≡◌, IfErr, MatchResult, None, Ok};
+ghost use Rattle.url.specs.Parser.{parse_url};
+ghost use Rattle.deno_graph_json.specs.Tape.{object_of_members};
+ghost use Rattle.deno_graph_json.specs.View.{members_of, value_of};
+ghost use Rattle.modinfo_document.specs.Answer.{AnswersBy};
+ghost use Rattle.modinfo_document.specs.Document.{Has, HasTree, IsDocumentOf, IsNoDocument};
+ghost use Rattle.modinfo_document.specs.Document.{IsNoSource, IsSourceOf};
+ghost use Rattle.modinfo_document.specs.Document.{reads_document, reads_tree};
+ghost use Rattle.modinfo_document.specs.Misfit.{IsIn};
+
+use crate::comments::read_comments;
+use crate::fault::NotationFault;
+use crate::media_type::read_media_type;
+use crate::member::{members_of, required, text};
+use crate::node::read_program;
+use deno_graph_json::{Element, Members, Tape};
+use deno_graph_source::tree::{Comments, MediaType, ParsedSource, Program};
+use deno_graph_source::values::Text;
+use json::Scratch;
+use std::alloc::Global;
+use std::rc::RcStr;
+use url::Url;
+
+/// A module as a parser hands it over. Whether the specifier is a URL, and whether the tree fits
+/// the source, hasn't been looked at.
+#[derive(Debug, Drop)]
+pub struct Document {
+    pub specifier: Text,
+    pub media_type: MediaType,
+    pub source: RcStr,
+    pub program: Program,
+    pub comments: Comments,
+}
+
+/// Reads a document. `NotInNotation` where the value isn't in the notation, with the first place
+/// that was found where it isn't.
+pub fn read_document(alloc: Global, value: Element<'_>) -> Result<Document, NotationFault>
+    ensures misfit { IfErr result (IsIn value.entry) }
+    ensures read { AnswersBy Has (reads_document (value_of value.entry)) result }
+{
+    let members = members_of(value)?;
+    let specifier = Text::from_str(alloc, text(members, "specifier")?)?;
+    let media_type = read_media_type(required(members, "mediaType")?)?;
+    let source = RcStr::from_str(alloc, text(members, "source")?)?;
+    let (comments, program) = read_tree(alloc, members)?;
+    Ok(Document {
+        specifier,
+        media_type,
+        source,
+        program,
+        comments,
+    })
+}
+
+/// The comments and the program.
+#[tactic(auto, using(crate::proofs::Reading::reading_by), unfolding(crate::specs::Document::reads_tree, crate::specs::Partial::required))]
+fn read_tree(alloc: Global, members: Members<'_>) -> Result<(Comments, Program), NotationFault>
+    ensures misfit { IfErr result (IsIn (object_of_members members.entry)) }
+    ensures read { AnswersBy HasTree (reads_tree (members_of members.entry)) result }
+{
+    let comments = read_comments(alloc, members)?;
+    let program = read_program(alloc, required(members, "program")?)?;
+    Ok((comments, program))
+}
+
+/// Reads a document. `Json` where the text is no JSON, nests deeper than 127 or has a number too
+/// large for a float, and `NotInNotation` where it isn't in the notation: each with its place.
+pub fn parse_document(alloc: Global, text: &str) -> Result<Document, NotationFault>
+    ensures { MatchResult result (IsDocumentOf text.now) (IsNoDocument text.now) }
+{
+    let mut scratch = Scratch::new(alloc);
+    let tape = Tape::read(alloc, text, &mut scratch)?;
+    read_document(alloc, tape.root())
+}
+
+impl Document {
+    /// The URL that the specifier spells. `Specifier` where it is none.
+    pub fn url(&self, alloc: Global) -> Result<Url, NotationFault>
+        ensures { MatchResult result (λ url. parse_url None self.now.specifier ≡ Ok url)
+            (IsNoSource self.now) }
+    {
+        Ok(Url::parse(alloc, self.specifier.as_str())?)
+    }
+
+    /// The source, without scope analysis. `Specifier` where the specifier is no URL, and else a
+    /// fault of the source where the tree or the comments don't fit it.
+    pub fn into_source(self, alloc: Global) -> Result<ParsedSource, NotationFault>
+        ensures { MatchResult result (IsSourceOf self) (IsNoSource self) }
+    {
+        let Document {
+            specifier,
+            media_type,
+            source,
+            program,
+            comments,
+        } = self;
+        let specifier = Url::parse(alloc, specifier.as_str())?;
+        Ok(ParsedSource::new(
+            alloc, specifier, source, media_type, program, comments, false,
+        )?)
+    }
+}

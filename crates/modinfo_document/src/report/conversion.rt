@@ -1,0 +1,91 @@
+//! Documents of `convert`: stored information of one module.
+
+ghost use Rattle.std.specs.Prelude.{◌≡◌, IfOk, IfSome, IsNone, MatchOption};
+ghost use Rattle.serde_json.specs.View.{view};
+ghost use Rattle.deno_graph_info.specs.Conversion.{IsConverted, IsConvertFault};
+ghost use Rattle.modinfo_document.specs.Report.{CanBeConverted, PointsInto};
+
+use crate::report::Wrong;
+use deno_graph_info::analysis::{ConvertFault, module_graph_1_to_2};
+use deno_graph_json::{ReadError, find_float};
+use serde_json::{Map, Value};
+use std::alloc::{AllocError, Global};
+
+/// Converts stored information in place. `None` where it was converted; else why it can't be, or that
+/// memory was refused, and it is as it was.
+pub fn convert_fault(alloc: Global, value: &mut Value) -> Option<ConvertFault>
+    ensures fault { MatchOption result (CanBeConverted (view value.old)) (IsConvertFault (view value.old)) }
+    ensures converted { IsNone result → IsConverted (view value.old) (view value.new) }
+    ensures unchanged { IfSome result (λ _. value.new ≡ value.old) }
+{
+    module_graph_1_to_2(alloc, value).err()
+}
+
+/// The fault of stored information that isn't converted. The only error is that an allocation failed.
+pub fn wrong_stored(alloc: Global, value: &Value, fault: ConvertFault) -> Result<Wrong, AllocError>
+    ensures { fault ≡ ConvertFault.Float → IfOk result (PointsInto (view value.now)) }
+{
+    let name = format!(in alloc; "{fault}")?;
+    match fault {
+        ConvertFault::Float => wrong_float(alloc, name, value),
+        _ => wrong_column(alloc, name, value),
+    }
+}
+
+/// The fault of the first number that isn't held as a whole number.
+fn wrong_float(alloc: Global, name: String, value: &Value) -> Result<Wrong, AllocError>
+    ensures { IfOk result (PointsInto (view value.now)) }
+{
+    match find_float(alloc, value) {
+        Err(ReadError::Mismatch(mismatch)) => Wrong::of_mismatch(alloc, name, &mismatch),
+        _ => Err(AllocError),
+    }
+}
+
+/// The fault of the first dependency whose types would end beyond the largest column. The pointer
+/// leads to the column at which its last comment starts.
+fn wrong_column(alloc: Global, name: String, value: &Value) -> Result<Wrong, AllocError> {
+    let Some(dependencies) = array_at(value, "dependencies") else {
+        return Err(AllocError);
+    };
+    for (number, dependency) in dependencies.iter().enumerate() {
+        if overflows(alloc, dependency)? {
+            let count = array_at(dependency, "leadingComments").map_or(
+                0,
+                |comments| comments.len(),
+            );
+            let last = count.saturating_sub(1);
+            let pointer = format!(in alloc;
+                "/dependencies/{number}/leadingComments/{last}/range/0/1"
+            )?;
+            let expected = String::from_str(alloc, "a column from which the types end below 2^64")?;
+            return Ok(Wrong::of_value(name, pointer, expected));
+        }
+    }
+    Err(AllocError)
+}
+
+/// The array that is the member of this name.
+fn array_at<'a>(value: &'a Value, name: &str) -> Option<&'a Vec<Value>> {
+    value.get(name)?.as_array()
+}
+
+/// Whether the conversion of a module with this dependency alone has a column that is too large.
+fn overflows(alloc: Global, dependency: &Value) -> Result<bool, AllocError> {
+    let mut module = module_with(alloc, dependency)?;
+    match convert_fault(alloc, &mut module) {
+        None => Ok(false),
+        Some(ConvertFault::OutOfMemory) => Err(AllocError),
+        Some(_) => Ok(true),
+    }
+}
+
+/// The information of a module that has this dependency alone.
+fn module_with(alloc: Global, dependency: &Value) -> Result<Value, AllocError> {
+    let mut dependencies = Vec::new(alloc);
+    dependencies.push(dependency.clone()?)?;
+    let name = String::from_str(alloc, "dependencies")?;
+    let mut module = Map::new(alloc);
+    drop(module.insert(name, Value::Array(dependencies))?);
+    Ok(Value::Object(module))
+}
