@@ -1,4 +1,4 @@
-//! Floats in JSON values.
+//! Search for floats in JSON values: numbers that aren't held as whole numbers.
 
 ghost use Rattle.std.specs.Prelude.{◌≡◌};
 ghost use Rattle.serde_json.specs.Data.{array, object};
@@ -12,7 +12,7 @@ use crate::expected::Expected;
 use serde_json::{Map, Value};
 use std::alloc::Global;
 
-/// Whether a number that isn't held as a whole number is anywhere in the value.
+/// Returns whether a number that isn't held as a whole number is anywhere in the value.
 #[cycle(float)]
 pub fn has_float(value: &Value) -> bool
     ensures { result ≡ holds_float (view value.now) }
@@ -49,8 +49,8 @@ fn members_have_float(members: &Map<String, Value>) -> bool
     false
 }
 
-/// Finds the first number that isn't held as a whole number. The error says where it is, or that
-/// an allocation failed.
+/// Returns `Mismatch` with the path to the first number that isn't held as a whole number, if there
+/// is one, and `OutOfMemory` if an allocation fails.
 #[cycle(find_float)]
 pub fn find_float(alloc: Global, value: &Value) -> Result<(), ReadError>
     ensures { Answers (view value.now) (unless_float (holds_float (view value.now))) result }

@@ -18,7 +18,7 @@ use deno_graph_base::values::Items;
 use serde_json::{Map, Value};
 use std::alloc::Global;
 
-/// An object that is read member by member.
+/// Reads an object member by member.
 #[derive(Drop)]
 pub struct ObjectReader<'v> {
     alloc: Global,
@@ -26,7 +26,7 @@ pub struct ObjectReader<'v> {
 }
 
 impl<'v> ObjectReader<'v> {
-    /// Reads the members of an object. Allocates nothing.
+    /// Begins to read an object. Allocates nothing. Returns `Mismatch` if the value is no object.
     pub fn new(alloc: Global, value: &'v Value) -> Result<ObjectReader<'v>, ReadError>
         ensures { AnswersSeen readable (view value.now) (as_object (view value.now)) result }
     {
@@ -34,14 +34,14 @@ impl<'v> ObjectReader<'v> {
         Ok(ObjectReader::of_members(alloc, members))
     }
 
-    /// The object that has these members. Allocates nothing.
+    /// Begins to read the object with these members. Allocates nothing.
     pub fn of_members(alloc: Global, members: &'v Map<String, Value>) -> ObjectReader<'v>
         ensures { readable result ≡ members_view members.now.entries }
     {
         ObjectReader { alloc, members }
     }
 
-    /// The number of its members.
+    /// Returns the number of members.
     pub fn member_count(&self) -> usize
         ensures { result ≡ members_len (readable self.now) }
     {
@@ -75,7 +75,7 @@ impl<'v> ObjectReader<'v> {
         }
     }
 
-    /// Reads a member, or returns `default` where the object has no such member.
+    /// Reads a member, or returns `default` if the object has no such member.
     #[tactic(auto, unfolding(crate::specs::Read::Partial::member_or))]
     pub fn read_or<T: FromJson + Drop>(&self, key: &'static str, default: T) -> Result<T, ReadError>
         ensures { Answers (value_of self.now)
@@ -87,7 +87,7 @@ impl<'v> ObjectReader<'v> {
         }
     }
 
-    /// Reads the items of a member that is an array, none where the object has no such member.
+    /// Reads the items of a member that is an array, or returns none if the object has no such member.
     pub fn read_list<T: FromJson + Drop>(&self, key: &'static str) -> Result<Items<T>, ReadError>
         ensures { Answers (value_of self.now)
             (member_or (reads_array T.reads) key.now [] (readable self.now)) result }
@@ -95,7 +95,7 @@ impl<'v> ObjectReader<'v> {
         self.read_or(key, Items::new(self.alloc))
     }
 
-    /// The error of a member that isn't what is expected.
+    /// Returns the error of a member that isn't what is expected.
     pub fn member_error(&self, key: &str, expected: Expected) -> ReadError
         ensures { (member : Data) → get_member key.now (readable self.now) ≡ Some member
             → IsNot expected member → IsIn (value_of self.now) result }
@@ -104,7 +104,7 @@ impl<'v> ObjectReader<'v> {
     }
 }
 
-/// The value of a member, if there is one.
+/// Returns the value of a member, if there is one.
 pub fn find_member<'v>(object: &'v Map<String, Value>, key: &str) -> Option<&'v Value>
     ensures { option_map (λ v. view v.now) result
         ≡ get_member key.now (members_view object.now.entries) }

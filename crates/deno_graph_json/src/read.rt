@@ -13,16 +13,16 @@ use deno_graph_base::values::{Items, Text, TextMap};
 use serde_json::{Map, Value};
 use std::alloc::Global;
 
-/// A type that is read from JSON.
+/// A type that can be read from JSON.
 pub trait FromJson {
     ghost use Rattle.std.specs.Prelude.{Option};
     ghost use Rattle.serde_json.specs.Data.{Data};
 
-    /// The value whose JSON the data are, `None` where they are the JSON of none.
+    /// The value that is read from JSON data, or `None` if the data can't be read.
     ghost reads: { Data → Option Self };
 
-    /// Reads that value. The error says where in `value` something else was expected, or that an
-    /// allocation failed.
+    /// Reads the value. Returns `Mismatch` with the path to a part of `value` that isn't as expected,
+    /// or `OutOfMemory` if an allocation fails.
     fn from_json(alloc: Global, value: &Value) -> Result<Self, ReadError>
         ensures { Answers (view value.now) (reads (view value.now)) result };
 }
@@ -128,7 +128,7 @@ fn read_map<T: FromJson + Drop>(
     Ok(map)
 }
 
-/// Reads the item of this number, from zero, of an array.
+/// Reads the item of an array that has this index, counted from zero.
 fn read_item<T: FromJson>(alloc: Global, number: usize, value: &Value) -> Result<T, ReadError>
     ensures { (array : Data) → at number array ≡ Some (view value.now)
         → Answers array (T.reads (view value.now)) result }
@@ -139,7 +139,7 @@ fn read_item<T: FromJson>(alloc: Global, number: usize, value: &Value) -> Result
     }
 }
 
-/// Reads the member of this name of an object.
+/// Reads the member of an object that has this name.
 pub(crate) fn read_member<T: FromJson>(
     alloc: Global,
     name: &str,
@@ -184,7 +184,8 @@ pub fn read_object(alloc: Global, value: &Value) -> Result<&Map<String, Value>, 
     }
 }
 
-/// Returns the values of an array of two, which `items` describes in words. Allocates nothing.
+/// Returns the items of an array of two. `items` describes them in words, for the error. Allocates
+/// nothing.
 fn read_two<'v>(
     alloc: Global,
     value: &'v Value,
@@ -205,7 +206,7 @@ fn read_two<'v>(
     }
 }
 
-/// Reads both items of an array of two, which `items` describes in words.
+/// Reads both items of an array of two. `items` describes them in words, for the error.
 #[tactic(auto, using(crate::proofs::Reading::reading), unfolding(crate::specs::Read::Partial::reads_pair))]
 pub fn read_pair<T: FromJson + Drop>(
     alloc: Global,

@@ -22,7 +22,7 @@ impl ToJson for TypeScriptTypesResolutionMode {
     }
 }
 
-/// The name that JSON has for the mode.
+/// Returns the name of the mode in JSON.
 fn name_of(mode: TypeScriptTypesResolutionMode) -> &'static str
     ensures { result.now ≡ mode_name mode }
 {
@@ -42,7 +42,7 @@ impl FromJson for TypeScriptTypesResolutionMode {
     }
 }
 
-/// The mode that has this name.
+/// Returns the mode with this name in JSON.
 fn mode_named(alloc: Global, name: &str) -> Result<TypeScriptTypesResolutionMode, ReadError>
     ensures { Answers (string name.now) (mode_named name.now) result }
 {

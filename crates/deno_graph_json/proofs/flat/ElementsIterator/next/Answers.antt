@@ -25,7 +25,7 @@ invariant_of-self c =
     let own = found.element in
     let behind : old.at + size_of own ≡ found.end = omega (arith, found.ensures.end, found.ensures.nodes) in
     record {
-      behind_bracket = omega (arith, found.ensures.end);
+      after_bracket = omega (arith, found.ensures.end);
       of_items = subst (λ k. AreOfItems (map plain (drop k nodes))) behind
           (items_behind nodes own.nodes.now old.at
           (size_of own) found.ensures.value.1 own.of_value old.of_items);
@@ -43,7 +43,7 @@ returns-clause-steps c =
       (λ some. found.ensures.some.0 some, λ has. refl),
       (
         (
-          omega (arith, found.ensures.end, found.ensures.nodes, found.ensures.number, old.behind_bracket),
+          omega (arith, found.ensures.end, found.ensures.nodes, found.ensures.number, old.after_bracket),
           omega (arith, found.ensures.end, found.ensures.nodes, found.ensures.number),
         ),
         found.ensures.number,
