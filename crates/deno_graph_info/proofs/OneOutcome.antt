@@ -1,4 +1,4 @@
--- A value is converted to one value at most, and to none where a column overflows.
+-- A value is converted to at most one value, and to none if a column overflows.
 use Rattle.std.proofs.Common.{
   ◌≡◌,
   ℕ,
@@ -115,7 +115,7 @@ module _ (quoted : HasOnePart deno_types_pattern) (bare : HasOnePart quoteless_d
   no_each (item d ds) (item e es) a (inl h) = no_dependency_at d e (comments_in d) refl a.0 h
   no_each (item d ds) (item e es) a (inr h) = no_each ds es a.1 h
 
-  -- ---- the whole
+  -- ---- all dependencies
 
   one_at : (v one other : Data) (found : Option Items) → dependencies_in v ≡ found → IsConverted v one
       → IsConverted v other → one ≡ other
@@ -137,10 +137,10 @@ module _ (quoted : HasOnePart deno_types_pattern) (bare : HasOnePart quoteless_d
       let q : AnyOverflows old = rw is at b in
       no_each old p.0 p.1 q
 
-  -- a value is converted to one at most
+  -- a value is converted to at most one value
   pub converted_once : (v one other : Data) → IsConverted v one → IsConverted v other → one ≡ other
   converted_once v one other a b = one_at v one other (dependencies_in v) refl a b
 
-  -- and to none where a column overflows
+  -- a value isn't converted if a column overflows
   pub converted_or_overflows : (v one : Data) → IsConverted v one → ¬ Overflows v
   converted_or_overflows v one a b = none_at v one (dependencies_in v) refl a b

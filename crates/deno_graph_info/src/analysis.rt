@@ -1,4 +1,4 @@
-//! What the analysis of one module finds, and its JSON form.
+//! The result of analyzing a module, and its JSON.
 
 pub mod dependency;
 pub mod dynamic_argument;

@@ -1,4 +1,4 @@
-//! The conversion of one module's stored information from version 1 to version 2.
+//! The conversion of a module's stored information from version 1 to version 2.
 
 pub mod comment;
 pub mod convert;

@@ -1,4 +1,4 @@
--- What is at the front of the tokens, and behind a value that was passed.
+-- The value at the front of the tokens, and the tokens after it.
 use Rattle.std.proofs.Common.{◌≡◌, ℕ, ◌+◌, ◌≤◌, max, map, Bool, true, false, ◌&&◌, List, [], ◌∷◌, ◌++◌}
 use Rattle.std.proofs.Common.{Option, Some, None, arith, refl, sym, ap, ◌∙◌, append_assoc, append-nil}
 use Rattle.std.specs.Prelude.{IsTrue}
@@ -90,7 +90,7 @@ none_deep_object ts (string s) r is = absurd (cc (is.0))
 none_deep_object ts (array js) r is = absurd (cc (is.0))
 none_deep_object ts (object ms) r is = absurd (omega (arith, is.1))
 
--- a value may begin with the token
+-- whether a value may begin with the token
 abbrev pub opens_value : Token → Bool
 opens_value Token.end_array = false
 opens_value Token.end_object = false
@@ -155,14 +155,15 @@ item_back d j (item k js) ts us r is all =
     let same = same_ahead j k us (items_tokens js ++ r) (sym is.0 ∙ (item_front d k js ts r all).0) in
     (js, (same.1, omega (arith, all.1), (Fit-parts (json_tokens k) (items_tokens js) all.2).1))
 
--- Once the items from `start` to `now` are passed, what is still ahead makes a whole with them.
+-- The items from `start` to `now` were read: followed by items that begin at `now`, they are items that
+-- begin at `start`.
 abbrev pub ItemsPassed : ℕ → List Token → List Token → List PlainNode → ℕ → Type 0
 ItemsPassed d start now nodes count =
     (js : Items) → (r : List Token) → ItemsAhead d js now r
     → (all : Items) × ItemsAhead d all start r × (items_list all ≡ nodes ++ items_list js)
     × (element_count all ≡ count + element_count js)
 
--- Items from `start` on go on from `now`.
+-- Any items that begin at `start` have a rest that begins at `now`.
 abbrev pub ItemsLeft : ℕ → List Token → List Token → Type 0
 ItemsLeft d start now = (all : Items) → (r : List Token) → ItemsAhead d all start r
     → (js : Items) × ItemsAhead d js now r
@@ -255,7 +256,7 @@ member_back d k j (member name i ms) ts us r is all =
     (sym is.0 ∙ (member_front d name k i ms ts r all).0) in
     (ms, (same.1, omega (arith, all.1), (Fit-parts (json_tokens i) (members_tokens ms) all.2).1))
 
--- as ItemsPassed and ItemsLeft
+-- like ItemsPassed and ItemsLeft, for members
 abbrev pub MembersPassed : ℕ → List Token → List Token → List PlainNode → Type 0
 MembersPassed d start now nodes =
     (ms : Members) → (r : List Token) → MembersAhead d ms now r

@@ -12,21 +12,42 @@ use Rattle.deno_graph_json.specs.Flat.{PlainNode, plain}
 use Rattle.deno_graph_json.specs.Flat as flat
 use Rattle.deno_graph_json.specs.Value.{Value, null, boolean, whole, number, string, array, object, Items}
 use Rattle.deno_graph_json.specs.Value.{no_items, item, Members, no_members, member, item_count, flat_value}
-use Rattle.deno_graph_json.specs.Value.{flat_items, flat_members, plain_inside, value_in, items_in, members_in}
+use Rattle.deno_graph_json.specs.Value.{
+  flat_items,
+  flat_members,
+  plain_inside,
+  value_in,
+  items_in,
+  members_in,
+}
 use Rattle.deno_graph_json.specs.Value.{AreOfValue, AreOfItems, AreOfMembers, BeginsValue}
-use Rattle.deno_graph_json.specs.Tape.{HasValueAt, HasMemberAt, inside_of, node_of, array_of_elements, place_of}
+use Rattle.deno_graph_json.specs.Tape.{
+  HasValueAt,
+  HasMemberAt,
+  inside_of,
+  node_of,
+  array_of_elements,
+  place_of,
+}
 use Rattle.deno_graph_json.specs.Tape.{object_of_entries, place_of_entries}
 use Rattle.deno_graph_json.specs.View.{items_left, items_with, members_left, members_with}
 use Rattle.deno_graph_json.specs.declared.flat.Element.{Element}
 use Rattle.deno_graph_json.specs.declared.flat.Elements.{Elements}
 use Rattle.deno_graph_json.specs.declared.flat.Entries.{Entries}
 use Rattle.deno_graph_json.specs.declared.flat.Node.{Node}
-use Rattle.deno_graph_json.specs.declared.flat.Node.TheVariants.{Null, Bool as TheBool, Whole, Number, String, Key}
+use Rattle.deno_graph_json.specs.declared.flat.Node.TheVariants.{
+  Null,
+  Bool as TheBool,
+  Whole,
+  Number,
+  String,
+  Key,
+}
 use Rattle.deno_graph_json.specs.declared.flat.Node.TheVariants.{Array, Object}
 use Rattle.deno_graph_json.proofs.Values.{some_value, same_front, is_items, is_members, of_value, of_items}
 use Rattle.deno_graph_json.proofs.Values.{of_members}
 
--- ---- nodes at a place
+-- ---- the node at an index
 
 pub found_at : (nodes : List Node) (at : ℕ) (node : Node) → slice_get nodes at ≡ Some node
     → drop at nodes ≡ node ∷ drop (suc at) nodes
@@ -51,7 +72,7 @@ none_at [] at behind = refl
 none_at (x ∷ xs) zero behind = absurd (omega arith)
 none_at (x ∷ xs) (suc at) behind = none_at xs at (omega arith)
 
--- what `get` finds
+-- the result of `get`
 pub got_at : (nodes : List Node) (at : ℕ) (r : Option (Bor Node)) → is_some r ≡ ltb at (length nodes)
     → IfSome r (λ x. x.now ≡ get_or nodes at x.now) → option_copied r ≡ slice_get nodes at
 got_at nodes at None some is = none_at nodes at (ltb-false at (length nodes) (sym some))
@@ -66,7 +87,7 @@ pub plain_at : (nodes : List Node) (at : ℕ) (node : Node) → slice_get nodes 
     → map plain (drop at nodes) ≡ plain node ∷ map plain (drop (suc at) nodes)
 plain_at nodes at node e = ap (map plain) (found_at nodes at node e)
 
--- own is the n nodes from `at` on
+-- `own` are the n nodes from index `at`
 pub parts : (nodes own : List Node) (at n : ℕ) → own ≡ take n (drop at nodes)
     → map plain (drop at nodes) ≡ map plain own ++ map plain (drop (at + n) nodes)
 parts nodes own at n is =
@@ -100,7 +121,7 @@ front_length (object ms) r n ns e = let same : n ≡ flat.object (length (flat_m
     (arith, ap plain_inside same)
 
 module _ (nodes : List Node) (at : ℕ) where
-  -- a value that begins at a place takes the nodes that its own one says
+  -- a value has as many nodes as its first node counts
   size_here : (v : Value) (r : List PlainNode) (node : Node) → slice_get nodes at ≡ Some node
       → map plain (drop at nodes) ≡ flat_value v ++ r
       → length (flat_value v) ≡ inside_of node + 1
@@ -167,7 +188,7 @@ unfolding flat_value
 begins_member no_members name ns is = absurd (cc)
 begins_member (member k v ms) name ns is = λ some. (v, flat_members ms, cc)
 
--- ---- one item or member is passed
+-- ---- passing an item or member
 
 module _ (w : Value) (ns rest : List PlainNode) where
   item_passed : (vs : Items) → flat_items vs ≡ ns → ns ≡ flat_value w ++ rest
@@ -246,7 +267,7 @@ module _ (nodes : List Node) (at : ℕ) (name : Bor (List ℕ))
         one.1 ∙ ap (member name.now (value_in (map plain own)))
         (sym (is_members (map plain (drop (at + 1 + n) nodes)) one.0 one.2))
 
--- ---- no member
+-- ---- no member is left
 
 is_name : (node : Node) (k : List ℕ) → plain node ≡ flat.key k → (name : Bor (List ℕ)) × (node ≡ Key name)
 is_name Null k e = absurd (cc)

@@ -1,4 +1,4 @@
--- Values and members, passed one at a time.
+-- Values and members, read one at a time.
 use Rattle.std.proofs.Common.{◌≡◌, ◌≢◌, ℕ, zero, suc, ◌+◌, ◌-◌, ◌<◌, ◌⊎◌, inl, inr, Option, Some, None}
 use Rattle.std.proofs.Common.{IfSome, IfNone, List, arith, refl, sym, ap, subst, ◌∙◌}
 use Rattle.deno_graph_json.specs.Tape.{HasValueAt, IsValueAt, ArePassed, HasMemberAt, HasMember, HasNameAt}
@@ -48,7 +48,7 @@ pub no_member_here : (object : Element) (from : ℕ) → (HasMemberAt object fro
 no_member_here object from none place (zero, has) = none (subst (HasMemberAt object) has.1 has.0)
 no_member_here object from none place (suc count, has) = none has.0
 
--- The value is that of the last member of this name that was passed, and the others of this name are to come.
+-- The value is that of the last member with this name so far; members with this name after it are left.
 abbrev pub LastPassed : Element → List ℕ → ℕ → Option Element → Type 0
 LastPassed object name from None = (later : ℕ) → IsMember object 1 later → HasNameAt object name later
     → IsMember object from later

@@ -60,7 +60,7 @@ module _ {A : Type 0} where
   keys_of-more [] key value rest = refl
   keys_of-more (e ∷ front) key value rest = ap (λ ks. e.0 ∷ ks) (keys_of-more front key value rest)
 
-  -- the entries that were read, with the members that are left
+  -- the entries that were read, followed by the members that are left
   pub record IsSoFar (reads : Data → Option A) (all : List (String Global × Value)) (read : List (List ℕ × A))
       (left : List (String Global × Value)) : Type 0 where
     pub values : reads_members reads (members_view all) ≡ before read
@@ -68,7 +68,7 @@ module _ {A : Type 0} where
     pub ordered : AreAscending (keys_of read ++ keys_of (map entry_of left))
     pub passed : IsRest all left
 
-  -- one entry more is read
+  -- after one more entry
   pub member_more : (reads : Data → Option A) (all : List (String Global × Value))
       (read new : List (List ℕ × A)) (left rest : List (String Global × Value)) (e : String Global × Value)
       (key : List ℕ) (x : A)
@@ -93,7 +93,7 @@ module _ {A : Type 0} where
         passed = rest_next all left rest e so_far.passed first;
       }
 
-  -- before the first
+  -- before the first entry
   pub members_begin : (reads : Data → Option A) (all left : List (String Global × Value))
       (read : List (List ℕ × A)) → IsStrictlySortedBy string_cmp (keys_of all) → left ≡ all → read ≡ []
       → IsSoFar reads all read left
@@ -103,7 +103,7 @@ module _ {A : Type 0} where
     passed = rest_begin all all ordered refl;
   })
 
-  -- a member that is refused refuses all
+  -- if a member can't be read, the map can't
   pub members_refused : (value : Data) (reads : Data → Option A)
       (all left rest : List (String Global × Value))
       (read : List (List ℕ × A)) (e : String Global × Value) (error : ReadError)

@@ -1,4 +1,4 @@
--- How a reader ends: each step of a partial function, and the fault that a `?` returns.
+-- Results of a reader: each step of a partial function, and the error that a `?` returns.
 use Rattle.std.proofs.Common.{
   ◌≡◌,
   ℕ,
@@ -63,34 +63,34 @@ pub goes_on : {A B : Type 0} (o : Option A) (f : A → Option B) (x : A) (r : Op
     → (o >>= f) ≡ r
 goes_on o f x r is later = ap (λ v. v >>= f) is ∙ later
 
--- the exit of a `?` that refuses the whole
+-- the exit of a `?` whose error is that of the whole value
 pub refuses : {A : Type 0} (value : Data) (wanted : Option A) (error : ReadError)
     (answer : Result A ReadError)
     → IsErrAnd answer (λ other. other ≡ error) → IsRefusal value wanted error → Answers value wanted answer
 refuses value wanted error answer is h = let p = err_from_is_err_and answer is in rw (p.1, p.2) h
 
--- a step more around a path
+-- a path with one more step around it
 value_at_more : (path : List Step) (step : Step) (outer inner : Data) → step_into step outer ≡ Some inner
     → value_at (path ++ step ∷ []) outer ≡ value_at path inner
 value_at_more [] step outer inner is = is
 value_at_more (first ∷ path) step outer inner is =
     ap (λ o. o >>= step_into first) (value_at_more path step outer inner is)
 
--- an error in a value is one in the value around it
+-- an error in a value is an error in the value around it
 pub place_around : (path : List Step) (step : Step) (expected : Expected) (outer inner : Data)
     → step_into step outer ≡ Some inner → IsIn inner (mismatch path expected)
     → IsIn outer (mismatch (path ++ step ∷ []) expected)
 place_around path step expected outer inner is h =
     subst (λ o. IsSomeAnd o (IsNot expected)) (sym (value_at_more path step outer inner is)) h
 
--- an error in the value, of which nothing can be read
+-- a value that can't be read, with an error in it
 pub refusal : {A : Type 0} (value : Data) (wanted : Option A) (error : ReadError) → wanted ≡ None
     → IsIn value error
     → IsRefusal value wanted error
 refusal value wanted (Mismatch found) none place = (none, place)
 refusal value wanted OutOfMemory none place = tt
 
--- a refusal of a value is one of the value around it
+-- the result of an inner value that can't be read, around that value
 pub refused_around : {A : Type 0} (outer inner : Data) (wanted : Option A) (old new : ReadError)
     → (IsIn inner old → IsIn outer new) → (IsMismatch new → IsMismatch old) → IsRefusal inner wanted old
     → IsRefusal outer wanted new
@@ -99,7 +99,7 @@ refused_around outer inner wanted OutOfMemory (Mismatch other) place mismatch h 
 refused_around outer inner wanted old OutOfMemory place mismatch h = tt
 
 module _ {A B : Type 0} (value : Data) (wanted : Option A) (f : A → Option B) where
-  -- a step that is refused refuses the whole
+  -- if a step fails, the whole fails with the same error
   pub refused : (error : ReadError) → IsRefusal value wanted error → IsRefusal value (wanted >>= f) error
   refused (Mismatch found) h = (ap (λ o. o >>= f) h.0, h.1)
   refused OutOfMemory h = h
@@ -122,7 +122,7 @@ module _ {A B : Type 0} (value : Data) (wanted : Option A) (f : A → Option B) 
   answers_on x answer is h =
       let Goal : Option A → Type 0 = λ o. Answers value (o >>= f) answer in subst Goal (sym is) h
 
--- the data of a string, of an array and of an object
+-- data with a string, an array or an object
 is_string : (d : Data) (s : List ℕ) → as_str d ≡ Some s → d ≡ string s
 is_string (string t) s is = ap (λ o. string (unwrap_or o [])) is
 is_string null s is = absurd (none-some _ is)
@@ -148,7 +148,7 @@ is_object (string t) ms is = absurd (none-some _ is)
 is_object (array t) ms is = absurd (none-some _ is)
 
 module _ {B : Type 0} where
-  -- a string is read on as its text, an array as its items, an object as its members
+  -- reading goes on with the text of a string, the items of an array, the members of an object
   pub string_on : (d : Data) (f : List ℕ → Option B) (s : List ℕ) (answer : Result B ReadError)
       → as_str d ≡ Some s
       → Answers (string s) (f s) answer → Answers d (as_str d >>= f) answer
@@ -162,20 +162,20 @@ module _ {B : Type 0} where
       → as_object d ≡ Some ms → Answers (object ms) (f ms) answer → Answers d (as_object d >>= f) answer
   object_on d f ms answer is h = rw (is_object d ms is) h
 
-  -- a member that is a string is read on as its text
+  -- reading goes on with the text of a member that is a string
   pub member_on : (d : Data) (key : List ℕ) (ms : Members) (f : List ℕ → Option B) (s : List ℕ)
       (answer : Result B ReadError) → get_member key ms ≡ Some (string s) → Answers d (f s) answer
       → Answers d (member_at as_str key ms >>= f) answer
   unfolding member_at
   member_on d key ms f s answer is h = rw is h
 
--- how a reader that reads step by step ends
+-- the lemmas for a reader that reads step by step
 pub ruleset reading = (goes_on, exits, exits_mismatch, string_on, array_on, object_on, member_on, answers_on)
 
 -- ---- lists
 
 module _ {A : Type 0} where
-  -- the items that were read, before those that are still to be read
+  -- the items that were read, followed by those that are left
   abbrev pub before : List A → Option (List A) → Option (List A)
   before xs rest = rest >>= (λ ys. Some (xs ++ ys))
 
@@ -184,7 +184,7 @@ module _ {A : Type 0} where
   before_more xs x None = refl
   before_more xs x (Some ys) = ap Some (sym (append_assoc xs (x ∷ []) ys))
 
-  -- one item more is read
+  -- after one more item
   pub items_more : (reads : Data → Option A) (xs : List A) (d : Data) (ds : Items) (x : A) → reads d ≡ Some x
       → before xs (reads_items reads (item d ds)) ≡ before (xs ++ x ∷ []) (reads_items reads ds)
   unfolding reads_items
@@ -194,7 +194,7 @@ module _ {A : Type 0} where
   before_nil None = refl
   before_nil (Some ys) = refl
 
-  -- an item that is refused refuses all
+  -- if an item can't be read, the list can't
   pub items_refused : (value : Data) (reads : Data → Option A) (all : Option (List A)) (xs : List A)
       (d : Data) (ds : Items) (error : ReadError) → all ≡ before xs (reads_items reads (item d ds))
       → IsRefusal value (reads d) error → IsRefusal value all error
@@ -210,18 +210,18 @@ module _ {A : Type 0} where
 
 -- ---- an array, item by item
 
--- the item after so many is the one of this number
+-- the item after i items is the one with index i
 pub item_here : (all : List Value) (i place : ℕ) (v : Value) → i < length all → v ≡ get_or all i v → place ≡ i
     → at place (array (items_view all)) ≡ Some (view v)
 item_here all i place v below is same =
     rw same (sym (get_item_within all i v below) ∙ ap (λ w. Some (view w)) (sym is))
 
 module _ {A : Type 0} (reads : Data → Option A) (all : List Value) where
-  -- what is read of the items from a number on
+  -- the items from index i, as they are read
   abbrev pub from : ℕ → Option (List A)
   from i = reads_items reads (items_of (map view (drop i all)))
 
-  -- the item with a number, and those behind it
+  -- the item with index i, and those after it
   from_here : (i : ℕ) (v : Value) → i < length all → v ≡ get_or all i v
       → from i ≡ reads_items reads (item (view v) (items_of (map view (drop (i + 1) all))))
   from_here i v below is =

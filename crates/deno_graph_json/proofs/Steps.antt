@@ -1,13 +1,19 @@
--- The steps from a value to those right in it.
+-- The steps from a value to its items or members.
 use Rattle.std.proofs.Common.{◌≡◌, ℕ, suc, ◌+◌, inl, inr, arith, refl, sym, subst, ◌∙◌}
 use Rattle.deno_graph_json.specs.Tape.{HasNode, HasValueAt, IsValueAt, ArePassed, HasMemberAt, IsMember}
 use Rattle.deno_graph_json.specs.Tape.{IsArray, IsObject, size_of}
 use Rattle.deno_graph_json.specs.Pointer.{index, name, Selects, HasInner}
 use Rattle.deno_graph_json.specs.declared.flat.Element.{Element}
-use Rattle.deno_graph_json.proofs.Places.{before_all, here_or_passed, none_here, member_before, here_or_behind}
+use Rattle.deno_graph_json.proofs.Places.{
+  before_all,
+  here_or_passed,
+  none_here,
+  member_before,
+  here_or_behind,
+}
 use Rattle.deno_graph_json.proofs.Places.{no_member_here}
 
--- two values at one place have the same nodes
+-- two values at the same index have the same nodes
 same_node : (holder a b : Element) (at number : ℕ) → HasValueAt holder at → IsValueAt holder at a
     → IsValueAt holder at b → HasNode a number → HasNode b number
 same_node holder a b at number there is_a is_b has =
@@ -15,7 +21,7 @@ same_node holder a b at number there is_a is_b has =
     let other = is_b.2 there.0 there.1 in
     (omega (arith, is_a.0, is_b.0, has.0), omega (arith, is_a.0, is_b.0, one, other, has.1))
 
--- So many elements were passed, and none of them has the node.
+-- `count` elements were passed, and none of them has the node.
 abbrev pub ElementsMissed : Element → ℕ → ℕ → ℕ → Type 0
 ElementsMissed array number from count =
     ((more : ℕ) → (place : ℕ) → ArePassed array from more place → ArePassed array 1 (count + more) place)

@@ -1,4 +1,4 @@
--- A list of nodes is that of one value at most, and the values in a list.
+-- A list of nodes is the flat list of at most one value, and the values in a list.
 use Rattle.std.proofs.Common.{
   ◌≡◌,
   ℕ,
@@ -29,7 +29,15 @@ use Rattle.std.proofs.lemmas.List.{take_at, drop_at}
 use Rattle.std.specs.Str.Parse.{digits_value}
 use Rattle.json.specs.Json.{Json}
 use Rattle.json.specs.Json as json
-use Rattle.deno_graph_json.specs.Flat.{PlainNode, plain, number_node, is_whole, flat_list, items_list, members_list}
+use Rattle.deno_graph_json.specs.Flat.{
+  PlainNode,
+  plain,
+  number_node,
+  is_whole,
+  flat_list,
+  items_list,
+  members_list,
+}
 use Rattle.deno_graph_json.specs.Flat as flat
 use Rattle.deno_graph_json.specs.Value.{
   Value,
@@ -151,7 +159,7 @@ same_front v w r s e =
       sym (behind_front v r) ∙ ap behind e ∙ behind_front w s,
     )
 
--- ---- what a list is of
+-- ---- the value of a list
 
 pub is_value : (nodes : List PlainNode) (v : Value) → nodes ≡ flat_value v → value_in nodes ≡ v
 unfolding value_in
@@ -183,7 +191,7 @@ pub of_members : (nodes : List PlainNode) (ms : Members) → nodes ≡ flat_memb
     → flat_members (members_in nodes) ≡ nodes
 of_members nodes ms e = ap flat_members (is_members nodes ms e) ∙ sym e
 
--- ---- what is kept of a value of JSON
+-- ---- the part of a JSON value that is kept
 
 same_count : (js : json.Items) → item_count (plain_items js) ≡ flat.element_count js
 unfolding plain_value

@@ -1,4 +1,4 @@
--- Tables whose keys ascend.
+-- Lists of entries whose keys ascend.
 use Rattle.std.specs.Prelude.{◌≡◌, ℕ, List, [], ◌∷◌, Bool, true, ◌&&◌, refl}
 use Rattle.std.specs.Cmp.Lexicographic.{slice_cmp}
 use Rattle.std.specs.List.{AllByRecursion}
@@ -10,17 +10,17 @@ use Rattle.serde_json.specs.Data.{Data}
 use Rattle.deno_graph_base.specs.TextMap.{IsAscending}
 use Rattle.deno_graph_json.specs.Object.{Entry, map_entries}
 
--- the key is below each key of the table, byte by byte
+-- whether the key is below the key of each entry, compared byte by byte
 abbrev pub is_below : List ℕ → List Entry → Bool
 is_below k [] = true
 is_below k (e ∷ es) = is_lt (slice_cmp nat_cmp k e.0) && is_below k es
 
--- each key is below those after it
+-- whether each key is below those after it
 abbrev pub has_ascending_keys : List Entry → Bool
 has_ascending_keys [] = true
 has_ascending_keys (e ∷ es) = is_below e.0 es && has_ascending_keys es
 
--- the table of a map is such a table
+-- the entries of a map have ascending keys
 module _ {A : Type 0} (f : A → Data) where
   is_below-map : (k : List ℕ) (es : List (List ℕ × A))
       → AllByRecursion (λ l. slice_cmp nat_cmp k l ≡ Less) (keys_of es)

@@ -1,4 +1,4 @@
--- What every reader does.
+-- The contract of every reader.
 pub mod Answer
 pub mod Error
 pub mod Expected

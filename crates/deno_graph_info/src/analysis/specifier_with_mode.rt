@@ -1,4 +1,4 @@
-//! A specifier with the resolution mode that is stated beside it, as members of an object.
+//! A specifier and its resolution mode, as members of an object.
 
 ghost use Rattle.std.specs.Prelude.{◌≡◌, OnOk};
 ghost use Rattle.deno_graph_info.specs.Json.SpecifierWithRange.{IsHeldSpecifier};
@@ -12,7 +12,7 @@ use deno_graph_base::values::TypeScriptTypesResolutionMode;
 use deno_graph_json::{MemberWriter, ObjectReader, ReadError};
 use std::alloc::AllocError;
 
-/// Puts both, the mode if there is one.
+/// Writes the specifier and, if present, `resolutionMode`.
 pub(crate) fn put_specifier_with_mode<W: MemberWriter>(
     specifier: &SpecifierWithRange,
     resolution_mode: &Option<TypeScriptTypesResolutionMode>,
@@ -27,7 +27,7 @@ pub(crate) fn put_specifier_with_mode<W: MemberWriter>(
     out.put("text", &specifier.text)
 }
 
-/// Both, as these members have them.
+/// Reads the specifier and, if present, `resolutionMode`.
 #[tactic(auto, using(deno_graph_json::proofs::Reading::reading), unfolding(crate::specs::Json::SpecifierWithMode::specifier_with_mode))]
 pub(crate) fn read_specifier_with_mode(
     object: &ObjectReader,

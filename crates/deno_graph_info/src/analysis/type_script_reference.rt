@@ -16,7 +16,7 @@ use deno_graph_json::{
 use serde_json::Value;
 use std::alloc::{AllocError, Global};
 
-/// What a triple-slash reference refers to.
+/// A triple-slash reference.
 #[derive(Debug, PartialEq, Eq, Drop)]
 pub enum TypeScriptReference {
     /// `/// <reference path=".." />`.
@@ -24,7 +24,7 @@ pub enum TypeScriptReference {
     /// `/// <reference types=".." />`.
     Types {
         specifier: SpecifierWithRange,
-        /// The value of `resolution-mode`, if it is stated and is one that is known.
+        /// The value of `resolution-mode`, if it is a known mode.
         resolution_mode: Option<TypeScriptTypesResolutionMode>,
     },
 }
@@ -98,7 +98,7 @@ impl FromJson for TypeScriptReference {
     }
 }
 
-/// The reference that has this `type`.
+/// Reads a reference of the type `reference_type`.
 #[tactic(auto, unfolding(crate::specs::Json::TypeScriptReference::reference_of_type))]
 fn read_reference(
     reference_type: &str,
@@ -118,7 +118,7 @@ fn read_reference(
     }
 }
 
-/// The reference to types that has these members.
+/// Reads the members of a reference to types.
 #[tactic(auto, using(deno_graph_json::proofs::Reading::reading), unfolding(crate::specs::Json::TypeScriptReference::reference_to_types))]
 fn read_types(object: &ObjectReader) -> Result<TypeScriptReference, ReadError>
     ensures { Answers (value_of object.now) (reference_to_types (readable object.now)) result }

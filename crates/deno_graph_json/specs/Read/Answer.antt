@@ -1,21 +1,21 @@
--- What a reader returns.
+-- The result of a reader.
 use Rattle.std.specs.Prelude.{◌≡◌, Option, Some, None, Result, MatchResult}
 use Rattle.serde_json.specs.Data.{Data}
 use Rattle.deno_graph_json.specs.Read.Error.{IsIn, IsMismatch}
 use Rattle.deno_graph_json.specs.declared.error.ReadError.{ReadError}
 use Rattle.deno_graph_json.specs.declared.error.ReadError.TheVariants.{Mismatch, OutOfMemory}
 
--- nothing can be read of the value, and the error is in it; or an allocation failed
+-- the value can't be read, and the error is in the value; or an allocation failed
 abbrev pub IsRefusal : {A : Type 0} → Data → Option A → ReadError → Type 0
 IsRefusal value wanted (Mismatch found) = (wanted ≡ None) × IsIn value (Mismatch found)
 IsRefusal value wanted OutOfMemory = Unit {0}
 
--- Ok with what can be read of the value, or an error in the value
+-- Ok with the value that is read, or an error in the JSON value
 abbrev pub Answers : {A : Type 0} → Data → Option A → Result A ReadError → Type 0
 Answers value wanted answer = MatchResult answer (λ x. wanted ≡ Some x) (IsRefusal value wanted)
 
--- The same of a reader that allocates nothing: its error is always a mismatch. What it returns is compared
--- as it is seen, such as a reference as what it points to.
+-- Like `Answers`, for a reader that allocates nothing: the error is always a mismatch. `seen` is the view of
+-- the result that is compared, such as the value to which a reference points.
 abbrev pub AnswersSeen : {A B : Type 0} → (B → A) → Data → Option A → Result B ReadError → Type 0
 AnswersSeen seen value wanted answer = MatchResult answer (λ x. wanted ≡ Some (seen x))
     (λ error. IsMismatch error × (wanted ≡ None) × IsIn value error)

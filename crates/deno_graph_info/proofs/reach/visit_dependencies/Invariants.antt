@@ -1,4 +1,4 @@
--- The dependencies so far are visited.
+-- The dependencies so far were visited.
 use Rattle.std.proofs.Common.{take}
 use Rattle.deno_graph_base.specs.TextMap.{entries_of}
 use Rattle.deno_graph_info.specs.ReachSteps.{Grows, NamesIn, infos_of}
