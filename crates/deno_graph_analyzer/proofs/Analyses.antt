@@ -5,10 +5,10 @@ use Rattle.deno_graph_info.specs.declared.analysis.module_info.ModuleInfo.{Modul
 use Rattle.deno_graph_module_info.specs.InfoOfModule.{IsInfoOfSource}
 use Rattle.deno_graph_analyzer.specs.Analysis.{AnalyzesAs, IsAnalysisOf}
 use Rattle.deno_graph_analyzer.specs.Parsing.{ParseFunction, Input, AnswersAs}
-use Rattle.deno_graph_analyzer.specs.declared.analyze_error.AnalyzeError.{AnalyzeError}
-use Rattle.deno_graph_analyzer.specs.declared.analyze_error.AnalyzeError.TheVariants as analyze
-use Rattle.deno_graph_analyzer.specs.declared.parse_error.ParseError.{ParseError}
-use Rattle.deno_graph_analyzer.specs.declared.parse_error.ParseError.TheVariants as parse
+use Rattle.deno_graph_analyzer.specs.declared.analyzer.AnalyzeError.{AnalyzeError}
+use Rattle.deno_graph_analyzer.specs.declared.analyzer.AnalyzeError.TheVariants as analyze
+use Rattle.deno_graph_analyzer.specs.declared.parser.ParseError.{ParseError}
+use Rattle.deno_graph_analyzer.specs.declared.parser.ParseError.TheVariants as parse
 
 -- where the parser answers its outcome, the analyzer answers by it
 pub analysis_of_outcome : (f : ParseFunction) (asked : Input) (answer : Result ParsedModule ParseError)

@@ -25,8 +25,8 @@ use Rattle.deno_graph_analyzer.specs.Captures.{State, IsSoundState, Captures}
 use Rattle.deno_graph_analyzer.specs.Capturing.{IsFaithful, MatchesInput, HasSourceFor, asked_for}
 use Rattle.deno_graph_analyzer.specs.Parsing.{ParseFunction, AnswerRelation, Input, AnswersAs}
 use Rattle.deno_graph_analyzer.specs.Sources.{Sources, source_at, with_source}
-use Rattle.deno_graph_analyzer.specs.declared.parse_error.ParseError.{ParseError}
-use Rattle.deno_graph_analyzer.specs.declared.parse_error.ParseError.TheVariants.{OutOfMemory}
+use Rattle.deno_graph_analyzer.specs.declared.parser.ParseError.{ParseError}
+use Rattle.deno_graph_analyzer.specs.declared.parser.ParseError.TheVariants.{OutOfMemory}
 use Rattle.deno_graph_analyzer.proofs.Captured.{
   hit_before,
   hit_after,

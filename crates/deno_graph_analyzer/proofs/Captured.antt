@@ -26,7 +26,7 @@ use Rattle.deno_graph_source.specs.ParsedSource.{ParsedModule, marked}
 use Rattle.deno_graph_analyzer.specs.Capturing.{IsFaithful, MatchesInput, HasSourceFor, asked_for}
 use Rattle.deno_graph_analyzer.specs.Parsing.{ParseFunction, Input, IsParsed, AnswersAs, input_of, input_under}
 use Rattle.deno_graph_analyzer.specs.Sources.{Sources, source_at, with_source, with_mark_of}
-use Rattle.deno_graph_analyzer.specs.declared.parse_error.ParseError.{ParseError}
+use Rattle.deno_graph_analyzer.specs.declared.parser.ParseError.{ParseError}
 use Rattle.deno_graph_analyzer.proofs.KeptSources.{source_at-with_source, equal_text}
 
 -- where a second map of sources has what the first has, or that with its mark

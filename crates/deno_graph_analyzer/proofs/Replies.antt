@@ -48,9 +48,9 @@ use Rattle.deno_graph_analyzer.specs.Parsing.{
   specifier_text,
 }
 use Rattle.deno_graph_analyzer.specs.Sources.{Sources, source_at, without_source}
-use Rattle.deno_graph_analyzer.specs.declared.parse_error.ParseDiagnostic.{ParseDiagnostic}
-use Rattle.deno_graph_analyzer.specs.declared.parse_error.ParseError.{ParseError}
-use Rattle.deno_graph_analyzer.specs.declared.parse_error.ParseError.TheVariants as parse
+use Rattle.deno_graph_analyzer.specs.declared.parser.ParseDiagnostic.{ParseDiagnostic}
+use Rattle.deno_graph_analyzer.specs.declared.parser.ParseError.{ParseError}
+use Rattle.deno_graph_analyzer.specs.declared.parser.ParseError.TheVariants as parse
 use Rattle.deno_graph_analyzer.proofs.Analyses.{analysis_of_outcome}
 use Rattle.deno_graph_analyzer.proofs.KeptSources.{
   source_at-with_source,
@@ -74,11 +74,11 @@ use Rattle.deno_graph_analyzer.specs.Commands.{
   AreAnswers,
 }
 use Rattle.deno_graph_analyzer.specs.Runs.{as_called, Ran, Runs}
-use Rattle.deno_graph_analyzer.specs.declared.analyze_error.AnalyzeError.TheVariants as analyze
-use Rattle.deno_graph_analyzer.specs.declared.command.Command.{Command}
-use Rattle.deno_graph_analyzer.specs.declared.command.Command.TheVariants.{Analyze, Parse, Remove}
-use Rattle.deno_graph_analyzer.specs.declared.command.Answer.{Answer}
-use Rattle.deno_graph_analyzer.specs.declared.command.Answer.TheVariants.{Analyzed, Parsed, Removed}
+use Rattle.deno_graph_analyzer.specs.declared.analyzer.AnalyzeError.TheVariants as analyze
+use Rattle.deno_graph_analyzer.specs.declared.run.Command.{Command}
+use Rattle.deno_graph_analyzer.specs.declared.run.Command.TheVariants.{Analyze, Parse, Remove}
+use Rattle.deno_graph_analyzer.specs.declared.run.Answer.{Answer}
+use Rattle.deno_graph_analyzer.specs.declared.run.Answer.TheVariants.{Analyzed, Parsed, Removed}
 
 both : (a b : Bool) → a && b ≡ true → (a ≡ true) × (b ≡ true)
 both true b h = (refl, h)

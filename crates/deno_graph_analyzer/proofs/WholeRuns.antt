@@ -31,10 +31,10 @@ use Rattle.deno_graph_analyzer.specs.Sources.{Sources, no_sources, source_at}
 use Rattle.deno_graph_analyzer.specs.Captures.{State, IsSoundState}
 use Rattle.deno_graph_analyzer.specs.Commands.{unmarked, seen, latest}
 use Rattle.deno_graph_analyzer.specs.Runs.{Ran, Runs, WasRefused, EndsEarly}
-use Rattle.deno_graph_analyzer.specs.declared.command.Command.{Command}
-use Rattle.deno_graph_analyzer.specs.declared.command.Command.TheVariants.{Analyze, Parse, Remove}
-use Rattle.deno_graph_analyzer.specs.declared.command.Answer.{Answer}
-use Rattle.deno_graph_analyzer.specs.declared.command.Answer.TheVariants.{Analyzed, Parsed, Removed}
+use Rattle.deno_graph_analyzer.specs.declared.run.Command.{Command}
+use Rattle.deno_graph_analyzer.specs.declared.run.Command.TheVariants.{Analyze, Parse, Remove}
+use Rattle.deno_graph_analyzer.specs.declared.run.Answer.{Answer}
+use Rattle.deno_graph_analyzer.specs.declared.run.Answer.TheVariants.{Analyzed, Parsed, Removed}
 use Rattle.deno_graph_analyzer.proofs.Replies.{Kept, Replies, all_replies}
 
 -- what follows at either end of a call that may be refused

@@ -6,10 +6,10 @@ use Rattle.deno_graph_source.specs.declared.tree.node.Program.{Program}
 use Rattle.deno_graph_info.specs.declared.analysis.module_info.ModuleInfo.{ModuleInfo}
 use Rattle.deno_graph_module_info.specs.InfoOfModule.{IsInfoOfModule, IsInfoOfSource}
 use Rattle.deno_graph_analyzer.specs.Parsing.{ParseFunction, Input, parsed, refused}
-use Rattle.deno_graph_analyzer.specs.declared.parse_error.ParseError.{ParseError}
+use Rattle.deno_graph_analyzer.specs.declared.parser.ParseError.{ParseError}
 use Rattle.deno_graph_analyzer.specs.AnalyzeError.{analyze_error_of}
-use Rattle.deno_graph_analyzer.specs.declared.analyze_error.AnalyzeError.{AnalyzeError}
-use Rattle.deno_graph_analyzer.specs.declared.analyze_error.AnalyzeError.TheVariants.{Parse, OutOfMemory}
+use Rattle.deno_graph_analyzer.specs.declared.analyzer.AnalyzeError.{AnalyzeError}
+use Rattle.deno_graph_analyzer.specs.declared.analyzer.AnalyzeError.TheVariants.{Parse, OutOfMemory}
 
 -- the info is that of the input's text, read as its media type, with the tree and comments that the
 -- parse function has for the input

@@ -4,8 +4,8 @@ use Rattle.deno_graph_source.specs.ParsedSource.{ParsedModule}
 use Rattle.deno_graph_analyzer.specs.Capturing.{IsFaithful, HasSourceFor, asked_for}
 use Rattle.deno_graph_analyzer.specs.Parsing.{ParseFunction, AnswerRelation, Input, AnswersAs}
 use Rattle.deno_graph_analyzer.specs.Sources.{Sources, source_at, with_source}
-use Rattle.deno_graph_analyzer.specs.declared.parse_error.ParseError.{ParseError}
-use Rattle.deno_graph_analyzer.specs.declared.parse_error.ParseError.TheVariants.{OutOfMemory}
+use Rattle.deno_graph_analyzer.specs.declared.parser.ParseError.{ParseError}
+use Rattle.deno_graph_analyzer.specs.declared.parser.ParseError.TheVariants.{OutOfMemory}
 
 -- a parser, and the sources in a store
 pub record State (P : Type 0) : Type 0 where

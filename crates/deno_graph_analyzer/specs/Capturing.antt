@@ -3,7 +3,7 @@ use Rattle.std.specs.Prelude.{◌≡◌, ℕ, List, Bool, true, false, Some}
 use Rattle.deno_graph_source.specs.ParsedSource.{ParsedModule}
 use Rattle.deno_graph_analyzer.specs.Parsing.{ParseFunction, Input, IsParsed, asked, input_under}
 use Rattle.deno_graph_analyzer.specs.Sources.{Sources, source_at, with_mark}
-use Rattle.deno_graph_analyzer.specs.declared.parse_options.ParseOptions.{ParseOptions}
+use Rattle.deno_graph_analyzer.specs.declared.parser.ParseOptions.{ParseOptions}
 
 -- each source in the store is the parse function's for its specifier and for its own text and
 -- media type

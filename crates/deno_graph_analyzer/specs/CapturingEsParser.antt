@@ -2,7 +2,7 @@
 use Rattle.std.specs.Borrow.{MutBor}
 use Rattle.deno_graph_analyzer.specs.Captures.{State, state}
 use Rattle.deno_graph_analyzer.specs.Sources.{Sources}
-use Rattle.deno_graph_analyzer.specs.declared.capturing_es_parser.CapturingEsParser.{CapturingEsParser}
+use Rattle.deno_graph_analyzer.specs.declared.capturing.CapturingEsParser.{CapturingEsParser}
 
 module _ {P S : Type 0} where
   abbrev pub lent_parser : CapturingEsParser P S → MutBor P

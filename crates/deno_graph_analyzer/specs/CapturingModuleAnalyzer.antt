@@ -1,7 +1,7 @@
 -- What a capturing analyzer holds.
 use Rattle.deno_graph_analyzer.specs.Captures.{State, state}
 use Rattle.deno_graph_analyzer.specs.Sources.{Sources}
-use Rattle.deno_graph_analyzer.specs.declared.capturing_module_analyzer.CapturingModuleAnalyzer.{
+use Rattle.deno_graph_analyzer.specs.declared.capturing.CapturingModuleAnalyzer.{
   CapturingModuleAnalyzer,
 }
 

@@ -39,10 +39,10 @@ use Rattle.deno_graph_analyzer.specs.Parsing.{
 }
 use Rattle.deno_graph_analyzer.specs.Sources.{Sources, source_at}
 use Rattle.deno_graph_analyzer.specs.Analysis.{IsInfoOf}
-use Rattle.deno_graph_analyzer.specs.declared.command.Command.{Command}
-use Rattle.deno_graph_analyzer.specs.declared.command.Command.TheVariants.{Analyze, Parse, Remove}
-use Rattle.deno_graph_analyzer.specs.declared.command.Answer.{Answer}
-use Rattle.deno_graph_analyzer.specs.declared.command.Answer.TheVariants.{Analyzed, Parsed, Removed}
+use Rattle.deno_graph_analyzer.specs.declared.run.Command.{Command}
+use Rattle.deno_graph_analyzer.specs.declared.run.Command.TheVariants.{Analyze, Parse, Remove}
+use Rattle.deno_graph_analyzer.specs.declared.run.Answer.{Answer}
+use Rattle.deno_graph_analyzer.specs.declared.run.Answer.TheVariants.{Analyzed, Parsed, Removed}
 
 -- the second is the first command: of one kind, with equal specifiers, texts and options
 abbrev pub IsCommand : Command → Command → Type 0

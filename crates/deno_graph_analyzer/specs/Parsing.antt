@@ -6,10 +6,10 @@ use Rattle.deno_graph_source.specs.Comments.{FiledComments}
 use Rattle.deno_graph_source.specs.ParsedSource.{ParsedModule}
 use Rattle.deno_graph_source.specs.declared.tree.media_type.MediaType.{MediaType}
 use Rattle.deno_graph_source.specs.declared.tree.node.Program.{Program}
-use Rattle.deno_graph_analyzer.specs.declared.parse_error.ParseDiagnostic.{ParseDiagnostic}
-use Rattle.deno_graph_analyzer.specs.declared.parse_error.ParseError.{ParseError}
-use Rattle.deno_graph_analyzer.specs.declared.parse_error.ParseError.TheVariants.{Diagnostic, OutOfMemory}
-use Rattle.deno_graph_analyzer.specs.declared.parse_options.ParseOptions.{ParseOptions}
+use Rattle.deno_graph_analyzer.specs.declared.parser.ParseDiagnostic.{ParseDiagnostic}
+use Rattle.deno_graph_analyzer.specs.declared.parser.ParseError.{ParseError}
+use Rattle.deno_graph_analyzer.specs.declared.parser.ParseError.TheVariants.{Diagnostic, OutOfMemory}
+use Rattle.deno_graph_analyzer.specs.declared.parser.ParseOptions.{ParseOptions}
 
 -- the text of a specifier, by which specifiers are told apart
 unfoldable pub specifier_text : Parts → List ℕ

@@ -5,18 +5,18 @@ use Rattle.deno_graph_source.specs.ParsedSource.{ParsedModule}
 use Rattle.deno_graph_info.specs.declared.analysis.module_info.ModuleInfo.{ModuleInfo}
 use Rattle.deno_graph_analyzer.specs.Parsing.{ParseFunction, AnswerRelation, Input, specifier_text}
 use Rattle.deno_graph_analyzer.specs.Sources.{source_at, without_source}
-use Rattle.deno_graph_analyzer.specs.declared.parse_error.ParseDiagnostic.{ParseDiagnostic}
-use Rattle.deno_graph_analyzer.specs.declared.parse_error.ParseError.{ParseError}
-use Rattle.deno_graph_analyzer.specs.declared.parse_error.ParseError.TheVariants as parse
+use Rattle.deno_graph_analyzer.specs.declared.parser.ParseDiagnostic.{ParseDiagnostic}
+use Rattle.deno_graph_analyzer.specs.declared.parser.ParseError.{ParseError}
+use Rattle.deno_graph_analyzer.specs.declared.parser.ParseError.TheVariants as parse
 use Rattle.deno_graph_analyzer.specs.Analysis.{IsAnalysisOf}
 use Rattle.deno_graph_analyzer.specs.Captures.{State, Captures}
 use Rattle.deno_graph_analyzer.specs.Commands.{input}
-use Rattle.deno_graph_analyzer.specs.declared.analyze_error.AnalyzeError.{AnalyzeError}
-use Rattle.deno_graph_analyzer.specs.declared.analyze_error.AnalyzeError.TheVariants as analyze
-use Rattle.deno_graph_analyzer.specs.declared.command.Command.{Command}
-use Rattle.deno_graph_analyzer.specs.declared.command.Command.TheVariants.{Analyze, Parse, Remove}
-use Rattle.deno_graph_analyzer.specs.declared.command.Answer.{Answer}
-use Rattle.deno_graph_analyzer.specs.declared.command.Answer.TheVariants.{Analyzed, Parsed, Removed}
+use Rattle.deno_graph_analyzer.specs.declared.analyzer.AnalyzeError.{AnalyzeError}
+use Rattle.deno_graph_analyzer.specs.declared.analyzer.AnalyzeError.TheVariants as analyze
+use Rattle.deno_graph_analyzer.specs.declared.run.Command.{Command}
+use Rattle.deno_graph_analyzer.specs.declared.run.Command.TheVariants.{Analyze, Parse, Remove}
+use Rattle.deno_graph_analyzer.specs.declared.run.Answer.{Answer}
+use Rattle.deno_graph_analyzer.specs.declared.run.Answer.TheVariants.{Analyzed, Parsed, Removed}
 
 -- an answer but that memory was refused, as a call gives it that has this error for a diagnostic
 abbrev pub as_called : {T E : Type 0} → (ParseDiagnostic → E) → Result T ParseDiagnostic → Result T E

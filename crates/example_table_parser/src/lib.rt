@@ -8,7 +8,7 @@ ghost use Rattle.deno_graph_analyzer.specs.Parsing.{asked, input_of, outcome_of}
 ghost use Rattle.example_table_parser.specs.Table.{source_with, unknown_source};
 ghost use Rattle.example_table_parser.specs.TableParser.{known_of, call_count};
 
-use deno_graph_analyzer::{EsParser, ParseDiagnostic, ParseError, ParseOptions};
+use deno_graph_analyzer::parser::{EsParser, ParseDiagnostic, ParseError, ParseOptions};
 use deno_graph_source::text::Position;
 use deno_graph_source::tree::ParsedSource;
 use deno_graph_source::values::{Text, TryClone};

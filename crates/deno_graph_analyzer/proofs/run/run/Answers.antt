@@ -12,7 +12,7 @@ use Rattle.deno_graph_analyzer.proofs.WholeRuns.{
   sound_empty,
   seen_empty,
 }
-use Rattle.deno_graph_analyzer.proofs.running.run.Goals as goal
+use Rattle.deno_graph_analyzer.proofs.run.run.Goals as goal
 
 pub returns-clause-function : goal.returns-clause-function
 returns-clause-function g c =

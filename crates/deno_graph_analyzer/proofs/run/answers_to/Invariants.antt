@@ -2,7 +2,7 @@
 use Rattle.std.proofs.Common.{◌≡◌, ◌≤◌, length, take, vec_len, vec_capacity}
 use Rattle.deno_graph_analyzer.specs.CapturingModuleAnalyzer.{analyzer_state}
 use Rattle.deno_graph_analyzer.specs.Runs.{Runs}
-use Rattle.deno_graph_analyzer.proofs.running.answers_to.Given as goal
+use Rattle.deno_graph_analyzer.proofs.run.answers_to.Given as goal
 
 abbrev pub invariant-loop-command : goal.invariant-loop-command
 invariant-loop-command g l = record {

@@ -8,7 +8,7 @@ use Rattle.deno_graph_analyzer.proofs.KeptSources.{
   with_source_again,
   source_at-with_source_here,
 }
-use Rattle.deno_graph_analyzer.proofs.default_parsed_source_store.marked_source.Goals as goal
+use Rattle.deno_graph_analyzer.proofs.store.marked_source.Goals as goal
 
 at_err : {T E P : Type 0} (result : Result T E) → P → OnErr result P
 at_err (Ok x) p = tt

@@ -2,9 +2,9 @@
 use Rattle.std.proofs.Common.{◌≡◌, ◌<◌, ◌+◌, ◌∷◌, ◌++◌, ◌∙◌, [], length, take, drop, inr, ap, sym, arith}
 use Rattle.std.proofs.lemmas.List.{take_more, drop_more, take-append-drop}
 use Rattle.deno_graph_analyzer.specs.CapturingModuleAnalyzer.{analyzer_state}
-use Rattle.deno_graph_analyzer.specs.declared.command.Command.{Command}
+use Rattle.deno_graph_analyzer.specs.declared.run.Command.{Command}
 use Rattle.deno_graph_analyzer.proofs.WholeRuns.{runs_more, at_err}
-use Rattle.deno_graph_analyzer.proofs.running.answers_to.Goals as goal
+use Rattle.deno_graph_analyzer.proofs.run.answers_to.Goals as goal
 
 pub loop-command-preserved : goal.loop-command-preserved
 loop-command-preserved g c =

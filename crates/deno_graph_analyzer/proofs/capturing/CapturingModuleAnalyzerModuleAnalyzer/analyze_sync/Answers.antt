@@ -1,7 +1,7 @@
 -- Begun sound, the parser's answer is its outcome.
 use Rattle.deno_graph_analyzer.specs.CapturingModuleAnalyzer.{parser_of}
 use Rattle.deno_graph_analyzer.proofs.Analyses.{analysis_of_outcome}
-use Rattle.deno_graph_analyzer.proofs.capturing_module_analyzer.CapturingModuleAnalyzerModuleAnalyzer.analyze_sync.Goals as goal
+use Rattle.deno_graph_analyzer.proofs.capturing.CapturingModuleAnalyzerModuleAnalyzer.analyze_sync.Goals as goal
 
 pub returns-clause-answer : goal.returns-clause-answer
 returns-clause-answer g c = λ sound.

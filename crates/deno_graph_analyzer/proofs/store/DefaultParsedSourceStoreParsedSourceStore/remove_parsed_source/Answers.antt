@@ -3,7 +3,7 @@ use Rattle.std.proofs.Common.{◌∙◌, sym}
 use Rattle.deno_graph_analyzer.specs.Parsing.{specifier_text}
 use Rattle.deno_graph_analyzer.specs.Sources.{source_at, without_source}
 use Rattle.deno_graph_analyzer.proofs.KeptSources.{source_at-sources_of, without-sources_of}
-use Rattle.deno_graph_analyzer.proofs.default_parsed_source_store.DefaultParsedSourceStoreParsedSourceStore.remove_parsed_source.Goals as goal
+use Rattle.deno_graph_analyzer.proofs.store.DefaultParsedSourceStoreParsedSourceStore.remove_parsed_source.Goals as goal
 
 pub returns-clause-former : goal.returns-clause-former
 unfolding specifier_text

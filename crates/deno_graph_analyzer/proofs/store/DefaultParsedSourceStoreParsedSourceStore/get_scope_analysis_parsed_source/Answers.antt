@@ -3,7 +3,7 @@ use Rattle.std.proofs.Common.{◌∙◌, ap}
 use Rattle.std.proofs.lemmas.Result.{on_ok_weaker, IfOk-weaker}
 use Rattle.deno_graph_analyzer.specs.Parsing.{specifier_text}
 use Rattle.deno_graph_analyzer.specs.Sources.{source_at, sources_of, with_mark}
-use Rattle.deno_graph_analyzer.proofs.default_parsed_source_store.DefaultParsedSourceStoreParsedSourceStore.get_scope_analysis_parsed_source.Goals as goal
+use Rattle.deno_graph_analyzer.proofs.store.DefaultParsedSourceStoreParsedSourceStore.get_scope_analysis_parsed_source.Goals as goal
 
 pub returns-clause-found : goal.returns-clause-found
 unfolding specifier_text

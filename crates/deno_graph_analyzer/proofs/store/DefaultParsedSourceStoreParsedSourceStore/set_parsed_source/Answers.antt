@@ -4,7 +4,7 @@ use Rattle.std.specs.String.{string_bytes}
 use Rattle.deno_graph_analyzer.specs.Parsing.{specifier_text}
 use Rattle.deno_graph_analyzer.specs.Sources.{source_at, with_source}
 use Rattle.deno_graph_analyzer.proofs.KeptSources.{source_at-sources_of, with_source-sources_of}
-use Rattle.deno_graph_analyzer.proofs.default_parsed_source_store.DefaultParsedSourceStoreParsedSourceStore.set_parsed_source.Goals as goal
+use Rattle.deno_graph_analyzer.proofs.store.DefaultParsedSourceStoreParsedSourceStore.set_parsed_source.Goals as goal
 
 pub returns-clause-former : goal.returns-clause-former
 unfolding specifier_text

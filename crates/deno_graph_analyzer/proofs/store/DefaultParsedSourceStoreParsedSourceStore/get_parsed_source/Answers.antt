@@ -3,7 +3,7 @@ use Rattle.std.proofs.Common.{◌∙◌, ap, sym, Some}
 use Rattle.deno_graph_analyzer.specs.Parsing.{specifier_text}
 use Rattle.deno_graph_analyzer.specs.Sources.{source_at}
 use Rattle.deno_graph_analyzer.proofs.KeptSources.{source_at-sources_of}
-use Rattle.deno_graph_analyzer.proofs.default_parsed_source_store.DefaultParsedSourceStoreParsedSourceStore.get_parsed_source.Goals as goal
+use Rattle.deno_graph_analyzer.proofs.store.DefaultParsedSourceStoreParsedSourceStore.get_parsed_source.Goals as goal
 
 pub returns-in_ok-try_clone-in-Some : goal.returns-in_ok-try_clone-in-Some
 unfolding specifier_text
