@@ -1,4 +1,4 @@
-//! The analysis of a module, the interfaces of parsers and stores, and analyzers over them.
+//! The analysis of a module; parsers, stores, analyzers and runs of commands.
 
 pub use deno_graph_analyzer::analyzer::{AnalyzeError, ModuleAnalyzer, ParserModuleAnalyzer};
 pub use deno_graph_analyzer::capturing::{CapturingEsParser, CapturingModuleAnalyzer};

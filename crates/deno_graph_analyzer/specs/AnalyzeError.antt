@@ -4,7 +4,7 @@ use Rattle.deno_graph_analyzer.specs.declared.parser.ParseError.TheVariants as p
 use Rattle.deno_graph_analyzer.specs.declared.analyzer.AnalyzeError.{AnalyzeError}
 use Rattle.deno_graph_analyzer.specs.declared.analyzer.AnalyzeError.TheVariants.{Parse, OutOfMemory}
 
--- a parser's error as an analyzer's
+-- the analyzer's error for a parser's error
 abbrev pub analyze_error_of : ParseError → AnalyzeError
 analyze_error_of (parse.Diagnostic diagnostic) = Parse diagnostic
 analyze_error_of parse.OutOfMemory = OutOfMemory

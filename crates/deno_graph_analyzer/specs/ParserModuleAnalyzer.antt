@@ -1,4 +1,4 @@
--- What an analyzer over a parser borrows.
+-- The parser that a `ParserModuleAnalyzer` borrows.
 use Rattle.std.specs.Borrow.{MutBor}
 use Rattle.deno_graph_analyzer.specs.declared.analyzer.ParserModuleAnalyzer.{ParserModuleAnalyzer}
 

@@ -1,4 +1,4 @@
-//! Analyzers of modules, and an analyzer over a parser.
+//! The trait of module analyzers, and an analyzer over a parser.
 
 ghost use Rattle.std.specs.Prelude.{◌≡◌, ◌+◌, ◌≤◌, false};
 ghost use Rattle.deno_graph_analyzer.specs.Analysis.{IsAnalysisOf};
@@ -13,22 +13,22 @@ use std::alloc::{AllocError, Global};
 use std::rc::RcStr;
 use url::Url;
 
-/// An analyzer of modules. It has a parse function, as a parser has.
+/// An analyzer of modules. Each input has at most one outcome of parsing, as in a parser.
 pub trait ModuleAnalyzer {
     ghost use Rattle.std.specs.Prelude.{◌≡◌};
     ghost use Rattle.std.specs.Rc.{rc_str_bytes};
     ghost use Rattle.deno_graph_analyzer.specs.Parsing.{ParseFunction};
-    ghost use Rattle.deno_graph_analyzer.specs.Analysis.{AnalyzesAs};
+    ghost use Rattle.deno_graph_analyzer.specs.Analysis.{IsAnalyzeResult};
     ghost use Rattle.deno_graph_analyzer.specs.Commands.{input};
 
-    /// The outcomes of parsing.
+    /// The outcome of parsing each input.
     ghost parses: { Self → ParseFunction };
 
-    /// Whether its answers are those of its outcomes.
+    /// Whether its results follow from the outcomes of `parses`.
     ghost is_sound: { Self → Type 0 };
 
-    /// Parses a text, without its scopes, and analyzes it. The error is the parser's diagnostic
-    /// where the text is no module, and `OutOfMemory` where memory was refused.
+    /// Parses a text without scope analysis, and returns its `ModuleInfo`. Returns the parser's
+    /// diagnostic if the text is no module, and `OutOfMemory` if an allocation fails.
     fn analyze_sync(
         &mut self,
         alloc: Global,
@@ -36,20 +36,20 @@ pub trait ModuleAnalyzer {
         source: RcStr,
         media_type: MediaType,
     ) -> Result<ModuleInfo, AnalyzeError>
-        // No call changes an outcome.
+        // A call changes no outcome.
         ensures function { parses self.new ≡ parses self.old }
         ensures sound { is_sound self.old → is_sound self.new }
-        // A sound analyzer answers by the outcome.
-        ensures answer { is_sound self.old → AnalyzesAs (parses self.old)
+        // A sound analyzer returns the info, or the diagnostic, of the outcome.
+        ensures answer { is_sound self.old → IsAnalyzeResult (parses self.old)
             (input specifier.now (rc_str_bytes source) media_type) result };
 }
 
-/// Why an analyzer gave no `ModuleInfo`.
+/// An error of an analyzer.
 #[derive(Debug, PartialEq, Eq, Drop)]
 pub enum AnalyzeError {
     /// The text is no module.
     Parse(ParseDiagnostic),
-    /// Memory was refused.
+    /// An allocation failed.
     OutOfMemory,
 }
 
@@ -87,14 +87,14 @@ impl From<ParseError> for AnalyzeError {
     }
 }
 
-/// An analyzer that asks a parser each time.
+/// An analyzer that calls a parser for each text.
 #[derive(Drop)]
 pub struct ParserModuleAnalyzer<'a, P: EsParser> {
     parser: &'a mut P,
 }
 
 impl<'a, P: EsParser> ParserModuleAnalyzer<'a, P> {
-    /// An analyzer over `parser`. Takes no memory.
+    /// Returns an analyzer over `parser`. Allocates nothing.
     pub fn new(parser: &'a mut P) -> ParserModuleAnalyzer<'a, P>
         ensures parser { (borrowed_parser result).now ≡ parser.old }
         ensures same_parser { (borrowed_parser result).ghost_name ≡ parser.entry.ghost_name }
@@ -105,7 +105,7 @@ impl<'a, P: EsParser> ParserModuleAnalyzer<'a, P> {
 
 impl<'a, P: EsParser> ModuleAnalyzer for ParserModuleAnalyzer<'a, P> {
     ghost use Rattle.std.specs.Rc.{rc_str_bytes};
-    ghost use Rattle.deno_graph_analyzer.specs.Analysis.{AnalyzesAs, IsAnalysisOfSome};
+    ghost use Rattle.deno_graph_analyzer.specs.Analysis.{IsAnalyzeResult, IsAnalysisOfSome};
     ghost use Rattle.deno_graph_analyzer.specs.Commands.{input};
 
     ghost parses = { λ it. P.parses (borrowed_parser it).now };
@@ -126,13 +126,13 @@ impl<'a, P: EsParser> ModuleAnalyzer for ParserModuleAnalyzer<'a, P> {
         ensures sound { P.is_sound (borrowed_parser self.old).now
             → P.is_sound (borrowed_parser self.new).now }
         ensures answer { P.is_sound (borrowed_parser self.old).now
-            → AnalyzesAs (P.parses (borrowed_parser self.old).now)
+            → IsAnalyzeResult (P.parses (borrowed_parser self.old).now)
             (input specifier.now (rc_str_bytes source) media_type) result }
         // The parser's count rises by at most one.
         ensures counted { (P.count (borrowed_parser self.old).now ≤ P.count (borrowed_parser self.new).now)
             × (P.count (borrowed_parser self.new).now ≤ P.count (borrowed_parser self.old).now + 1) }
-        // The parser is asked without the scope option.
-        ensures analysis { IsAnalysisOfSome (P.may_answer (borrowed_parser self.old).now
+        // The parser is called without the scope option.
+        ensures analysis { IsAnalysisOfSome (P.may_return (borrowed_parser self.old).now
             (input specifier.now (rc_str_bytes source) media_type) false) result }
     {
         let options = ParseOptions {
@@ -145,14 +145,14 @@ impl<'a, P: EsParser> ModuleAnalyzer for ParserModuleAnalyzer<'a, P> {
     }
 }
 
-/// The info of the source that a parser answered, or its error.
+/// Returns the info of a parsed source, or the parser's error.
 pub(crate) fn info_of(
     alloc: Global,
-    answer: Result<ParsedSource, ParseError>,
+    parsed: Result<ParsedSource, ParseError>,
 ) -> Result<ModuleInfo, AnalyzeError>
-    ensures { IsAnalysisOf answer result }
+    ensures { IsAnalysisOf parsed result }
 {
-    match answer {
+    match parsed {
         Ok(source) => Ok(module_info(alloc, &source)?),
         Err(error) => Err(AnalyzeError::from(error)),
     }

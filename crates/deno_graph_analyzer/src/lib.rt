@@ -1,5 +1,5 @@
-//! Bring your own parser: the interfaces of parsers and of stores of parsed sources, a store in
-//! memory, a parser that keeps what it parsed in a store, analyzers over them, and runs of commands.
+//! Analysis with a parser that the caller brings: the traits of parsers, stores and analyzers, a
+//! store in memory, a parser and analyzers over the traits, and runs of commands.
 #![tactic(auto)]
 
 pub mod analyzer;

@@ -1,4 +1,4 @@
-//! Parsers that the caller brings, what they take and what they return.
+//! The trait of parsers, with the options and errors of a parse.
 
 ghost use Rattle.std.specs.Prelude.{◌≡◌, IfOk};
 ghost use Rattle.std.specs.Rc.{rc_str_bytes};
@@ -10,61 +10,60 @@ use std::alloc::{AllocError, AllocFailed, Global};
 use std::rc::RcStr;
 use url::Url;
 
-/// A parser: it has one outcome, a tree with comments or a diagnostic, for a specifier, a text and
-/// a media type, however often it is asked.
+/// A parser. A specifier, a text and a media type have at most one outcome, a tree with comments or
+/// a diagnostic, however often they are parsed.
 pub trait EsParser: Drop {
     ghost use Rattle.std.specs.Prelude.{◌≡◌, ℕ, ◌+◌, ◌≤◌, ⊤};
-    ghost use Rattle.deno_graph_analyzer.specs.Parsing.{ParseFunction, AnswerRelation, AnswersAs, asked};
+    ghost use Rattle.deno_graph_analyzer.specs.Parsing.{ParseFunction, ResultRelation, IsParseResult, input_of_options};
 
-    /// The outcomes.
+    /// The outcome of each input.
     ghost parses: { Self → ParseFunction };
 
-    /// How often it was asked, where it counts that: it may stay at a greatest value, and is zero
-    /// in a parser that doesn't count.
+    /// Number of calls so far. It may stay at a greatest value, and is zero in a parser that doesn't
+    /// count its calls.
     ghost count: { Self → ℕ };
 
-    /// Whether its answers are its outcomes: a plain parser is always sound, and one that answers
-    /// from a store is so where the store holds nothing but outcomes.
+    /// Whether its results are the outcomes of `parses`. A plain parser is always sound. A parser
+    /// that returns sources from a store is sound while the store has only such outcomes.
     ghost is_sound: { Self → Type 0 };
 
-    /// Which answers it may give, with their marks: any, where it doesn't say.
-    ghost may_answer: { Self → AnswerRelation } = { λ _ _ _ _. ⊤ };
+    /// Which results it may return for an input, with or without the scope option. By default any.
+    ghost may_return: { Self → ResultRelation } = { λ _ _ _ _. ⊤ };
 
-    /// Parses a text. The error is a diagnostic where the text is no module, and `OutOfMemory`
-    /// where memory was refused.
+    /// Parses a text. Returns a diagnostic if the text is no module, and `OutOfMemory` if an
+    /// allocation fails.
     fn parse_program(
         &mut self,
         alloc: Global,
         options: ParseOptions<'_>,
     ) -> Result<ParsedSource, ParseError>
-        // No call changes an outcome.
+        // A call changes no outcome.
         ensures function { parses self.new ≡ parses self.old }
         // The count rises by at most one.
         ensures counted { (count self.old ≤ count self.new)
             × (count self.new ≤ count self.old + 1) }
         ensures sound { is_sound self.old → is_sound self.new }
-        // A sound parser answers its outcome.
+        // A sound parser returns the outcome of the input.
         ensures answer { is_sound self.old
-            → AnswersAs (parses self.old) (asked options.entry) result }
-        ensures own { may_answer self.old (asked options.entry) options.entry.scope_analysis result };
+            → IsParseResult (parses self.old) (input_of_options options.entry) result }
+        ensures allowed { may_return self.old (input_of_options options.entry) options.entry.scope_analysis result };
 }
 
-/// What a parser is asked to parse.
+/// The text that a parser has to parse, and how.
 #[derive(Debug, PartialEq, Eq, Drop)]
 pub struct ParseOptions<'a> {
-    /// Where the module is.
+    /// URL of the module.
     pub specifier: &'a Url,
-    /// The text of the module.
+    /// Text of the module.
     pub source: RcStr,
-    /// What the text is to be read as.
+    /// Language of the text.
     pub media_type: MediaType,
-    /// Whether the scopes of the module shall be analysed too. It changes the mark of the answer
-    /// alone.
+    /// Whether to analyze the scopes of the module too. It changes only the mark of the result.
     pub scope_analysis: bool,
 }
 
 impl<'a> ParseOptions<'a> {
-    /// Equal options, which share the text, or an error where memory was refused.
+    /// Returns equal options, which share the text. Returns an error if an allocation fails.
     pub fn try_clone(&self, _alloc: Global) -> Result<ParseOptions<'a>, AllocError>
         ensures specifier { IfOk result (λ copy. copy.specifier.now ≡ self.now.specifier.now) }
         ensures source { IfOk result (λ copy.
@@ -82,11 +81,12 @@ impl<'a> ParseOptions<'a> {
     }
 }
 
-/// Why a text is no module: what a parser says of it.
+/// A syntax error.
 #[derive(Debug, PartialEq, Eq, Drop)]
 pub struct ParseDiagnostic {
+    /// Message of the parser.
     pub message: Text,
-    /// Where in the text, in lines and characters from zero.
+    /// Line and character of the error, counted from zero.
     pub position: Position,
 }
 
@@ -99,12 +99,12 @@ impl TryClone for ParseDiagnostic {
     }
 }
 
-/// Why a parser gave no source.
+/// An error of a parser.
 #[derive(Debug, PartialEq, Eq, Drop)]
 pub enum ParseError {
     /// The text is no module.
     Diagnostic(ParseDiagnostic),
-    /// Memory was refused.
+    /// An allocation failed.
     OutOfMemory,
 }
 
@@ -139,6 +139,7 @@ impl<T: Drop> From<AllocFailed<T>> for ParseError {
     }
 }
 
+/// Passes each call on to the parser in the box.
 impl EsParser for Box<dyn EsParser> {
     ghost parses = { λ boxed. (EsParser-box boxed).parses boxed.value };
 
@@ -146,7 +147,7 @@ impl EsParser for Box<dyn EsParser> {
 
     ghost is_sound = { λ boxed. (EsParser-box boxed).is_sound boxed.value };
 
-    ghost may_answer = { λ boxed. (EsParser-box boxed).may_answer boxed.value };
+    ghost may_return = { λ boxed. (EsParser-box boxed).may_return boxed.value };
 
     fn parse_program(
         &mut self,

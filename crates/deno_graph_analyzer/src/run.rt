@@ -1,10 +1,10 @@
-//! Runs of commands over a capturing analyzer.
+//! Runs of commands over an analyzer with a store.
 
 ghost use Rattle.std.specs.Prelude.{◌≡◌, ◌+◌, ◌≤◌, ◌⊎◌, [], None, Err, IfOk, OnOk, OnErr};
 ghost use Rattle.deno_graph_analyzer.specs.Captures.{IsSoundState};
 ghost use Rattle.deno_graph_analyzer.specs.CapturingModuleAnalyzer.{parser_of, store_of, analyzer_state};
-ghost use Rattle.deno_graph_analyzer.specs.Commands.{AreAnswers, misses, seen};
-ghost use Rattle.deno_graph_analyzer.specs.Runs.{Runs, EndsEarly, as_called, Ran, WasRefused};
+ghost use Rattle.deno_graph_analyzer.specs.Commands.{AreAnswers, misses, unmarked_at};
+ghost use Rattle.deno_graph_analyzer.specs.Runs.{Runs, EndsEarly, with_error, Ran, RanOutOfMemory};
 ghost use Rattle.deno_graph_analyzer.specs.Sources.{no_sources};
 
 use crate::analyzer::{AnalyzeError, ModuleAnalyzer};
@@ -18,23 +18,23 @@ use std::alloc::{AllocError, Global};
 use std::rc::RcStr;
 use url::Url;
 
-/// What a capturing analyzer is told to do.
+/// A command to a [`CapturingModuleAnalyzer`].
 #[derive(Debug, PartialEq, Eq, Drop)]
 pub enum Command {
-    /// Analyze a text.
+    /// Call `analyze_sync`.
     Analyze {
         specifier: Url,
         source: RcStr,
         media_type: MediaType,
     },
-    /// Parse a text, and analyze its scopes too where `scope_analysis` says so.
+    /// Call `parse_program`.
     Parse {
         specifier: Url,
         source: RcStr,
         media_type: MediaType,
         scope_analysis: bool,
     },
-    /// Take the source under a specifier out of the store.
+    /// Call `remove_parsed_source`.
     Remove {
         specifier: Url,
     },
@@ -43,7 +43,7 @@ pub enum Command {
 impl Command {
     ghost use Rattle.deno_graph_analyzer.specs.Commands.{IsCommand};
 
-    /// An equal command, which shares the text, or an error where memory was refused.
+    /// Returns an equal command, which shares the text. Returns an error if an allocation fails.
     pub fn try_clone(&self, _alloc: Global) -> Result<Command, AllocError>
         ensures { IfOk result (IsCommand self.now) }
     {
@@ -75,12 +75,12 @@ impl Command {
     }
 }
 
-/// What it answers: to each command the answer of its name.
+/// The result of the command of this name, other than out of memory.
 #[derive(Debug, PartialEq, Eq, Drop)]
 pub enum Answer {
     Analyzed(Result<ModuleInfo, ParseDiagnostic>),
     Parsed(Result<ParsedSource, ParseDiagnostic>),
-    /// The source that was there, if there was one.
+    /// The removed source, if there was one.
     Removed(Option<ParsedSource>),
 }
 
@@ -100,43 +100,43 @@ impl TryClone for Answer {
     }
 }
 
-/// Carries out commands in order, each as the single call of its name, and answers each. A
-/// diagnostic is an answer, and doesn't stop the run.
+/// Carries out the commands in order, each by the call of its name, and returns one answer for each
+/// command. A diagnostic is an answer, and doesn't stop the run.
 ///
-/// Begun with a sound parser and an empty store, each answer is that of the parser alone, aside
-/// from the mark of scope analysis. The answer to a `Remove` is the source of the last successful
-/// `Analyze` or `Parse` of its specifier since that specifier's last `Remove`. The parser is asked
-/// at most once for each `Analyze` or `Parse` whose specifier had no successful one since its last
-/// `Remove`, or whose last one had another text or media type.
+/// With a sound parser and an empty store at the start, each answer is what the parser alone would
+/// return, except for the mark of analyzed scopes. The answer to a `Remove` is the source of the last
+/// successful `Analyze` or `Parse` of its specifier since the last `Remove` of the specifier. The
+/// parser is called at most once for each `Analyze` or `Parse` whose specifier had no successful
+/// command since its last `Remove`, or whose last successful command had another text or media type.
 ///
-/// The error is that memory was refused. The room for the answers is taken first: where that is
-/// refused, no command has run. Otherwise the commands before the refused one have run in full.
+/// Returns an error if an allocation fails. The capacity for the answers is reserved first: if that
+/// fails, no command has run. Otherwise all commands before the failed command have run.
 pub fn run<P: EsParser, S: ParsedSourceStore>(
     alloc: Global,
     analyzer: &mut CapturingModuleAnalyzer<P, S>,
     commands: &[Command],
 ) -> Result<Vec<Answer>, AllocError>
-    ensures ran { IfOk result (λ answers. Runs P.parses P.count P.is_sound P.may_answer
+    ensures ran { IfOk result (λ answers. Runs P.parses P.count P.is_sound P.may_return
         (analyzer_state S.sources analyzer.old) commands.now answers.items
         (analyzer_state S.sources analyzer.new)) }
-    ensures refused { OnErr result ((analyzer.new ≡ analyzer.old)
-        ⊎ EndsEarly P.parses P.count P.is_sound P.may_answer
+    ensures out_of_memory { OnErr result ((analyzer.new ≡ analyzer.old)
+        ⊎ EndsEarly P.parses P.count P.is_sound P.may_return
         (analyzer_state S.sources analyzer.old) commands.now (analyzer_state S.sources analyzer.new)) }
     ensures function { P.parses (parser_of analyzer.new) ≡ P.parses (parser_of analyzer.old) }
 
-    // Begun sound it ends sound, after a refusal too, and each answer is that of the parser alone.
+    // A sound state stays sound, after an error too, and each answer is that of the parser alone.
     ensures sound { IsSoundState P.parses P.is_sound (analyzer_state S.sources analyzer.old)
         → IsSoundState P.parses P.is_sound (analyzer_state S.sources analyzer.new) }
     ensures replies { IsSoundState P.parses P.is_sound (analyzer_state S.sources analyzer.old)
         → IfOk result (λ answers. AreAnswers (P.parses (parser_of analyzer.old))
-        (seen (S.sources (store_of analyzer.old))) [] commands.now answers.items) }
-    // The parser is asked at most once for each miss.
+        (unmarked_at (S.sources (store_of analyzer.old))) [] commands.now answers.items) }
+    // The parser is called at most once for each miss.
     ensures counted { IsSoundState P.parses P.is_sound (analyzer_state S.sources analyzer.old)
         → OnOk result (P.count (parser_of analyzer.new) ≤ P.count (parser_of analyzer.old)
         + misses (P.parses (parser_of analyzer.old))
-        (seen (S.sources (store_of analyzer.old))) [] commands.now) }
+        (unmarked_at (S.sources (store_of analyzer.old))) [] commands.now) }
 
-    // An empty store is a sound beginning.
+    // With an empty store the state is sound.
     ensures sound_from_empty { P.is_sound (parser_of analyzer.old)
         → S.sources (store_of analyzer.old) ≡ no_sources
         → IsSoundState P.parses P.is_sound (analyzer_state S.sources analyzer.new) }
@@ -149,39 +149,40 @@ pub fn run<P: EsParser, S: ParsedSourceStore>(
         → OnOk result (P.count (parser_of analyzer.new) ≤ P.count (parser_of analyzer.old)
         + misses (P.parses (parser_of analyzer.old)) (λ _. None) [] commands.now) }
 {
-    answers_to(alloc, analyzer, commands)
+    run_each(alloc, analyzer, commands)
 }
 
-fn answers_to<P: EsParser, S: ParsedSourceStore>(
+/// Carries out each command. The laws about whole runs are on [`run`].
+fn run_each<P: EsParser, S: ParsedSourceStore>(
     alloc: Global,
     analyzer: &mut CapturingModuleAnalyzer<P, S>,
     commands: &[Command],
 ) -> Result<Vec<Answer>, AllocError>
-    ensures ran { IfOk result (λ answers. Runs P.parses P.count P.is_sound P.may_answer
+    ensures ran { IfOk result (λ answers. Runs P.parses P.count P.is_sound P.may_return
         (analyzer_state S.sources analyzer.old) commands.now answers.items
         (analyzer_state S.sources analyzer.new)) }
-    ensures refused { OnErr result ((analyzer.new ≡ analyzer.old)
-        ⊎ EndsEarly P.parses P.count P.is_sound P.may_answer
+    ensures out_of_memory { OnErr result ((analyzer.new ≡ analyzer.old)
+        ⊎ EndsEarly P.parses P.count P.is_sound P.may_return
         (analyzer_state S.sources analyzer.old) commands.now (analyzer_state S.sources analyzer.new)) }
 {
     let mut answers = Vec::with_capacity(alloc, commands.len())?;
     for command in commands {
-        let answer = reply(alloc, analyzer, command)?;
+        let answer = carry_out(alloc, analyzer, command)?;
         answers.push(answer)?;
     }
     Ok(answers)
 }
 
-/// Carries out one command. The error is that memory was refused.
-fn reply<P: EsParser, S: ParsedSourceStore>(
+/// Carries out one command. Returns an error if an allocation fails.
+fn carry_out<P: EsParser, S: ParsedSourceStore>(
     alloc: Global,
     analyzer: &mut CapturingModuleAnalyzer<P, S>,
     command: &Command,
 ) -> Result<Answer, AllocError>
-    ensures ran { IfOk result (λ answer. Ran P.parses P.count P.is_sound P.may_answer
+    ensures ran { IfOk result (λ answer. Ran P.parses P.count P.is_sound P.may_return
         (analyzer_state S.sources analyzer.old) command.now answer
         (analyzer_state S.sources analyzer.new)) }
-    ensures refused { OnErr result (WasRefused P.parses P.count P.is_sound P.may_answer
+    ensures out_of_memory { OnErr result (RanOutOfMemory P.parses P.count P.is_sound P.may_return
         (analyzer_state S.sources analyzer.old) command.now (analyzer_state S.sources analyzer.new)) }
 {
     match command {
@@ -192,7 +193,7 @@ fn reply<P: EsParser, S: ParsedSourceStore>(
         } => {
             let source = source.clone()?;
             let outcome = analyzer.analyze_sync(alloc, specifier, source, *media_type);
-            Ok(Answer::Analyzed(settled(outcome)?))
+            Ok(Answer::Analyzed(split_alloc_error(outcome)?))
         }
         Command::Parse {
             specifier,
@@ -208,7 +209,7 @@ fn reply<P: EsParser, S: ParsedSourceStore>(
             };
             let outcome = analyzer.parse_program(alloc, options);
             let outcome = outcome.map_err(|error| AnalyzeError::from(error));
-            Ok(Answer::Parsed(settled(outcome)?))
+            Ok(Answer::Parsed(split_alloc_error(outcome)?))
         }
         Command::Remove { specifier } => {
             let found = analyzer.remove_parsed_source(alloc, specifier)?;
@@ -217,10 +218,12 @@ fn reply<P: EsParser, S: ParsedSourceStore>(
     }
 }
 
-/// What the call answered, or the diagnostic. The error is that memory was refused.
-fn settled<T>(outcome: Result<T, AnalyzeError>) -> Result<Result<T, ParseDiagnostic>, AllocError>
-    ensures answered { IfOk result (λ answer. outcome ≡ as_called (λ d. AnalyzeError.Parse d) answer) }
-    ensures refused { OnErr result (outcome ≡ Err AnalyzeError.OutOfMemory) }
+/// Returns out of memory as the outer error, and a diagnostic as the inner error.
+fn split_alloc_error<T>(
+    outcome: Result<T, AnalyzeError>,
+) -> Result<Result<T, ParseDiagnostic>, AllocError>
+    ensures ok { IfOk result (λ answer. outcome ≡ with_error (λ d. AnalyzeError.Parse d) answer) }
+    ensures out_of_memory { OnErr result (outcome ≡ Err AnalyzeError.OutOfMemory) }
 {
     match outcome {
         Ok(answer) => Ok(Ok(answer)),

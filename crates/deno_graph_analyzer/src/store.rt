@@ -1,7 +1,8 @@
-//! Stores of parsed sources, and a store in memory.
+//! The trait of stores of parsed sources, and a store in memory.
 
 ghost use Rattle.std.specs.Prelude.{◌≡◌, IfOk, OnOk, OnErr};
-ghost use Rattle.deno_graph_analyzer.specs.Sources.{no_sources, sources_of, source_at, with_mark};
+ghost use Rattle.deno_graph_analyzer.specs.Sources.{no_sources, source_at, with_mark};
+ghost use Rattle.deno_graph_analyzer.specs.internal.MapSources.{sources_of};
 
 use deno_graph_base::values::TryClone;
 use deno_graph_source::tree::ParsedSource;
@@ -10,17 +11,18 @@ use std::collections::BTreeMap;
 use std::marker::Model;
 use url::Url;
 
-/// A store of parsed sources: a finite map from the texts of specifiers.
+/// A store of parsed sources: a finite map from the texts of specifiers to sources. A call that
+/// returns an error changes nothing.
 pub trait ParsedSourceStore: Drop {
     ghost use Rattle.std.specs.Prelude.{◌≡◌, IfOk, OnOk, OnErr};
     ghost use Rattle.deno_graph_analyzer.specs.Parsing.{specifier_text};
     ghost use Rattle.deno_graph_analyzer.specs.Sources.{Sources, source_at, with_source, without_source, with_mark};
 
-    /// The sources by the texts of their specifiers.
+    /// The sources in the store.
     ghost sources: { Self → Sources };
 
-    /// Keeps `source` under `specifier`, in the place of the source that was there, and answers
-    /// that one. Where memory is refused all stays as it was, and `source` is dropped.
+    /// Stores `source` under `specifier`, and returns the source that it replaces. Drops `source`
+    /// if an allocation fails.
     fn set_parsed_source(
         &mut self,
         alloc: Global,
@@ -33,7 +35,7 @@ pub trait ParsedSourceStore: Drop {
             ≡ with_source (sources self.old) (specifier_text specifier) source) }
         ensures err { OnErr result (sources self.new ≡ sources self.old) };
 
-    /// The source under `specifier`, or `None` where there is none.
+    /// Returns the source under `specifier`, if there is one.
     fn get_parsed_source(
         &self,
         alloc: Global,
@@ -42,8 +44,7 @@ pub trait ParsedSourceStore: Drop {
         ensures { IfOk result (λ found.
             found ≡ source_at (sources self.now) (specifier_text specifier.now)) };
 
-    /// Takes the source under `specifier` away and answers it. Where memory is refused all stays
-    /// as it was.
+    /// Removes the source under `specifier`, and returns it.
     fn remove_parsed_source(
         &mut self,
         alloc: Global,
@@ -55,8 +56,8 @@ pub trait ParsedSourceStore: Drop {
             ≡ without_source (sources self.old) (specifier_text specifier.now)) }
         ensures err { OnErr result (sources self.new ≡ sources self.old) };
 
-    /// The source under `specifier` with the mark that its scopes were analysed, which it then has
-    /// in the store too. Where memory is refused all stays as it was.
+    /// Sets the mark of analyzed scopes on the source under `specifier`, in the store too, and
+    /// returns the marked source.
     fn get_scope_analysis_parsed_source(
         &mut self,
         alloc: Global,
@@ -69,8 +70,7 @@ pub trait ParsedSourceStore: Drop {
         ensures err { OnErr result (sources self.new ≡ sources self.old) };
 }
 
-/// A store in memory. A source that it gives shares its tree and comments with the one that it
-/// keeps.
+/// A store in memory. A returned source shares its tree and comments with the stored source.
 #[derive(Debug, Drop)]
 pub struct DefaultParsedSourceStore {
     sources: BTreeMap<String, ParsedSource>,
@@ -80,7 +80,8 @@ impl Model for DefaultParsedSourceStore {
     ghost use Rattle.std.specs.Coded.{coded_list, coded_ℕ};
     ghost use Rattle.std.specs.FinMap as map;
     ghost use Rattle.deno_graph_source.specs.contracts.tree.parsed_source.ParsedSource as parsed_source;
-    ghost use Rattle.deno_graph_analyzer.specs.Sources.{Sources, sources_of};
+    ghost use Rattle.deno_graph_analyzer.specs.Sources.{Sources};
+    ghost use Rattle.deno_graph_analyzer.specs.internal.MapSources.{sources_of};
 
     ghost Value = { Sources };
 
@@ -90,7 +91,7 @@ impl Model for DefaultParsedSourceStore {
 }
 
 impl DefaultParsedSourceStore {
-    /// A store with nothing in it. Takes no memory.
+    /// Returns an empty store. Allocates nothing.
     pub fn new(alloc: Global) -> DefaultParsedSourceStore
         ensures { result ≡ no_sources }
     {
@@ -137,12 +138,12 @@ impl ParsedSourceStore for DefaultParsedSourceStore {
         alloc: Global,
         specifier: &Url,
     ) -> Result<Option<ParsedSource>, AllocError> {
-        marked_source(&mut self.sources, alloc, specifier.as_str())
+        mark_source(&mut self.sources, alloc, specifier.as_str())
     }
 }
 
-/// The source at `key`, which is then marked in the map too.
-fn marked_source(
+/// Marks the source at `key` in the map, and returns the marked source.
+fn mark_source(
     sources: &mut BTreeMap<String, ParsedSource>,
     alloc: Global,
     key: &str,
@@ -159,6 +160,7 @@ fn marked_source(
     Ok(Some(marked))
 }
 
+/// Passes each call on to the store in the box.
 impl ParsedSourceStore for Box<dyn ParsedSourceStore> {
     ghost sources = { λ boxed. (ParsedSourceStore-box boxed).sources boxed.value };
 

@@ -7,7 +7,7 @@ use Rattle.deno_graph_analyzer.specs.Parsing.{
   ParseFunction,
   Input,
   Outcome,
-  refused,
+  rejected,
   specifier_text,
   outcome_of,
 }
@@ -32,7 +32,7 @@ unknown_source = record {
 
 abbrev pub outcome_of_found : Option ParsedModule → Outcome
 outcome_of_found (Some source) = outcome_of source
-outcome_of_found None = refused unknown_source
+outcome_of_found None = rejected unknown_source
 
 -- the tree of the first source that is for the input
 abbrev pub outcome_in : List ParsedModule → ParseFunction

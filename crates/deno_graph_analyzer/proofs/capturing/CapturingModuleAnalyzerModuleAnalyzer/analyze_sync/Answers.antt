@@ -1,4 +1,4 @@
--- Begun sound, the parser's answer is its outcome.
+-- From a sound state, the parser returns its outcome.
 use Rattle.deno_graph_analyzer.specs.CapturingModuleAnalyzer.{parser_of}
 use Rattle.deno_graph_analyzer.proofs.Analyses.{analysis_of_outcome}
 use Rattle.deno_graph_analyzer.proofs.capturing.CapturingModuleAnalyzerModuleAnalyzer.analyze_sync.Goals as goal

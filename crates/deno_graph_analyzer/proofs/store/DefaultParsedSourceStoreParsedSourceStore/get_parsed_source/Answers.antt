@@ -1,8 +1,8 @@
--- A look-up by the bytes of the specifier's text.
+-- The look-up in the map is by the bytes of the specifier's text.
 use Rattle.std.proofs.Common.{◌∙◌, ap, sym, Some}
 use Rattle.deno_graph_analyzer.specs.Parsing.{specifier_text}
 use Rattle.deno_graph_analyzer.specs.Sources.{source_at}
-use Rattle.deno_graph_analyzer.proofs.KeptSources.{source_at-sources_of}
+use Rattle.deno_graph_analyzer.proofs.StoredSources.{source_at-sources_of}
 use Rattle.deno_graph_analyzer.proofs.store.DefaultParsedSourceStoreParsedSourceStore.get_parsed_source.Goals as goal
 
 pub returns-in_ok-try_clone-in-Some : goal.returns-in_ok-try_clone-in-Some

@@ -1,9 +1,9 @@
--- The map changes at the bytes of the specifier's text alone.
+-- The map changes only at the bytes of the specifier's text.
 use Rattle.std.proofs.Common.{◌∙◌, sym}
 use Rattle.std.specs.String.{string_bytes}
 use Rattle.deno_graph_analyzer.specs.Parsing.{specifier_text}
 use Rattle.deno_graph_analyzer.specs.Sources.{source_at, with_source}
-use Rattle.deno_graph_analyzer.proofs.KeptSources.{source_at-sources_of, with_source-sources_of}
+use Rattle.deno_graph_analyzer.proofs.StoredSources.{source_at-sources_of, with_source-sources_of}
 use Rattle.deno_graph_analyzer.proofs.store.DefaultParsedSourceStoreParsedSourceStore.set_parsed_source.Goals as goal
 
 pub returns-clause-former : goal.returns-clause-former

@@ -1,4 +1,4 @@
--- The sources that a map from strings has, by the bytes of its keys.
+-- The sources of a map from strings, by the bytes of its keys.
 use Rattle.std.proofs.Common.{
   ◌≡◌,
   ℕ,
@@ -39,19 +39,20 @@ use Rattle.std.proofs.lemmas.Slice.Eq.{bytes_eq-Decides}
 use Rattle.std.proofs.lemmas.Map.Text.{is_eq-slice_cmp, btree_map_updates_text}
 use Rattle.deno_graph_source.specs.ParsedSource.{ParsedModule}
 use Rattle.deno_graph_base.specs.TextMap.{entry_of, entries_of}
-use Rattle.deno_graph_analyzer.specs.Sources.{Sources, sources_of, source_at, with_source, without_source}
+use Rattle.deno_graph_analyzer.specs.Sources.{Sources, source_at, with_source, without_source}
+use Rattle.deno_graph_analyzer.specs.internal.MapSources.{sources_of}
 
 exact_texts : IsAntisymmetric (slice_cmp nat_cmp)
 exact_texts = slice_cmp-IsAntisymmetric nat_cmp-IsAntisymmetric
 
--- two stores that have the same at each specifier are one
+-- sources that are equal at each specifier are equal
 pub same_sources : (m n : Sources) → ((key : List ℕ) → source_at m key ≡ source_at n key) → m ≡ n
 same_sources m n is = same_map nat_list_cmp_total exact_texts m n is
 
 equal_either_way : (key other : List ℕ) → eq_by_cmp (slice_cmp nat_cmp) other key ≡ bytes_eq key other
 equal_either_way key other = (eq_by_cmp_equiv nat_list_cmp_total).symm other key ∙ is_eq-slice_cmp key other
 
--- what is at each specifier after a change
+-- the source at each specifier after a change
 pub source_at-with_source : (m : Sources) (key : List ℕ) (source : ParsedModule) (other : List ℕ)
     → source_at (with_source m key source) other ≡ cond (bytes_eq key other) (Some source) (source_at m other)
 source_at-with_source m key source other = get-insert nat_list_cmp_total m key source other
@@ -68,13 +69,13 @@ same_text key = (bytes_eq-Decides key key).1 refl
 pub equal_text : (key other : List ℕ) → bytes_eq key other ≡ true → key ≡ other
 equal_text key other = (bytes_eq-Decides key other).0
 
--- the new source is what is there
+-- the source at a specifier after it is stored there
 pub source_at-with_source_here : (m : Sources) (key : List ℕ) (source : ParsedModule)
     → source_at (with_source m key source) key ≡ Some source
 source_at-with_source_here m key source = source_at-with_source m key source key
     ∙ ap (λ b. cond b (Some source) (source_at m key)) (same_text key)
 
--- the source that is there, put there once more, changes nothing
+-- to store a source again changes nothing
 pub with_source_again : (m : Sources) (key : List ℕ) (source : ParsedModule) → source_at m key ≡ Some source
     → with_source m key source ≡ m
 with_source_again m key source is =
@@ -92,7 +93,7 @@ module _ {Z : Type 0} where
   find_text (e ∷ es) key = ap (cond (is_eq (slice_cmp nat_cmp key (string_bytes e.0))) (Some e.1))
       (find_text es key)
 
-  -- a look-up by the bytes of a key
+  -- a look-up in the map by the bytes of a key
   pub source_at-sources_of : (m : BTreeMap (String Z) ParsedModule) (key : List ℕ)
       → source_at (sources_of m) key ≡ get_by_text m key
   source_at-sources_of m key = get-from_entries nat_list_cmp_total (entries_of m) key

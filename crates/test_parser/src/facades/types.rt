@@ -1,23 +1,23 @@
-//! What each type can do.
+//! The traits of each type.
 
-use crate::front_doors::{analysis, info, source};
+use crate::facades::{analysis, info, source};
 use deno_graph_source::values::TryClone;
 use example_table_parser::TableParser;
 use std::fmt::Debug;
 
-/// A value of a type of data that is copied.
+/// Plain data, which is `Copy`.
 pub struct Copied<T: Copy + Debug + Eq>(pub T);
 
-/// A value of a type of data that holds memory.
+/// Data that owns memory, which has `try_clone`.
 pub struct Cloned<T: TryClone + Debug + Eq>(pub T);
 
-/// A value of a type of data that borrows or is handed on, or is an error.
+/// Data that borrows or is moved, or an error: neither `Copy` nor `TryClone`.
 pub struct Compared<T: Debug + Eq>(pub T);
 
-/// A value of a type that does something, and is no data.
+/// A parser, store, analyzer or walk, which can only be dropped.
 pub struct Dropped<T: Drop>(pub T);
 
-/// A value of each type of `deno_graph_source`.
+/// Each type of `deno_graph_source`.
 pub struct Sources {
     pub source_range: Copied<source::SourceRange>,
     pub position: Copied<source::Position>,
@@ -34,7 +34,6 @@ pub struct Sources {
     pub resolution_mode: Copied<source::ResolutionMode>,
     pub shape_rule: Copied<source::ShapeRule>,
     pub source_fault: Compared<source::SourceFault>,
-    pub types_resolution_mode: Copied<source::TypeScriptTypesResolutionMode>,
     pub items: Cloned<source::Items<source::Arg>>,
     pub text: Cloned<source::Text>,
     pub text_map: Cloned<source::TextMap<source::Text>>,
@@ -52,7 +51,7 @@ pub struct Sources {
     pub str_lit: Cloned<source::StrLit>,
 }
 
-/// A value of each type of `deno_graph_info`.
+/// Each type of `deno_graph_info`.
 pub struct Infos<'a> {
     pub dynamic_dependency_kind: Copied<info::DynamicDependencyKind>,
     pub found: Copied<info::Match<'a>>,
@@ -74,7 +73,7 @@ pub struct Infos<'a> {
     pub info_fault: Compared<info::InfoFault>,
 }
 
-/// A value of each type of `deno_graph_analysis` that is data.
+/// Each type of `deno_graph_analysis` that is data.
 pub struct Analyses<'a> {
     pub no_parse: Copied<analysis::NoParse>,
     pub diagnostic: Cloned<analysis::ParseDiagnostic>,
@@ -92,7 +91,7 @@ pub struct Analyses<'a> {
     pub scan: Compared<analysis::Scan<'a>>,
 }
 
-/// A value of each other type of `deno_graph_analysis`.
+/// Each other type of `deno_graph_analysis`.
 pub struct Others<'a> {
     pub store: Dropped<analysis::DefaultParsedSourceStore>,
     pub capturing_parser: Dropped<

@@ -1,14 +1,15 @@
--- The source at the key is marked where it is, or nothing is there and all stays.
+-- The source at the key is marked in the map. Without a source nothing changes.
 use Rattle.std.proofs.Common.{◌≡◌, ◌∙◌, ap, sym, Some, None, Result, Ok, Err, OnErr, rules}
 use Rattle.deno_graph_source.specs.ParsedSource.{marked}
-use Rattle.deno_graph_analyzer.specs.Sources.{source_at, sources_of, with_source, with_mark_of}
-use Rattle.deno_graph_analyzer.proofs.KeptSources.{
+use Rattle.deno_graph_analyzer.specs.Sources.{source_at, with_source, with_mark_of}
+use Rattle.deno_graph_analyzer.specs.internal.MapSources.{sources_of}
+use Rattle.deno_graph_analyzer.proofs.StoredSources.{
   source_at-sources_of,
   with_source-sources_of,
   with_source_again,
   source_at-with_source_here,
 }
-use Rattle.deno_graph_analyzer.proofs.store.marked_source.Goals as goal
+use Rattle.deno_graph_analyzer.proofs.store.mark_source.Goals as goal
 
 at_err : {T E P : Type 0} (result : Result T E) → P → OnErr result P
 at_err (Ok x) p = tt

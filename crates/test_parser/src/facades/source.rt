@@ -1,4 +1,4 @@
-//! The items of `deno_graph_source`.
+//! Each item of `deno_graph_source`.
 
 pub use deno_graph_source::text::laws::{
     boundaries_are_fronts, positions_are_unique, positions_keep_order,
@@ -10,6 +10,4 @@ pub use deno_graph_source::tree::{
     ResolutionMode, ShapeRule, SourceFault, SourceFaultPlace, StrLit, source_fault,
     source_fault_place,
 };
-pub use deno_graph_source::values::{
-    Items, Text, TextMap, TryClone, TypeScriptTypesResolutionMode,
-};
+pub use deno_graph_source::values::{Items, Text, TextMap, TryClone};

@@ -1,4 +1,4 @@
-//! The items of `deno_graph_info`.
+//! Each item of `deno_graph_info`.
 
 pub use deno_graph_info::analysis::laws::{conversion_has_one_outcome, conversion_is_done_once};
 pub use deno_graph_info::analysis::{

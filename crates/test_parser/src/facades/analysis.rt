@@ -1,4 +1,4 @@
-//! The items of `deno_graph_analysis`.
+//! Each item of `deno_graph_analysis`.
 
 pub use deno_graph_analysis::ast::{
     AnalyzeError, Answer, CapturingEsParser, CapturingModuleAnalyzer, Command,
