@@ -50,8 +50,10 @@ impl ToJson for ImportAttribute {
 }
 
 /// What is expected of the value of an attribute.
-const EXPECTED_ATTRIBUTE: Expected =
-    Expected::OneOf("a string or null", &[Form::String, Form::Null]);
+const EXPECTED_ATTRIBUTE: Expected = Expected::OneOf(
+    "a string or null",
+    &[Form::String, Form::Null],
+);
 
 impl FromJson for ImportAttribute {
     ghost reads = { reads_attribute };
@@ -164,11 +166,7 @@ impl ToJson for ImportAttributes {
 /// What is expected of import attributes.
 const EXPECTED_ATTRIBUTES: Expected = Expected::OneOf(
     "none, unknown, or an object with the one member known",
-    &[
-        Form::Name("none"),
-        Form::Name("unknown"),
-        Form::ObjectOfOne,
-    ],
+    &[Form::Name("none"), Form::Name("unknown"), Form::ObjectOfOne],
 );
 
 impl FromJson for ImportAttributes {
