@@ -25,7 +25,7 @@ pub fn read_call(alloc: Global, members: Members<'_>) -> Result<Kind, NotationFa
     Ok(Kind::Call { callee, args })
 }
 
-const CALLEES: &str = "import, importSource, importDefer, expr, super";
+const CALLEES: &[&str] = &["import", "importSource", "importDefer", "expr", "super"];
 
 #[tactic(auto, using(crate::proofs::Reading::reading), unfolding(crate::specs::Kind::reads_named, crate::specs::Kind::named))]
 fn read_callee(value: Element<'_>) -> Result<Callee, NotationFault>

@@ -137,7 +137,7 @@ fn read_comment(alloc: Global, value: Element<'_>) -> Result<DependencyComment, 
     Ok(DependencyComment { kind, range, text })
 }
 
-const COMMENT_KINDS: &str = "line, block";
+const COMMENT_KINDS: &[&str] = &["line", "block"];
 
 #[tactic(auto, using(crate::proofs::Reading::reading), unfolding(crate::specs::Kind::reads_named, crate::specs::Kind::named))]
 fn read_comment_kind(value: Element<'_>) -> Result<CommentKind, NotationFault>

@@ -93,7 +93,7 @@ impl<'a> SourceMembers<'a> {
     }
 }
 
-const PHASES: &str = "evaluation, source, defer";
+const PHASES: &[&str] = &["evaluation", "source", "defer"];
 
 #[tactic(auto, using(crate::proofs::Reading::reading), unfolding(crate::specs::Kind::reads_named, crate::specs::Kind::named))]
 fn import_phase(found: Option<Element<'_>>) -> Result<ImportPhase, NotationFault>

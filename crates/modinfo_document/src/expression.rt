@@ -34,7 +34,7 @@ pub fn read_template(alloc: Global, members: Members<'_>) -> Result<Kind, Notati
     Ok(Kind::Template(quasis))
 }
 
-const OPERATORS: &str = "add, other";
+const OPERATORS: &[&str] = &["add", "other"];
 
 /// A binary expression.
 #[tactic(auto, using(crate::proofs::Reading::reading), unfolding(crate::specs::Kind::reads_binary, crate::specs::Kind::reads_named, crate::specs::Kind::named, crate::specs::Partial::required))]

@@ -54,7 +54,7 @@ pub enum Expected {
     /// A member of this name. The value is the object that lacks it.
     Member(&'static str),
     /// One of these names.
-    OneOf(&'static str),
+    OneOf(&'static [&'static str]),
 }
 
 impl fmt::Display for Expected {
@@ -70,10 +70,19 @@ impl fmt::Display for Expected {
             Expected::Unit => "a whole number below 65536",
             Expected::Key => "\"other\", or an object with either `str` or `ident`",
             Expected::Member(name) => return write!(f, "a member `{name}`"),
-            Expected::OneOf(names) => return write!(f, "one of {names}"),
+            Expected::OneOf(names) => return write_names(f, names),
         };
         f.write_str(words)
     }
+}
+
+fn write_names<W: fmt::Write>(f: &mut fmt::Formatter<W>, names: &[&str]) -> fmt::Result {
+    let mut before = "one of ";
+    for name in names {
+        write!(f, "{before}{name}")?;
+        before = ", ";
+    }
+    Ok(())
 }
 
 impl From<AllocError> for NotationFault {

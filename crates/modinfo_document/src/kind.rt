@@ -23,10 +23,26 @@ use deno_graph_source::tree::Kind;
 use std::alloc::Global;
 
 /// The names of all kinds.
-pub const KINDS: &str =
-    "ImportDecl, NamedExport, ExportAll, ExportOther, ImportEquals, ImportType, \
-    ModuleDecl, Call, Str, Template, Binary, Ident, Object, KeyValue, Await, Function, ImportMeta, \
-    Other";
+pub const KINDS: &[&str] = &[
+    "ImportDecl",
+    "NamedExport",
+    "ExportAll",
+    "ExportOther",
+    "ImportEquals",
+    "ImportType",
+    "ModuleDecl",
+    "Call",
+    "Str",
+    "Template",
+    "Binary",
+    "Ident",
+    "Object",
+    "KeyValue",
+    "Await",
+    "Function",
+    "ImportMeta",
+    "Other",
+];
 
 /// The kind that `value` names, with what is among the members beside it.
 #[tactic(auto, using(crate::proofs::Reading::reading), unfolding(crate::specs::Kind::reads_kind, crate::specs::Kind::named))]

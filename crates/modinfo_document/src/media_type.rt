@@ -9,8 +9,21 @@ use crate::member::{misfit, text_of};
 use deno_graph_json::Element;
 use deno_graph_source::tree::MediaType;
 
-const MEDIA_TYPES: &str = "JavaScript, Jsx, Mjs, Cjs, TypeScript, Mts, Cts, Dts, Dmts, Dcts, Tsx, \
-    Json, Other";
+const MEDIA_TYPES: &[&str] = &[
+    "JavaScript",
+    "Jsx",
+    "Mjs",
+    "Cjs",
+    "TypeScript",
+    "Mts",
+    "Cts",
+    "Dts",
+    "Dmts",
+    "Dcts",
+    "Tsx",
+    "Json",
+    "Other",
+];
 
 /// A media type, by its name.
 #[tactic(auto, using(crate::proofs::Reading::reading), unfolding(crate::specs::Kind::reads_named, crate::specs::Kind::named))]
