@@ -11,6 +11,7 @@ use Rattle.deno_graph_info.specs.Json.ModuleInfo.{json_of_info}
 use Rattle.deno_graph_info.specs.declared.analysis.module_info.ModuleInfo.{ModuleInfo}
 use Rattle.deno_graph_info.specs.declared.conversion.fault.ConvertFault.TheVariants as convert
 use Rattle.deno_graph_module_info.specs.InfoOfModule.{IsInfoOfModule}
+use Rattle.modinfo_document.specs.Check.{StatesNoSource, StatesSource}
 use Rattle.modinfo_document.specs.Document.{HasNotationFault, IsDocumentOf, IsSourceOf}
 use Rattle.modinfo_document.specs.declared.document.Document.{Document}
 use Rattle.modinfo_document.specs.declared.fault.NotationFault.{NotationFault}
@@ -18,9 +19,7 @@ use Rattle.modinfo.specs.Check.{
   StatesConvertible,
   StatesNoConvertible,
   StatesNoQuestion,
-  StatesNoSource,
   StatesQuestion,
-  StatesSource,
 }
 use Rattle.modinfo.specs.declared.fault.Fault.{Fault}
 use Rattle.modinfo.specs.declared.fault.Fault.TheVariants.{Input, Json, Output, OutOfMemory}

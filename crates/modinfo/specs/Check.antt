@@ -1,38 +1,31 @@
 -- What a text states where a report on it is right.
-use Rattle.std.specs.Prelude.{◌≡◌, ◌≢◌, ◌⊎◌, ℕ, List, None, Some, Ok}
-use Rattle.std.specs.Rc.{rc_str_bytes}
+use Rattle.std.specs.Prelude.{◌≡◌, ◌≢◌, ◌⊎◌, ℕ, List, None, Some, false}
 use Rattle.serde_json.specs.Data.{Data}
 use Rattle.serde_json.specs.Read.{read as read_text}
-use Rattle.url.specs.Parts.{Parts}
-use Rattle.url.specs.Parser.{parse_url}
-use Rattle.deno_graph_source.specs.Source.{IsValid}
+use Rattle.serde_json.specs.Written.{has_float}
+use Rattle.deno_graph_json.specs.Read.Error.{IsIn}
+use Rattle.deno_graph_json.specs.declared.error.Mismatch.{Mismatch}
+use Rattle.deno_graph_json.specs.declared.error.ReadError.TheVariants as read
+use Rattle.deno_graph_info.specs.Conversion.{IsConverted, IsConvertFault}
 use Rattle.deno_graph_info.specs.declared.analysis.fault.InfoFault.{InfoFault}
 use Rattle.deno_graph_info.specs.declared.analysis.fault.InfoFault.TheVariants.{OutOfMemory as NoMemory}
 use Rattle.deno_graph_info.specs.declared.analysis.module_info.ModuleInfo.{ModuleInfo}
-use Rattle.modinfo_document.specs.Document.{HasNotationFault, IsDocumentOf}
-use Rattle.modinfo_document.specs.declared.document.Document.{Document}
-use Rattle.modinfo_document.specs.declared.fault.NotationFault.{NotationFault}
-use Rattle.modinfo_document.specs.declared.fault.NotationFault.TheVariants.{OutOfMemory}
-use Rattle.modinfo_document.specs.Report.{CanBeConverted, CannotBeConverted, MatchReport, PointsInto}
+use Rattle.deno_graph_info.specs.declared.conversion.fault.ConvertFault.{ConvertFault}
+use Rattle.deno_graph_info.specs.declared.conversion.fault.ConvertFault.TheVariants as convert
+use Rattle.modinfo_document.specs.Report.{MatchReport, Reports}
 use Rattle.modinfo_document.specs.declared.report.Report.{Report}
 use Rattle.modinfo_document.specs.declared.report.Report.TheVariants.{Valid, Wrong}
+use Rattle.modinfo_document.specs.declared.report.Wrong.{Wrong as WrongDocument}
 use Rattle.modinfo.specs.Reach.{Asks, IsQuestionFault}
 
--- The text states a valid source: a document whose specifier is a URL, and whose tree and comments fit its
--- source.
-pub record StatesSource (text : List ℕ) : Type 0 where
-  pub document : Document
-  pub is_stated : IsDocumentOf text document
-  pub has_url : (url : Parts) × (parse_url None document.specifier ≡ Ok url)
-  pub is_valid : IsValid (rc_str_bytes document.source) document.program document.comments
+-- the value has no float, and is converted to another
+abbrev pub CanBeConverted : Data → Type 0
+CanBeConverted before = (has_float before ≡ false) × ((after : Data) × IsConverted before after)
 
--- the text has a fault of the notation, other than that memory was refused
-abbrev pub StatesNoSource : List ℕ → Type 0
-StatesNoSource text = (fault : NotationFault) × (fault ≢ OutOfMemory) × HasNotationFault text fault
-
--- a document of `analyze` is valid only where it states a valid source, and wrong only where it has a fault
-abbrev pub ReportsOn : List ℕ → Report → Type 0
-ReportsOn text = MatchReport (StatesSource text) (StatesNoSource text)
+-- the value has a fault of the conversion, other than that memory was refused
+abbrev pub CannotBeConverted : Data → Type 0
+CannotBeConverted before = (fault : ConvertFault) × (fault ≢ convert.OutOfMemory)
+    × IsConvertFault before fault
 
 -- the same of the value of stored information
 abbrev pub ReportsOnValue : Data → Report → Type 0
@@ -72,6 +65,10 @@ StatesNoQuestion text = (read_text text ≡ None)
 -- fault.
 abbrev pub ReportsOnQuestion : List ℕ → Report → Type 0
 ReportsOnQuestion text = MatchReport (StatesQuestion text) (StatesNoQuestion text)
+
+-- the pointer of the report leads to a value that isn't what the report says is expected there
+abbrev pub PointsInto : Data → WrongDocument → Type 0
+PointsInto value wrong = (mismatch : Mismatch) × IsIn value (read.Mismatch mismatch) × Reports mismatch wrong
 
 -- A report that stored information is wrong points to a value in it that isn't what the report expects there.
 abbrev pub IsPlacedIn : Data → Report → Type 0

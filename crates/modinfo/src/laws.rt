@@ -3,7 +3,7 @@
 ghost use Rattle.std.specs.Prelude.{◌≡◌, ℕ, List};
 ghost use Rattle.deno_graph_source.specs.ParsedSource.{ParsedModule};
 ghost use Rattle.modinfo.specs.Answer.{IsModuleOf};
-ghost use Rattle.modinfo.specs.Check.{StatesNoSource, StatesSource};
+ghost use Rattle.modinfo_document.specs.Check.{StatesNoSource, StatesSource};
 
 /// A text states at most one module.
 pub fn each_text_states_one_module()

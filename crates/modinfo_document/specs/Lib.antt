@@ -1,4 +1,5 @@
 pub mod Answer
+pub mod Check
 pub mod Comments
 pub mod Document
 pub mod Fault

@@ -4,6 +4,7 @@
 
 mod array;
 pub mod call;
+mod check;
 pub mod comments;
 pub mod declaration;
 pub mod document;
@@ -19,6 +20,7 @@ pub mod place;
 pub mod property;
 pub mod report;
 
+pub use check::check_document;
 pub use document::{Document, parse_document, read_document};
 pub use fault::{Expected, Misfit, NotationFault};
 pub use names::{Role, known_members};

@@ -4,7 +4,6 @@
 ghost use Rattle.std.specs.Prelude.{◌≡◌, ◌↔◌, IfOk, IsTrue, Some};
 ghost use Rattle.modinfo_document.specs.Report.{LetsPass, Reports};
 
-mod conversion;
 mod notation;
 mod place;
 mod pointer;
@@ -16,16 +15,16 @@ mod warning;
 mod warnings;
 
 use crate::report::pointer::pointer_of;
-pub use conversion::{convert_fault, wrong_stored};
 use deno_graph_json::{Mismatch, TextWriter};
 use deno_graph_source::text::SourceRange;
-pub use notation::{wrong_notation, wrong_specifier};
-pub use source::wrong_source;
+pub(crate) use notation::{wrong_notation, wrong_specifier};
+pub(crate) use source::wrong_source;
 use std::alloc::{AllocError, Global};
-pub use syntax::{report_bytes, wrong_json, wrong_text};
+pub(crate) use syntax::wrong_text;
+pub use syntax::{report_bytes, wrong_json};
 pub use text_place::TextPlace;
 pub use warning::{Warning, Warnings};
-pub use warnings::find_warnings;
+pub(crate) use warnings::find_warnings;
 
 /// What is wrong with a document.
 #[derive(Debug, PartialEq, Eq, Drop)]

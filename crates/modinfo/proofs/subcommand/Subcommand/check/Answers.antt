@@ -4,7 +4,7 @@ use Rattle.modinfo_document.specs.Report.{MatchReport}
 use Rattle.modinfo_document.specs.declared.report.Report.{Report}
 use Rattle.modinfo_document.specs.declared.report.Report.TheVariants.{Valid, Wrong}
 use Rattle.modinfo.specs.Answer.{IsFaultyDocument, IsValidDocument}
-use Rattle.modinfo.specs.Check.{ReportsOn}
+use Rattle.modinfo_document.specs.Check.{ReportsOn}
 use Rattle.modinfo.specs.declared.subcommand.Subcommand.TheVariants.{Analyze}
 use Rattle.modinfo.proofs.subcommand.Subcommand.check.Goals as goal
 

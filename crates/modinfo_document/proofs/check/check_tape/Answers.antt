@@ -1,5 +1,5 @@
 use Rattle.deno_graph_json.specs.View.{tape_value}
-use Rattle.modinfo.proofs.check.document.check_tape.Goals as goal
+use Rattle.modinfo_document.proofs.check.check_tape.Goals as goal
 
 -- the text states the document that was read
 pub returns-in-Ok : goal.returns-in-Ok

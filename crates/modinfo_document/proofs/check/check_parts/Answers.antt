@@ -1,10 +1,10 @@
 use Rattle.std.proofs.Common.{inr, rules}
-use Rattle.modinfo.proofs.check.document.check_parts.Goals.{
+use Rattle.modinfo_document.proofs.check.check_parts.Goals.{
   in-Ok,
   in-Err-OutOfMemory,
   in-Err+in_ok-wrong_specifier-in-Err,
 }
-use Rattle.modinfo.proofs.check.document.check_parts.Goals as goal
+use Rattle.modinfo_document.proofs.check.check_parts.Goals as goal
 
 -- the specifier is a URL, memory was refused, or the specifier is none
 pub returns : goal.returns

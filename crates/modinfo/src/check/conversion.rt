@@ -3,17 +3,17 @@
 ghost use Rattle.std.specs.Prelude.{◌≡◌, IfOk, IfSome, IsNone, MatchOption};
 ghost use Rattle.serde_json.specs.View.{view};
 ghost use Rattle.deno_graph_info.specs.Conversion.{IsConverted, IsConvertFault};
-ghost use Rattle.modinfo_document.specs.Report.{CanBeConverted, PointsInto};
+ghost use Rattle.modinfo.specs.Check.{CanBeConverted, PointsInto};
 
-use crate::report::Wrong;
 use deno_graph_info::analysis::{ConvertFault, module_graph_1_to_2};
 use deno_graph_json::{ReadError, find_float};
+use modinfo_document::report::Wrong;
 use serde_json::{Map, Value};
 use std::alloc::{AllocError, Global};
 
 /// Converts stored information in place. `None` where it was converted; else why it can't be, or that
 /// memory was refused, and it is as it was.
-pub fn convert_fault(alloc: Global, value: &mut Value) -> Option<ConvertFault>
+pub fn convert_in_place(alloc: Global, value: &mut Value) -> Option<ConvertFault>
     ensures fault { MatchOption result (CanBeConverted (view value.old)) (IsConvertFault (view value.old)) }
     ensures converted { IsNone result → IsConverted (view value.old) (view value.new) }
     ensures unchanged { IfSome result (λ _. value.new ≡ value.old) }
@@ -73,7 +73,7 @@ fn array_at<'a>(value: &'a Value, name: &str) -> Option<&'a Vec<Value>> {
 /// Whether the conversion of a module with this dependency alone has a column that is too large.
 fn overflows(alloc: Global, dependency: &Value) -> Result<bool, AllocError> {
     let mut module = module_with(alloc, dependency)?;
-    match convert_fault(alloc, &mut module) {
+    match convert_in_place(alloc, &mut module) {
         None => Ok(false),
         Some(ConvertFault::OutOfMemory) => Err(AllocError),
         Some(_) => Ok(true),

@@ -1,6 +1,6 @@
 use Rattle.std.proofs.Common.{Err, ap, inl, rules}
 use Rattle.modinfo_document.specs.declared.fault.NotationFault.TheVariants.{Json}
-use Rattle.modinfo.proofs.check.document.check_document.Goals as goal
+use Rattle.modinfo_document.proofs.check.check_document.Goals as goal
 
 -- the text states what was read
 pub returns-in-Ok : goal.returns-in-Ok

@@ -1,4 +1,4 @@
-//! Documents of `analyze`.
+//! Checks of module documents: the report on a text.
 
 ghost use Rattle.std.specs.Prelude.{◌≡◌, ℕ, IfOk, IfSome, IsNone, List, None, Ok};
 ghost use Rattle.std.specs.Rc.{rc_str_bytes};
@@ -7,15 +7,15 @@ ghost use Rattle.url.specs.Parts.{Parts};
 ghost use Rattle.url.specs.Parser.{parse_url};
 ghost use Rattle.deno_graph_source.specs.Source.{HasFault, IsValid};
 ghost use Rattle.modinfo_document.specs.Document.{IsDocumentOf};
-ghost use Rattle.modinfo.specs.Check.{ReportsOn};
+ghost use Rattle.modinfo_document.specs.Check.{ReportsOn};
 
+use crate::report::{
+    Report, find_warnings, wrong_notation, wrong_source, wrong_specifier, wrong_text,
+};
+use crate::{Document, NotationFault, read_document};
 use deno_graph_json::{Tape, TapeFault};
 use deno_graph_source::tree::{SourceFaultPlace, source_fault_place};
 use json::Scratch;
-use modinfo_document::report::{
-    Report, find_warnings, wrong_notation, wrong_source, wrong_specifier, wrong_text,
-};
-use modinfo_document::{Document, NotationFault, read_document};
 use std::alloc::{AllocError, Global};
 
 /// Checks a document of `analyze`: `Valid` where it states a valid source, `Wrong` where it has a

@@ -1,6 +1,6 @@
 use Rattle.std.proofs.Common.{inr, rules}
 use Rattle.modinfo_document.specs.declared.fault.NotationFault.TheVariants.{Source}
-use Rattle.modinfo.proofs.check.document.check_source.Goals as goal
+use Rattle.modinfo_document.proofs.check.check_source.Goals as goal
 
 -- the document is stated, and its source has the fault that was found
 pub returns-in_ok-wrong_source-in-Some : goal.returns-in_ok-wrong_source-in-Some

@@ -3,7 +3,7 @@ use Rattle.serde_json.specs.View.{view}
 use Rattle.deno_graph_json.specs.Read.Answer.{IsRefusal}
 use Rattle.modinfo.proofs.StoredModules.{asks_none, asks_some}
 use Rattle.modinfo.specs.Reach.{reads_modules}
-use Rattle.modinfo.proofs.check.stored.report_question.Goals as goal
+use Rattle.modinfo.proofs.check.modules.report_question.Goals as goal
 
 pub returns-in-Ok-clause-verdict : goal.returns-in-Ok-clause-verdict
 returns-in-Ok-clause-verdict c = asks_some _ c.in-Ok.field-0 c.in-Ok.ensures
