@@ -11,28 +11,28 @@ use Rattle.deno_graph_info.specs.Json.ModuleInfo.{json_of_info}
 use Rattle.deno_graph_info.specs.declared.analysis.module_info.ModuleInfo.{ModuleInfo}
 use Rattle.deno_graph_info.specs.declared.conversion.fault.ConvertFault.TheVariants as convert
 use Rattle.deno_graph_module_info.specs.InfoOfModule.{IsInfoOfModule}
-use Rattle.modinfo_document.specs.Check.{StatesNoSource, StatesSource}
-use Rattle.modinfo_document.specs.Document.{HasNotationFault, IsDocumentOf, IsSourceOf}
+use Rattle.modinfo_document.specs.Check.{IsNoModuleText, IsModuleText}
+use Rattle.modinfo_document.specs.Document.{HasDocumentError, IsDocumentOf, IsSourceOf}
 use Rattle.modinfo_document.specs.declared.document.Document.{Document}
-use Rattle.modinfo_document.specs.declared.fault.NotationFault.{NotationFault}
+use Rattle.modinfo_document.specs.declared.error.DocumentError.{DocumentError}
 use Rattle.modinfo.specs.Check.{
-  StatesConvertible,
-  StatesNoConvertible,
-  StatesNoQuestion,
-  StatesQuestion,
+  IsConvertibleText,
+  IsNoConvertibleText,
+  IsNoQuestionText,
+  IsQuestionText,
 }
 use Rattle.modinfo.specs.declared.fault.Fault.{Fault}
 use Rattle.modinfo.specs.declared.fault.Fault.TheVariants.{Input, Json, Output, OutOfMemory}
 use Rattle.modinfo.specs.declared.fault.Fault.TheVariants as fault_of
 use Rattle.modinfo.specs.declared.subcommand.Subcommand.{Subcommand}
 use Rattle.modinfo.specs.declared.subcommand.Subcommand.TheVariants.{Analyze, Convert, Reach}
-use Rattle.modinfo.specs.Fault.{fault_of_notation}
+use Rattle.modinfo.specs.Fault.{fault_of_document}
 use Rattle.modinfo.specs.Reach.{IsNoQuestion, IsReachText}
 
 -- the module that a text states in the notation, which is valid
 pub record IsModuleOf (text : List ℕ) (module_ : ParsedModule) : Type 0 where
   pub document : Document
-  pub is_stated : IsDocumentOf text document
+  pub is_document : IsDocumentOf text document
   pub is_source : IsSourceOf document module_
 
 -- the compact JSON of the information of the module that a text states
@@ -45,8 +45,8 @@ IsInfoText document text = (module_ : ParsedModule) × IsModuleOf document modul
 abbrev pub IsNoModule : List ℕ → Fault → Type 0
 IsNoModule text Input = ¬ IsUtf8 text
 IsNoModule text OutOfMemory = Unit {0}
-IsNoModule text fault = (told : NotationFault) × (fault_of_notation told ≡ fault)
-    × HasNotationFault text told
+IsNoModule text fault = (told : DocumentError) × (fault_of_document told ≡ fault)
+    × HasDocumentError text told
 
 -- Why bytes are no JSON value: they aren't UTF-8, or the text isn't JSON; or an allocation failed.
 abbrev pub IsNoJson : List ℕ → Fault → Type 0
@@ -116,15 +116,15 @@ IsAnswerLine subcommand document line = (text : List ℕ) × IsAnswerText subcom
 
 -- the bytes are a document of the subcommand, and have no fault
 abbrev pub IsValidDocument : Subcommand → List ℕ → Type 0
-IsValidDocument Analyze document = StatesSource document
-IsValidDocument Convert document = StatesConvertible document
-IsValidDocument Reach document = StatesQuestion document
+IsValidDocument Analyze document = IsModuleText document
+IsValidDocument Convert document = IsConvertibleText document
+IsValidDocument Reach document = IsQuestionText document
 
 -- the bytes are no text, or one with a fault
 abbrev pub IsFaultyDocument : Subcommand → List ℕ → Type 0
-IsFaultyDocument Analyze document = (¬ IsUtf8 document) ⊎ StatesNoSource document
-IsFaultyDocument Convert document = (¬ IsUtf8 document) ⊎ StatesNoConvertible document
-IsFaultyDocument Reach document = (¬ IsUtf8 document) ⊎ StatesNoQuestion document
+IsFaultyDocument Analyze document = (¬ IsUtf8 document) ⊎ IsNoModuleText document
+IsFaultyDocument Convert document = (¬ IsUtf8 document) ⊎ IsNoConvertibleText document
+IsFaultyDocument Reach document = (¬ IsUtf8 document) ⊎ IsNoQuestionText document
 
 -- the word by which a subcommand is asked for
 abbrev pub name_of : Subcommand → List ℕ

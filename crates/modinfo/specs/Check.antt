@@ -14,8 +14,8 @@ use Rattle.deno_graph_info.specs.declared.conversion.fault.ConvertFault.{Convert
 use Rattle.deno_graph_info.specs.declared.conversion.fault.ConvertFault.TheVariants as convert
 use Rattle.modinfo_document.specs.Report.{MatchReport, Reports}
 use Rattle.modinfo_document.specs.declared.report.Report.{Report}
-use Rattle.modinfo_document.specs.declared.report.Report.TheVariants.{Valid, Wrong}
-use Rattle.modinfo_document.specs.declared.report.Wrong.{Wrong as WrongDocument}
+use Rattle.modinfo_document.specs.declared.report.Report.TheVariants.{Valid, Invalid}
+use Rattle.modinfo_document.specs.declared.report.FaultReport.{FaultReport}
 use Rattle.modinfo.specs.Reach.{Asks, IsQuestionFault}
 
 -- the value has no float, and is converted to another
@@ -32,17 +32,17 @@ abbrev pub ReportsOnValue : Data → Report → Type 0
 ReportsOnValue before = MatchReport (CanBeConverted before) (CannotBeConverted before)
 
 -- the text is JSON that can be converted
-abbrev pub StatesConvertible : List ℕ → Type 0
-StatesConvertible text = (before : Data) × (read_text text ≡ Some before) × CanBeConverted before
+abbrev pub IsConvertibleText : List ℕ → Type 0
+IsConvertibleText text = (before : Data) × (read_text text ≡ Some before) × CanBeConverted before
 
 -- the text is no JSON, or JSON that can't be converted
-abbrev pub StatesNoConvertible : List ℕ → Type 0
-StatesNoConvertible text = (read_text text ≡ None)
+abbrev pub IsNoConvertibleText : List ℕ → Type 0
+IsNoConvertibleText text = (read_text text ≡ None)
     ⊎ ((before : Data) × (read_text text ≡ Some before) × CannotBeConverted before)
 
 -- the same of a document of `convert`
 abbrev pub ReportsOnStored : List ℕ → Report → Type 0
-ReportsOnStored text = MatchReport (StatesConvertible text) (StatesNoConvertible text)
+ReportsOnStored text = MatchReport (IsConvertibleText text) (IsNoConvertibleText text)
 
 -- The value asks which modules a root reaches.
 abbrev pub AsksSome : Data → Type 0
@@ -53,24 +53,24 @@ abbrev pub AsksNone : Data → Type 0
 AsksNone value = (fault : InfoFault) × (fault ≢ NoMemory) × IsQuestionFault value fault
 
 -- The text is JSON that asks which modules a root reaches.
-abbrev pub StatesQuestion : List ℕ → Type 0
-StatesQuestion text = (value : Data) × (read_text text ≡ Some value) × AsksSome value
+abbrev pub IsQuestionText : List ℕ → Type 0
+IsQuestionText text = (value : Data) × (read_text text ≡ Some value) × AsksSome value
 
 -- The text is no JSON, or JSON with a fault as a document of `reach`.
-abbrev pub StatesNoQuestion : List ℕ → Type 0
-StatesNoQuestion text = (read_text text ≡ None)
+abbrev pub IsNoQuestionText : List ℕ → Type 0
+IsNoQuestionText text = (read_text text ≡ None)
     ⊎ ((value : Data) × (read_text text ≡ Some value) × AsksNone value)
 
 -- A document of `reach` is reported as valid only where it asks something, and as wrong only where it has a
 -- fault.
 abbrev pub ReportsOnQuestion : List ℕ → Report → Type 0
-ReportsOnQuestion text = MatchReport (StatesQuestion text) (StatesNoQuestion text)
+ReportsOnQuestion text = MatchReport (IsQuestionText text) (IsNoQuestionText text)
 
 -- the pointer of the report leads to a value that isn't what the report says is expected there
-abbrev pub PointsInto : Data → WrongDocument → Type 0
-PointsInto value wrong = (mismatch : Mismatch) × IsIn value (read.Mismatch mismatch) × Reports mismatch wrong
+abbrev pub PointsInto : Data → FaultReport → Type 0
+PointsInto value report = (mismatch : Mismatch) × IsIn value (read.Mismatch mismatch) × Reports mismatch report
 
 -- A report that stored information is wrong points to a value in it that isn't what the report expects there.
-abbrev pub IsPlacedIn : Data → Report → Type 0
-IsPlacedIn value (Valid _) = Unit {0}
-IsPlacedIn value (Wrong wrong) = PointsInto value wrong
+abbrev pub HasPointerInto : Data → Report → Type 0
+HasPointerInto value (Valid _) = Unit {0}
+HasPointerInto value (Invalid fault) = PointsInto value wrong

@@ -23,7 +23,7 @@ use Rattle.modinfo.specs.declared.fault.Fault.{Fault}
 use Rattle.modinfo.specs.declared.fault.Fault.TheVariants.{
   Input,
   Json,
-  NotInNotation,
+  Tree,
   Specifier,
   Source,
   Convert,
@@ -45,7 +45,7 @@ error_line fault = codes "modinfo: " ++ name_of_fault fault ++ codes "\n"
 abbrev pub IsFailure : Fault → Type 0
 IsFailure Input = Unit {0}
 IsFailure Json = ⊥
-IsFailure NotInNotation = ⊥
+IsFailure Tree = ⊥
 IsFailure Specifier = ⊥
 IsFailure (Source fault) = ⊥
 IsFailure (Convert fault) = ⊥

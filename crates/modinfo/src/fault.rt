@@ -3,12 +3,12 @@ ghost use Rattle.modinfo.specs.Fault.{name_of_conversion, name_of_fault, name_of
 
 use deno_graph_info::analysis::{ConvertFault, InfoFault};
 use deno_graph_source::tree::SourceFault;
-use modinfo_document::NotationFault;
+use modinfo_document::DocumentError;
 use std::alloc::{AllocError, AllocFailed};
 use std::error::Error;
 use std::fmt;
 
-/// Why the program printed no answer. Each prints as its name: `NotInNotation` as `Tree`, and a fault
+/// Why the program printed no answer. Each prints as its name: `Tree` as `Tree`, and a fault
 /// of a source, of a conversion or of information by its own name.
 #[derive(Debug, PartialEq, Eq, Drop)]
 pub enum Fault {
@@ -17,7 +17,7 @@ pub enum Fault {
     /// The input is no JSON, nests deeper than 127 or has a number too large for a float.
     Json,
     /// The JSON isn't in the notation.
-    NotInNotation,
+    Tree,
     /// The specifier is no URL.
     Specifier,
     /// The tree or the comments don't fit the source.
@@ -40,7 +40,7 @@ impl Fault {
         match self {
             Fault::Input => "Input",
             Fault::Json => "Json",
-            Fault::NotInNotation => "Tree",
+            Fault::Tree => "Tree",
             Fault::Specifier => "Specifier",
             Fault::Source(fault) => source_name(fault),
             Fault::Convert(fault) => conversion_name(fault),
@@ -132,19 +132,19 @@ impl From<serde_json::Error> for Fault {
     }
 }
 
-impl From<NotationFault> for Fault {
+impl From<DocumentError> for Fault {
     ghost use Rattle.std.specs.Prelude.{◌≡◌};
-    ghost use Rattle.modinfo.specs.Fault.{fault_of_notation};
+    ghost use Rattle.modinfo.specs.Fault.{fault_of_document};
 
-    ghost from_gives = { λ notation_fault fault. fault ≡ fault_of_notation notation_fault };
+    ghost from_gives = { λ notation_fault fault. fault ≡ fault_of_document notation_fault };
 
-    fn from(fault: NotationFault) -> Fault {
+    fn from(fault: DocumentError) -> Fault {
         match fault {
-            NotationFault::Json { .. } => Fault::Json,
-            NotationFault::NotInNotation(_) => Fault::NotInNotation,
-            NotationFault::Specifier => Fault::Specifier,
-            NotationFault::Source(fault) => Fault::Source(fault),
-            NotationFault::OutOfMemory => Fault::OutOfMemory,
+            DocumentError::Json { .. } => Fault::Json,
+            DocumentError::Tree(_) => Fault::Tree,
+            DocumentError::Specifier => Fault::Specifier,
+            DocumentError::Source(fault) => Fault::Source(fault),
+            DocumentError::OutOfMemory => Fault::OutOfMemory,
         }
     }
 }

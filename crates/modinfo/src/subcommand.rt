@@ -6,7 +6,7 @@ ghost use Rattle.modinfo_document.specs.Report.{MatchReport};
 ghost use Rattle.modinfo.specs.Answer.{IsAnswerLine, IsAnswerText, IsDocumentFault, IsFaultyDocument};
 ghost use Rattle.modinfo.specs.Answer.{IsInputFault, IsValidDocument, name_of};
 
-use crate::check::{Report, check_document, check_modules, check_stored, report_bytes};
+use crate::check::{Report, check_document, check_modules, check_stored, report_invalid_utf8};
 use crate::fault::Fault;
 use crate::input::read_to_end;
 use crate::request::Request;
@@ -98,7 +98,7 @@ impl Subcommand {
     {
         let text = match compat::from_utf8(document) {
             Ok(text) => text,
-            Err(error) => return report_bytes(alloc, document, error.valid_up_to()),
+            Err(error) => return report_invalid_utf8(alloc, document, error.valid_up_to()),
         };
         match self {
             Subcommand::Analyze => check_document(alloc, text),

@@ -1,11 +1,11 @@
-//! The names of a document's members: of those that `known_members` names each is read, and no
+//! The names of a document's members: of those that `member_names` names each is read, and no
 //! other.
 
 use deno_graph_json::{Element, Tape};
 use deno_graph_source::tree::CommentSide;
 use json::Scratch;
 use modinfo::document::kind::KINDS;
-use modinfo::document::{Role, comment_at, known_members, node_at, parse_document};
+use modinfo::document::{Role, comment_at, member_names, node_at, parse_document};
 use std::process::Abort;
 
 /// A document of which each object has every member that is read of it, so that it would be read
@@ -135,7 +135,7 @@ fn assert_members(rt: &impl Abort, role: Role<'_>, object: Option<Element<'_>>) 
     let Some(object) = object else {
         panic!(rt; "{role:?} isn't there");
     };
-    for name in known_members(role) {
+    for name in member_names(role) {
         assert!(rt;
             member(Some(object), name).is_some(),
             "{role:?} has no {name}"
@@ -149,7 +149,7 @@ fn assert_known(rt: &impl Abort, role: Role<'_>, object: Element<'_>) {
         panic!(rt; "{role:?} is no object");
     };
     for (name, _) in members.entries() {
-        let is_known = known_members(role).iter().any(|known| *known == name);
+        let is_known = member_names(role).iter().any(|known| *known == name);
         assert!(rt; is_known, "{role:?} has {name}");
     }
 }

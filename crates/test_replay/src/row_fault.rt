@@ -1,7 +1,7 @@
 use deno_graph_info::analysis::InfoFault;
 use deno_graph_json::TapeFault;
 use deno_graph_source::tree::SourceFault;
-use modinfo::document::NotationFault;
+use modinfo::document::DocumentError;
 use std::alloc::{AllocError, AllocFailed};
 use std::io::{self, ErrorKind};
 use thiserror::Error;
@@ -61,10 +61,10 @@ impl From<TapeFault> for RowFault {
     }
 }
 
-impl From<NotationFault> for RowFault {
-    fn from(fault: NotationFault) -> RowFault {
+impl From<DocumentError> for RowFault {
+    fn from(fault: DocumentError) -> RowFault {
         match fault {
-            NotationFault::OutOfMemory => RowFault::OutOfMemory,
+            DocumentError::OutOfMemory => RowFault::OutOfMemory,
             _ => RowFault::Row("its input is no source in the notation"),
         }
     }

@@ -7,7 +7,7 @@ ghost use Rattle.modinfo.specs.Check.{CanBeConverted, PointsInto};
 
 use deno_graph_info::analysis::{ConvertFault, module_graph_1_to_2};
 use deno_graph_json::{ReadError, find_float};
-use modinfo_document::report::Wrong;
+use modinfo_document::report::FaultReport;
 use serde_json::{Map, Value};
 use std::alloc::{AllocError, Global};
 
@@ -22,29 +22,33 @@ pub fn convert_in_place(alloc: Global, value: &mut Value) -> Option<ConvertFault
 }
 
 /// The fault of stored information that isn't converted. The only error is that an allocation failed.
-pub fn wrong_stored(alloc: Global, value: &Value, fault: ConvertFault) -> Result<Wrong, AllocError>
+pub fn conversion_report(
+    alloc: Global,
+    value: &Value,
+    fault: ConvertFault,
+) -> Result<FaultReport, AllocError>
     ensures { fault ≡ ConvertFault.Float → IfOk result (PointsInto (view value.now)) }
 {
     let name = format!(in alloc; "{fault}")?;
     match fault {
-        ConvertFault::Float => wrong_float(alloc, name, value),
-        _ => wrong_column(alloc, name, value),
+        ConvertFault::Float => float_report(alloc, name, value),
+        _ => column_report(alloc, name, value),
     }
 }
 
 /// The fault of the first number that isn't held as a whole number.
-fn wrong_float(alloc: Global, name: String, value: &Value) -> Result<Wrong, AllocError>
+fn float_report(alloc: Global, name: String, value: &Value) -> Result<FaultReport, AllocError>
     ensures { IfOk result (PointsInto (view value.now)) }
 {
     match find_float(alloc, value) {
-        Err(ReadError::Mismatch(mismatch)) => Wrong::of_mismatch(alloc, name, &mismatch),
+        Err(ReadError::Mismatch(mismatch)) => FaultReport::of_mismatch(alloc, name, &mismatch),
         _ => Err(AllocError),
     }
 }
 
 /// The fault of the first dependency whose types would end beyond the largest column. The pointer
 /// leads to the column at which its last comment starts.
-fn wrong_column(alloc: Global, name: String, value: &Value) -> Result<Wrong, AllocError> {
+fn column_report(alloc: Global, name: String, value: &Value) -> Result<FaultReport, AllocError> {
     let Some(dependencies) = array_at(value, "dependencies") else {
         return Err(AllocError);
     };
@@ -59,7 +63,7 @@ fn wrong_column(alloc: Global, name: String, value: &Value) -> Result<Wrong, All
                 "/dependencies/{number}/leadingComments/{last}/range/0/1"
             )?;
             let expected = String::from_str(alloc, "a column from which the types end below 2^64")?;
-            return Ok(Wrong::of_value(name, pointer, expected));
+            return Ok(FaultReport::of_value(name, pointer, expected));
         }
     }
     Err(AllocError)

@@ -5,37 +5,37 @@ ghost use Rattle.serde_json.specs.Data.{Data};
 ghost use Rattle.serde_json.specs.Read.{read as read_text};
 ghost use Rattle.serde_json.specs.View.{view};
 ghost use Rattle.modinfo_document.specs.Report.{MatchReport};
-ghost use Rattle.modinfo.specs.Check.{AsksNone, AsksSome, IsPlacedIn, ReportsOnQuestion};
+ghost use Rattle.modinfo.specs.Check.{AsksNone, AsksSome, HasPointerInto, ReportsOnQuestion};
 
 use crate::check::text::read_json;
 use crate::reach::read_modules;
 use deno_graph_info::analysis::InfoFault;
 use deno_graph_json::{Expected, Mismatch, ReadError};
-use modinfo_document::report::{Report, Warnings, Wrong, wrong_json};
+use modinfo_document::report::{FaultReport, Report, Warnings, json_report};
 use serde_json::Value;
 use std::alloc::{AllocError, Global};
 
 /// Checks a document of `reach`, a root and the information of many modules: `Valid` where it can be
-/// read, `Wrong` where it has a fault. The only error is that an allocation failed.
+/// read, `FaultReport` where it has a fault. The only error is that an allocation failed.
 pub fn check_modules(alloc: Global, text: &str) -> Result<Report, AllocError>
     ensures verdict { IfOk result (ReportsOnQuestion text.now) }
-    ensures place { (value : Data) → read_text text.now ≡ Some value → IfOk result (IsPlacedIn value) }
+    ensures place { (value : Data) → read_text text.now ≡ Some value → IfOk result (HasPointerInto value) }
 {
     match read_json(alloc, text)? {
         Some(value) => report_question(alloc, &value),
-        None => Ok(Report::Wrong(wrong_json(alloc, text)?)),
+        None => Ok(Report::Invalid(json_report(alloc, text)?)),
     }
 }
 
 fn report_question(alloc: Global, value: &Value) -> Result<Report, AllocError>
     ensures verdict { IfOk result (MatchReport (AsksSome (view value.now)) (AsksNone (view value.now))) }
-    ensures place { IfOk result (IsPlacedIn (view value.now)) }
+    ensures place { IfOk result (HasPointerInto (view value.now)) }
 {
     match read_modules(alloc, value) {
         Ok(_) => Ok(Report::Valid(Warnings::new(alloc))),
         Err(ReadError::Mismatch(mismatch)) => {
             let fault = format!(in alloc; "{}", fault_of(&mismatch))?;
-            Ok(Report::Wrong(Wrong::of_mismatch(alloc, fault, &mismatch)?))
+            Ok(Report::Invalid(FaultReport::of_mismatch(alloc, fault, &mismatch)?))
         }
         Err(ReadError::OutOfMemory) => Err(AllocError),
     }

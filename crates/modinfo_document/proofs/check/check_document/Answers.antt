@@ -1,5 +1,5 @@
 use Rattle.std.proofs.Common.{Err, ap, inl, rules}
-use Rattle.modinfo_document.specs.declared.fault.NotationFault.TheVariants.{Json}
+use Rattle.modinfo_document.specs.declared.error.DocumentError.TheVariants.{Json}
 use Rattle.modinfo_document.proofs.check.check_document.Goals as goal
 
 -- the text states what was read

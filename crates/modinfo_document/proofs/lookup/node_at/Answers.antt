@@ -2,9 +2,9 @@ use Rattle.std.proofs.Common.{◌≡◌, [], arith, None, Some, option_map, sym,
 use Rattle.std.proofs.lemmas.List.{nil_from_length}
 use Rattle.deno_graph_json.specs.View.{value_of}
 use Rattle.modinfo_document.specs.Partial.{◌>>=◌}
-use Rattle.modinfo_document.specs.Place.{below}
-use Rattle.modinfo_document.proofs.Places.{at_path, body_path, none_at, of_path, program_in}
-use Rattle.modinfo_document.proofs.place.node_at.Goals as goal
+use Rattle.modinfo_document.specs.internal.Lookup.{below}
+use Rattle.modinfo_document.proofs.Lookup.{at_path, body_path, none_at, of_path, program_in}
+use Rattle.modinfo_document.proofs.lookup.node_at.Goals as goal
 
 pub returns-in_err-members-clause-read : goal.returns-in_err-members-clause-read
 returns-in_err-members-clause-read c =

@@ -39,13 +39,14 @@ use Rattle.deno_graph_source.specs.declared.tree.node.Program.{Program}
 use Rattle.deno_graph_base.specs.declared.text.position.SourceRange.{SourceRange}
 use Rattle.deno_graph_source.specs.Node.{children_of}
 use Rattle.deno_graph_source.specs.NodePath.{NodePath, node_at, node_below}
-use Rattle.modinfo_document.specs.Partial.{◌>>=◌, found_or, reads_items, required, flag}
+use Rattle.modinfo_document.specs.Partial.{◌>>=◌, or_default, reads_items, required, flag}
 use Rattle.modinfo_document.specs.Kind.{reads_kind, reads_named, media_types}
 use Rattle.modinfo_document.specs.Comments.{reads_sides}
-use Rattle.modinfo_document.specs.Document.{Stated, reads_document}
+use Rattle.modinfo_document.specs.Document.{Contents, reads_document}
 use Rattle.modinfo_document.specs.Literal.{reads_source_range}
 use Rattle.modinfo_document.specs.Node.{reads_node, reads_nodes, reads_program, node_with}
-use Rattle.modinfo_document.specs.Place.{member_item, below, IsReadAt}
+use Rattle.modinfo_document.specs.Lookup.{IsReadAt}
+use Rattle.modinfo_document.specs.internal.Lookup.{member_item, below}
 use Rattle.modinfo_document.proofs.Nodes.{node_read, nodes_read}
 
 -- a step of a reader that has a value
@@ -94,7 +95,7 @@ array_from value nodes is k =
     (items_from reads_node found.0 nodes found.2 k)
 
 -- the nodes of a member that may be missing
-member_from : (found : Option Value) (nodes : List Node) → found_or reads_nodes [] found ≡ Some nodes
+member_from : (found : Option Value) (nodes : List Node) → or_default reads_nodes [] found ≡ Some nodes
     → (k : ℕ)
     → IsReadFrom reads_node (found >>= (λ value. as_array value >>= nth_item k)) (slice_get nodes k)
 member_from None nodes is k = subst (λ ns. IsReadFrom reads_node None (slice_get ns k))
@@ -133,7 +134,7 @@ children_from value node is k =
     (o >>= (λ ms. last_named (codes "children") ms >>= (λ found. as_array found >>= nth_item k)))
     (slice_get (children_of node) k)) (sym object)
     (member_from (last_named (codes "children") members) (children_of node)
-    (children_with members (found_or reads_nodes []
+    (children_with members (or_default reads_nodes []
     (last_named (codes "children") members)) node with_members) k))
 
 -- a program's body
@@ -191,24 +192,24 @@ at_path value (index ∷ path) = program_in value
     >>= (λ program. member_item (codes "body") index program >>= below path)
 
 -- what is read at a path
-pub read_at : (value : Value) (stated : Stated) → reads_document value ≡ Some stated → (path : NodePath)
-    → IsReadAt stated.program path (at_path value path)
+pub read_at : (value : Value) (contents : Contents) → reads_document value ≡ Some contents → (path : NodePath)
+    → IsReadAt contents.program path (at_path value path)
 unfolding reads_document required
-read_at value stated is path =
-    option_and_then_some _ (as_object value) stated is
+read_at value contents is path =
+    option_and_then_some _ (as_object value) contents is
     (λ members object with_members. option_and_then_some _
-    (last_named (codes "specifier") members >>= as_str) stated with_members
+    (last_named (codes "specifier") members >>= as_str) contents with_members
     (λ specifier _ with_specifier. option_and_then_some _
-    (last_named (codes "mediaType") members >>= reads_named media_types) stated with_specifier
+    (last_named (codes "mediaType") members >>= reads_named media_types) contents with_specifier
     (λ media_type _ with_media_type. option_and_then_some _
-    (last_named (codes "source") members >>= as_str) stated with_media_type
-    (λ source _ with_source. option_and_then_some _ (reads_sides members) stated with_source
+    (last_named (codes "source") members >>= as_str) contents with_media_type
+    (λ source _ with_source. option_and_then_some _ (reads_sides members) contents with_source
     (λ comments _ with_comments. option_and_then_some _
-    (last_named (codes "program") members >>= reads_program) stated with_comments
+    (last_named (codes "program") members >>= reads_program) contents with_comments
     (λ program read made. option_and_then_some reads_program
     (last_named (codes "program") members) program read
     (λ found there is_program.
-    subst (λ p. IsReadAt p path (at_path value path)) (ap (λ s. s.program) (same_Some _ stated made))
+    subst (λ p. IsReadAt p path (at_path value path)) (ap (λ s. s.program) (same_Some _ contents made))
     (by path program found (ap (λ o. o >>= last_named (codes "program")) object ∙ there) is_program))))))))
   where
     by : (path : NodePath) (p : Program) (pv : Value) → program_in value ≡ Some pv
@@ -220,9 +221,9 @@ read_at value stated is path =
         (path_from pv p is index path)
 
 pub of_path : (value : Value) (found : Option Value) (path : NodePath) → found ≡ at_path value path
-    → (stated : Stated) → reads_document value ≡ Some stated → IsReadAt stated.program path found
-of_path value found path at stated is = subst (λ o. IsReadAt stated.program path o) (sym at)
-    (read_at value stated is path)
+    → (contents : Contents) → reads_document value ≡ Some contents → IsReadAt contents.program path found
+of_path value found path at contents is = subst (λ o. IsReadAt contents.program path o) (sym at)
+    (read_at value contents is path)
 
 -- a document without a program has nothing at any path
 pub none_at : (value : Value) (path : NodePath) → program_in value ≡ None → None ≡ at_path value path

@@ -5,36 +5,37 @@ use std::fmt;
 use thiserror::Error;
 use url::ParseError;
 
-/// Why a text gave no document, or a document no source. Each prints as the program prints it.
+/// Why a text isn't a module document, or a document has no source. Each is displayed by the name of
+/// the fault that the program prints.
 #[derive(Debug, PartialEq, Eq, Drop, Error)]
-pub enum NotationFault {
-    /// The text is no JSON, nests deeper than 127 or has a number too large for a float. The
-    /// offset, in bytes, is that of `TapeFault::Json`.
+pub enum DocumentError {
+    /// The text isn't JSON, nests deeper than 127 or has a number too large for a float. The offset,
+    /// in bytes, is that of `TapeFault::Json`.
     #[error("Json")]
     Json { offset: usize },
-    /// The JSON isn't in the notation.
+    /// A value in the JSON isn't what is expected there.
     #[error("Tree")]
-    NotInNotation(Misfit),
-    /// The specifier is no URL.
+    Tree(ElementMismatch),
+    /// The specifier isn't a URL.
     #[error("Specifier")]
     Specifier,
     /// The tree or the comments don't fit the source.
     #[error("{0}")]
     Source(SourceFault),
-    /// Memory was refused, or the specifier is a URL of 4 GB.
+    /// An allocation failed, or the specifier is a URL of 4 GB.
     #[error("OutOfMemory")]
     OutOfMemory,
 }
 
-/// What isn't in the notation, and what would be in its place.
+/// An unexpected value, and what is expected in its place.
 #[derive(Clone, Copy, Debug, PartialEq, Eq)]
-pub struct Misfit {
-    /// The number of the value's node in the tape. `Tape::pointer` says where that is.
+pub struct ElementMismatch {
+    /// The number of the value's node in the tape, for `Tape::pointer`.
     pub element: usize,
     pub expected: Expected,
 }
 
-/// What the notation has at a place. It prints as plain words, as `an array`.
+/// What is expected of a value. Displayed in words, such as `an array`.
 #[derive(Clone, Copy, Debug, PartialEq, Eq)]
 pub enum Expected {
     Object,
@@ -45,13 +46,13 @@ pub enum Expected {
     Whole,
     /// Two whole numbers, `[start,end]`.
     Range,
-    /// A string of the source: a string or an array of units of UTF-16.
+    /// A JavaScript string: a string or an array of UTF-16 code units.
     SourceString,
-    /// A unit of UTF-16.
+    /// A UTF-16 code unit.
     Unit,
     /// The key of a property.
     Key,
-    /// A member of this name. The value is the object that lacks it.
+    /// A member of this name. The unexpected value is the object without that member.
     Member(&'static str),
     /// One of these names.
     OneOf(&'static [&'static str]),
@@ -76,6 +77,7 @@ impl fmt::Display for Expected {
     }
 }
 
+/// Writes names with commas between them.
 fn write_names<W: fmt::Write>(f: &mut fmt::Formatter<W>, names: &[&str]) -> fmt::Result {
     let mut before = "one of ";
     for name in names {
@@ -85,66 +87,66 @@ fn write_names<W: fmt::Write>(f: &mut fmt::Formatter<W>, names: &[&str]) -> fmt:
     Ok(())
 }
 
-impl From<AllocError> for NotationFault {
+impl From<AllocError> for DocumentError {
     ghost use Rattle.std.specs.Prelude.{◌≡◌};
-    ghost use Rattle.modinfo_document.specs.declared.fault.NotationFault.TheVariants.{OutOfMemory};
+    ghost use Rattle.modinfo_document.specs.declared.error.DocumentError.TheVariants.{OutOfMemory};
 
     ghost from_gives = { λ _ e. e ≡ OutOfMemory };
 
-    fn from(_refused: AllocError) -> NotationFault {
-        NotationFault::OutOfMemory
+    fn from(_error: AllocError) -> DocumentError {
+        DocumentError::OutOfMemory
     }
 }
 
-impl<T: Drop> From<AllocFailed<T>> for NotationFault {
+impl<T: Drop> From<AllocFailed<T>> for DocumentError {
     ghost use Rattle.std.specs.Prelude.{◌≡◌};
-    ghost use Rattle.modinfo_document.specs.declared.fault.NotationFault.TheVariants.{OutOfMemory};
+    ghost use Rattle.modinfo_document.specs.declared.error.DocumentError.TheVariants.{OutOfMemory};
 
     ghost from_gives = { λ _ e. e ≡ OutOfMemory };
 
-    fn from(_refused: AllocFailed<T>) -> NotationFault {
-        NotationFault::OutOfMemory
+    fn from(_error: AllocFailed<T>) -> DocumentError {
+        DocumentError::OutOfMemory
     }
 }
 
-impl From<TapeFault> for NotationFault {
+impl From<TapeFault> for DocumentError {
     ghost use Rattle.std.specs.Prelude.{◌≡◌};
-    ghost use Rattle.modinfo_document.specs.Fault.{of_tape};
+    ghost use Rattle.modinfo_document.specs.Error.{of_tape};
 
     ghost from_gives = { λ fault e. e ≡ of_tape fault };
 
-    fn from(fault: TapeFault) -> NotationFault {
+    fn from(fault: TapeFault) -> DocumentError {
         match fault {
-            TapeFault::Json { offset } => NotationFault::Json { offset },
-            TapeFault::OutOfMemory => NotationFault::OutOfMemory,
+            TapeFault::Json { offset } => DocumentError::Json { offset },
+            TapeFault::OutOfMemory => DocumentError::OutOfMemory,
         }
     }
 }
 
-impl From<ParseError> for NotationFault {
+impl From<ParseError> for DocumentError {
     ghost use Rattle.std.specs.Prelude.{◌≡◌};
-    ghost use Rattle.modinfo_document.specs.Fault.{of_url};
+    ghost use Rattle.modinfo_document.specs.Error.{of_url};
 
     ghost from_gives = { λ error e. e ≡ of_url error };
 
-    fn from(error: ParseError) -> NotationFault {
+    fn from(error: ParseError) -> DocumentError {
         match error {
-            ParseError::OutOfMemory | ParseError::Overflow => NotationFault::OutOfMemory,
-            _ => NotationFault::Specifier,
+            ParseError::OutOfMemory | ParseError::Overflow => DocumentError::OutOfMemory,
+            _ => DocumentError::Specifier,
         }
     }
 }
 
-impl From<SourceFault> for NotationFault {
+impl From<SourceFault> for DocumentError {
     ghost use Rattle.std.specs.Prelude.{◌≡◌};
-    ghost use Rattle.modinfo_document.specs.Fault.{of_source};
+    ghost use Rattle.modinfo_document.specs.Error.{of_source};
 
     ghost from_gives = { λ fault e. e ≡ of_source fault };
 
-    fn from(fault: SourceFault) -> NotationFault {
+    fn from(fault: SourceFault) -> DocumentError {
         match fault {
-            SourceFault::OutOfMemory => NotationFault::OutOfMemory,
-            fault => NotationFault::Source(fault),
+            SourceFault::OutOfMemory => DocumentError::OutOfMemory,
+            fault => DocumentError::Source(fault),
         }
     }
 }

@@ -20,8 +20,8 @@ use Rattle.std.proofs.Common.{
 use Rattle.std.proofs.lemmas.List.{drop_all}
 use Rattle.deno_graph_json.specs.View.{value_of}
 use Rattle.modinfo_document.specs.Partial.{◌>>=◌}
-use Rattle.modinfo_document.specs.Place.{below}
-use Rattle.modinfo_document.proofs.place.below.Goals as goal
+use Rattle.modinfo_document.specs.internal.Lookup.{below}
+use Rattle.modinfo_document.proofs.lookup.below.Goals as goal
 
 -- the number of this turn, and those behind it
 turn : (path : List ℕ) (i : ℕ) → i < length path → drop i path ≡ get_or path i 0 ∷ drop (i + 1) path

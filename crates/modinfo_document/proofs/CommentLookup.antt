@@ -57,13 +57,14 @@ use Rattle.modinfo_document.specs.Comments.{
   reads_sides,
   side_name,
 }
-use Rattle.modinfo_document.specs.Document.{Stated, reads_document}
+use Rattle.modinfo_document.specs.Document.{Contents, reads_document}
 use Rattle.modinfo_document.specs.Kind.{media_types, reads_named}
 use Rattle.modinfo_document.specs.Node.{reads_program}
-use Rattle.modinfo_document.specs.Partial.{◌>>=◌, found_or, reads_array, reads_items, required}
-use Rattle.modinfo_document.specs.Place.{side_entries, entry_items}
+use Rattle.modinfo_document.specs.Partial.{◌>>=◌, or_default, reads_array, reads_items, required}
+use Rattle.modinfo_document.specs.Lookup.{side_entries}
+use Rattle.modinfo_document.specs.internal.Lookup.{entry_items}
 use Rattle.modinfo_document.specs.Comments.{entry_with}
-use Rattle.modinfo_document.proofs.Places.{items_from, read_from, step}
+use Rattle.modinfo_document.proofs.Lookup.{items_from, read_from, step}
 use Rattle.modinfo_document.proofs.Reading.{goes_on}
 
 -- as many items were read as there are
@@ -209,7 +210,7 @@ of_array entries listed is (Some found) at =
     (λ values there read. ap (reads_items reads_entry) (same_Some found values (at ∙ there)) ∙ read)
 
 of_member : (entries : List FiledEntry) (member : Option Value)
-    → found_or (reads_array reads_entry) [] member ≡ Some entries
+    → or_default (reads_array reads_entry) [] member ≡ Some entries
     → (found : Option Items) → found ≡ (member >>= as_array) → IsOfEntries entries found
 of_member entries None is None at = sym (same_Some [] entries is)
 of_member entries None is (Some found) at = absurd (none-some found (sym at))
@@ -240,23 +241,23 @@ side_in side members sides is =
 abbrev pub side_items : CommentSide → Value → Option Items
 side_items side value = as_object value >>= (λ members. last_named (side_name side) members >>= as_array)
 
-pub entries_from : (value : Value) (stated : Stated) → reads_document value ≡ Some stated
+pub entries_from : (value : Value) (contents : Contents) → reads_document value ≡ Some contents
     → (side : CommentSide) (found : Option Items)
-    → found ≡ side_items side value → IsOfEntries (side_entries stated.comments side) found
+    → found ≡ side_items side value → IsOfEntries (side_entries contents.comments side) found
 unfolding reads_document required reads_side
-entries_from value stated is side found at =
-    option_and_then_some _ (as_object value) stated is
+entries_from value contents is side found at =
+    option_and_then_some _ (as_object value) contents is
     (λ members object with_members. option_and_then_some _
-    (last_named (codes "specifier") members >>= as_str) stated with_members
+    (last_named (codes "specifier") members >>= as_str) contents with_members
     (λ specifier _ with_specifier. option_and_then_some _
-    (last_named (codes "mediaType") members >>= reads_named media_types) stated with_specifier
+    (last_named (codes "mediaType") members >>= reads_named media_types) contents with_specifier
     (λ media_type _ with_media_type. option_and_then_some _
-    (last_named (codes "source") members >>= as_str) stated with_media_type
-    (λ source _ with_source. option_and_then_some _ (reads_sides members) stated with_source
+    (last_named (codes "source") members >>= as_str) contents with_media_type
+    (λ source _ with_source. option_and_then_some _ (reads_sides members) contents with_source
     (λ comments read with_comments. option_and_then_some _
-    (last_named (codes "program") members >>= reads_program) stated with_comments
+    (last_named (codes "program") members >>= reads_program) contents with_comments
     (λ program _ made.
-    subst (λ s. IsOfEntries (side_entries s.comments side) found) (same_Some _ stated made)
+    subst (λ s. IsOfEntries (side_entries s.comments side) found) (same_Some _ contents made)
     (of_member (side_entries comments side) (last_named (side_name side) members)
     (side_in side members comments read) found
     (at ∙ ap (λ o. o >>= (λ ms. last_named (side_name side) ms >>= as_array)) object))))))))

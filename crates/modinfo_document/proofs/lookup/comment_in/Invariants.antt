@@ -3,7 +3,7 @@ use Rattle.deno_graph_json.specs.Tape.{TakesSame, array_of_elements}
 use Rattle.deno_graph_json.specs.View.{items_left}
 use Rattle.modinfo_document.specs.Comments.{FiledEntry, comments_at, reads_entry}
 use Rattle.modinfo_document.specs.Partial.{reads_items}
-use Rattle.modinfo_document.proofs.place.comment_in.Given as goal
+use Rattle.modinfo_document.proofs.lookup.comment_in.Given as goal
 
 abbrev pub invariant-loop-entry : goal.invariant-loop-entry
 invariant-loop-entry l = (goal.iterator-loop-entry).can_next l.entry-iterator

@@ -1,4 +1,4 @@
-//! From the place of a fault in a source to the value of its document.
+//! Finding the value of a document that has the fault of its source.
 
 ghost use Rattle.std.specs.Prelude.{IfSome};
 ghost use Rattle.deno_graph_json.specs.Tape.{IsInside};
@@ -7,14 +7,14 @@ use crate::{comment_at, node_at};
 use deno_graph_json::{Element, Elements};
 use deno_graph_source::tree::{CommentPlace, FaultPlace, NodePart, SourceFault, SourceFaultPlace};
 
-/// The value of the document that is at fault: a range where the fault is one of a range.
-pub fn element_of<'a>(root: Element<'a>, found: &SourceFaultPlace) -> Option<Element<'a>> {
-    match &found.place {
+/// Finds the faulty value: for a fault of a range, the range.
+pub fn element_of<'a>(root: Element<'a>, fault: &SourceFaultPlace) -> Option<Element<'a>> {
+    match &fault.place {
         FaultPlace::Program => member(member(root, "program")?, "range"),
         FaultPlace::Node { path, part } => part_of(node_at(root, path.as_slice())?, *part),
         FaultPlace::Comment(place) => {
             let comment = element_of_comment(root, *place)?;
-            match found.fault {
+            match fault.fault {
                 SourceFault::CommentText => Some(comment),
                 _ => member(comment, "range"),
             }
@@ -23,10 +23,12 @@ pub fn element_of<'a>(root: Element<'a>, found: &SourceFaultPlace) -> Option<Ele
     }
 }
 
+/// Finds the element of a comment.
 pub fn element_of_comment<'a>(root: Element<'a>, place: CommentPlace) -> Option<Element<'a>> {
     comment_at(root, place.side, place.position, place.number)
 }
 
+/// Finds the part of a node with a fault: a range, or the node if the fault is of its children.
 fn part_of<'a>(node: Element<'a>, part: NodePart) -> Option<Element<'a>> {
     match part {
         NodePart::Range => member(node, "range"),
@@ -36,18 +38,19 @@ fn part_of<'a>(node: Element<'a>, part: NodePart) -> Option<Element<'a>> {
     }
 }
 
+/// Finds the argument of this number of a call.
 fn argument_of<'a>(node: Element<'a>, number: usize) -> Option<Element<'a>> {
     elements(node, "args")?.get(number)
 }
 
-/// The string literal of a node, where its kind has one and it is there.
+/// Finds the string literal of a node. `None` if its kind has none, or the literal is missing or null.
 pub fn literal_of<'a>(node: Element<'a>) -> Option<Element<'a>> {
     let name = literal_name(member(node, "kind")?.as_str()?)?;
     let literal = member(node, name)?;
     (!literal.is_null()).then_some(literal)
 }
 
-/// The name of the member that is the literal of a node of this kind.
+/// The name of the member with the string literal of a node of this kind.
 fn literal_name(kind: &str) -> Option<&'static str> {
     match kind {
         "ImportDecl" | "NamedExport" | "ExportAll" => Some("src"),
@@ -58,14 +61,14 @@ fn literal_name(kind: &str) -> Option<&'static str> {
     }
 }
 
-/// The member of this name.
+/// The last member of this name.
 pub fn member<'a>(value: Element<'a>, name: &str) -> Option<Element<'a>>
     ensures { IfSome result (λ found. IsInside found value.entry) }
 {
     value.members()?.get(name)
 }
 
-/// The elements of the member of this name.
+/// The elements of the last member of this name.
 pub fn elements<'a>(value: Element<'a>, name: &str) -> Option<Elements<'a>> {
     member(value, name)?.elements()
 }

@@ -2,8 +2,8 @@ use Rattle.std.proofs.Common.{◌-◌, ◌<◌, ◌≤◌, slice_get, rules, ref
 use Rattle.deno_graph_json.specs.View.{items_left, value_of}
 use Rattle.modinfo_document.specs.Comments.{comments_at, reads_comment, reads_entry}
 use Rattle.modinfo_document.specs.Partial.{◌>>=◌, reads_items}
-use Rattle.modinfo_document.proofs.FoundComments.{elsewhere, none_left, past, within}
-use Rattle.modinfo_document.proofs.place.comment_in.Goals as goal
+use Rattle.modinfo_document.proofs.CommentLookup.{elsewhere, none_left, past, within}
+use Rattle.modinfo_document.proofs.lookup.comment_in.Goals as goal
 
 pub loop-entry-init : goal.loop-entry-init
 loop-entry-init c = (
