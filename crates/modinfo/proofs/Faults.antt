@@ -13,19 +13,13 @@ use Rattle.modinfo.specs.Answer.{
   IsNoConversion,
   IsNoJson,
   IsNoReach,
-  IsReadFailure,
   IsRunFault,
 }
+use Rattle.modinfo.specs.internal.Answer.{IsReadFailure}
 use Rattle.modinfo.specs.Run.{IsFailure}
 use Rattle.modinfo.specs.Fault.{fault_of_conversion, fault_of_info}
-use Rattle.modinfo.specs.Reach.{
-  IsFirstFault,
-  IsNoInfos,
-  IsNoQuestion,
-  IsQuestionFault,
-  Question,
-  reads_question,
-}
+use Rattle.modinfo.specs.Reach.{IsFirstFault, IsNoQuestion, IsQuestionFault, Question, reads_question}
+use Rattle.modinfo.specs.internal.Reach.{IsNoInfos}
 use Rattle.modinfo.specs.declared.fault.Fault.{Fault}
 use Rattle.modinfo.specs.declared.fault.Fault.TheVariants.{
   Input,

@@ -1,5 +1,4 @@
--- The program's faults: which fault of a library each is, and the names that are printed. A failed allocation
--- is always the same fault.
+-- The faults of the program: from the errors of the libraries, and to the printed names.
 use Rattle.std.specs.Prelude.{ℕ, List, codes}
 use Rattle.deno_graph_source.specs.declared.tree.fault.SourceFault.{SourceFault}
 use Rattle.deno_graph_source.specs.declared.tree.fault.SourceFault.TheVariants as source
@@ -22,7 +21,7 @@ use Rattle.modinfo.specs.declared.fault.Fault.TheVariants.{
   OutOfMemory,
 }
 
--- why a document gave no source
+-- The fault for an error of a document.
 abbrev pub fault_of_document : DocumentError → Fault
 fault_of_document (notation.Json _) = Json
 fault_of_document (notation.Tree _) = Tree
@@ -30,12 +29,12 @@ fault_of_document notation.Specifier = Specifier
 fault_of_document (notation.Source fault) = Source fault
 fault_of_document notation.OutOfMemory = OutOfMemory
 
--- why stored information isn't converted
+-- The fault for an error of the conversion.
 abbrev pub fault_of_conversion : ConvertFault → Fault
 fault_of_conversion convert.OutOfMemory = OutOfMemory
 fault_of_conversion fault = Convert fault
 
--- why no information was read
+-- The fault for an error in reading information.
 abbrev pub fault_of_info : InfoFault → Fault
 fault_of_info info.OutOfMemory = OutOfMemory
 fault_of_info fault = Info fault

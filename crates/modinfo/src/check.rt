@@ -1,4 +1,4 @@
-//! Checks of documents: the report on a document of each command.
+//! Checking the documents of each command.
 
 mod conversion;
 mod modules;

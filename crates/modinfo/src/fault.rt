@@ -8,23 +8,23 @@ use std::alloc::{AllocError, AllocFailed};
 use std::error::Error;
 use std::fmt;
 
-/// Why the program printed no answer. Each prints as its name: `Tree` as `Tree`, and a fault
-/// of a source, of a conversion or of information by its own name.
+/// Why the program printed no answer. Displayed by its name; `Source`, `Convert` and `Info` by the name
+/// of the fault inside.
 #[derive(Debug, PartialEq, Eq, Drop)]
 pub enum Fault {
     /// A read failed, or the input isn't UTF-8.
     Input,
-    /// The input is no JSON, nests deeper than 127 or has a number too large for a float.
+    /// The input isn't JSON, nests deeper than 127 or has a number too large for a float.
     Json,
-    /// The JSON isn't in the notation.
+    /// The JSON isn't a module document.
     Tree,
-    /// The specifier is no URL.
+    /// The specifier isn't a URL.
     Specifier,
     /// The tree or the comments don't fit the source.
     Source(SourceFault),
-    /// A module's stored information can't be converted.
+    /// The stored information can't be converted.
     Convert(ConvertFault),
-    /// The JSON isn't what `reach` reads, or a module's isn't that of a `ModuleInfo`.
+    /// The JSON isn't a document of `reach`, or a module in it isn't the JSON of a `ModuleInfo`.
     Info(InfoFault),
     /// A write failed.
     Output,
@@ -33,7 +33,7 @@ pub enum Fault {
 }
 
 impl Fault {
-    /// The name that is printed for the fault.
+    /// The printed name of the fault.
     pub fn name(&self) -> &'static str
         ensures { result.now ≡ name_of_fault self.now }
     {
@@ -99,7 +99,7 @@ impl From<AllocError> for Fault {
 
     ghost from_gives = { λ error fault. fault ≡ OutOfMemory };
 
-    fn from(_refused: AllocError) -> Fault {
+    fn from(_error: AllocError) -> Fault {
         Fault::OutOfMemory
     }
 }
@@ -110,7 +110,7 @@ impl<T: Drop> From<AllocFailed<T>> for Fault {
 
     ghost from_gives = { λ error fault. fault ≡ OutOfMemory };
 
-    fn from(_refused: AllocFailed<T>) -> Fault {
+    fn from(_error: AllocFailed<T>) -> Fault {
         Fault::OutOfMemory
     }
 }

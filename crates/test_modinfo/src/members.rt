@@ -4,8 +4,7 @@
 use deno_graph_json::{Element, Tape};
 use deno_graph_source::tree::CommentSide;
 use json::Scratch;
-use modinfo::document::kind::KINDS;
-use modinfo::document::{Role, comment_at, member_names, node_at, parse_document};
+use modinfo::document::{KINDS, Role, comment_at, member_names, node_at, parse_document};
 use std::process::Abort;
 
 /// A document of which each object has every member that is read of it, so that it would be read

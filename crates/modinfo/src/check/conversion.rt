@@ -1,4 +1,4 @@
-//! Documents of `convert`: stored information of one module.
+//! Reports on stored information that can't be converted.
 
 ghost use Rattle.std.specs.Prelude.{◌≡◌, IfOk, IfSome, IsNone, MatchOption};
 ghost use Rattle.serde_json.specs.View.{view};
@@ -11,8 +11,7 @@ use modinfo_document::report::FaultReport;
 use serde_json::{Map, Value};
 use std::alloc::{AllocError, Global};
 
-/// Converts stored information in place. `None` where it was converted; else why it can't be, or that
-/// memory was refused, and it is as it was.
+/// Converts stored information in place. Returns the error if that fails; the value is then unchanged.
 pub fn convert_in_place(alloc: Global, value: &mut Value) -> Option<ConvertFault>
     ensures fault { MatchOption result (CanBeConverted (view value.old)) (IsConvertFault (view value.old)) }
     ensures converted { IsNone result → IsConverted (view value.old) (view value.new) }
@@ -21,7 +20,8 @@ pub fn convert_in_place(alloc: Global, value: &mut Value) -> Option<ConvertFault
     module_graph_1_to_2(alloc, value).err()
 }
 
-/// The fault of stored information that isn't converted. The only error is that an allocation failed.
+/// The report on stored information that can't be converted because of this fault. The only error is a
+/// failed allocation.
 pub fn conversion_report(
     alloc: Global,
     value: &Value,
@@ -36,7 +36,7 @@ pub fn conversion_report(
     }
 }
 
-/// The fault of the first number that isn't held as a whole number.
+/// The report on the first float.
 fn float_report(alloc: Global, name: String, value: &Value) -> Result<FaultReport, AllocError>
     ensures { IfOk result (PointsInto (view value.now)) }
 {
@@ -46,8 +46,8 @@ fn float_report(alloc: Global, name: String, value: &Value) -> Result<FaultRepor
     }
 }
 
-/// The fault of the first dependency whose types would end beyond the largest column. The pointer
-/// leads to the column at which its last comment starts.
+/// The report on the first dependency whose types would end after the largest column. Its pointer
+/// leads to the column at which the last comment of the dependency starts.
 fn column_report(alloc: Global, name: String, value: &Value) -> Result<FaultReport, AllocError> {
     let Some(dependencies) = array_at(value, "dependencies") else {
         return Err(AllocError);
@@ -69,12 +69,12 @@ fn column_report(alloc: Global, name: String, value: &Value) -> Result<FaultRepo
     Err(AllocError)
 }
 
-/// The array that is the member of this name.
+/// The member of this name, an array.
 fn array_at<'a>(value: &'a Value, name: &str) -> Option<&'a Vec<Value>> {
     value.get(name)?.as_array()
 }
 
-/// Whether the conversion of a module with this dependency alone has a column that is too large.
+/// Whether a module with only this dependency can't be converted.
 fn overflows(alloc: Global, dependency: &Value) -> Result<bool, AllocError> {
     let mut module = module_with(alloc, dependency)?;
     match convert_in_place(alloc, &mut module) {
@@ -84,7 +84,7 @@ fn overflows(alloc: Global, dependency: &Value) -> Result<bool, AllocError> {
     }
 }
 
-/// The information of a module that has this dependency alone.
+/// The stored information of a module with only this dependency.
 fn module_with(alloc: Global, dependency: &Value) -> Result<Value, AllocError> {
     let mut dependencies = Vec::new(alloc);
     dependencies.push(dependency.clone()?)?;

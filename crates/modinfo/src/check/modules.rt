@@ -1,4 +1,4 @@
-//! Checks of documents of `reach`: a root and the information of modules.
+//! Checking documents of `reach`.
 
 ghost use Rattle.std.specs.Prelude.{◌≡◌, IfOk, Some};
 ghost use Rattle.serde_json.specs.Data.{Data};
@@ -27,6 +27,7 @@ pub fn check_modules(alloc: Global, text: &str) -> Result<Report, AllocError>
     }
 }
 
+/// Checks the JSON of a document of `reach`.
 fn report_question(alloc: Global, value: &Value) -> Result<Report, AllocError>
     ensures verdict { IfOk result (MatchReport (AsksSome (view value.now)) (AsksNone (view value.now))) }
     ensures place { IfOk result (HasPointerInto (view value.now)) }
@@ -41,7 +42,7 @@ fn report_question(alloc: Global, value: &Value) -> Result<Report, AllocError>
     }
 }
 
-/// The fault that `reach` has where something else was expected.
+/// The fault of `reach` for a mismatch.
 fn fault_of(mismatch: &Mismatch) -> InfoFault {
     match mismatch.expected {
         Expected::Integer => InfoFault::Float,

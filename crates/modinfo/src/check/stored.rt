@@ -1,11 +1,12 @@
-//! Checks of documents of `convert`: the stored information of one module.
+//! Checking documents of `convert`.
 
 ghost use Rattle.std.specs.Prelude.{◌≡◌, IfOk, Some, true};
 ghost use Rattle.serde_json.specs.Data.{Data};
 ghost use Rattle.serde_json.specs.Read.{read as read_text};
 ghost use Rattle.serde_json.specs.View.{view};
 ghost use Rattle.serde_json.specs.Written.{has_float};
-ghost use Rattle.modinfo.specs.Check.{HasPointerInto, ReportsOnStored, ReportsOnValue};
+ghost use Rattle.modinfo.specs.Check.{HasPointerInto, ReportsOnStored};
+ghost use Rattle.modinfo.specs.internal.Check.{ReportsOnValue};
 
 use crate::check::conversion::{conversion_report, convert_in_place};
 use crate::check::text::read_json;
@@ -27,6 +28,7 @@ pub fn check_stored(alloc: Global, text: &str) -> Result<Report, AllocError>
     }
 }
 
+/// Checks stored information, and converts it in place.
 fn report_stored(alloc: Global, value: &mut Value) -> Result<Report, AllocError>
     ensures verdict { IfOk result (ReportsOnValue (view value.old)) }
     ensures place { has_float (view value.old) ≡ true → IfOk result (HasPointerInto (view value.old)) }

@@ -5,7 +5,7 @@ ghost use Rattle.serde_json.specs.View.{view};
 use serde_json::Value;
 use std::alloc::{AllocError, Global};
 
-/// The JSON value that the text is, if it is one.
+/// Parses JSON. `None` if the text isn't JSON; the only error is a failed allocation.
 pub fn read_json(alloc: Global, text: &str) -> Result<Option<Value>, AllocError>
     ensures { IfOk result (λ value. read_text text.now ≡ option_map view value) }
 {

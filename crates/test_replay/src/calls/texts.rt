@@ -5,7 +5,7 @@ use crate::row_fault::RowFault;
 use deno_graph_json::Tape;
 use deno_graph_source::text::{JsString, Position, PositionRange, SourceRange, SourceTextInfo};
 use json::Scratch;
-use modinfo::document::literal::read_string;
+use modinfo::document::read_string;
 use serde_json::{Value, json};
 use std::alloc::Global;
 use std::rc::RcStr;

@@ -2,7 +2,7 @@ use Rattle.std.proofs.Common.{subst}
 use Rattle.serde_json.specs.View.{view}
 use Rattle.deno_graph_json.specs.Read.Answer.{IsRefusal}
 use Rattle.modinfo.proofs.StoredModules.{asks_none, asks_some}
-use Rattle.modinfo.specs.Reach.{reads_modules}
+use Rattle.modinfo.specs.internal.Reach.{reads_modules}
 use Rattle.modinfo.proofs.check.modules.report_question.Goals as goal
 
 pub returns-in-Ok-clause-verdict : goal.returns-in-Ok-clause-verdict
