@@ -102,7 +102,7 @@ pub enum Report {
     /// The document is valid.
     Valid(Warnings),
     /// The document has a fault.
-    FaultReport(FaultReport),
+    Invalid(FaultReport),
 }
 
 impl Report {

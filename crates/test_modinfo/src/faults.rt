@@ -1,4 +1,4 @@
-//! Each fault of the program by its name, from each error that it comes from.
+//! The name of each fault of the program, from each error of a library.
 
 use deno_graph_info::analysis::{ConvertFault, InfoFault};
 use deno_graph_source::tree::SourceFault;

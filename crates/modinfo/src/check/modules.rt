@@ -15,8 +15,8 @@ use modinfo_document::report::{FaultReport, Report, Warnings, json_report};
 use serde_json::Value;
 use std::alloc::{AllocError, Global};
 
-/// Checks a document of `reach`, a root and the information of many modules: `Valid` where it can be
-/// read, `FaultReport` where it has a fault. The only error is that an allocation failed.
+/// Checks a text as a document of `reach`: a root, and the information on modules. The only error is a
+/// failed allocation.
 pub fn check_modules(alloc: Global, text: &str) -> Result<Report, AllocError>
     ensures verdict { IfOk result (ReportsOnQuestion text.now) }
     ensures place { (value : Data) → read_text text.now ≡ Some value → IfOk result (HasPointerInto value) }

@@ -15,8 +15,8 @@ use modinfo_document::report::{Report, Warnings, json_report};
 use serde_json::Value;
 use std::alloc::{AllocError, Global};
 
-/// Checks a document of `convert`, the stored information of one module: `Valid` where it can be
-/// converted, `FaultReport` where it can't. The only error is that an allocation failed.
+/// Checks a text as a document of `convert`: the stored information of one module. The only error is a
+/// failed allocation.
 pub fn check_stored(alloc: Global, text: &str) -> Result<Report, AllocError>
     ensures verdict { IfOk result (ReportsOnStored text.now) }
     ensures place { (value : Data) → read_text text.now ≡ Some value → has_float value ≡ true
