@@ -64,7 +64,7 @@ use Rattle.modinfo_document.specs.Partial.{◌>>=◌, or_default, reads_array, r
 use Rattle.modinfo_document.specs.Lookup.{side_entries}
 use Rattle.modinfo_document.specs.internal.Lookup.{entry_items}
 use Rattle.modinfo_document.specs.Comments.{entry_with}
-use Rattle.modinfo_document.proofs.Lookup.{items_from, read_from, step}
+use Rattle.modinfo_document.proofs.NodeLookup.{items_from, read_from, step}
 use Rattle.modinfo_document.proofs.Reading.{goes_on}
 
 -- as many items were read as there are

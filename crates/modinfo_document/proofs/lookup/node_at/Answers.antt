@@ -3,7 +3,7 @@ use Rattle.std.proofs.lemmas.List.{nil_from_length}
 use Rattle.deno_graph_json.specs.View.{value_of}
 use Rattle.modinfo_document.specs.Partial.{◌>>=◌}
 use Rattle.modinfo_document.specs.internal.Lookup.{below}
-use Rattle.modinfo_document.proofs.Lookup.{at_path, body_path, none_at, of_path, program_in}
+use Rattle.modinfo_document.proofs.NodeLookup.{at_path, body_path, none_at, of_path, program_in}
 use Rattle.modinfo_document.proofs.lookup.node_at.Goals as goal
 
 pub returns-in_err-members-clause-read : goal.returns-in_err-members-clause-read
