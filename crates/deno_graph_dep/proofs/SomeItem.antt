@@ -25,7 +25,7 @@ use Rattle.std.proofs.Common.{
   MatchBool,
 }
 use Rattle.std.proofs.lemmas.Bool.{and_parts, false≢true}
-use Rattle.deno_graph_source.specs.Comments.{FiledComments}
+use Rattle.deno_graph_source.specs.Comments.{FiledComments, leading_at}
 use Rattle.deno_graph_source.specs.Node.{
   kind_of,
   range_of,
@@ -83,12 +83,11 @@ use Rattle.deno_graph_dep.specs.Stated.{
   StatesAt,
   StatesCall,
   StatesSpecifier,
-  clause_of,
-  leading_at,
-  second_argument,
+  argument_at,
   specified_item,
+  with_clause,
 }
-use Rattle.deno_graph_dep.proofs.Calls.{argument_shaped, first_argument_within}
+use Rattle.deno_graph_dep.proofs.Calls.{argument_shaped, first_argument_within, node_within}
 use Rattle.deno_graph_dep.proofs.DependencyRanges.{listed_one, shaped_node}
 use Rattle.deno_graph_dep.proofs.Items.{AreListed-listed_below}
 use Rattle.deno_graph_dep.proofs.SomeAttributes.{some_call, some_declared, some_type}
@@ -130,11 +129,6 @@ some_kind callee.Expr children is =
     (dynamic_kind.Require, ap (λ b. cond b (Some dynamic_kind.Require) None) is)
 some_kind callee.Super children is = absurd (false≢true is)
 
-node_within : (nodes : List Node) (k : ℕ) → k < length nodes → (node : Node) × (slice_get nodes k ≡ Some node)
-node_within [] k within = absurd (omega (arith, within))
-node_within (node ∷ nodes) zero within = (node, refl)
-node_within (node ∷ nodes) (suc k) within = node_within nodes k (omega (arith, within))
-
 some_stated_call : (comments : FiledComments) (node : Node) (callee : Callee) (arg : Arg) (others : List Arg)
     → kind_of node ≡ Call callee (arg ∷ others) → is_module_call callee (children_of node) ≡ true
     → AllShaped node → (item : Item) × StatesCall comments node callee (arg ∷ others) item
@@ -144,7 +138,7 @@ some_stated_call comments node callee arg others is called shaped =
     let argument = node_within (children_of node) (callee_count callee + 0) (omega (arith, within)) in
     let form =
     some_form arg.spread argument.0 (argument_shaped node callee 0 argument.0 shaped argument.1) in
-    let gives = some_call (second_argument callee (arg ∷ others) (children_of node)) in (
+    let gives = some_call (argument_at callee (arg ∷ others) (children_of node) 1) in (
       dynamic_item (record {
         kind = kind.0;
         leading_comments = leading_at comments (range_of node).start;
@@ -173,21 +167,21 @@ some_at : (comments : FiledComments) (node : Node) (kind : Kind) → kind_of nod
     → (item : Item) × StatesAt comments node kind item
 some_at comments node (ImportDecl type_only phase src has_specifiers has_with) is listed shaped =
     some_specified comments node (import_kind type_only phase) (range_of node) src (not has_specifiers) _
-    (some_declared (clause_of has_with node))
+    (some_declared (with_clause node))
 some_at comments node (NamedExport type_only None has_with) is listed shaped = absurd (false≢true listed)
 some_at comments node (NamedExport type_only (Some src) has_with) is listed shaped =
     some_specified comments node (export_kind type_only) (range_of node) src false _
-    (some_declared (clause_of has_with node))
+    (some_declared (with_clause node))
 some_at comments node (ExportAll type_only src has_with) is listed shaped =
     some_specified comments node (export_kind type_only) (range_of node) src false _
-    (some_declared (clause_of has_with node))
+    (some_declared (with_clause node))
 some_at comments node (ImportEquals type_only is_export None) is listed shaped = absurd (false≢true listed)
 some_at comments node (ImportEquals type_only is_export (Some external)) is listed shaped =
     some_specified comments node (import_equals_kind type_only is_export) (range_of node) external false
     NoneGiven none_given
 some_at comments node (ImportType arg has_with) is listed shaped =
     some_specified comments node static_kind.ImportType (range_of node) arg false _
-    (some_type (clause_of has_with node))
+    (some_type (with_clause node))
 some_at comments node (ModuleDecl None) is listed shaped = absurd (false≢true listed)
 some_at comments node (ModuleDecl (Some name)) is listed shaped =
     let stated = some_specified comments node static_kind.MaybeTsModuleAugmentation name.range name false

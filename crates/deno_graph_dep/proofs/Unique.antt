@@ -2,7 +2,7 @@
 use Rattle.std.proofs.Common.{◌≡◌, Bool, false, not, List, [], ◌∷◌, Some, None, ap, sym, subst, ◌∙◌, refl}
 use Rattle.std.proofs.lemmas.Bool.{false≢true}
 use Rattle.std.proofs.lemmas.Option.{same_Some}
-use Rattle.deno_graph_source.specs.Comments.{FiledComments}
+use Rattle.deno_graph_source.specs.Comments.{FiledComments, leading_at}
 use Rattle.deno_graph_source.specs.Node.{kind_of, range_of, children_of}
 use Rattle.deno_graph_source.specs.declared.tree.node.Arg.{Arg}
 use Rattle.deno_graph_source.specs.declared.tree.node.BinaryOp.{BinaryOp}
@@ -51,10 +51,9 @@ use Rattle.deno_graph_dep.specs.Stated.{
   StatesAt,
   StatesCall,
   StatesSpecifier,
-  clause_of,
-  leading_at,
-  second_argument,
+  argument_at,
   specified_item,
+  with_clause,
 }
 use Rattle.deno_graph_dep.proofs.Items.{AreListed-unique}
 use Rattle.deno_graph_dep.proofs.Spine.{step_with}
@@ -138,7 +137,7 @@ StatesCall-unique comments node callee args a b is also =
     (subst (λ x. ArgumentHasForm also.arg x also.form) (sym argument) also.has_form) in
     let forms = ArgumentHasForm-unique is.arg is.argument is.form also.form is.has_form has in
     let given = CallGives-unique
-    (second_argument callee args (children_of node)) is.given also.given is.gives also.gives in
+    (argument_at callee args (children_of node) 1) is.given also.given is.gives also.gives in
     is.says ∙ (by_parts kinds forms arg given ∙ sym also.says)
   where
     item : DynamicDependencyKind → Form → Arg → ImportAttributes → Item
@@ -162,21 +161,21 @@ StatesAt-unique : (comments : FiledComments) (node : Node) (kind : Kind) (a b : 
     → StatesAt comments node kind a → StatesAt comments node kind b → a ≡ b
 StatesAt-unique comments node (ImportDecl type_only phase src has_specifiers has_with) a b is also =
     StatesSpecifier-unique comments node (import_kind type_only phase) (range_of node) src
-    (not has_specifiers) _ (DeclarationGives-unique (clause_of has_with node)) a b is also
+    (not has_specifiers) _ (DeclarationGives-unique (with_clause node)) a b is also
 StatesAt-unique comments node (NamedExport type_only None has_with) a b is also = absurd is
 StatesAt-unique comments node (NamedExport type_only (Some src) has_with) a b is also =
     StatesSpecifier-unique comments node (export_kind type_only) (range_of node) src false _
-    (DeclarationGives-unique (clause_of has_with node)) a b is also
+    (DeclarationGives-unique (with_clause node)) a b is also
 StatesAt-unique comments node (ExportAll type_only src has_with) a b is also =
     StatesSpecifier-unique comments node (export_kind type_only) (range_of node) src false _
-    (DeclarationGives-unique (clause_of has_with node)) a b is also
+    (DeclarationGives-unique (with_clause node)) a b is also
 StatesAt-unique comments node (ImportEquals type_only is_export None) a b is also = absurd is
 StatesAt-unique comments node (ImportEquals type_only is_export (Some external)) a b is also =
     StatesSpecifier-unique comments node (import_equals_kind type_only is_export)
     (range_of node) external false NoneGiven NoneGiven-unique a b is also
 StatesAt-unique comments node (ImportType arg has_with) a b is also =
     StatesSpecifier-unique comments node static_kind.ImportType (range_of node) arg false _
-    (TypeGives-unique (clause_of has_with node)) a b is also
+    (TypeGives-unique (with_clause node)) a b is also
 StatesAt-unique comments node (ModuleDecl None) a b is also = absurd is
 StatesAt-unique comments node (ModuleDecl (Some name)) a b is also =
     StatesSpecifier-unique comments node static_kind.MaybeTsModuleAugmentation name.range name false NoneGiven

@@ -1,6 +1,7 @@
 pub mod Argument
 pub mod AttributeSteps
 pub mod Attributes
+pub mod CallSteps
 pub mod Dependencies
 pub mod DependencyKind
 pub mod DependencyRules

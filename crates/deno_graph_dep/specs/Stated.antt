@@ -15,15 +15,14 @@ use Rattle.std.specs.Prelude.{
   None,
   option_map,
   option_and_then,
-  unwrap_or,
   slice_get,
   IsTrue,
   MatchBool,
+  if◌then◌else◌,
 }
-use Rattle.deno_graph_source.specs.ByPosition.{value_at}
-use Rattle.deno_graph_source.specs.Comments.{FiledComments}
+use Rattle.deno_graph_source.specs.Comments.{FiledComments, leading_at}
 use Rattle.deno_graph_base.specs.JsString.{lossy_text}
-use Rattle.deno_graph_source.specs.Node.{kind_of, range_of, children_of, callee_count}
+use Rattle.deno_graph_source.specs.Node.{kind_of, range_of, children_of, callee_count, has_with}
 use Rattle.deno_graph_base.specs.declared.text.position.SourceRange.{SourceRange}
 use Rattle.deno_graph_source.specs.declared.tree.comments.DependencyComment.{DependencyComment}
 use Rattle.deno_graph_source.specs.declared.tree.node.Arg.{Arg}
@@ -53,14 +52,9 @@ use Rattle.deno_graph_dep.specs.DependencyKind.{import_kind, export_kind, import
 use Rattle.deno_graph_dep.specs.Item.{Item, StaticItem, static_item, dynamic_item}
 use Rattle.deno_graph_dep.specs.DependencyRules.{may_name_module}
 
--- the comments that are filed as leading at a position
-abbrev pub leading_at : FiledComments → ℕ → List DependencyComment
-leading_at comments pos = unwrap_or (value_at comments.leading pos) []
-
--- the object literal of a `with` clause, where there is one: the first child
-abbrev pub clause_of : Bool → Node → Option Node
-clause_of true node = slice_get (children_of node) 0
-clause_of false node = None
+-- the object literal of a node's `with` clause, if it has one: its first child
+abbrev pub with_clause : Node → Option Node
+with_clause node = if has_with (kind_of node) then slice_get (children_of node) 0 else None
 
 -- what is given without a clause
 abbrev pub NoneGiven : ImportAttributes → Type 0
@@ -97,11 +91,11 @@ StatesSpecifier comments node kind range literal is_side_effect Gives item =
 abbrev pub argument_node : Callee → List Node → ℕ → Option Node
 argument_node callee children index = slice_get children (callee_count callee + index)
 
--- the second argument of a call, where it has one: whether it is spread, and its node
-abbrev pub second_argument : Callee → List Arg → List Node → Option (Arg × Node)
-second_argument callee args children =
+-- the argument of a call with this index, and its node, if both are there
+abbrev pub argument_at : Callee → List Arg → List Node → ℕ → Option (Arg × Node)
+argument_at callee args children index =
     option_and_then (λ arg.
-    option_map (λ node. (arg, node)) (argument_node callee children 1)) (slice_get args 1)
+    option_map (λ node. (arg, node)) (argument_node callee children index)) (slice_get args index)
 
 -- the form of a first argument: nothing is known of one that is spread
 abbrev pub ArgumentHasForm : Arg → Node → Form → Type 0
@@ -120,7 +114,7 @@ pub record StatesCall (comments : FiledComments) (node : Node)
   pub form : Form
   pub has_form : ArgumentHasForm arg argument form
   pub given : ImportAttributes
-  pub gives : CallGives (second_argument callee args (children_of node)) given
+  pub gives : CallGives (argument_at callee args (children_of node) 1) given
   pub says : item ≡ dynamic_item (record {
     kind = kind;
     leading_comments = leading_at comments (range_of node).start;
@@ -133,20 +127,20 @@ pub record StatesCall (comments : FiledComments) (node : Node)
 -- the item is what a node of this kind states
 abbrev pub StatesAt : FiledComments → Node → Kind → Item → Type 0
 StatesAt comments node (ImportDecl type_only phase src has_specifiers has_with) item =
-    let Gives = DeclarationGives (clause_of has_with node) in
+    let Gives = DeclarationGives (with_clause node) in
     StatesSpecifier comments node (import_kind type_only phase) (range_of node) src
     (not has_specifiers) Gives item
 StatesAt comments node (NamedExport type_only (Some src) has_with) item =
-    let Gives = DeclarationGives (clause_of has_with node) in
+    let Gives = DeclarationGives (with_clause node) in
     StatesSpecifier comments node (export_kind type_only) (range_of node) src false Gives item
 StatesAt comments node (ExportAll type_only src has_with) item =
-    let Gives = DeclarationGives (clause_of has_with node) in
+    let Gives = DeclarationGives (with_clause node) in
     StatesSpecifier comments node (export_kind type_only) (range_of node) src false Gives item
 StatesAt comments node (ImportEquals type_only is_export (Some external)) item =
     StatesSpecifier comments node (import_equals_kind type_only is_export) (range_of node) external
     false NoneGiven item
 StatesAt comments node (ImportType arg has_with) item =
-    let Gives = TypeGives (clause_of has_with node) in
+    let Gives = TypeGives (with_clause node) in
     StatesSpecifier comments node static_kind.ImportType (range_of node) arg false Gives item
 StatesAt comments node (ModuleDecl (Some name)) item =
     IsTrue (may_name_module (lossy_text name.value))

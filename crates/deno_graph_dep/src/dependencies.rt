@@ -7,7 +7,7 @@ ghost use Rattle.deno_graph_dep.specs.SpelledItems.{SpellArguments};
 ghost use Rattle.deno_graph_dep.specs.Stated.{AllStated};
 
 use crate::Walk;
-use crate::describe::describe;
+use crate::describe::descriptor_of;
 use crate::descriptor::DependencyDescriptor;
 use deno_graph_source::tree::{Comments, Program};
 use std::alloc::{AllocError, Global};
@@ -37,7 +37,9 @@ pub fn analyze_program_dependencies<'a>(
     let mut walk = Walk::new(alloc, program);
     let mut found = Vec::new(alloc);
     'nodes: while let Some(node) = walk.step()? {
-        found.push(describe(alloc, comments, node)?)?;
+        if let Some(descriptor) = descriptor_of(alloc, comments, node)? {
+            found.push(descriptor)?;
+        }
     }
     Ok(found)
 }

@@ -1,18 +1,17 @@
 #![tactic(auto, unfolding(deno_graph_source::specs::Node::kind_of, deno_graph_source::specs::Node::children_of, deno_graph_source::specs::Node::range_of, crate::specs::DependencyRules::is_listed, crate::specs::Stated::States))]
 
-ghost use Rattle.std.specs.Prelude.{◌≡◌, ◌≢◌, ◌≤◌, false, IfOk, IsTrue, List, Some, All};
+ghost use Rattle.std.specs.Prelude.{◌≡◌, ◌≤◌, false, IfOk, IsTrue, MatchOption, All};
 ghost use Rattle.std.specs.Option.{option_copied, option_map};
-ghost use Rattle.deno_graph_source.specs.KindGroups.{is_export, is_import};
-ghost use Rattle.deno_graph_source.specs.Node.{callee_count, kind_of, nodes_in, range_of, IsShaped};
-ghost use Rattle.deno_graph_source.specs.declared.tree.node.Arg.{Arg};
-ghost use Rattle.deno_graph_source.specs.declared.tree.node.Callee.{Callee};
-ghost use Rattle.deno_graph_source.specs.declared.tree.node.Node.{Node};
-ghost use Rattle.deno_graph_source.specs.declared.tree.node.Kind.TheVariants.{Call};
-ghost use Rattle.deno_graph_dep.specs.DependencyKind.{call_kind, export_kind, import_equals_kind, import_kind, phase_kind};
-ghost use Rattle.deno_graph_dep.specs.DependencyRules.{is_listed, is_module_call};
+ghost use Rattle.deno_graph_base.specs.JsString.{lossy_text};
+ghost use Rattle.deno_graph_info.specs.declared.analysis.static_dependency.StaticDependencyKind.TheVariants.{ImportType, MaybeTsModuleAugmentation};
+ghost use Rattle.deno_graph_source.specs.Node.{callee_count, children_of, nodes_in, range_of, IsShaped};
 ghost use Rattle.deno_graph_dep.specs.Argument.{form_seen};
-ghost use Rattle.deno_graph_dep.specs.Item.{dynamic_item, dynamic_item_of, item_of, static_item, static_item_of};
-ghost use Rattle.deno_graph_dep.specs.Stated.{clause_of, leading_at, second_argument, specified_item, ArgumentHasForm, States, StatesCall, TypeGives};
+ghost use Rattle.deno_graph_dep.specs.Attributes.{DeclarationGives};
+ghost use Rattle.deno_graph_dep.specs.CallSteps.{IsNoModuleCall};
+ghost use Rattle.deno_graph_dep.specs.DependencyKind.{call_kind, export_kind, import_equals_kind, import_kind, phase_kind};
+ghost use Rattle.deno_graph_dep.specs.DependencyRules.{is_listed, may_name_module};
+ghost use Rattle.deno_graph_dep.specs.Item.{item_of, static_item, static_item_of};
+ghost use Rattle.deno_graph_dep.specs.Stated.{argument_at, specified_item, with_clause, ArgumentHasForm, NoneGiven, States, StatesCall, StatesSpecifier, TypeGives};
 
 use crate::argument::{DynamicArgument, argument_of};
 use crate::attributes::{
@@ -22,66 +21,22 @@ use crate::attributes::{
 use crate::descriptor::{
     DependencyDescriptor, DynamicDependencyDescriptor, StaticDependencyDescriptor,
 };
+use crate::listed::{begins_with_require, may_name_module};
 use deno_graph_info::analysis::{DynamicDependencyKind, ImportAttributes, StaticDependencyKind};
-use deno_graph_source::tree::{
-    Arg, Callee, Comments, DependencyComment, ImportPhase, Kind, Node, StrLit,
-};
+use deno_graph_source::tree::{Arg, Callee, Comments, ImportPhase, Kind, Node, StrLit};
 use std::alloc::{AllocError, Global};
 
-/// The dependency that a listed node states. The only error is that memory was refused.
-pub(crate) fn describe<'a>(
+/// Returns the descriptor of a node, or `None` where the node is no dependency. The only error is
+/// that memory ran out.
+pub(crate) fn descriptor_of<'a>(
     alloc: Global,
     comments: &'a Comments,
     node: &'a Node,
-) -> Result<DependencyDescriptor<'a>, AllocError>
-    requires listed { IsTrue (is_listed node.now) }
-    requires shaped { All IsShaped (nodes_in node.now) }
-    ensures { IfOk result (λ found. States comments.now node.now (item_of found)) }
-{
-    match &node.kind {
-        Kind::Call { callee, args } => {
-            Ok(call(alloc, comments, node, *callee, args.as_slice())?.into())
-        }
-        _ => Ok(describe_static(alloc, comments, node)?.into()),
-    }
-}
-
-/// The dependency of a listed node that is no call.
-fn describe_static<'a>(
-    alloc: Global,
-    comments: &'a Comments,
-    node: &'a Node,
-) -> Result<StaticDependencyDescriptor<'a>, AllocError>
-    requires listed { IsTrue (is_listed node.now) }
-    requires no_call { (callee : Callee) → (args : List Arg) → kind_of node.now ≢ Call callee args }
-    ensures { IfOk result (λ found.
-        States comments.now node.now (static_item (static_item_of found))) }
-{
-    match &node.kind {
-        Kind::ImportDecl { .. } | Kind::ImportEquals { .. } | Kind::ImportType { .. } => {
-            import(alloc, comments, node)
-        }
-        Kind::NamedExport { .. } | Kind::ExportAll { .. } => export(alloc, comments, node),
-        Kind::ModuleDecl { name: Some(name) } => {
-            let kind = StaticDependencyKind::MaybeTsModuleAugmentation;
-            let mut found = specified(comments, node, kind, name, ImportAttributes::None);
-            found.range = name.range;
-            Ok(found)
-        }
-        _ => unreachable!(),
-    }
-}
-
-/// The dependency of an import declaration, an `import name = require(..)` or an import type.
-fn import<'a>(
-    alloc: Global,
-    comments: &'a Comments,
-    node: &'a Node,
-) -> Result<StaticDependencyDescriptor<'a>, AllocError>
-    requires import { IsTrue (is_import (kind_of node.now)) }
-    requires listed { IsTrue (is_listed node.now) }
-    ensures { IfOk result (λ found.
-        States comments.now node.now (static_item (static_item_of found))) }
+) -> Result<Option<DependencyDescriptor<'a>>, AllocError>
+    requires { All IsShaped (nodes_in node.now) }
+    ensures { IfOk result (λ found. MatchOption found
+        (λ descriptor. States comments.now node.now (item_of descriptor))
+        (is_listed node.now ≡ false)) }
 {
     match &node.kind {
         Kind::ImportDecl {
@@ -89,113 +44,156 @@ fn import<'a>(
             phase,
             src,
             has_specifiers,
-            has_with,
+            ..
         } => {
             let kind = import_kind(*type_only, *phase);
-            let attributes = parse_import_attributes(alloc, clause_of(*has_with, node))?;
-            let mut found = specified(comments, node, kind, src, attributes);
-            found.is_side_effect = !*has_specifiers;
-            Ok(found)
+            Ok(Some(declaration(alloc, comments, node, kind, src, !*has_specifiers)?.into()))
+        }
+        Kind::NamedExport {
+            type_only,
+            src: Some(src),
+            ..
+        }
+        | Kind::ExportAll { type_only, src, .. } => {
+            let kind = export_kind(*type_only);
+            Ok(Some(declaration(alloc, comments, node, kind, src, false)?.into()))
         }
         Kind::ImportEquals {
             type_only,
             is_export,
-            external: Some(external),
+            external: Some(src),
         } => {
             let kind = import_equals_kind(*type_only, *is_export);
-            Ok(specified(comments, node, kind, external, ImportAttributes::None))
+            Ok(Some(declaration(alloc, comments, node, kind, src, false)?.into()))
         }
-        Kind::ImportType { arg, has_with } => {
-            let attributes = type_attributes(alloc, clause_of(*has_with, node))?;
-            let kind = StaticDependencyKind::ImportType;
-            Ok(specified(comments, node, kind, arg, attributes))
-        }
-        _ => unreachable!(),
+        Kind::ImportType { arg, .. } => Ok(Some(import_type(alloc, comments, node, arg)?.into())),
+        Kind::ModuleDecl { name: Some(name) } => Ok(module_declaration(comments, node, name)),
+        Kind::Call { callee, args } => call(alloc, comments, node, *callee, args.as_slice()),
+        _ => Ok(None),
     }
 }
 
-/// The dependency of an export with a specifier.
-fn export<'a>(
+/// Returns the descriptor of an import or export with this specifier.
+fn declaration<'a>(
     alloc: Global,
     comments: &'a Comments,
     node: &'a Node,
+    kind: StaticDependencyKind,
+    specifier: &'a StrLit,
+    is_side_effect: bool,
 ) -> Result<StaticDependencyDescriptor<'a>, AllocError>
-    requires export { IsTrue (is_export (kind_of node.now)) }
-    requires listed { IsTrue (is_listed node.now) }
-    ensures { IfOk result (λ found.
-        States comments.now node.now (static_item (static_item_of found))) }
+    ensures { IfOk result (λ found. StatesSpecifier comments.now node.now
+        kind (range_of node.now) specifier.now is_side_effect
+        (DeclarationGives (with_clause node.now)) (static_item (static_item_of found))) }
 {
-    match &node.kind {
-        Kind::NamedExport {
-            type_only,
-            src: Some(src),
-            has_with,
-        }
-        | Kind::ExportAll {
-            type_only,
-            src,
-            has_with,
-        } => {
-            let attributes = parse_import_attributes(alloc, clause_of(*has_with, node))?;
-            Ok(specified(comments, node, export_kind(*type_only), src, attributes))
-        }
-        _ => unreachable!(),
-    }
+    let import_attributes = parse_import_attributes(alloc, with_clause(node))?;
+    Ok(StaticDependencyDescriptor {
+        is_side_effect,
+        ..specified(comments, node, kind, specifier, import_attributes)
+    })
 }
 
-/// The dependency of a node with a specifier, which has the node's own range.
+/// Returns the descriptor of an import type with this specifier.
+fn import_type<'a>(
+    alloc: Global,
+    comments: &'a Comments,
+    node: &'a Node,
+    specifier: &'a StrLit,
+) -> Result<StaticDependencyDescriptor<'a>, AllocError>
+    ensures { IfOk result (λ found. StatesSpecifier comments.now node.now
+        ImportType (range_of node.now) specifier.now false
+        (TypeGives (with_clause node.now)) (static_item (static_item_of found))) }
+{
+    let import_attributes = match with_clause(node) {
+        Some(object) => parse_import_attributes_from_object_lit(alloc, object)?,
+        None => ImportAttributes::None,
+    };
+    let kind = StaticDependencyKind::ImportType;
+    Ok(specified(comments, node, kind, specifier, import_attributes))
+}
+
+/// Returns the descriptor of a module declaration with this name, if it may be a module's.
+fn module_declaration<'a>(
+    comments: &'a Comments,
+    node: &'a Node,
+    name: &'a StrLit,
+) -> Option<DependencyDescriptor<'a>>
+    ensures { MatchOption result
+        (λ descriptor. IsTrue (may_name_module (lossy_text name.now.value))
+        × StatesSpecifier comments.now node.now MaybeTsModuleAugmentation name.now.range name.now
+        false NoneGiven (item_of descriptor))
+        (may_name_module (lossy_text name.now.value) ≡ false) }
+{
+    if !may_name_module(name.value.to_str_lossy()) {
+        return None;
+    }
+    let kind = StaticDependencyKind::MaybeTsModuleAugmentation;
+    let descriptor = StaticDependencyDescriptor {
+        range: name.range,
+        ..specified(comments, node, kind, name, ImportAttributes::None)
+    };
+    Some(descriptor.into())
+}
+
+/// Returns the descriptor of a node with a specifier, without side effect, and with the node's own
+/// range.
 fn specified<'a>(
     comments: &'a Comments,
     node: &'a Node,
     kind: StaticDependencyKind,
-    literal: &'a StrLit,
+    specifier: &'a StrLit,
     import_attributes: ImportAttributes,
 ) -> StaticDependencyDescriptor<'a>
     ensures { static_item_of result
-        ≡ specified_item comments.now node.now kind (range_of node.now) literal.now
+        ≡ specified_item comments.now node.now kind (range_of node.now) specifier.now
         false import_attributes }
 {
     StaticDependencyDescriptor {
         kind,
-        leading_comments: leading_comments(comments, node.range.start),
+        leading_comments: comments.leading_comments(node.range.start),
         range: node.range,
-        specifier: literal.value.to_str_lossy(),
-        specifier_range: literal.range,
+        specifier: specifier.value.to_str_lossy(),
+        specifier_range: specifier.range,
         is_side_effect: false,
         import_attributes,
     }
 }
 
-/// The dependency of a call of `import` or `require` with an argument.
+/// Returns the descriptor of a call, or `None` where the call is none of `import` or `require`, or
+/// has no argument.
 fn call<'a>(
     alloc: Global,
     comments: &'a Comments,
     node: &'a Node,
     callee: Callee,
     args: &'a [Arg],
-) -> Result<DynamicDependencyDescriptor<'a>, AllocError>
-    requires is_call { kind_of node.now ≡ Call callee args.now }
-    requires listed { IsTrue (is_listed node.now) }
-    requires shaped { All IsShaped (nodes_in node.now) }
-    ensures { IfOk result (λ found. StatesCall comments.now node.now callee args.now
-        (dynamic_item (dynamic_item_of found))) }
+) -> Result<Option<DependencyDescriptor<'a>>, AllocError>
+    requires { All IsShaped (nodes_in node.now) }
+    ensures { IfOk result (λ found. MatchOption found
+        (λ descriptor. StatesCall comments.now node.now callee args.now (item_of descriptor))
+        (IsNoModuleCall callee args.now (children_of node.now))) }
 {
     let children = node.children.as_slice();
-    let arg = &args[0];
-    let argument = &children[callee_count(callee)];
+    let Some(kind) = call_kind(callee, children) else {
+        return Ok(None);
+    };
+    let Some((arg, argument)) = first_argument(callee, args, children) else {
+        return Ok(None);
+    };
     let second = second_argument(callee, args, children);
-    Ok(DynamicDependencyDescriptor {
-        kind: call_kind(callee),
-        leading_comments: leading_comments(comments, node.range.start),
+    let descriptor = DynamicDependencyDescriptor {
+        kind,
+        leading_comments: comments.leading_comments(node.range.start),
         range: node.range,
-        argument: first_argument(alloc, arg, argument)?,
+        argument: argument_known(alloc, arg, argument)?,
         argument_range: arg.range,
         import_attributes: parse_dynamic_import_attributes(alloc, second)?,
-    })
+    };
+    Ok(Some(descriptor.into()))
 }
 
-/// What is known of a first argument: nothing, where it is spread.
-fn first_argument<'a>(
+/// Returns what is known of a first argument: nothing, where it is spread.
+fn argument_known<'a>(
     alloc: Global,
     arg: &Arg,
     argument: &'a Node,
@@ -210,16 +208,20 @@ fn first_argument<'a>(
     }
 }
 
-/// What a call of `import` or `require` is, by its callee.
-fn call_kind(callee: Callee) -> DynamicDependencyKind
-    requires { (children : List Node) × IsTrue (is_module_call callee children) }
-    ensures { (children : List Node) → IsTrue (is_module_call callee children)
-        → call_kind callee children ≡ Some result }
+/// Returns the kind of a call of `import` or `require` with these children, or `None` of another.
+fn call_kind(callee: Callee, children: &[Node]) -> Option<DynamicDependencyKind>
+    ensures { result ≡ call_kind callee children.now }
 {
     match callee {
-        Callee::Import(phase) => phase_kind(phase),
-        Callee::Expr => DynamicDependencyKind::Require,
-        Callee::Super => unreachable!(),
+        Callee::Import(phase) => Some(phase_kind(phase)),
+        Callee::Expr => {
+            if begins_with_require(children) {
+                Some(DynamicDependencyKind::Require)
+            } else {
+                None
+            }
+        }
+        Callee::Super => None,
     }
 }
 
@@ -244,34 +246,37 @@ fn callee_count(callee: Callee) -> usize
     }
 }
 
-/// The second argument of a call with its node, where it has one.
+/// Returns the first argument of a call and its node, where both are there.
+fn first_argument<'a>(
+    callee: Callee,
+    args: &'a [Arg],
+    children: &'a [Node],
+) -> Option<(&'a Arg, &'a Node)>
+    ensures { option_map (λ first. (first.0.now, first.1.now)) result
+        ≡ argument_at callee args.now children.now 0 }
+{
+    let node = children.get(callee_count(callee));
+    args.get(0).zip(node)
+}
+
+/// Returns the second argument of a call and its node, where both are there.
 fn second_argument<'a>(
     callee: Callee,
     args: &'a [Arg],
     children: &'a [Node],
 ) -> Option<(&'a Arg, &'a Node)>
     ensures { option_map (λ second. (second.0.now, second.1.now)) result
-        ≡ second_argument callee args.now children.now }
+        ≡ argument_at callee args.now children.now 1 }
 {
     let node = children.get(callee_count(callee) + 1);
     args.get(1).zip(node)
 }
 
-/// The attributes of an import type, by the object literal of its clause.
-fn type_attributes(alloc: Global, clause: Option<&Node>) -> Result<ImportAttributes, AllocError>
-    ensures { IfOk result (TypeGives (option_copied clause.entry)) }
+/// Returns the object literal of a node's `with` clause, which is its first child.
+fn with_clause(node: &Node) -> Option<&Node>
+    ensures { option_copied result ≡ with_clause node.now }
 {
-    match clause {
-        Some(object) => parse_import_attributes_from_object_lit(alloc, object),
-        None => Ok(ImportAttributes::None),
-    }
-}
-
-/// The object literal of a `with` clause, where there is one: the first child.
-fn clause_of(has_with: bool, node: &Node) -> Option<&Node>
-    ensures { option_copied result ≡ clause_of has_with node.now }
-{
-    if has_with {
+    if node.kind.has_with() {
         node.children.as_slice().first()
     } else {
         None
@@ -307,11 +312,4 @@ fn import_equals_kind(type_only: bool, is_export: bool) -> StaticDependencyKind
         (false, true) => StaticDependencyKind::ExportEquals,
         (false, false) => StaticDependencyKind::ImportEquals,
     }
-}
-
-/// The comments that are filed as leading at a position, in bytes.
-pub fn leading_comments(comments: &Comments, pos: usize) -> &[DependencyComment]
-    ensures { result.now ≡ leading_at comments.now pos }
-{
-    comments.get_leading(pos).unwrap_or(&[])
 }

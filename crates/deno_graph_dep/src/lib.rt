@@ -18,7 +18,6 @@ pub use attributes::{
     parse_import_attributes_from_object_lit,
 };
 pub use dependencies::analyze_program_dependencies;
-pub use describe::leading_comments;
 pub use descriptor::{
     DependencyDescriptor, DynamicDependencyDescriptor, StaticDependencyDescriptor,
 };

@@ -1,7 +1,7 @@
 //! Which nodes are listed, and where: by the node alone, whatever is round it.
 #![tactic(auto, unfolding(deno_graph_source::specs::Node::kind_of, deno_graph_source::specs::Node::children_of, crate::specs::DependencyRules::is_listed))]
 
-ghost use Rattle.std.specs.Prelude.{◌≡◌, Some};
+ghost use Rattle.std.specs.Prelude.{◌≡◌, Some, option_map, slice_get};
 ghost use Rattle.deno_graph_source.specs.Node.{kind_of, children_of};
 ghost use Rattle.deno_graph_dep.specs.DependencyRules.{is_closed, is_listed, is_listed_after_inside, is_module_call, is_relative, is_require, may_name_module};
 
@@ -25,7 +25,7 @@ pub fn is_listed(node: &Node) -> bool
 
 /// Whether a module declaration of this name may add to a module: a name with `*` is a pattern,
 /// unless it is a relative path.
-fn may_name_module(name: &str) -> bool
+pub(crate) fn may_name_module(name: &str) -> bool
     ensures { result ≡ may_name_module name.now }
 {
     !name.as_bytes().contains(&b'*') || is_relative(name)
@@ -45,11 +45,18 @@ fn is_module_call(callee: Callee, children: &[Node]) -> bool
 {
     match callee {
         Callee::Import(_) => true,
-        Callee::Expr => match children.first() {
-            Some(function) => is_require(function),
-            None => false,
-        },
+        Callee::Expr => begins_with_require(children),
         Callee::Super => false,
+    }
+}
+
+/// Whether the first of these nodes is the identifier `require`.
+pub(crate) fn begins_with_require(nodes: &[Node]) -> bool
+    ensures { result ≡ is_require (option_map kind_of (slice_get nodes.now 0)) }
+{
+    match nodes.first() {
+        Some(node) => is_require(node),
+        None => false,
     }
 }
 

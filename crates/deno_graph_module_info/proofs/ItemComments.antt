@@ -43,7 +43,7 @@ use Rattle.deno_graph_source.proofs.Lists.{All-within}
 use Rattle.deno_graph_source.proofs.ValidSource.{Contains-leading, Contains-trailing}
 use Rattle.deno_graph_dep.specs.Dependencies.{AreDependencies}
 use Rattle.deno_graph_dep.specs.Item.{Item}
-use Rattle.deno_graph_dep.specs.Stated.{AllStated, States, StatesAt, leading_at}
+use Rattle.deno_graph_dep.specs.Stated.{AllStated, States, StatesAt}
 use Rattle.deno_graph_dep.proofs.DependencyRanges.{dependency_ranges}
 use Rattle.deno_graph_module_info.specs.HeadTail.{comments_before_items, head_comments, tail_comments, trailing_at}
 use Rattle.deno_graph_module_info.specs.ModuleInfo.{comments_before, FitsText}

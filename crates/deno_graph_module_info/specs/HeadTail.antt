@@ -1,12 +1,11 @@
 -- The comments at the head of a program and at its tail.
 use Rattle.std.specs.Prelude.{ℕ, List, [], Option, Some, None, unwrap_or, slice_get, if◌then◌else◌}
 use Rattle.deno_graph_source.specs.ByPosition.{value_at}
-use Rattle.deno_graph_source.specs.Comments.{FiledComments}
+use Rattle.deno_graph_source.specs.Comments.{FiledComments, leading_at}
 use Rattle.deno_graph_source.specs.Node.{range_of}
 use Rattle.deno_graph_source.specs.declared.tree.comments.DependencyComment.{DependencyComment}
 use Rattle.deno_graph_source.specs.declared.tree.node.Node.{Node}
 use Rattle.deno_graph_source.specs.declared.tree.node.Program.{Program}
-use Rattle.deno_graph_dep.specs.Stated.{leading_at}
 
 -- the comments that are filed as trailing at a position
 abbrev pub trailing_at : FiledComments → ℕ → List DependencyComment

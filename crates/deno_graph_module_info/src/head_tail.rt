@@ -1,7 +1,6 @@
 ghost use Rattle.std.specs.Prelude.{◌≡◌};
 ghost use Rattle.deno_graph_module_info.specs.HeadTail.{head_comments, tail_comments};
 
-use deno_graph_dep::leading_comments;
 use deno_graph_source::tree::{Comments, DependencyComment, Program};
 
 /// The comments before the first item. Where there is no item, those behind a shebang, or else
@@ -13,12 +12,12 @@ pub(crate) fn head_comments<'a>(
     ensures { result.now ≡ head_comments program.now comments.now }
 {
     match program.body.first() {
-        Some(item) => leading_comments(comments, item.range.start),
+        Some(item) => comments.leading_comments(item.range.start),
         None => {
             if program.has_shebang {
                 tail_comments(program, comments)
             } else {
-                leading_comments(comments, program.range.start)
+                comments.leading_comments(program.range.start)
             }
         }
     }

@@ -3,7 +3,6 @@ pub mod Check
 pub mod Comments
 pub mod FaultPlace
 pub mod Found
-pub mod KindGroups
 pub mod MediaType
 pub mod Node
 pub mod NodePath

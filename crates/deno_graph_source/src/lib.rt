@@ -2,6 +2,6 @@
 //! comments, and parsed sources.
 #![tactic(auto)]
 
+pub mod text;
 pub mod tree;
-
-pub use deno_graph_base::{text, values};
+pub mod values;

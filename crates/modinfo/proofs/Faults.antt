@@ -13,24 +13,18 @@ use Rattle.modinfo.specs.Answer.{
   IsNoConversion,
   IsNoJson,
   IsNoReach,
-  IsReadFailure,
   IsRunFault,
 }
+use Rattle.modinfo.specs.internal.Answer.{IsReadFailure}
 use Rattle.modinfo.specs.Run.{IsFailure}
 use Rattle.modinfo.specs.Fault.{fault_of_conversion, fault_of_info}
-use Rattle.modinfo.specs.Reach.{
-  IsFirstFault,
-  IsNoInfos,
-  IsNoQuestion,
-  IsQuestionFault,
-  Question,
-  reads_question,
-}
+use Rattle.modinfo.specs.Reach.{IsFirstFault, IsNoQuestion, IsQuestionFault, Question, reads_question}
+use Rattle.modinfo.specs.internal.Reach.{IsNoInfos}
 use Rattle.modinfo.specs.declared.fault.Fault.{Fault}
 use Rattle.modinfo.specs.declared.fault.Fault.TheVariants.{
   Input,
   Json,
-  NotInNotation,
+  Tree,
   Specifier,
   Source,
   Convert,
@@ -51,7 +45,7 @@ pub no_json : (text : List ℕ) (fault : Fault) (M : Type 0) → (M → fault �
 no_json text Json M memory other none = none (λ m. cc (memory m))
 no_json text OutOfMemory M memory other none = tt
 no_json text Input M memory other none = neither M (λ m. cc (memory m)) (λ n. cc (other n))
-no_json text NotInNotation M memory other none = neither M (λ m. cc (memory m)) (λ n. cc (other n))
+no_json text Tree M memory other none = neither M (λ m. cc (memory m)) (λ n. cc (other n))
 no_json text Specifier M memory other none = neither M (λ m. cc (memory m)) (λ n. cc (other n))
 no_json text (Source told) M memory other none = neither M (λ m. cc (memory m)) (λ n. cc (other n))
 no_json text (Convert told) M memory other none = neither M (λ m. cc (memory m)) (λ n. cc (other n))
@@ -62,7 +56,7 @@ no_json text Output M memory other none = neither M (λ m. cc (memory m)) (λ n.
 pub no_conversion : (text : List ℕ) (fault : Fault) → IsNoJson text fault → IsNoConversion text fault
 no_conversion text Input none = none
 no_conversion text Json none = none
-no_conversion text NotInNotation none = none
+no_conversion text Tree none = none
 no_conversion text Specifier none = none
 no_conversion text (Source told) none = none
 no_conversion text (Convert told) none = absurd none
@@ -86,7 +80,7 @@ refused_conversion text before convert.OutOfMemory read refused = tt
 pub no_reach : (text : List ℕ) (fault : Fault) → IsNoJson text fault → IsNoReach text fault
 no_reach text Input none = none
 no_reach text Json none = none
-no_reach text NotInNotation none = none
+no_reach text Tree none = none
 no_reach text Specifier none = none
 no_reach text (Source told) none = none
 no_reach text (Convert told) none = none
@@ -100,7 +94,7 @@ asks_nothing text value (Info told) read none = (value, read, none)
 asks_nothing text value OutOfMemory read none = tt
 asks_nothing text value Input read none = absurd none
 asks_nothing text value Json read none = absurd none
-asks_nothing text value NotInNotation read none = absurd none
+asks_nothing text value Tree read none = absurd none
 asks_nothing text value Specifier read none = absurd none
 asks_nothing text value (Source told) read none = absurd none
 asks_nothing text value (Convert told) read none = absurd none
@@ -126,7 +120,7 @@ no_modules value question (Info told) asks none =
 no_modules value question OutOfMemory asks none = tt
 no_modules value question Input asks none = absurd none
 no_modules value question Json asks none = absurd none
-no_modules value question NotInNotation asks none = absurd none
+no_modules value question Tree asks none = absurd none
 no_modules value question Specifier asks none = absurd none
 no_modules value question (Source told) asks none = absurd none
 no_modules value question (Convert told) asks none = absurd none
@@ -139,7 +133,7 @@ question_fault value (Info told) apart none = (told, none.0, none.1)
 question_fault value OutOfMemory apart none = absurd (apart refl)
 question_fault value Input apart none = absurd none
 question_fault value Json apart none = absurd none
-question_fault value NotInNotation apart none = absurd none
+question_fault value Tree apart none = absurd none
 question_fault value Specifier apart none = absurd none
 question_fault value (Source told) apart none = absurd none
 question_fault value (Convert told) apart none = absurd none
@@ -150,7 +144,7 @@ pub input_fault : (subcommand : Subcommand) (text : List ℕ) (fault : Fault)
     → IsDocumentFault subcommand text fault → IsInputFault subcommand text fault
 input_fault subcommand text Input has = tt
 input_fault subcommand text Json has = has
-input_fault subcommand text NotInNotation has = has
+input_fault subcommand text Tree has = has
 input_fault subcommand text Specifier has = has
 input_fault subcommand text (Source told) has = has
 input_fault subcommand text (Convert told) has = has
@@ -162,7 +156,7 @@ pub run_fault : (subcommand : Subcommand) (text : List ℕ) (fault : Fault)
     → IsDocumentFault subcommand text fault → IsRunFault subcommand text fault
 run_fault subcommand text Input has = tt
 run_fault subcommand text Json has = has
-run_fault subcommand text NotInNotation has = has
+run_fault subcommand text Tree has = has
 run_fault subcommand text Specifier has = has
 run_fault subcommand text (Source told) has = has
 run_fault subcommand text (Convert told) has = has
@@ -182,7 +176,7 @@ pub failed_input : (subcommand : Subcommand) (text : List ℕ) (fault : Fault) �
 failed_input subcommand text Input failed = tt
 failed_input subcommand text OutOfMemory failed = no_memory subcommand text
 failed_input subcommand text Json failed = absurd failed
-failed_input subcommand text NotInNotation failed = absurd failed
+failed_input subcommand text Tree failed = absurd failed
 failed_input subcommand text Specifier failed = absurd failed
 failed_input subcommand text (Source told) failed = absurd failed
 failed_input subcommand text (Convert told) failed = absurd failed
@@ -194,7 +188,7 @@ pub failed_run : (subcommand : Subcommand) (text : List ℕ) (fault : Fault) →
 failed_run subcommand text Input failed = tt
 failed_run subcommand text OutOfMemory failed = no_memory subcommand text
 failed_run subcommand text Json failed = absurd failed
-failed_run subcommand text NotInNotation failed = absurd failed
+failed_run subcommand text Tree failed = absurd failed
 failed_run subcommand text Specifier failed = absurd failed
 failed_run subcommand text (Source told) failed = absurd failed
 failed_run subcommand text (Convert told) failed = absurd failed
@@ -205,7 +199,7 @@ pub read_failure : (fault : Fault) → IsReadFailure fault → IsFailure fault
 read_failure Input failed = tt
 read_failure OutOfMemory failed = tt
 read_failure Json failed = absurd failed
-read_failure NotInNotation failed = absurd failed
+read_failure Tree failed = absurd failed
 read_failure Specifier failed = absurd failed
 read_failure (Source told) failed = absurd failed
 read_failure (Convert told) failed = absurd failed

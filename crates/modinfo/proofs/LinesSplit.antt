@@ -50,7 +50,8 @@ use Rattle.std.proofs.lemmas.List.{
 }
 use Rattle.std.proofs.lemmas.List.Elements.{All-from_get_or, All-head, All-tail}
 use Rattle.memchr.specs.Find.{IsFirstByte, Nowhere, Passes, is_byte}
-use Rattle.modinfo.specs.Lines.{TakesLines, before_first, lines_of}
+use Rattle.modinfo.specs.Lines.{before_first, lines_of}
+use Rattle.modinfo.specs.internal.Lines.{TakesLines}
 
 -- a line that ends in a line feed
 ended : (line rest : List ℕ) → All (λ x. x ≢ 10) line → lines_of (line ++ 10 ∷ rest) ≡ line ∷ lines_of rest

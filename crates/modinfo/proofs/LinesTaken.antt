@@ -65,7 +65,6 @@ use Rattle.modinfo.specs.Lines.{
   IsPrinted,
   PrintsLine,
   PrintsLines,
-  TakesLines,
   before_first,
   lines_of,
   fault_line,
@@ -73,7 +72,8 @@ use Rattle.modinfo.specs.Lines.{
   passes_without,
   LeavesFirstLines,
 }
-use Rattle.modinfo.specs.Lines.PrintsLine.{answered, faulted, refused, reported}
+use Rattle.modinfo.specs.internal.Lines.{TakesLines}
+use Rattle.modinfo.specs.Lines.PrintsLine.{answered, faulted, out_of_memory, reported}
 use Rattle.modinfo.specs.Lines.PrintsLines.{more, none}
 use Rattle.modinfo.specs.Run.{PrintsReport, AppendsFront, IsFailure}
 use Rattle.modinfo.specs.declared.fault.Fault.{Fault}
@@ -339,19 +339,19 @@ pub PrintsLine-faulted : (task : Task) (line : List ℕ) (fault : Fault) → IsP
     → PrintsLine task line (passes_without task) (fault_line fault)
 PrintsLine-faulted (Answer subcommand) line fault has = faulted fault has
 PrintsLine-faulted (Check subcommand is_strict) line fault has =
-    subst (λ f. PrintsLine (Check subcommand is_strict) line false (fault_line f)) (sym has) refused
+    subst (λ f. PrintsLine (Check subcommand is_strict) line false (fault_line f)) (sym has) out_of_memory
 
 -- memory may be refused for each document
-IsDocumentFault-refused : (subcommand : Subcommand) (line : List ℕ)
+IsDocumentFault-out_of_memory : (subcommand : Subcommand) (line : List ℕ)
     → IsDocumentFault subcommand line OutOfMemory
-IsDocumentFault-refused Analyze line = tt
-IsDocumentFault-refused Convert line = tt
-IsDocumentFault-refused Reach line = tt
+IsDocumentFault-out_of_memory Analyze line = tt
+IsDocumentFault-out_of_memory Convert line = tt
+IsDocumentFault-out_of_memory Reach line = tt
 
-pub PrintsLine-refused : (task : Task) (line : List ℕ)
+pub PrintsLine-out_of_memory : (task : Task) (line : List ℕ)
     → PrintsLine task line (passes_without task) (fault_line OutOfMemory)
-PrintsLine-refused (Answer subcommand) line = faulted OutOfMemory (IsDocumentFault-refused subcommand line)
-PrintsLine-refused (Check subcommand is_strict) line = refused
+PrintsLine-out_of_memory (Answer subcommand) line = faulted OutOfMemory (IsDocumentFault-out_of_memory subcommand line)
+PrintsLine-out_of_memory (Check subcommand is_strict) line = out_of_memory
 
 -- the same text, of which a part was written
 pub PrintsLines-written : (task : Task) (lines : List (List ℕ)) (passes : Bool) (sent waiting written left
@@ -390,7 +390,7 @@ pub refused_after : (r : Result Bool Fault) (task : Task) (line old kept new : L
     (λ fault. fault ≡ OutOfMemory)
 refused_after (Ok passes) task line old kept new same h = (
   fault_line OutOfMemory,
-  subst (λ b. PrintsLine task line b (fault_line OutOfMemory)) (sym h.0) (PrintsLine-refused task line),
+  subst (λ b. PrintsLine task line b (fault_line OutOfMemory)) (sym h.0) (PrintsLine-out_of_memory task line),
   h.1 ∙ ap (λ l. l ++ fault_line OutOfMemory) same,
 )
 refused_after (Err fault) task line old kept new same h = h

@@ -44,14 +44,8 @@ use Rattle.deno_graph_info.specs.declared.analysis.fault.InfoFault.{InfoFault}
 use Rattle.deno_graph_info.specs.declared.analysis.fault.InfoFault.TheVariants as info
 use Rattle.deno_graph_info.specs.declared.analysis.module_info.ModuleInfo.{ModuleInfo}
 use Rattle.modinfo.specs.Check.{AsksNone, AsksSome}
-use Rattle.modinfo.specs.Reach.{
-  IsFirstFault,
-  IsQuestionFault,
-  reads_modules,
-  reads_question,
-  reads_stored,
-  reads_stored_info,
-}
+use Rattle.modinfo.specs.Reach.{IsFirstFault, IsQuestionFault, reads_question, reads_stored}
+use Rattle.modinfo.specs.internal.Reach.{reads_modules, reads_stored_info}
 use Rattle.modinfo.specs.declared.reach.StoredInfo.{StoredInfo}
 
 -- a fault that is not a failed allocation

@@ -4,7 +4,8 @@ use Rattle.deno_graph_json.specs.Value.{Value, Members, as_object, as_str}
 use Rattle.deno_graph_source.specs.declared.tree.media_type.MediaType.{MediaType}
 use Rattle.deno_graph_source.specs.declared.tree.node.Program.{Program}
 use Rattle.modinfo_document.specs.Comments.{Sides, reads_sides}
-use Rattle.modinfo_document.specs.Document.{Stated, reads_document, reads_tree}
+use Rattle.modinfo_document.specs.Document.{Contents, reads_document}
+use Rattle.modinfo_document.specs.internal.Document.{reads_tree}
 use Rattle.modinfo_document.specs.Kind.{media_types, reads_named}
 use Rattle.modinfo_document.specs.Node.{reads_program}
 use Rattle.modinfo_document.specs.Partial.{◌>>=◌, required}
@@ -20,7 +21,7 @@ both_read (Some x) (Some y) make = refl
 
 module _ (specifier : List ℕ) (media_type : MediaType) (source : List ℕ) where
   -- what is stated, once its first three parts are known
-  abbrev pub stated_with : Sides × Program → Stated
+  abbrev pub stated_with : Sides × Program → Contents
   stated_with tree = record {
     specifier = specifier;
     media_type = media_type;

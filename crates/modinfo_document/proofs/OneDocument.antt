@@ -52,19 +52,19 @@ use Rattle.deno_graph_source.specs.declared.tree.node.Program.{Program}
 use Rattle.modinfo_document.specs.Comments.{AreThoseOf, FiledEntry, HasCommentsOf, Sides}
 use Rattle.modinfo_document.specs.Document.{
   Has,
-  HasNotationFault,
+  HasDocumentError,
   IsDocumentOf,
   IsNoDocument,
   IsNoSource,
   IsSourceOf,
-  Stated,
+  Contents,
   reads_document,
 }
 use Rattle.modinfo_document.specs.declared.document.Document.{Document}
-use Rattle.modinfo_document.specs.declared.fault.NotationFault.{NotationFault}
-use Rattle.modinfo_document.specs.declared.fault.NotationFault.TheVariants.{
+use Rattle.modinfo_document.specs.declared.error.DocumentError.{DocumentError}
+use Rattle.modinfo_document.specs.declared.error.DocumentError.TheVariants.{
   Json,
-  NotInNotation,
+  Tree,
   Specifier,
   Source,
   OutOfMemory,
@@ -192,11 +192,11 @@ pub record AreSame (d e : Document) : Type 0 where
 
 pub one_document : (text : List ℕ) (d e : Document) → IsDocumentOf text d → IsDocumentOf text e → AreSame d e
 one_document text d e a b =
-    let s = some_with (λ stated. Has stated d) (reads_document a.0) a.2 in
-    let t = some_with (λ stated. Has stated e) (reads_document b.0) b.2 in
+    let s = some_with (λ contents. Has contents d) (reads_document a.0) a.2 in
+    let t = some_with (λ contents. Has contents e) (reads_document b.0) b.2 in
     let values = ap reads_document (one_value text a.0 b.0 a.1 b.1) in
     let same : s.0 ≡ t.0 = same_Some s.0 t.0 (sym s.1 ∙ values ∙ t.1) in
-    let mine : Has t.0 d = subst (λ stated. Has stated d) same s.2 in
+    let mine : Has t.0 d = subst (λ contents. Has contents d) same s.2 in
     record {
       specifier = mine.specifier ∙ sym t.2.specifier;
       media_type = mine.media_type ∙ sym t.2.media_type;
@@ -226,11 +226,11 @@ one_source d e m n same a b =
 
 -- A document that fits its source has no fault, and so its text has none
 
-no_source_fault : (d e : Document) (url : Parts) (fault : NotationFault) → AreSame d e
+no_source_fault : (d e : Document) (url : Parts) (fault : DocumentError) → AreSame d e
     → parse_url None d.specifier ≡ Ok url → IsValid (rc_str_bytes d.source) d.program d.comments
     → fault ≢ OutOfMemory → IsNoSource e fault → ⊥
 no_source_fault d e url (Json offset) same is valid apart none = none
-no_source_fault d e url (NotInNotation misfit) same is valid apart none = none
+no_source_fault d e url (Tree mismatch) same is valid apart none = none
 no_source_fault d e url Specifier same is valid apart none =
     let urls = sym is ∙ ap (parse_url None) same.specifier ∙ none.1 in
     cc (urls)
@@ -242,20 +242,20 @@ no_source_fault d e url (Source fault) same is valid apart none =
     fault_refutes (rc_str_bytes e.source) e.program e.comments fault none there
 no_source_fault d e url OutOfMemory same is valid apart none = apart refl
 
-no_document_fault : (text : List ℕ) (d : Document) (fault : NotationFault) → IsDocumentOf text d
+no_document_fault : (text : List ℕ) (d : Document) (fault : DocumentError) → IsDocumentOf text d
     → fault ≢ OutOfMemory → IsNoDocument text fault → ⊥
 no_document_fault text d (Json offset) is apart none = none is.1.0 is.1.1
-no_document_fault text d (NotInNotation misfit) is apart none =
-    let s = some_with (λ stated. Has stated d) (reads_document is.0) is.2 in
+no_document_fault text d (Tree mismatch) is apart none =
+    let s = some_with (λ contents. Has contents d) (reads_document is.0) is.2 in
     let values = ap reads_document (one_value text none.0 is.0 none.1 is.1) in
     none-some s.0 (sym none.2 ∙ values ∙ s.1)
 no_document_fault text d Specifier is apart none = none
 no_document_fault text d (Source fault) is apart none = none
 no_document_fault text d OutOfMemory is apart none = apart refl
 
-pub valid_refutes : (text : List ℕ) (d : Document) (url : Parts) (fault : NotationFault) → IsDocumentOf text d
+pub valid_refutes : (text : List ℕ) (d : Document) (url : Parts) (fault : DocumentError) → IsDocumentOf text d
     → parse_url None d.specifier ≡ Ok url → IsValid (rc_str_bytes d.source) d.program d.comments
-    → fault ≢ OutOfMemory → HasNotationFault text fault → ⊥
+    → fault ≢ OutOfMemory → HasDocumentError text fault → ⊥
 valid_refutes text d url fault is has_url valid apart
     (inl none) = no_document_fault text d fault is apart none
 valid_refutes text d url fault is has_url valid apart (inr found) =

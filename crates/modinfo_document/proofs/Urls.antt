@@ -19,7 +19,7 @@ use Rattle.url.specs.Parser.{IsOutOfRoom, parse_url}
 use Rattle.url.specs.declared.error.ParseError.{ParseError}
 use Rattle.url.specs.declared.error.ParseError.TheVariants as url
 use Rattle.modinfo_document.specs.Document.{IsNoSource}
-use Rattle.modinfo_document.specs.Fault.{of_url}
+use Rattle.modinfo_document.specs.Error.{of_url}
 use Rattle.modinfo_document.specs.declared.document.Document.{Document}
 
 abbrev is_room : ParseError → Bool

@@ -1,4 +1,4 @@
-//! What is found in a module, in a line.
+//! The information on a module as one line of text.
 
 use deno_graph_analysis::dep;
 use deno_graph_info::analysis::{
@@ -6,7 +6,7 @@ use deno_graph_info::analysis::{
 };
 use std::alloc::{AllocError, Global};
 
-/// What is known of each dependency and each JSDoc import, in turn.
+/// The dependencies and then the JSDoc imports of a module.
 pub fn found(alloc: Global, info: &ModuleInfo) -> Result<String, AllocError> {
     let mut runs = Runs::new(alloc);
     for dependency in info.dependencies.iter() {
@@ -42,7 +42,7 @@ fn of_parts(alloc: Global, parts: &[DynamicTemplatePart]) -> Result<String, Allo
     format!(in alloc; "[{}]", runs.line(alloc)?)
 }
 
-/// What is known of an argument that borrows from the tree.
+/// An argument that borrows from the tree.
 pub fn known_text(
     alloc: Global,
     argument: &dep::DynamicArgument<'_>,
@@ -80,7 +80,7 @@ fn imported(alloc: Global, import: &JsDocImportInfo) -> Result<String, AllocErro
     )
 }
 
-/// Texts, equal ones in a row once with their number.
+/// Texts, each with the number of its repetitions.
 #[derive(Drop)]
 struct Runs {
     runs: Vec<(String, usize)>,

@@ -1,13 +1,13 @@
-//! Input that no one should make, and that is answered all the same: documents broken by seed, and
-//! modules made in code that are deeper, wider or longer than documents are.
+//! Tests with hostile input: documents that are changed by a seed, and modules made in code that are
+//! deeper, wider or longer than real ones.
 //!
-//!     test_hostile_input                      all of it
-//!     test_hostile_input broken COUNT         so many broken documents
+//!     test_hostile_input                      all tests
+//!     test_hostile_input broken COUNT         COUNT changed documents
 //!     test_hostile_input NAME COUNT           one of nested, calls, operands, sum, types, braces, filings
-//!     test_hostile_input NAME COUNT build     builds the module, and no more
+//!     test_hostile_input NAME COUNT build     only builds the module
 //!
-//! Status 1 where a document has no outcome that is named, or another one among all of them, and where
-//! a module can't be made.
+//! Status 1 if a document has an unexpected outcome, or another outcome in the run over all documents, or
+//! if a module can't be made.
 #![tactic(auto)]
 
 mod breaking;

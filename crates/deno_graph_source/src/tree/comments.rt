@@ -59,7 +59,7 @@ impl Model for Comments {
 
 impl Comments {
     ghost use Rattle.deno_graph_source.specs.ByPosition.{AddsItem, value_at};
-    ghost use Rattle.deno_graph_source.specs.Comments.{Ascends, comments_of};
+    ghost use Rattle.deno_graph_source.specs.Comments.{Ascends, comments_of, leading_at};
     ghost use Rattle.deno_graph_source.specs.FaultPlace.{comment_at};
 
     /// No comments. Takes no memory.
@@ -146,6 +146,14 @@ impl Comments {
             },
             None => unreachable!(),
         }
+    }
+
+    /// Returns the comments filed as leading at `pos`, in bytes from zero, in the order of filing.
+    /// The slice is empty where none were filed.
+    pub fn leading_comments(&self, pos: usize) -> &[DependencyComment]
+        ensures { result.now ≡ leading_at self.now pos }
+    {
+        self.get_leading(pos).unwrap_or(&[])
     }
 }
 

@@ -1,6 +1,5 @@
-ghost use Rattle.std.specs.Prelude.{◌≡◌, IfOk, IsTrue};
+ghost use Rattle.std.specs.Prelude.{◌≡◌};
 ghost use Rattle.std.specs.Option.{option_copied};
-ghost use Rattle.deno_graph_source.specs.KindGroups.{is_export, is_import};
 
 use deno_graph_base::text::{JsString, SourceRange};
 use deno_graph_base::values::{Items, Text, TryClone};
@@ -212,12 +211,51 @@ impl Kind {
 impl TryClone for Kind {
     fn try_clone(&self, alloc: Global) -> Result<Kind, AllocError> {
         Ok(match self {
-            Kind::ImportDecl { .. } | Kind::ImportEquals { .. } | Kind::ImportType { .. } => {
-                try_clone_import(alloc, self)?
-            }
-            Kind::NamedExport { .. } | Kind::ExportAll { .. } | Kind::ExportOther => {
-                try_clone_export(alloc, self)?
-            }
+            Kind::ImportDecl {
+                type_only,
+                phase,
+                src,
+                has_specifiers,
+                has_with,
+            } => Kind::ImportDecl {
+                type_only: *type_only,
+                phase: *phase,
+                src: src.try_clone(alloc)?,
+                has_specifiers: *has_specifiers,
+                has_with: *has_with,
+            },
+            Kind::NamedExport {
+                type_only,
+                src,
+                has_with,
+            } => Kind::NamedExport {
+                type_only: *type_only,
+                src: src.try_clone(alloc)?,
+                has_with: *has_with,
+            },
+            Kind::ExportAll {
+                type_only,
+                src,
+                has_with,
+            } => Kind::ExportAll {
+                type_only: *type_only,
+                src: src.try_clone(alloc)?,
+                has_with: *has_with,
+            },
+            Kind::ExportOther => Kind::ExportOther,
+            Kind::ImportEquals {
+                type_only,
+                is_export,
+                external,
+            } => Kind::ImportEquals {
+                type_only: *type_only,
+                is_export: *is_export,
+                external: external.try_clone(alloc)?,
+            },
+            Kind::ImportType { arg, has_with } => Kind::ImportType {
+                arg: arg.try_clone(alloc)?,
+                has_with: *has_with,
+            },
             Kind::ModuleDecl { name } => Kind::ModuleDecl {
                 name: name.try_clone(alloc)?,
             },
@@ -237,71 +275,6 @@ impl TryClone for Kind {
             Kind::Other => Kind::Other,
         })
     }
-}
-
-/// A copy of an import declaration, an `import name = ..` or an import type.
-fn try_clone_import(alloc: Global, import: &Kind) -> Result<Kind, AllocError>
-    requires { IsTrue (is_import import.now) }
-    ensures { IfOk result (λ copy. copy ≡ import.now) }
-{
-    Ok(match import {
-        Kind::ImportDecl {
-            type_only,
-            phase,
-            src,
-            has_specifiers,
-            has_with,
-        } => Kind::ImportDecl {
-            type_only: *type_only,
-            phase: *phase,
-            src: src.try_clone(alloc)?,
-            has_specifiers: *has_specifiers,
-            has_with: *has_with,
-        },
-        Kind::ImportEquals {
-            type_only,
-            is_export,
-            external,
-        } => Kind::ImportEquals {
-            type_only: *type_only,
-            is_export: *is_export,
-            external: external.try_clone(alloc)?,
-        },
-        Kind::ImportType { arg, has_with } => Kind::ImportType {
-            arg: arg.try_clone(alloc)?,
-            has_with: *has_with,
-        },
-        _ => unreachable!(),
-    })
-}
-
-/// A copy of an export.
-fn try_clone_export(alloc: Global, export: &Kind) -> Result<Kind, AllocError>
-    requires { IsTrue (is_export export.now) }
-    ensures { IfOk result (λ copy. copy ≡ export.now) }
-{
-    Ok(match export {
-        Kind::NamedExport {
-            type_only,
-            src,
-            has_with,
-        } => Kind::NamedExport {
-            type_only: *type_only,
-            src: src.try_clone(alloc)?,
-            has_with: *has_with,
-        },
-        Kind::ExportAll {
-            type_only,
-            src,
-            has_with,
-        } => Kind::ExportAll {
-            type_only: *type_only,
-            src: src.try_clone(alloc)?,
-            has_with: *has_with,
-        },
-        Kind::ExportOther => Kind::ExportOther,
-        _ => unreachable!(),
-    })
 }
 
 /// A node of a syntax tree.

@@ -2,7 +2,8 @@
 use Rattle.std.proofs.Common.{◌++◌, ℕ, List}
 use Rattle.std.specs.Io.Buffered.{reader_remaining}
 use Rattle.std.specs.Io.KnownBytes.{Appends}
-use Rattle.modinfo.specs.Lines.{PrintsLines, TakesLines}
+use Rattle.modinfo.specs.Lines.{PrintsLines}
+use Rattle.modinfo.specs.internal.Lines.{TakesLines}
 use Rattle.modinfo.proofs.lines.answer_lines.Given as goal
 
 abbrev pub invariant-lines : goal.invariant-lines

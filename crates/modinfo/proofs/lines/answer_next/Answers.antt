@@ -3,7 +3,7 @@ use Rattle.std.specs.Io.Buffered.{reader_buffer, reader_capacity, reader_inner}
 use Rattle.modinfo.specs.Lines.{PrintsLine, fault_line}
 use Rattle.modinfo.specs.declared.fault.Fault.TheVariants.{OutOfMemory}
 use Rattle.modinfo.proofs.LinesSplit.{TakesLines-buffered}
-use Rattle.modinfo.proofs.LinesTaken.{PrintsLine-refused}
+use Rattle.modinfo.proofs.LinesTaken.{PrintsLine-out_of_memory}
 use Rattle.modinfo.proofs.lines.answer_next.Goals as goal
 
 pub returns-in_ok-print_refused-in-Skipped : goal.returns-in_ok-print_refused-in-Skipped
@@ -14,7 +14,7 @@ returns-in_ok-print_refused-in-Skipped g c =
       fault_line OutOfMemory,
       taken,
       subst (λ b. PrintsLine c.args.task line b (fault_line OutOfMemory)) (sym passes)
-          (PrintsLine-refused c.args.task line),
+          (PrintsLine-out_of_memory c.args.task line),
       put,
     )
 

@@ -1,7 +1,8 @@
 use Rattle.std.proofs.Common.{◌∙◌, Some, false, true, ap, refl, sym}
 use Rattle.std.proofs.KnownBytes.{Keeps-refl}
 use Rattle.std.proofs.lemmas.Option.{none-some, same_Some}
-use Rattle.modinfo.specs.Invocation.{are_strict, invocation_of}
+use Rattle.modinfo.specs.Invocation.{are_strict}
+use Rattle.modinfo.specs.internal.Invocation.{invocation_of}
 use Rattle.modinfo.specs.Lines.IsLinesRun.{printed as lines_printed, failed as lines_failed}
 use Rattle.modinfo.specs.Run.{printed, failed}
 use Rattle.modinfo.specs.declared.subcommand.Subcommand.TheVariants.{Analyze}
