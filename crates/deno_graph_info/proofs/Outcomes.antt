@@ -34,7 +34,7 @@ use Rattle.deno_graph_info.specs.Conversion.{
   IsConvertedDependency,
   DependencyOverflows,
 }
-use Rattle.deno_graph_info.specs.ConvertFault.{IsColumnFault}
+use Rattle.deno_graph_info.specs.internal.ConvertFault.{IsColumnFault}
 use Rattle.deno_graph_base.specs.declared.text.position.PositionRange.{PositionRange}
 use Rattle.deno_graph_pragmas.specs.Finders.{deno_types_pattern, quoteless_deno_types_pattern}
 use Rattle.deno_graph_pragmas.specs.Match.{pragma_part_of}

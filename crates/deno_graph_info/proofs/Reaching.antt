@@ -65,7 +65,14 @@ use Rattle.std.specs.Map.{keys_of}
 use Rattle.deno_graph_base.specs.TextMap.{value_at, IsAscending}
 use Rattle.deno_graph_info.specs.declared.analysis.dependency.DependencyDescriptor.{DependencyDescriptor}
 use Rattle.deno_graph_info.specs.Reach.{IsModuleKey, IsClosedUnderDependencies, IsReach, named_specifier}
-use Rattle.deno_graph_info.specs.ReachSteps.{infos_of, NamesIn, IsReached, one_unless, unreached, Grows}
+use Rattle.deno_graph_info.specs.internal.ReachSteps.{
+  infos_of,
+  NamesIn,
+  IsReached,
+  one_unless,
+  unreached,
+  Grows,
+}
 use Rattle.deno_graph_info.specs.declared.analysis.module_info.ModuleInfo.{ModuleInfo}
 
 abbrev pub Modules : Type 0

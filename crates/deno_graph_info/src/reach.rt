@@ -5,7 +5,7 @@ ghost use Rattle.std.specs.Map.{keys_of};
 ghost use Rattle.std.specs.String.{string_bytes};
 ghost use Rattle.deno_graph_base.specs.TextMap.{entries_of, IsAscending};
 ghost use Rattle.deno_graph_info.specs.Reach.{IsReach, named_specifier};
-ghost use Rattle.deno_graph_info.specs.ReachSteps.{Grows, NamesIn, infos_of};
+ghost use Rattle.deno_graph_info.specs.internal.ReachSteps.{Grows, NamesIn, infos_of};
 
 use crate::analysis::{DependencyDescriptor, DynamicArgument, ModuleInfo};
 use deno_graph_base::values::{Text, TextMap};

@@ -12,8 +12,9 @@ use Rattle.json.specs.Token.{Token}
 use Rattle.json.specs.Tree.{json_tokens, items_tokens, members_tokens, depth, items_depth, members_depth}
 use Rattle.json.proofs.Printed.Trees.{value-json_tokens}
 use Rattle.deno_graph_json.specs.Flat.{PlainNode, key, plain, number_node, number_fits, flat_list, items_list}
-use Rattle.deno_graph_json.specs.Flat.{members_list, element_count, token_fits, IsAhead, NoneAhead, IsPut}
-use Rattle.deno_graph_json.specs.Flat.{IsFlatText, IsRefused}
+use Rattle.deno_graph_json.specs.Flat.{members_list, element_count, token_fits}
+use Rattle.deno_graph_json.specs.internal.Parsing.{IsAhead, NoneAhead, IsPut}
+use Rattle.deno_graph_json.specs.Flat.{IsFlatText, IsUnreadable}
 use Rattle.deno_graph_json.specs.declared.flat.Node.{Node}
 
 -- ---- each number fits
@@ -328,11 +329,12 @@ pub whole_text : (text : List ℕ) (ts : List Token) (nodes : List Node) → tok
 whole_text text ts nodes is put =
     (put.0, (is ∙ put.1.0 ∙ append-nil (json_tokens put.0), put.1.1, put.1.2), put.2)
 
-pub refused_text : (text : List ℕ) (ts : List Token) → tokens text ≡ ts → NoneAhead 127 ts → IsRefused text
-refused_text text ts is none j whole =
+pub unreadable_text : (text : List ℕ) (ts : List Token) → tokens text ≡ ts → NoneAhead 127 ts
+    → IsUnreadable text
+unreadable_text text ts is none j whole =
     none j [] (sym is ∙ whole.0 ∙ sym (append-nil (json_tokens j)), whole.1, whole.2)
 
 pub text_and_more : (text : List ℕ) (ts rest : List Token) (old new : List Node) → tokens text ≡ ts
-    → (rest ≡ [] → ⊥) → IsPut 127 ts rest old new → IsRefused text
+    → (rest ≡ [] → ⊥) → IsPut 127 ts rest old new → IsUnreadable text
 text_and_more text ts rest old new is more put j whole =
     more (same_ahead put.0 j rest [] (sym put.1.0 ∙ sym is ∙ whole.0 ∙ sym (append-nil (json_tokens j)))).1

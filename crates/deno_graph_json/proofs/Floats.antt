@@ -27,7 +27,7 @@ use Rattle.std.proofs.lemmas.List.{at_drop_more}
 use Rattle.std.proofs.lemmas.Option.{none-some}
 use Rattle.serde_json.specs.Data.{Data}
 use Rattle.deno_graph_json.proofs.ObjectMembers.{IsRest, rest_next}
-use Rattle.deno_graph_json.specs.Read.Answer.{IsRefusal}
+use Rattle.deno_graph_json.specs.Read.Result.{IsReadError}
 use Rattle.deno_graph_json.specs.Read.Partial.{unless_float}
 use Rattle.deno_graph_json.specs.declared.error.ReadError.{ReadError}
 use Rattle.deno_graph_json.specs.declared.error.ReadError.TheVariants.{Mismatch, OutOfMemory}
@@ -77,7 +77,7 @@ float_later all left rest e h first none = record {
 }
 
 -- an error in a value with a float is an error in the value around it
-pub float_refusal : (value : Data) (here all : Bool) (error : ReadError) → (here ≡ true → all ≡ true)
-    → IsRefusal value (unless_float here) error → IsRefusal value (unless_float all) error
-float_refusal value here all (Mismatch found) among h = (ap unless_float (among (float_of here h.0)), h.1)
-float_refusal value here all OutOfMemory among h = tt
+pub float_error : (value : Data) (here all : Bool) (error : ReadError) → (here ≡ true → all ≡ true)
+    → IsReadError value (unless_float here) error → IsReadError value (unless_float all) error
+float_error value here all (Mismatch found) among h = (ap unless_float (among (float_of here h.0)), h.1)
+float_error value here all OutOfMemory among h = tt

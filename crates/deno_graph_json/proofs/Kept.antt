@@ -20,7 +20,8 @@ use Rattle.deno_graph_json.specs.Value.{
   items_in,
   members_in,
 }
-use Rattle.deno_graph_json.specs.Value.{AreOfValue, AreOfItems, AreOfMembers, BeginsValue}
+use Rattle.deno_graph_json.specs.Value.{AreOfValue, AreOfItems, AreOfMembers}
+use Rattle.deno_graph_json.specs.internal.Nodes.{BeginsValue}
 use Rattle.deno_graph_json.specs.Tape.{
   HasValueAt,
   HasMemberAt,
@@ -68,9 +69,9 @@ node_at (x ∷ xs) zero node inside is = ap Some (sym is)
 node_at (x ∷ xs) (suc at) node inside is = node_at xs at node (omega arith) is
 
 none_at : (nodes : List Node) (at : ℕ) → length nodes ≤ at → None ≡ slice_get nodes at
-none_at [] at behind = refl
-none_at (x ∷ xs) zero behind = absurd (omega arith)
-none_at (x ∷ xs) (suc at) behind = none_at xs at (omega arith)
+none_at [] at past = refl
+none_at (x ∷ xs) zero past = absurd (omega arith)
+none_at (x ∷ xs) (suc at) past = none_at xs at (omega arith)
 
 -- the result of `get`
 pub got_at : (nodes : List Node) (at : ℕ) (r : Option (Bor Node)) → is_some r ≡ ltb at (length nodes)
@@ -224,8 +225,8 @@ module _ (nodes own : List Node) (at n : ℕ) (is : own ≡ take n (drop at node
   passed_one all = item_passed (value_in (map plain own)) (map plain (drop at nodes)) rest
       (items_in (map plain (drop at nodes))) all listed
 
-  pub items_behind : AreOfItems (map plain (drop at nodes)) → AreOfItems rest
-  items_behind all = let one = passed_one all in of_items rest one.0 one.2
+  pub items_after : AreOfItems (map plain (drop at nodes)) → AreOfItems rest
+  items_after all = let one = passed_one all in of_items rest one.0 one.2
 
   pub item_first : AreOfItems (map plain (drop at nodes))
       → items_in (map plain (drop at nodes)) ≡ item (value_in (map plain own)) (items_in rest)
@@ -239,9 +240,9 @@ module _ (nodes : List Node) (at : ℕ) (name : Bor (List ℕ))
       let next : suc at ≡ at + 1 = omega arith in
       plain_at nodes at (Key name) named ∙ ap (λ k. flat.key name.now ∷ map plain (drop k nodes)) next
 
-  pub value_behind_name : AreOfMembers (map plain (drop at nodes))
+  pub value_after_name : AreOfMembers (map plain (drop at nodes))
       → BeginsValue (map plain (drop (at + 1) nodes))
-  value_behind_name all = begins_member (members_in (map plain (drop at nodes))) name.now
+  value_after_name all = begins_member (members_in (map plain (drop at nodes))) name.now
       (map plain (drop (at + 1) nodes)) (all ∙ name_here)
 
   module _ (own : List Node) (n : ℕ) (is : own ≡ take n (drop (at + 1) nodes))
@@ -254,9 +255,9 @@ module _ (nodes : List Node) (at : ℕ) (name : Bor (List ℕ))
         (map plain (drop (at + 1 + n) nodes)) name.now
         (members_in (map plain (drop at nodes))) (all ∙ name_here) (listed nodes own (at + 1) n is of)
 
-    pub members_behind : AreOfMembers (map plain (drop at nodes))
+    pub members_after : AreOfMembers (map plain (drop at nodes))
         → AreOfMembers (map plain (drop (at + 1 + n) nodes))
-    members_behind all = let one = passed_member all in of_members
+    members_after all = let one = passed_member all in of_members
         (map plain (drop (at + 1 + n) nodes)) one.0 one.2
 
     pub member_first : AreOfMembers (map plain (drop at nodes))

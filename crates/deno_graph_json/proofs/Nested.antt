@@ -13,7 +13,8 @@ use Rattle.json.specs.Token.{Token}
 use Rattle.json.specs.declared.token.Token.{Token as Read}
 use Rattle.json.specs.declared.token.Token.TheVariants.{BeginObject, EndObject, BeginArray, EndArray, Key}
 use Rattle.json.specs.declared.token.Token.TheVariants.{String, Number, Bool, Null, Bad}
-use Rattle.deno_graph_json.specs.Flat.{PlainNode, plain, flat_list, IsPut}
+use Rattle.deno_graph_json.specs.Flat.{PlainNode, plain, flat_list}
+use Rattle.deno_graph_json.specs.internal.Parsing.{IsPut}
 use Rattle.deno_graph_json.specs.declared.flat.Node.{Node}
 
 module _ (old now : List Node) (hole : PlainNode) (inside : List PlainNode)

@@ -18,7 +18,7 @@ use Rattle.deno_graph_base.specs.declared.text.position.PositionRange.{PositionR
 use Rattle.deno_graph_json.proofs.Ascending.{ascending, present, put_entries-present}
 use Rattle.deno_graph_json.proofs.Objects.{get_member-put_entries, has_distinct_keys, entry_at}
 use Rattle.deno_graph_json.proofs.Reading.{goes_on}
-use Rattle.deno_graph_json.specs.Ascending.{ascending-map}
+use Rattle.deno_graph_json.specs.internal.MapEntries.{ascending-map}
 use Rattle.deno_graph_json.specs.Json.Position.{
   IsHeldPosition,
   IsHeldRange,

@@ -33,8 +33,8 @@ use Rattle.std.specs.String.{string_cmp}
 use Rattle.deno_graph_base.proofs.TextEntries.{IsAscending-entries}
 use Rattle.deno_graph_base.specs.TextMap.{entry_of, insert_entry}
 use Rattle.deno_graph_json.proofs.ObjectMembers.{AreAscending, IsRest, rest_begin, rest_next}
-use Rattle.deno_graph_json.proofs.Reading.{refused, before, before_more, before_nil}
-use Rattle.deno_graph_json.specs.Read.Answer.{IsRefusal}
+use Rattle.deno_graph_json.proofs.Reading.{step_error, before, before_more, before_nil}
+use Rattle.deno_graph_json.specs.Read.Result.{IsReadError}
 use Rattle.deno_graph_json.specs.Read.Partial.{reads_members}
 use Rattle.deno_graph_json.specs.declared.error.ReadError.{ReadError}
 
@@ -104,18 +104,18 @@ module _ {A : Type 0} where
   })
 
   -- if a member can't be read, the map can't
-  pub members_refused : (value : Data) (reads : Data → Option A)
+  pub members_error : (value : Data) (reads : Data → Option A)
       (all left rest : List (String Global × Value))
       (read : List (List ℕ × A)) (e : String Global × Value) (error : ReadError)
-      → IsSoFar reads all read left → left ≡ e ∷ rest → IsRefusal value (reads (view e.1)) error
-      → IsRefusal value (reads_members reads (members_view all)) error
+      → IsSoFar reads all read left → left ≡ e ∷ rest → IsReadError value (reads (view e.1)) error
+      → IsReadError value (reads_members reads (members_view all)) error
   unfolding reads_members
-  members_refused value reads all left rest read e error so_far first h =
+  members_error value reads all left rest read e error so_far first h =
       let step : reads_members reads (members_view all) ≡ before read
       (reads_members reads (members_view (e ∷ rest))) =
       so_far.values ∙ ap (λ es. before read (reads_members reads (members_view es))) first in
-      subst (λ o. IsRefusal value o error) (sym step)
-      (refused value _ _ error (refused value (reads (view e.1)) _ error h))
+      subst (λ o. IsReadError value o error) (sym step)
+      (step_error value _ _ error (step_error value (reads (view e.1)) _ error h))
 
   -- no member is left
   pub members_done : (reads : Data → Option A) (all left : List (String Global × Value))

@@ -9,7 +9,7 @@ use Rattle.deno_graph_json.proofs.Places.{
   here_or_passed,
   none_here,
   member_before,
-  here_or_behind,
+  here_or_after,
 }
 use Rattle.deno_graph_json.proofs.Places.{no_member_here}
 
@@ -36,17 +36,17 @@ elements_missed_none array number = (
 )
 
 module _ (array value : Element) (number from next : ℕ) (is : IsValueAt array from value)
-    (behind : next ≡ from + size_of value) (there : HasValueAt array from) where
+    (next_is : next ≡ from + size_of value) (there : HasValueAt array from) where
   pub element_missed : (count : ℕ) → (HasNode value number → ⊥) → ElementsMissed array number from count
       → ElementsMissed array number next (count + 1)
   element_missed count other missed = (
     λ more place passed.
         let sum : count + suc more ≡ count + 1 + more = omega arith in
         subst (λ n. ArePassed array 1 n place) sum
-        (missed.0 (suc more) place (before_all array value from next is behind more place there passed)),
+        (missed.0 (suc more) place (before_all array value from next is next_is more place there passed)),
     λ more place inner passed has_value is_inner has.
         let left = missed.1 more place inner passed has_value is_inner has in
-        elim (here_or_passed array value from next is behind left.0 place left.1) [
+        elim (here_or_passed array value from next is next_is left.0 place left.1) [
           | inl here ↦
               absurd (other
               (same_node array inner value from number there
@@ -81,13 +81,13 @@ pub members_missed_none : (object : Element) (number : ℕ) → MembersMissed ob
 members_missed_none object number = (λ later is. is, λ later inner is at has. is)
 
 module _ (object value : Element) (number from next : ℕ) (is : IsValueAt object (from + 1) value)
-    (behind : next ≡ from + 1 + size_of value) (there : HasMemberAt object from) where
+    (next_is : next ≡ from + 1 + size_of value) (there : HasMemberAt object from) where
   pub member_missed : (HasNode value number → ⊥) → MembersMissed object number from
       → MembersMissed object number next
   member_missed other missed = (
-    λ later rest. missed.0 later (member_before object value from next is behind later there rest),
+    λ later rest. missed.0 later (member_before object value from next is next_is later there rest),
     λ later inner is_member is_inner has.
-        elim (here_or_behind object value from next is behind later
+        elim (here_or_after object value from next is next_is later
         (missed.1 later inner is_member is_inner has)) [
           | inl here ↦
               absurd (other

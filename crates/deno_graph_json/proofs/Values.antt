@@ -61,7 +61,7 @@ use Rattle.deno_graph_json.specs.Value.{
   flat_value,
   flat_items,
   flat_members,
-  behind,
+  after_value,
   value_within,
   items_within,
   members_within,
@@ -80,19 +80,19 @@ some_value (string s) = omega arith
 some_value (array vs) = omega arith
 some_value (object ms) = omega arith
 
-pub behind_front : (v : Value) (r : List PlainNode) → behind (flat_value v ++ r) ≡ r
+pub after_value_front : (v : Value) (r : List PlainNode) → after_value (flat_value v ++ r) ≡ r
 unfolding flat_value
-behind_front null r = refl
-behind_front (boolean b) r = refl
-behind_front (whole n) r = refl
-behind_front number r = refl
-behind_front (string s) r = refl
-behind_front (array vs) r = drop_at (flat_items vs) r (length (flat_items vs)) refl
-behind_front (object ms) r = drop_at (flat_members ms) r (length (flat_members ms)) refl
+after_value_front null r = refl
+after_value_front (boolean b) r = refl
+after_value_front (whole n) r = refl
+after_value_front number r = refl
+after_value_front (string s) r = refl
+after_value_front (array vs) r = drop_at (flat_items vs) r (length (flat_items vs)) refl
+after_value_front (object ms) r = drop_at (flat_members ms) r (length (flat_members ms)) refl
 
 first_item : (v : Value) (r : List PlainNode) (n : ℕ)
     → items_within (suc n) (flat_value v ++ r) ≡ item (value_within n (flat_value v ++ r))
-    (items_within n (behind (flat_value v ++ r)))
+    (items_within n (after_value (flat_value v ++ r)))
 unfolding flat_value items_within
 first_item null r n = refl
 first_item (boolean b) r n = refl
@@ -134,9 +134,9 @@ mutual
   in_items (item v vs) (suc n) enough =
       let all = length-append (flat_value v) (flat_items vs) in
       first_item v (flat_items vs) n
-      ∙ ap (λ w. item w (items_within n (behind (flat_value v ++ flat_items vs))))
+      ∙ ap (λ w. item w (items_within n (after_value (flat_value v ++ flat_items vs))))
       (in_value v n (flat_items vs) (omega (arith, all)))
-      ∙ ap (λ l. item v (items_within n l)) (behind_front v (flat_items vs))
+      ∙ ap (λ l. item v (items_within n l)) (after_value_front v (flat_items vs))
       ∙ ap (item v) (in_items vs n (omega (arith, all, some_value v)))
 
   pub in_members : (ms : Members) (n : ℕ) → 2 * length (flat_members ms) ≤ n
@@ -146,9 +146,9 @@ mutual
   in_members (member k v ms) zero enough = absurd (omega arith)
   in_members (member k v ms) (suc n) enough =
       let all = length-append (flat_value v) (flat_members ms) in
-      ap (λ w. member k w (members_within n (behind (flat_value v ++ flat_members ms))))
+      ap (λ w. member k w (members_within n (after_value (flat_value v ++ flat_members ms))))
       (in_value v n (flat_members ms) (omega (arith, all)))
-      ∙ ap (λ l. member k v (members_within n l)) (behind_front v (flat_members ms))
+      ∙ ap (λ l. member k v (members_within n l)) (after_value_front v (flat_members ms))
       ∙ ap (member k v) (in_members ms n (omega (arith, all, some_value v)))
 
 pub same_front : (v w : Value) (r s : List PlainNode) → flat_value v ++ r ≡ flat_value w ++ s
@@ -156,7 +156,7 @@ pub same_front : (v w : Value) (r s : List PlainNode) → flat_value v ++ r ≡ 
 same_front v w r s e =
     let n = 2 * length (flat_value v) + 2 * length (flat_value w) in (
       sym (in_value v n r (omega arith)) ∙ ap (value_within n) e ∙ in_value w n s (omega arith),
-      sym (behind_front v r) ∙ ap behind e ∙ behind_front w s,
+      sym (after_value_front v r) ∙ ap after_value e ∙ after_value_front w s,
     )
 
 -- ---- the value of a list

@@ -73,20 +73,6 @@ abbrev pub token_fits : Token → Bool
 token_fits (Token.number text) = number_fits text
 token_fits _ = true
 
--- The tokens are those of a value, which nests at most `most` deep, followed by the rest.
-abbrev pub IsAhead : ℕ → Json → List Token → List Token → Type 0
-IsAhead most j ahead rest = (ahead ≡ json_tokens j ++ rest) × (depth j ≤ most)
-    × IsTrue (list_all token_fits (json_tokens j))
-
--- the tokens don't begin with such a value
-abbrev pub NoneAhead : ℕ → List Token → Type 0
-NoneAhead most ahead = (j : Json) → (rest : List Token) → IsAhead most j ahead rest → ⊥
-
--- such a value was read, and its flat list was appended to the nodes
-abbrev pub IsPut : ℕ → List Token → List Token → List Node → List Node → Type 0
-IsPut most ahead rest old new =
-    (j : Json) × IsAhead most j ahead rest × (map plain new ≡ map plain old ++ flat_list j)
-
 -- The text is this value, arrays and objects nest at most 127 deep, and each number fits.
 abbrev pub IsTextOf : List ℕ → Json → Type 0
 IsTextOf text j = (tokens text ≡ json_tokens j) × (depth j ≤ 127)
@@ -97,5 +83,5 @@ abbrev pub IsFlatText : List ℕ → List Node → Type 0
 IsFlatText text nodes = (j : Json) × IsTextOf text j × (map plain nodes ≡ flat_list j)
 
 -- the text isn't a value that can be read
-abbrev pub IsRefused : List ℕ → Type 0
-IsRefused text = (j : Json) → IsTextOf text j → ⊥
+abbrev pub IsUnreadable : List ℕ → Type 0
+IsUnreadable text = (j : Json) → IsTextOf text j → ⊥

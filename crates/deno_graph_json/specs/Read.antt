@@ -1,5 +1,5 @@
 -- The contract of every reader.
-pub mod Answer
 pub mod Error
 pub mod Expected
 pub mod Partial
+pub mod Result

@@ -1,5 +1,5 @@
 -- A JSON value (RFC 8259) as a flat list keeps it, and how to look into the value.
-use Rattle.std.specs.Prelude.{◌≡◌, ℕ, zero, suc, ◌+◌, ◌*◌, ◌<◌, Bool, true, false, if◌then◌else◌}
+use Rattle.std.specs.Prelude.{◌≡◌, ℕ, zero, suc, ◌+◌, ◌*◌, Bool, true, false, if◌then◌else◌}
 use Rattle.std.specs.Prelude.{List, [], ◌∷◌, ◌++◌, length, take, drop, Option, Some, None}
 use Rattle.std.specs.Str.{bytes_eq}
 use Rattle.std.specs.Str.Parse.{digits_value}
@@ -85,9 +85,9 @@ plain_inside (flat.array _ nodes) = nodes
 plain_inside (flat.object nodes) = nodes
 
 -- the nodes after the first value
-abbrev pub behind : List PlainNode → List PlainNode
-behind [] = []
-behind (n ∷ ns) = drop (plain_inside n) ns
+abbrev pub after_value : List PlainNode → List PlainNode
+after_value [] = []
+after_value (n ∷ ns) = drop (plain_inside n) ns
 
 -- The first argument bounds the recursion: twice the number of the nodes is always enough.
 unfoldable mutual
@@ -107,7 +107,7 @@ unfoldable mutual
   items_within zero ns = no_items
   items_within (suc turns) [] = no_items
   items_within (suc turns) (n ∷ ns) =
-      item (value_within turns (n ∷ ns)) (items_within turns (behind (n ∷ ns)))
+      item (value_within turns (n ∷ ns)) (items_within turns (after_value (n ∷ ns)))
 
   pub members_within : ℕ → List PlainNode → Members
   members_within zero ns = no_members
@@ -118,7 +118,7 @@ unfoldable mutual
   members_within (suc turns) (flat.number ∷ ns) = no_members
   members_within (suc turns) (flat.string s ∷ ns) = no_members
   members_within (suc turns) (flat.key k ∷ ns) =
-      member k (value_within turns ns) (members_within turns (behind ns))
+      member k (value_within turns ns) (members_within turns (after_value ns))
   members_within (suc turns) (flat.array _ nodes ∷ ns) = no_members
   members_within (suc turns) (flat.object nodes ∷ ns) = no_members
 
@@ -141,10 +141,6 @@ AreOfItems nodes = flat_items (items_in nodes) ≡ nodes
 
 abbrev pub AreOfMembers : List PlainNode → Type 0
 AreOfMembers nodes = flat_members (members_in nodes) ≡ nodes
-
--- a list with a node begins with the flat list of a value
-abbrev pub BeginsValue : List PlainNode → Type 0
-BeginsValue nodes = 0 < length nodes → (v : Value) × (rest : List PlainNode) × (nodes ≡ flat_value v ++ rest)
 
 -- ---- looking into a value
 

@@ -46,7 +46,7 @@ pub struct Tape<'a> {
 
 impl<'a> Tape<'a> {
     ghost use Rattle.std.specs.Prelude.{ℕ, IfOk, Err};
-    ghost use Rattle.deno_graph_json.specs.Flat.{IsFlatText, IsRefused};
+    ghost use Rattle.deno_graph_json.specs.Flat.{IsFlatText, IsUnreadable};
     ghost use Rattle.deno_graph_json.specs.Tape.{node_count, size_of, number_of, tape_nodes, all_nodes};
     ghost use Rattle.deno_graph_json.specs.View.{tape_value, value_of, IsValueOf};
     ghost use Rattle.deno_graph_json.specs.declared.flat.fault.TapeFault.TheVariants.{Json};
@@ -60,7 +60,7 @@ impl<'a> Tape<'a> {
     ) -> Result<Tape<'a>, TapeFault>
         ensures flat { IfOk result (λ tape. IsFlatText text.now (tape_nodes tape)) }
         ensures value { IfOk result (λ tape. IsValueOf text.now (tape_value tape)) }
-        ensures refused { (offset : ℕ) → result ≡ Err (Json offset) → IsRefused text.now }
+        ensures unreadable { (offset : ℕ) → result ≡ Err (Json offset) → IsUnreadable text.now }
     {
         let nodes = parse::read(alloc, text, scratch)?;
         Ok(Tape { nodes })
@@ -98,7 +98,8 @@ impl<'a> Element<'a> {
     ghost use Rattle.deno_graph_json.specs.Tape.{IsArray, IsObject, IsString, HasCount, HasValueAt, HoldsPair};
     ghost use Rattle.deno_graph_json.specs.Tape.{IsValueAt, array_of_elements, left_of, object_of_members, place_of};
     ghost use Rattle.deno_graph_json.specs.Value.{is_null, as_bool, as_whole, as_pair, as_str, as_array};
-    ghost use Rattle.deno_graph_json.specs.Value.{as_object, item_count, BeginsValue};
+    ghost use Rattle.deno_graph_json.specs.Value.{as_object, item_count};
+    ghost use Rattle.deno_graph_json.specs.internal.Nodes.{BeginsValue};
     ghost use Rattle.deno_graph_json.specs.View.{value_of, items_left, members_of};
 
     /// Returns the index of the value's node in the tape: 0 for the value of the whole text.

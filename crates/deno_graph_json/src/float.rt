@@ -4,7 +4,7 @@ ghost use Rattle.std.specs.Prelude.{◌≡◌};
 ghost use Rattle.serde_json.specs.Data.{array, object};
 ghost use Rattle.serde_json.specs.View.{view, items_view, members_view};
 ghost use Rattle.serde_json.specs.Written.{has_float as holds_float, items_have_float as float_in_items, members_have_float as float_in_members};
-ghost use Rattle.deno_graph_json.specs.Read.Answer.{Answers};
+ghost use Rattle.deno_graph_json.specs.Read.Result.{IsReadResult};
 ghost use Rattle.deno_graph_json.specs.Read.Partial.{unless_float};
 
 use crate::error::ReadError;
@@ -53,7 +53,7 @@ fn members_have_float(members: &Map<String, Value>) -> bool
 /// is one, and `OutOfMemory` if an allocation fails.
 #[cycle(find_float)]
 pub fn find_float(alloc: Global, value: &Value) -> Result<(), ReadError>
-    ensures { Answers (view value.now) (unless_float (holds_float (view value.now))) result }
+    ensures { IsReadResult (view value.now) (unless_float (holds_float (view value.now))) result }
 {
     match value {
         Value::Number(number) if number.is_f64() => {
@@ -67,7 +67,7 @@ pub fn find_float(alloc: Global, value: &Value) -> Result<(), ReadError>
 
 #[cycle(find_float)]
 fn find_float_in_items(alloc: Global, items: &Vec<Value>) -> Result<(), ReadError>
-    ensures { Answers (array (items_view items.now.items))
+    ensures { IsReadResult (array (items_view items.now.items))
         (unless_float (float_in_items (items_view items.now.items))) result }
 {
     let mut number = 0usize;
@@ -82,7 +82,7 @@ fn find_float_in_items(alloc: Global, items: &Vec<Value>) -> Result<(), ReadErro
 
 #[cycle(find_float)]
 fn find_float_in_members(alloc: Global, members: &Map<String, Value>) -> Result<(), ReadError>
-    ensures { Answers (object (members_view members.now.entries))
+    ensures { IsReadResult (object (members_view members.now.entries))
         (unless_float (float_in_members (members_view members.now.entries))) result }
 {
     for (name, value) in members.iter() {

@@ -4,7 +4,8 @@ ghost use Rattle.std.specs.Prelude.{◌≡◌, ◌++◌, false, All, IfOk, IfSom
 ghost use Rattle.serde_json.specs.Data.{string};
 ghost use Rattle.serde_json.specs.View.{view};
 ghost use Rattle.deno_graph_base.specs.TextMap.{IsAscending};
-ghost use Rattle.deno_graph_json.specs.Ascending.{ascending-map, has_ascending_keys};
+ghost use Rattle.deno_graph_json.specs.Ascending.{has_ascending_keys};
+ghost use Rattle.deno_graph_json.specs.internal.MapEntries.{ascending-map};
 ghost use Rattle.deno_graph_json.specs.Object.{Entry, array_of, if_any, if_true, map_entries, object_of, unless, with_entries, with_present};
 ghost use Rattle.deno_graph_json.specs.Text.{text_tokens};
 

@@ -1,7 +1,7 @@
 ghost use Rattle.std.specs.Prelude.{◌≡◌};
 ghost use Rattle.serde_json.specs.Data.{string};
 ghost use Rattle.deno_graph_base.specs.ResolutionMode.{mode_named};
-ghost use Rattle.deno_graph_json.specs.Read.Answer.{Answers};
+ghost use Rattle.deno_graph_json.specs.Read.Result.{IsReadResult};
 ghost use Rattle.deno_graph_json.specs.Json.ResolutionMode.{json_of_mode, mode_name, reads_mode};
 
 use crate::read::read_str;
@@ -44,7 +44,7 @@ impl FromJson for TypeScriptTypesResolutionMode {
 
 /// Returns the mode with this name in JSON.
 fn mode_named(alloc: Global, name: &str) -> Result<TypeScriptTypesResolutionMode, ReadError>
-    ensures { Answers (string name.now) (mode_named name.now) result }
+    ensures { IsReadResult (string name.now) (mode_named name.now) result }
 {
     match TypeScriptTypesResolutionMode::from_str(name) {
         Some(mode) => Ok(mode),

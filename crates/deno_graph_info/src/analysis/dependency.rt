@@ -4,7 +4,7 @@ ghost use Rattle.serde_json.specs.Find.{get_member};
 ghost use Rattle.deno_graph_info.specs.Dependency.{static_of, dynamic_of, attributes_of};
 ghost use Rattle.deno_graph_info.specs.Json.Dependency.{json_of_dependency, reads_dependency, dependency_of_type, IsHeldDependency};
 ghost use Rattle.deno_graph_json.specs.ObjectReader.{readable, value_of};
-ghost use Rattle.deno_graph_json.specs.Read.Answer.{Answers};
+ghost use Rattle.deno_graph_json.specs.Read.Result.{IsReadResult};
 
 use crate::analysis::dynamic_dependency::{DynamicDependencyDescriptor, read_dynamic};
 use crate::analysis::import_attributes::ImportAttributes;
@@ -128,7 +128,7 @@ fn read_dependency(
     object: &ObjectReader,
 ) -> Result<DependencyDescriptor, ReadError>
     ensures { get_member (codes "type") (readable object.now) ≡ Some (string dependency_type.now)
-        → Answers (value_of object.now)
+        → IsReadResult (value_of object.now)
         (dependency_of_type dependency_type.now (readable object.now)) result }
 {
     match dependency_type {

@@ -5,7 +5,7 @@ ghost use Rattle.deno_graph_json.specs.Ascending.{has_ascending_keys};
 ghost use Rattle.deno_graph_info.specs.DynamicDependency.{is_expr};
 ghost use Rattle.deno_graph_info.specs.Json.DynamicArgument.{json_of_argument, json_of_part, reads_argument, reads_part, part_entries, part_of_type};
 ghost use Rattle.deno_graph_json.specs.ObjectReader.{readable, value_of};
-ghost use Rattle.deno_graph_json.specs.Read.Answer.{Answers};
+ghost use Rattle.deno_graph_json.specs.Read.Result.{IsReadResult};
 
 use deno_graph_base::values::{Items, Text, TryClone};
 use deno_graph_json::read::read_items;
@@ -168,7 +168,7 @@ impl FromJson for DynamicTemplatePart {
 #[tactic(auto, unfolding(crate::specs::Json::DynamicArgument::part_of_type))]
 fn read_part(part_type: &str, object: &ObjectReader) -> Result<DynamicTemplatePart, ReadError>
     ensures { get_member (codes "type") (readable object.now) ≡ Some (string part_type.now)
-        → Answers (value_of object.now) (part_of_type part_type.now (readable object.now)) result }
+        → IsReadResult (value_of object.now) (part_of_type part_type.now (readable object.now)) result }
 {
     match part_type {
         "string" => {

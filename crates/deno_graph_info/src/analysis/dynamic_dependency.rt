@@ -3,7 +3,7 @@ ghost use Rattle.serde_json.specs.Data.{string};
 ghost use Rattle.deno_graph_info.specs.DynamicDependency.{is_plain_import};
 ghost use Rattle.deno_graph_info.specs.Json.DynamicDependency.{dynamic_entries, dynamic_kind_name, dynamic_kind_named, json_of_dynamic, reads_dynamic, reads_dynamic_kind, IsHeldDynamic};
 ghost use Rattle.deno_graph_json.specs.ObjectReader.{readable, value_of};
-ghost use Rattle.deno_graph_json.specs.Read.Answer.{Answers};
+ghost use Rattle.deno_graph_json.specs.Read.Result.{IsReadResult};
 
 use crate::analysis::dynamic_argument::DynamicArgument;
 use crate::analysis::import_attributes::ImportAttributes;
@@ -99,7 +99,7 @@ const EXPECTED_KIND: Expected = Expected::OneOf(
 /// Returns the kind with this name in JSON.
 #[tactic(auto, unfolding(crate::specs::Json::DynamicDependency::dynamic_kind_named, crate::specs::Json::DynamicDependency::reads_dynamic_kind))]
 fn kind_named(alloc: Global, name: &str) -> Result<DynamicDependencyKind, ReadError>
-    ensures { Answers (string name.now) (dynamic_kind_named name.now) result }
+    ensures { IsReadResult (string name.now) (dynamic_kind_named name.now) result }
 {
     match name {
         "import" => Ok(DynamicDependencyKind::Import),
@@ -174,7 +174,7 @@ impl ToObject for DynamicDependencyDescriptor {
 /// Reads the members of a dynamic dependency.
 #[tactic(auto, using(deno_graph_json::proofs::Reading::reading), unfolding(crate::specs::Json::DynamicDependency::reads_dynamic))]
 pub(crate) fn read_dynamic(object: &ObjectReader) -> Result<DynamicDependencyDescriptor, ReadError>
-    ensures { Answers (value_of object.now) (reads_dynamic (readable object.now)) result }
+    ensures { IsReadResult (value_of object.now) (reads_dynamic (readable object.now)) result }
 {
     let kind = object.read_or("kind", DynamicDependencyKind::Import)?;
     let types_specifier = object.read_or("typesSpecifier", None)?;

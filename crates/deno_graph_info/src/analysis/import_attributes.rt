@@ -3,7 +3,7 @@ ghost use Rattle.serde_json.specs.Data.{string};
 ghost use Rattle.deno_graph_info.specs.ImportAttributes.{is_none, attribute_at, IsAssetType};
 ghost use Rattle.deno_graph_info.specs.Json.ImportAttributes.{json_of_attribute, json_of_attributes, reads_attribute, reads_attributes, attributes_named, known_attributes, AreHeldAttributes};
 ghost use Rattle.deno_graph_json.specs.ObjectReader.{readable, value_of};
-ghost use Rattle.deno_graph_json.specs.Read.Answer.{Answers};
+ghost use Rattle.deno_graph_json.specs.Read.Result.{IsReadResult};
 
 use deno_graph_base::values::{Text, TextMap, TryClone};
 use deno_graph_json::{
@@ -185,7 +185,7 @@ impl FromJson for ImportAttributes {
 /// Reads attributes that are written as a string: `none` or `unknown`.
 #[tactic(auto, unfolding(crate::specs::Json::ImportAttributes::attributes_named, crate::specs::Json::ImportAttributes::reads_attributes))]
 fn read_name(alloc: Global, name: &str) -> Result<ImportAttributes, ReadError>
-    ensures { Answers (string name.now) (attributes_named name.now) result }
+    ensures { IsReadResult (string name.now) (attributes_named name.now) result }
 {
     match name {
         "none" => Ok(ImportAttributes::None),
@@ -197,7 +197,7 @@ fn read_name(alloc: Global, name: &str) -> Result<ImportAttributes, ReadError>
 /// Reads the attributes of an object with the one member `known`.
 #[tactic(auto, unfolding(crate::specs::Json::ImportAttributes::known_attributes, crate::specs::Json::ImportAttributes::reads_attributes))]
 fn read_known(alloc: Global, object: &ObjectReader) -> Result<ImportAttributes, ReadError>
-    ensures { Answers (value_of object.now) (known_attributes (readable object.now)) result }
+    ensures { IsReadResult (value_of object.now) (known_attributes (readable object.now)) result }
 {
     if object.member_count() == 1 {
         let known = object.read("known")?;

@@ -4,7 +4,7 @@ ghost use Rattle.std.specs.Prelude.{◌≡◌, OnOk};
 ghost use Rattle.deno_graph_info.specs.Json.SpecifierWithRange.{IsHeldSpecifier};
 ghost use Rattle.deno_graph_json.specs.Object.{with_entries};
 ghost use Rattle.deno_graph_json.specs.ObjectReader.{readable, value_of};
-ghost use Rattle.deno_graph_json.specs.Read.Answer.{Answers};
+ghost use Rattle.deno_graph_json.specs.Read.Result.{IsReadResult};
 ghost use Rattle.deno_graph_info.specs.Json.SpecifierWithMode.{specifier_with_mode, specifier_with_mode_entries};
 
 use crate::analysis::specifier_with_range::{SpecifierWithRange, read_specifier};
@@ -32,7 +32,7 @@ pub(crate) fn put_specifier_with_mode<W: MemberWriter>(
 pub(crate) fn read_specifier_with_mode(
     object: &ObjectReader,
 ) -> Result<(SpecifierWithRange, Option<TypeScriptTypesResolutionMode>), ReadError>
-    ensures { Answers (value_of object.now) (specifier_with_mode (readable object.now)) result }
+    ensures { IsReadResult (value_of object.now) (specifier_with_mode (readable object.now)) result }
 {
     let specifier = read_specifier(object)?;
     let resolution_mode = object.read_or("resolutionMode", None)?;

@@ -1,7 +1,7 @@
 ghost use Rattle.std.specs.Prelude.{refl};
 ghost use Rattle.deno_graph_info.specs.Json.SpecifierWithRange.{json_of_specifier, reads_specifier, specifier_at, specifier_entries, specifier_of, IsHeldSpecifier};
 ghost use Rattle.deno_graph_json.specs.ObjectReader.{readable, value_of};
-ghost use Rattle.deno_graph_json.specs.Read.Answer.{Answers};
+ghost use Rattle.deno_graph_json.specs.Read.Result.{IsReadResult};
 
 use deno_graph_base::text::PositionRange;
 use deno_graph_base::values::{Text, TryClone};
@@ -69,7 +69,7 @@ impl FromJson for SpecifierWithRange {
 /// Reads the members of a specifier.
 #[tactic(auto, unfolding(crate::specs::Json::SpecifierWithRange::specifier_of))]
 pub fn read_specifier(object: &ObjectReader) -> Result<SpecifierWithRange, ReadError>
-    ensures { Answers (value_of object.now) (specifier_of (readable object.now)) result }
+    ensures { IsReadResult (value_of object.now) (specifier_of (readable object.now)) result }
 {
     read_specifier_at(object, "text", "range")
 }
@@ -81,7 +81,7 @@ pub(crate) fn read_specifier_at(
     text_key: &'static str,
     range_key: &'static str,
 ) -> Result<SpecifierWithRange, ReadError>
-    ensures { Answers (value_of object.now)
+    ensures { IsReadResult (value_of object.now)
         (specifier_at text_key.now range_key.now (readable object.now)) result }
 {
     let text = object.read(text_key)?;

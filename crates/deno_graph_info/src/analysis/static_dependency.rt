@@ -2,7 +2,7 @@ ghost use Rattle.std.specs.Prelude.{◌≡◌, refl};
 ghost use Rattle.serde_json.specs.Data.{string};
 ghost use Rattle.deno_graph_info.specs.Json.StaticDependency.{static_entries, static_kind_name, static_kind_named, json_of_static, reads_static, reads_static_kind, IsHeldStatic};
 ghost use Rattle.deno_graph_json.specs.ObjectReader.{readable, value_of};
-ghost use Rattle.deno_graph_json.specs.Read.Answer.{Answers};
+ghost use Rattle.deno_graph_json.specs.Read.Result.{IsReadResult};
 
 use crate::analysis::import_attributes::ImportAttributes;
 use crate::analysis::specifier_with_range::{SpecifierWithRange, read_specifier_at};
@@ -99,7 +99,7 @@ const EXPECTED_KIND: Expected = Expected::OneOf(
 /// Returns the kind with this name in JSON.
 #[tactic(auto, unfolding(crate::specs::Json::StaticDependency::static_kind_named, crate::specs::Json::StaticDependency::reads_static_kind))]
 fn kind_named(alloc: Global, name: &str) -> Result<StaticDependencyKind, ReadError>
-    ensures { Answers (string name.now) (static_kind_named name.now) result }
+    ensures { IsReadResult (string name.now) (static_kind_named name.now) result }
 {
     match name {
         "import" => Ok(StaticDependencyKind::Import),
@@ -183,7 +183,7 @@ impl ToObject for StaticDependencyDescriptor {
 /// Reads the members of a static dependency.
 #[tactic(auto, using(deno_graph_json::proofs::Reading::reading), unfolding(crate::specs::Json::StaticDependency::reads_static))]
 pub(crate) fn read_static(object: &ObjectReader) -> Result<StaticDependencyDescriptor, ReadError>
-    ensures { Answers (value_of object.now) (reads_static (readable object.now)) result }
+    ensures { IsReadResult (value_of object.now) (reads_static (readable object.now)) result }
 {
     let kind = object.read("kind")?;
     let types_specifier = object.read_or("typesSpecifier", None)?;

@@ -5,7 +5,7 @@ ghost use Rattle.serde_json.specs.Find.{as_array};
 ghost use Rattle.serde_json.specs.View.{view, items_view, members_view};
 ghost use Rattle.serde_json.specs.Written.{has_float as holds_float};
 ghost use Rattle.deno_graph_info.specs.Conversion.{AnyOverflows, AreConverted, DependencyOverflows, IsConverted, IsConvertedDependency, IsConvertFault, Overflows, comments_in, dependencies_in, with_types, without_value_at};
-ghost use Rattle.deno_graph_info.specs.ConvertFault.{IsColumnFault};
+ghost use Rattle.deno_graph_info.specs.internal.ConvertFault.{IsColumnFault};
 
 use crate::analysis::SpecifierWithRange;
 use crate::conversion::comment::Comment;
@@ -43,7 +43,7 @@ pub fn module_graph_1_to_2(alloc: Global, value: &mut Value) -> Result<(), Conve
 }
 
 /// Like `module_graph_1_to_2`, but takes the value and copies nothing.
-pub fn module_graph_1_into_2(alloc: Global, value: Value) -> Result<Value, ConvertFault>
+pub fn module_graph_1_to_2_owned(alloc: Global, value: Value) -> Result<Value, ConvertFault>
     ensures no_float { IfOk result (λ _. holds_float (view value) ≡ false) }
     ensures ok { IfOk result (λ after. IsConverted (view value) (view after)) }
     ensures err { IfErr result (IsConvertFault (view value)) }

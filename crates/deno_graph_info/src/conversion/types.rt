@@ -1,7 +1,7 @@
 //! The types that the comments of a dependency name.
 
 ghost use Rattle.std.specs.Prelude.{◌≡◌, ◌≤◌, ◌<◌, ◌^◌, ◌+◌, IfOk, IfErr};
-ghost use Rattle.deno_graph_info.specs.ConvertFault.{IsColumnFault};
+ghost use Rattle.deno_graph_info.specs.internal.ConvertFault.{IsColumnFault};
 ghost use Rattle.deno_graph_info.specs.Types.{AreTypes, HasNoColumn};
 
 use crate::analysis::SpecifierWithRange;

@@ -3,8 +3,9 @@ ghost use Rattle.std.specs.Prelude.{length, map, vec_len, IfOk, OnOk, OnErr, IsT
 ghost use Rattle.json.specs.Print.{IsNumber, IsPrintableOrBad};
 ghost use Rattle.json.specs.Reads.{token_of};
 ghost use Rattle.json.specs.Token.{begin_array, begin_object};
-ghost use Rattle.deno_graph_json.specs.Flat.{plain, number_node, number_fits, IsPut, NoneAhead};
-ghost use Rattle.deno_graph_json.specs.Flat.{IsFlatText, IsRefused};
+ghost use Rattle.deno_graph_json.specs.Flat.{plain, number_node, number_fits};
+ghost use Rattle.deno_graph_json.specs.internal.Parsing.{IsPut, NoneAhead};
+ghost use Rattle.deno_graph_json.specs.Flat.{IsFlatText, IsUnreadable};
 ghost use Rattle.deno_graph_json.specs.declared.flat.fault.TapeFault.TheVariants.{Json};
 
 use crate::Node;
@@ -24,7 +25,7 @@ pub fn read<'a>(
 ) -> Result<Vec<Node<'a>>, TapeFault>
     ensures some { IfOk result (λ nodes. 0 < vec_len nodes) }
     ensures flat { IfOk result (λ nodes. IsFlatText text.now nodes.items) }
-    ensures refused { (offset : ℕ) → result ≡ Err (Json offset) → IsRefused text.now }
+    ensures unreadable { (offset : ℕ) → result ≡ Err (Json offset) → IsUnreadable text.now }
 {
     let mut parser = Parser {
         reader: Reader::new(text, scratch)?,

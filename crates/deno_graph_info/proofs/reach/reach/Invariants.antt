@@ -3,7 +3,7 @@
 use Rattle.std.proofs.Common.{◌+◌, length}
 use Rattle.deno_graph_base.specs.TextMap.{entries_of}
 use Rattle.deno_graph_info.proofs.Reaching.{IsUnderway}
-use Rattle.deno_graph_info.specs.ReachSteps.{infos_of, unreached}
+use Rattle.deno_graph_info.specs.internal.ReachSteps.{infos_of, unreached}
 use Rattle.deno_graph_info.proofs.reach.reach.Given as goal
 
 abbrev pub invariant-search : goal.invariant-search

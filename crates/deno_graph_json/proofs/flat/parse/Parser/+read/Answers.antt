@@ -5,7 +5,8 @@ use Rattle.std.specs.Result.{OnOk}
 use Rattle.json.specs.Json.{null, boolean, string, array, object}
 use Rattle.json.specs.Token.{Token}
 use Rattle.json.specs.Reads.{token_of}
-use Rattle.deno_graph_json.specs.Flat.{PlainNode, plain, flat_list, IsAhead, IsPut, NoneAhead}
+use Rattle.deno_graph_json.specs.Flat.{PlainNode, plain, flat_list}
+use Rattle.deno_graph_json.specs.internal.Parsing.{IsAhead, IsPut, NoneAhead}
 use Rattle.deno_graph_json.specs.Flat as flat
 use Rattle.deno_graph_json.specs.declared.flat.Node.TheVariants as node
 use Rattle.deno_graph_json.specs.declared.flat.parse.Stop.TheVariants.{Json}
