@@ -6,5 +6,5 @@ pub mod fault;
 pub mod laws;
 mod types;
 
-pub use convert::{module_graph_1_to_2, module_graph_1_to_2_owned};
+pub use convert::{column_overflows, module_graph_1_to_2, module_graph_1_to_2_owned};
 pub use fault::ConvertFault;

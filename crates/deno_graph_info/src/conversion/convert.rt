@@ -14,6 +14,7 @@ use crate::conversion::types::types_named;
 use deno_graph_base::values::Items;
 use deno_graph_json::object_reader::find_member;
 use deno_graph_json::{ObjectReader, ReadError, ToJson, has_float};
+use deno_graph_pragmas::finders::laws::captures_are_unique;
 use serde_json::{Map, Value, put};
 use std::alloc::{AllocError, Global};
 
@@ -165,6 +166,24 @@ fn convert_dependency(alloc: Global, dependency: Value) -> Result<Value, Convert
             Ok(replace_comments(alloc, dependency, types)?)
         }
         None => Ok(dependency),
+    }
+}
+
+/// Returns whether the types that the comments of a dependency name would end beyond the largest
+/// column, so that a value with this dependency can't be converted. Copies only the comments. The only
+/// error is that an allocation fails.
+pub fn column_overflows(alloc: Global, dependency: &Value) -> Result<bool, AllocError>
+    ensures { IfOk result
+        (λ overflows. IsTrue overflows ↔ DependencyOverflows (view dependency.now)) }
+{
+    captures_are_unique();
+    let Some(comments) = read_comments(alloc, dependency)? else {
+        return Ok(false);
+    };
+    match types_named(alloc, &comments) {
+        Ok(_types) => Ok(false),
+        Err(ConvertFault::ColumnOverflow) => Ok(true),
+        Err(_fault) => Err(AllocError),
     }
 }
 

@@ -3,7 +3,7 @@
 use crate::answer::{named, valued};
 use crate::case_error::CaseError;
 use deno_graph_info::analysis::{
-    ConvertFault, InfoFault, ModuleInfo, module_graph_1_to_2_owned, module_graph_1_to_2,
+    ConvertFault, InfoFault, ModuleInfo, module_graph_1_to_2, module_graph_1_to_2_owned,
 };
 use deno_graph_info::reach::reach;
 use serde_json::{Map, Value};
