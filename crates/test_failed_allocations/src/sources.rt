@@ -1,6 +1,6 @@
-//! Small sources, and a parser that knows two of them under each specifier.
+//! Small sources, and a parser that knows two texts under each of two specifiers.
 
-use crate::fault::Fault;
+use crate::failure::Failure;
 use deno_graph_analysis::ast::{ParseOptions, module_info};
 use deno_graph_info::analysis::ModuleInfo;
 use deno_graph_source::text::SourceRange;
@@ -18,12 +18,12 @@ pub const U: &str = "file:///u.js";
 
 pub const V: &str = "file:///v.js";
 
-pub fn url(alloc: Global, specifier: &str) -> Result<Url, Fault> {
+pub fn url(alloc: Global, specifier: &str) -> Result<Url, Failure> {
     Ok(Url::parse(alloc, specifier)?)
 }
 
-/// The source of a text, which is an export.
-pub fn source(alloc: Global, specifier: &str, text: &str) -> Result<ParsedSource, Fault> {
+/// Returns the source of a text, whose program is one export.
+pub fn source(alloc: Global, specifier: &str, text: &str) -> Result<ParsedSource, Failure> {
     let specifier = url(alloc, specifier)?;
     let shared = RcStr::from_str(alloc, text)?;
     let range = SourceRange::new(0, text.len());
@@ -35,8 +35,8 @@ pub fn source(alloc: Global, specifier: &str, text: &str) -> Result<ParsedSource
     source_of(alloc, specifier, shared, program, Comments::new(alloc))
 }
 
-/// A source under `U` that is one comment of JSDoc: an import behind hundreds of braces.
-pub fn braces(alloc: Global) -> Result<ParsedSource, Fault> {
+/// Returns a source under `U` with one JSDoc comment: an import after hundreds of braces.
+pub fn braces(alloc: Global) -> Result<ParsedSource, Failure> {
     let text = text_of_braces(alloc)?;
     let source = format!(in alloc; "/*{text}*/")?;
     source_of_comment(alloc, source.as_str(), text.as_str())
@@ -51,8 +51,8 @@ fn text_of_braces(alloc: Global) -> Result<String, AllocError> {
     Ok(text)
 }
 
-/// The source that is one comment of this text.
-fn source_of_comment(alloc: Global, source: &str, text: &str) -> Result<ParsedSource, Fault> {
+/// Returns a source with one comment of this text.
+fn source_of_comment(alloc: Global, source: &str, text: &str) -> Result<ParsedSource, Failure> {
     let specifier = url(alloc, U)?;
     let shared = RcStr::from_str(alloc, source)?;
     let range = SourceRange::new(0, source.len());
@@ -82,24 +82,24 @@ fn source_of(
     text: RcStr,
     program: Program,
     comments: Comments,
-) -> Result<ParsedSource, Fault> {
+) -> Result<ParsedSource, Failure> {
     let media_type = MediaType::JavaScript;
     Ok(ParsedSource::new(alloc, specifier, text, media_type, program, comments, false)?)
 }
 
-/// The information on a source. Its contract is left behind here, since a caller's proof needs none.
+/// Returns the info of a source. Has no contract, since no proof of a caller needs one.
 pub fn info_of(alloc: Global, source: &ParsedSource) -> Result<ModuleInfo, AllocError> {
     module_info(alloc, source)
 }
 
-/// A parser of the texts `a` and `b`.
-pub fn table(alloc: Global) -> Result<TableParser, Fault> {
+/// Returns a parser of the texts `a` and `b`.
+pub fn table(alloc: Global) -> Result<TableParser, Failure> {
     let calls = Rc::new(alloc, Cell::new(0))?;
     parser(alloc, &calls)
 }
 
-/// A parser of the texts `a` and `b`, which counts its calls.
-pub fn parser(alloc: Global, calls: &Rc<Cell<u64>>) -> Result<TableParser, Fault> {
+/// Returns a parser of the texts `a` and `b`, which counts its calls.
+pub fn parser(alloc: Global, calls: &Rc<Cell<u64>>) -> Result<TableParser, Failure> {
     let mut sources = Vec::new(alloc);
     for (specifier, text) in &[(U, "a"), (U, "b"), (V, "a"), (V, "b")] {
         sources.push(source(alloc, specifier, text)?)?;

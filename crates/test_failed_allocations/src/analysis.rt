@@ -1,6 +1,6 @@
-//! The information on a text, which is asked for once the text is parsed and kept.
+//! `analyze_sync`, which parses a text, stores the source and then makes the info.
 
-use crate::fault::Fault;
+use crate::failure::Failure;
 use crate::outcome::{Outcome, check};
 use crate::sources::{U, braces, info_of, source};
 use deno_graph_analysis::ast::{
@@ -16,11 +16,11 @@ use std::cell::Cell;
 use std::rc::Rc;
 use url::Url;
 
-/// A store that counts the sources which were kept in it.
+/// A store that counts the sources that were stored.
 #[derive(Drop)]
 struct CountingStore {
     store: DefaultParsedSourceStore,
-    kept: Rc<Cell<u64>>,
+    stored: Rc<Cell<u64>>,
 }
 
 impl ParsedSourceStore for CountingStore {
@@ -34,7 +34,7 @@ impl ParsedSourceStore for CountingStore {
     ) -> Result<Option<ParsedSource>, AllocError> {
         let former = self.store.set_parsed_source(alloc, specifier, source);
         if former.is_ok() {
-            self.kept.set(self.kept.get().saturating_add(1));
+            self.stored.set(self.stored.get().saturating_add(1));
         }
         former
     }
@@ -67,37 +67,37 @@ impl ParsedSourceStore for CountingStore {
 
 type Analyzer = CapturingModuleAnalyzer<TableParser, CountingStore>;
 
-/// An analyzer that knows the second source and gets the first into its store; and both.
+/// An analyzer whose parser knows the second source, and two sources under one specifier.
 #[derive(Drop)]
 struct Tested {
     analyzer: Analyzer,
-    kept: Rc<Cell<u64>>,
+    stored: Rc<Cell<u64>>,
     first: ParsedSource,
     second: ParsedSource,
 }
 
 impl Tested {
-    fn new(alloc: Global) -> Result<Tested, Fault> {
-        let kept = Rc::new(alloc, Cell::new(0))?;
+    fn new(alloc: Global) -> Result<Tested, Failure> {
+        let stored = Rc::new(alloc, Cell::new(0))?;
         let first = source(alloc, U, "a")?;
         let second = braces(alloc)?;
         Ok(Tested {
-            analyzer: analyzer(alloc, &second, &kept)?,
-            kept,
+            analyzer: analyzer(alloc, &second, &stored)?,
+            stored,
             first,
             second,
         })
     }
 
-    fn keep_first(&mut self, alloc: Global) -> Result<(), Fault> {
+    fn store_first(&mut self, alloc: Global) -> Result<(), Failure> {
         let specifier = self.first.specifier().clone()?;
         let first = self.first.try_clone(alloc)?;
         drop(self.analyzer.set_parsed_source(alloc, specifier, first)?);
         Ok(())
     }
 
-    /// Asks for the information on the second source's text.
-    fn ask(&mut self, alloc: Global) -> Result<Result<ModuleInfo, AnalyzeError>, AllocError> {
+    /// Analyzes the text of the second source.
+    fn analyze(&mut self, alloc: Global) -> Result<Result<ModuleInfo, AnalyzeError>, AllocError> {
         let text = self.second.text().clone()?;
         let specifier = self.second.specifier();
         Ok(
@@ -106,12 +106,12 @@ impl Tested {
         )
     }
 
-    /// Whether the second source was parsed, and kept behind the first.
+    /// Whether the second source was parsed and stored, after the first.
     fn is_parsed(&self) -> bool {
-        self.kept.get() == 2
+        self.stored.get() == 2
     }
 
-    /// Whether the source is there that was kept last. Takes no memory.
+    /// Whether the store has the source that was stored last. Allocates nothing.
     fn has_last(&self, alloc: Global) -> Result<bool, AllocError> {
         let there = self
             .analyzer
@@ -125,50 +125,54 @@ impl Tested {
     }
 }
 
-/// An analyzer that knows one source.
-fn analyzer(alloc: Global, source: &ParsedSource, kept: &Rc<Cell<u64>>) -> Result<Analyzer, Fault> {
+/// Returns an analyzer whose parser knows one source.
+fn analyzer(
+    alloc: Global,
+    source: &ParsedSource,
+    stored: &Rc<Cell<u64>>,
+) -> Result<Analyzer, Failure> {
     let mut sources = Vec::new(alloc);
     sources.push(source.try_clone(alloc)?)?;
     let parser = TableParser::new(sources, Rc::new(alloc, Cell::new(0))?);
     let store = CountingStore {
         store: DefaultParsedSourceStore::new(alloc),
-        kept: kept.clone()?,
+        stored: stored.clone()?,
     };
     Ok(CapturingModuleAnalyzer::new(parser, store))
 }
 
-/// Where the information is refused, the source that was parsed for it stays. A refused parse, of
-/// which `stores::parse` is, has no outcome.
-pub fn analyze(alloc: Global) -> Result<Outcome, Fault> {
+/// If the info is out of memory, the parsed source stays in the store. If the parse is out of memory, this
+/// returns no outcome: `stores::parse` tests that.
+pub fn analyze(alloc: Global) -> Result<Outcome, Failure> {
     let mut tested = Tested::new(alloc)?;
     analyze_second(alloc, &mut tested)
 }
 
-fn analyze_second(alloc: Global, tested: &mut Tested) -> Result<Outcome, Fault> {
-    tested.keep_first(alloc)?;
+fn analyze_second(alloc: Global, tested: &mut Tested) -> Result<Outcome, Failure> {
+    tested.store_first(alloc)?;
     let expected = info_of(alloc, &tested.second)?;
-    ask_and_look(alloc, tested, &expected)
+    analyze_and_check(alloc, tested, &expected)
 }
 
-fn ask_and_look(
+fn analyze_and_check(
     alloc: Global,
     tested: &mut Tested,
     expected: &ModuleInfo,
-) -> Result<Outcome, Fault> {
-    let outcome = ask_for_second(alloc, tested, expected);
+) -> Result<Outcome, Failure> {
+    let outcome = analyze_tested(alloc, tested, expected);
     check(
         tested.has_last(alloc)?,
-        "the source isn't the one that was kept last",
+        "the source isn't the one that was stored last",
     )?;
     outcome
 }
 
-fn ask_for_second(
+fn analyze_tested(
     alloc: Global,
     tested: &mut Tested,
     expected: &ModuleInfo,
-) -> Result<Outcome, Fault> {
-    let found = tested.ask(alloc)?;
+) -> Result<Outcome, Failure> {
+    let found = tested.analyze(alloc)?;
     outcome(&found, expected, tested.is_parsed())
 }
 
@@ -176,13 +180,13 @@ fn outcome(
     found: &Result<ModuleInfo, AnalyzeError>,
     expected: &ModuleInfo,
     is_parsed: bool,
-) -> Result<Outcome, Fault> {
+) -> Result<Outcome, Failure> {
     match found {
         Ok(info) => {
-            Outcome::Answered.provided(is_parsed && info == expected, "the information is another")
+            Outcome::Returned.provided(is_parsed && info == expected, "the info is another")
         }
-        Err(AnalyzeError::OutOfMemory) if is_parsed => Ok(Outcome::Refused),
-        Err(AnalyzeError::OutOfMemory) => Err(Fault::OutOfMemory),
-        Err(AnalyzeError::Parse(_)) => Err(Fault::State("a text is not parsed")),
+        Err(AnalyzeError::OutOfMemory) if is_parsed => Ok(Outcome::OutOfMemory),
+        Err(AnalyzeError::OutOfMemory) => Err(Failure::OutOfMemory),
+        Err(AnalyzeError::Parse(_)) => Err(Failure::Unexpected("a text is not parsed")),
     }
 }

@@ -1,6 +1,6 @@
-//! Stores, and the parser that keeps its answers in one.
+//! `set_parsed_source`, and `parse_program` of a parser over a store.
 
-use crate::fault::Fault;
+use crate::failure::Failure;
 use crate::outcome::Outcome;
 use crate::sources::{U, V, options, source, table, url};
 use deno_graph_analysis::ast::{
@@ -11,8 +11,7 @@ use example_table_parser::TableParser;
 use std::alloc::{AllocError, Global};
 use url::Url;
 
-/// A store, which gets the source of `a` under `U` and has nothing under `V`; that source, and the one
-/// that comes second; and a parser.
+/// A parser and a store. The store has the first source, that of `a`, under `U`, and no source under `V`.
 #[derive(Drop)]
 struct Tested {
     v: Url,
@@ -23,8 +22,8 @@ struct Tested {
 }
 
 impl Tested {
-    /// The second source is that of `b`, under this specifier.
-    fn new(alloc: Global, specifier: &str) -> Result<Tested, Fault> {
+    /// The second source is that of `b`, under `specifier`.
+    fn new(alloc: Global, specifier: &str) -> Result<Tested, Failure> {
         Ok(Tested {
             v: url(alloc, V)?,
             first: source(alloc, U, "a")?,
@@ -34,35 +33,35 @@ impl Tested {
         })
     }
 
-    fn keep_first(&mut self, alloc: Global) -> Result<(), Fault> {
+    fn store_first(&mut self, alloc: Global) -> Result<(), Failure> {
         drop(self.set(alloc, U, "a")??);
         Ok(())
     }
 
-    /// What the store answers when it is handed the source of this text.
+    /// Stores the source of a text.
     fn set(
         &mut self,
         alloc: Global,
         specifier: &str,
         text: &str,
-    ) -> Result<Result<Option<ParsedSource>, AllocError>, Fault> {
+    ) -> Result<Result<Option<ParsedSource>, AllocError>, Failure> {
         let key = url(alloc, specifier)?;
         let source = source(alloc, specifier, text)?;
         Ok(self.store.set_parsed_source(alloc, key, source))
     }
 
-    /// Parses `b` under `U` by a parser that keeps its answer in the store.
+    /// Parses `b` under `U` by a `CapturingEsParser` over the store.
     fn parse(
         &mut self,
         alloc: Global,
         scope_analysis: bool,
     ) -> Result<Result<ParsedSource, ParseError>, AllocError> {
-        let asked = options(alloc, self.first.specifier(), "b", scope_analysis)?;
+        let options = options(alloc, self.first.specifier(), "b", scope_analysis)?;
         let mut parser = CapturingEsParser::new(&mut self.table, &mut self.store);
-        Ok(parser.parse_program(alloc, asked))
+        Ok(parser.parse_program(alloc, options))
     }
 
-    /// Whether the store has these sources under `U` and `V`. Takes no memory.
+    /// Whether the store has these sources under `U` and `V`. Allocates nothing.
     fn holds(
         &self,
         alloc: Global,
@@ -85,9 +84,9 @@ impl Tested {
         Ok(found.as_ref() == source)
     }
 
-    /// The second source, where it was kept in the place of the first, and else the first.
-    fn kept(&self, outcome: Outcome) -> &ParsedSource {
-        if outcome == Outcome::Answered {
+    /// Returns the source that has to be under `U` after a call with this outcome.
+    fn stored(&self, outcome: Outcome) -> &ParsedSource {
+        if outcome == Outcome::Returned {
             &self.second
         } else {
             &self.first
@@ -95,82 +94,82 @@ impl Tested {
     }
 }
 
-/// How `set_parsed_source` ended, which answers the source from before.
+/// Checks the result of `set_parsed_source`, which returns the source that was there before.
 fn outcome_of_set(
     set: Result<Option<ParsedSource>, AllocError>,
     before: Option<&ParsedSource>,
-) -> Result<Outcome, Fault> {
+) -> Result<Outcome, Failure> {
     match set {
         Ok(former) => {
-            Outcome::Answered.provided(former.as_ref() == before, "another source was there")
+            Outcome::Returned.provided(former.as_ref() == before, "another source was there")
         }
-        Err(_) => Ok(Outcome::Refused),
+        Err(_) => Ok(Outcome::OutOfMemory),
     }
 }
 
-/// A second source is there beside the first, or the first alone.
-pub fn set_another(alloc: Global) -> Result<Outcome, Fault> {
+/// Stores the second source under `V`. If that fails, only the first source is there.
+pub fn set_another(alloc: Global) -> Result<Outcome, Failure> {
     let mut tested = Tested::new(alloc, V)?;
     set_beside(alloc, &mut tested)
 }
 
-fn set_beside(alloc: Global, tested: &mut Tested) -> Result<Outcome, Fault> {
-    tested.keep_first(alloc)?;
+fn set_beside(alloc: Global, tested: &mut Tested) -> Result<Outcome, Failure> {
+    tested.store_first(alloc)?;
     let outcome = outcome_of_set(tested.set(alloc, V, "b")?, None)?;
-    let kept = (outcome == Outcome::Answered).then_some(&tested.second);
+    let stored = (outcome == Outcome::Returned).then_some(&tested.second);
     outcome.provided(
-        tested.holds(alloc, &tested.first, kept)?,
+        tested.holds(alloc, &tested.first, stored)?,
         "the first source is another, or the second",
     )
 }
 
-/// A source is replaced by another, or still there.
-pub fn set_again(alloc: Global) -> Result<Outcome, Fault> {
+/// Stores the second source under `U`. If that fails, the first source is still there.
+pub fn set_again(alloc: Global) -> Result<Outcome, Failure> {
     let mut tested = Tested::new(alloc, U)?;
     set_in_place(alloc, &mut tested)
 }
 
-fn set_in_place(alloc: Global, tested: &mut Tested) -> Result<Outcome, Fault> {
-    tested.keep_first(alloc)?;
+fn set_in_place(alloc: Global, tested: &mut Tested) -> Result<Outcome, Failure> {
+    tested.store_first(alloc)?;
     let set = tested.set(alloc, U, "b")?;
     let outcome = outcome_of_set(set, Some(&tested.first))?;
     outcome.provided(
-        tested.holds(alloc, tested.kept(outcome), None)?,
+        tested.holds(alloc, tested.stored(outcome), None)?,
         "the source was lost, or another is there",
     )
 }
 
-/// How a parse of `b` ended, which answers this source.
+/// Checks the result of a parse of `b`.
 fn outcome_of_parse(
     answer: Result<ParsedSource, ParseError>,
     expected: &ParsedSource,
-) -> Result<Outcome, Fault> {
+) -> Result<Outcome, Failure> {
     match answer {
         Ok(answer) => {
-            Outcome::Answered.provided(answer == *expected, "the parser's answer is another")
+            Outcome::Returned.provided(answer == *expected, "the parser's result is another")
         }
-        Err(ParseError::OutOfMemory) => Ok(Outcome::Refused),
-        Err(ParseError::Diagnostic(_)) => Err(Fault::State("a text is not parsed")),
+        Err(ParseError::OutOfMemory) => Ok(Outcome::OutOfMemory),
+        Err(ParseError::Diagnostic(_)) => Err(Failure::Unexpected("a text is not parsed")),
     }
 }
 
-/// The parser's answer is there, or the source from before.
-pub fn parse(alloc: Global) -> Result<Outcome, Fault> {
+/// Parses `b` over the store. If that fails, the first source is still there.
+pub fn parse(alloc: Global) -> Result<Outcome, Failure> {
     let mut tested = Tested::new(alloc, U)?;
     parse_second(alloc, &mut tested)
 }
 
-fn parse_second(alloc: Global, tested: &mut Tested) -> Result<Outcome, Fault> {
-    tested.keep_first(alloc)?;
+fn parse_second(alloc: Global, tested: &mut Tested) -> Result<Outcome, Failure> {
+    tested.store_first(alloc)?;
     let outcome = outcome_of_parse(tested.parse(alloc, false)?, &tested.second)?;
     outcome.provided(
-        tested.holds(alloc, tested.kept(outcome), None)?,
+        tested.holds(alloc, tested.stored(outcome), None)?,
         "the source was lost",
     )
 }
 
-/// The same with the option of scopes: the source from before may have its mark set then.
-pub fn parse_with_scopes(alloc: Global) -> Result<Outcome, Fault> {
+/// Like `parse`, with the scope option: after a failure the first source may have its mark set.
+pub fn parse_with_scopes(alloc: Global) -> Result<Outcome, Failure> {
     let marked_first = source(alloc, U, "a")?.into_with_scope_analysis();
     let marked_second = source(alloc, U, "b")?.into_with_scope_analysis();
     parse_beside(alloc, &marked_first, &marked_second)
@@ -180,7 +179,7 @@ fn parse_beside(
     alloc: Global,
     marked_first: &ParsedSource,
     marked_second: &ParsedSource,
-) -> Result<Outcome, Fault> {
+) -> Result<Outcome, Failure> {
     let mut tested = Tested::new(alloc, U)?;
     parse_marked(alloc, &mut tested, marked_first, marked_second)
 }
@@ -190,13 +189,13 @@ fn parse_marked(
     tested: &mut Tested,
     marked_first: &ParsedSource,
     marked_second: &ParsedSource,
-) -> Result<Outcome, Fault> {
-    tested.keep_first(alloc)?;
+) -> Result<Outcome, Failure> {
+    tested.store_first(alloc)?;
     let outcome = outcome_of_parse(tested.parse(alloc, true)?, marked_second)?;
-    let is_kept = if outcome == Outcome::Answered {
+    let is_stored = if outcome == Outcome::Returned {
         tested.holds(alloc, marked_second, None)?
     } else {
         tested.holds(alloc, &tested.first, None)? || tested.holds(alloc, marked_first, None)?
     };
-    outcome.provided(is_kept, "the source was lost")
+    outcome.provided(is_stored, "the source was lost")
 }

@@ -1,6 +1,6 @@
-//! Steps of a walk.
+//! `Walk::step`.
 
-use crate::fault::Fault;
+use crate::failure::Failure;
 use crate::outcome::{Outcome, check};
 use deno_graph_analysis::dep::Walk;
 use deno_graph_source::text::{JsString, SourceRange};
@@ -10,26 +10,26 @@ use std::alloc::{AllocError, Global};
 
 const NOWHERE: SourceRange = SourceRange { start: 0, end: 0 };
 
-/// So many nodes of the deep tree are no dependencies.
+/// The number of nodes of the deep tree that are no dependencies.
 const DEPTH: usize = 2000;
 
-/// Its nodes that are dependencies, and two steps past them.
+/// The steps through the deep tree: its dependencies, and two steps after the last one.
 const STEPS: usize = 5;
 
 const WIDTH: usize = 500_000;
 
-/// What a step gives, and how many nodes are entered then.
-type Given<'a> = (Option<&'a Node>, u64);
+/// The node that a step returns, and the number of entered nodes after the step.
+type Returned<'a> = (Option<&'a Node>, u64);
 
-/// A refused step keeps the nodes still to come, although it passed others that are no dependencies:
-/// each step after it gives what it would have given.
-pub fn through_a_deep_tree(alloc: Global) -> Result<Outcome, Fault> {
+/// A failed step skips no dependency, although it passed other nodes: the steps after it return the same
+/// nodes as without the failure.
+pub fn through_a_deep_tree(alloc: Global) -> Result<Outcome, Failure> {
     let program = program(deep(alloc)?);
     step_through(alloc, &program)
 }
 
-fn step_through(alloc: Global, program: &Program) -> Result<Outcome, Fault> {
-    let expected = all_given(alloc, &mut Walk::new(alloc, program))?;
+fn step_through(alloc: Global, program: &Program) -> Result<Outcome, Failure> {
+    let expected = all_returned(alloc, &mut Walk::new(alloc, program))?;
     check(
         expected.iter().filter(|(node, _)| node.is_some()).count() == 3,
         "a dependency is missing",
@@ -37,18 +37,18 @@ fn step_through(alloc: Global, program: &Program) -> Result<Outcome, Fault> {
     take_steps(&mut Walk::new(alloc, program), &expected)
 }
 
-fn take_steps<'a>(walk: &mut Walk<'a>, expected: &[Given<'a>]) -> Result<Outcome, Fault> {
-    let mut outcome = Outcome::Answered;
+fn take_steps<'a>(walk: &mut Walk<'a>, expected: &[Returned<'a>]) -> Result<Outcome, Failure> {
+    let mut outcome = Outcome::Returned;
     let mut entered_before = 0;
     for (node, entered) in expected {
-        let given = match walk.step() {
-            Ok(given) => given,
+        let returned = match walk.step() {
+            Ok(returned) => returned,
             Err(_) => {
-                outcome = Outcome::Refused;
+                outcome = Outcome::OutOfMemory;
                 step_again(walk, entered_before, *entered)?
             }
         };
-        check(given == *node, "a step gives another node")?;
+        check(returned == *node, "a step returns another node")?;
         check(
             walk.entered() == *entered,
             "another number of nodes is entered",
@@ -58,15 +58,19 @@ fn take_steps<'a>(walk: &mut Walk<'a>, expected: &[Given<'a>]) -> Result<Outcome
     Ok(outcome)
 }
 
-/// The step after a refused one, which entered at most what it doesn't give.
-fn step_again<'a>(walk: &mut Walk<'a>, before: u64, after: u64) -> Result<Option<&'a Node>, Fault> {
+/// Takes a step after a failed step. The failed step entered at most the nodes up to the next dependency.
+fn step_again<'a>(
+    walk: &mut Walk<'a>,
+    before: u64,
+    after: u64,
+) -> Result<Option<&'a Node>, Failure> {
     let is_between = before <= walk.entered() && walk.entered() <= after;
-    check(is_between, "a refused step entered what it doesn't give")?;
+    check(is_between, "a failed step entered too many nodes")?;
     Ok(walk.step()?)
 }
 
-/// The first step enters one node, however many there are, and each after it one more, up to the end.
-pub fn through_a_wide_tree(alloc: Global) -> Result<Outcome, Fault> {
+/// Each step enters one node, the first step too, although the tree is wide.
+pub fn through_a_wide_tree(alloc: Global) -> Result<Outcome, Failure> {
     let program = program(wide(alloc)?);
     let mut walk = Walk::new(alloc, &program);
     let outcome = step_into(&mut walk, program.body.first())?;
@@ -74,14 +78,14 @@ pub fn through_a_wide_tree(alloc: Global) -> Result<Outcome, Fault> {
     Ok(outcome)
 }
 
-fn step_into(walk: &mut Walk<'_>, first: Option<&Node>) -> Result<Outcome, Fault> {
-    let (given, outcome) = match walk.step() {
-        Ok(given) => (given, Outcome::Answered),
-        Err(_) => (walk.step()?, Outcome::Refused),
+fn step_into(walk: &mut Walk<'_>, first: Option<&Node>) -> Result<Outcome, Failure> {
+    let (returned, outcome) = match walk.step() {
+        Ok(returned) => (returned, Outcome::Returned),
+        Err(_) => (walk.step()?, Outcome::OutOfMemory),
     };
     check(
-        given.is_some() && given == first,
-        "the first step gives another node",
+        returned.is_some() && returned == first,
+        "the first step returns another node",
     )?;
     outcome.provided(
         walk.entered() == 1,
@@ -89,10 +93,10 @@ fn step_into(walk: &mut Walk<'_>, first: Option<&Node>) -> Result<Outcome, Fault
     )
 }
 
-/// Takes all steps after the first.
-fn step_to_the_end(walk: &mut Walk<'_>) -> Result<(), Fault> {
+/// Takes all steps after the first step.
+fn step_to_the_end(walk: &mut Walk<'_>) -> Result<(), Failure> {
     for count in 2..=WIDTH {
-        check(walk.step()?.is_some(), "a step gives no node")?;
+        check(walk.step()?.is_some(), "a step returns no node")?;
         check(
             walk.entered() == count as u64,
             "a step enters another number of nodes",
@@ -100,11 +104,11 @@ fn step_to_the_end(walk: &mut Walk<'_>) -> Result<(), Fault> {
     }
     check(
         walk.step()?.is_none() && walk.entered() == WIDTH as u64,
-        "the step at the end gives or enters a node",
+        "the step at the end returns or enters a node",
     )
 }
 
-fn all_given<'a>(alloc: Global, walk: &mut Walk<'a>) -> Result<Vec<Given<'a>>, AllocError> {
+fn all_returned<'a>(alloc: Global, walk: &mut Walk<'a>) -> Result<Vec<Returned<'a>>, AllocError> {
     let mut all = Vec::with_capacity(alloc, STEPS)?;
     for _ in 0..STEPS {
         let node = walk.step()?;
@@ -121,7 +125,8 @@ fn program(body: Items<Node>) -> Program {
     }
 }
 
-/// An import type inside another, under many nodes that are no dependencies; and a third beside these.
+/// Returns an import type inside another, under many nodes that are no dependencies, and a third import type
+/// beside those nodes.
 fn deep(alloc: Global) -> Result<Items<Node>, AllocError> {
     let node = under_many(alloc, import_types(alloc)?)?;
     let mut body = Items::from_item(alloc, node)?;
@@ -129,13 +134,13 @@ fn deep(alloc: Global) -> Result<Items<Node>, AllocError> {
     Ok(body)
 }
 
-/// An import type inside another.
+/// Returns an import type inside another.
 fn import_types(alloc: Global) -> Result<Node, AllocError> {
     let inner = import_type(alloc, "b", Items::new(alloc))?;
     import_type(alloc, "a", Items::from_item(alloc, inner)?)
 }
 
-/// The node under many that are no dependencies.
+/// Puts a node under many nodes that are no dependencies.
 fn under_many(alloc: Global, mut node: Node) -> Result<Node, AllocError> {
     for _ in 0..DEPTH {
         node = under_one(alloc, node)?;
@@ -148,7 +153,7 @@ fn under_one(alloc: Global, node: Node) -> Result<Node, AllocError> {
     Ok(Node::with_children(NOWHERE, Kind::Other, children))
 }
 
-/// Import types of an empty text.
+/// Returns many import types of an empty text.
 fn wide(alloc: Global) -> Result<Items<Node>, AllocError> {
     let mut body = Items::with_capacity(alloc, WIDTH)?;
     for _ in 0..WIDTH {

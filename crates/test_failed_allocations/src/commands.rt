@@ -1,6 +1,6 @@
 //! Runs of commands.
 
-use crate::fault::Fault;
+use crate::failure::Failure;
 use crate::outcome::{Outcome, check};
 use crate::sources::{U, V, options, parser, source, url};
 use deno_graph_analysis::ast::{
@@ -14,10 +14,10 @@ use std::cell::Cell;
 use std::rc::{Rc, RcStr};
 use url::Url;
 
-/// How often the parser was called, and the texts under `U` and `V`.
+/// The number of calls of the parser, and the texts of the sources under `U` and `V`.
 type State = (u64, Option<&'static str>, Option<&'static str>);
 
-/// What a command does.
+/// The kind of a command.
 #[derive(Clone, Copy)]
 enum Action {
     Analyze,
@@ -33,11 +33,11 @@ const PARSE_WITH_SCOPES: Action = Action::Parse {
     scope_analysis: true,
 };
 
-/// What is done to which specifier, with which text. A removal reads none.
+/// The data of a command: kind, specifier and text. `Remove` has no text.
 type Planned = (Action, &'static str, &'static str);
 
-/// A source that was kept before the run and one of the caller's own are answered, a diagnostic keeps
-/// nothing, and then each specifier has another source.
+/// The first two commands find a stored source, the third returns a diagnostic and stores nothing, and the
+/// others change the source of each specifier.
 const COMMANDS: [Planned; 7] = [
     (Action::Analyze, V, "b"),
     (Action::Analyze, U, "c"),
@@ -48,7 +48,7 @@ const COMMANDS: [Planned; 7] = [
     (Action::Remove, U, ""),
 ];
 
-/// The states after each command, and after the parts of one that may come alone.
+/// The states after each command, and those in the middle of a command.
 const STATES: [State; 10] = [
     START,
     (1, Some("c"), None),
@@ -66,7 +66,7 @@ const START: State = (0, Some("c"), None);
 
 const END: State = (4, None, Some("b"));
 
-/// An analyzer, and what its state is read by.
+/// An analyzer, and what is needed to read its state.
 #[derive(Drop)]
 struct Tested {
     analyzer: CapturingModuleAnalyzer<TableParser, DefaultParsedSourceStore>,
@@ -76,7 +76,7 @@ struct Tested {
 }
 
 impl Tested {
-    fn new(alloc: Global) -> Result<Tested, Fault> {
+    fn new(alloc: Global) -> Result<Tested, Failure> {
         let calls = Rc::new(alloc, Cell::new(0))?;
         let u = url(alloc, U)?;
         let v = url(alloc, V)?;
@@ -90,31 +90,31 @@ impl Tested {
         })
     }
 
-    /// Keeps a source under `U` that isn't the parser's: that refuses its text.
-    fn keep_another(&mut self, alloc: Global) -> Result<(), Fault> {
+    /// Stores a source under `U` whose text the parser doesn't know.
+    fn store_another(&mut self, alloc: Global) -> Result<(), Failure> {
         let specifier = self.u.clone()?;
         let source = source(alloc, U, "c")?;
         drop(self.analyzer.set_parsed_source(alloc, specifier, source)?);
         Ok(())
     }
 
-    /// Parses `b` under `V` by the analyzer's capturing parser, and then runs the commands.
-    fn carry_out(&mut self, alloc: Global, commands: &[Command]) -> Result<Vec<Answer>, Fault> {
-        let asked = options(alloc, &self.v, "b", false)?;
+    /// Parses `b` under `V` by the capturing parser of the analyzer, and then runs the commands.
+    fn carry_out(&mut self, alloc: Global, commands: &[Command]) -> Result<Vec<Answer>, Failure> {
+        let options = options(alloc, &self.v, "b", false)?;
         drop(
             self.analyzer
                 .as_capturing_parser()
-                .parse_program(alloc, asked)?,
+                .parse_program(alloc, options)?,
         );
         Ok(self.run(alloc, commands)?)
     }
 
-    /// Runs the commands. The contract is left behind here, since a caller's proof needs none.
+    /// Runs the commands. Has no contract, since no proof of a caller needs one.
     fn run(&mut self, alloc: Global, commands: &[Command]) -> Result<Vec<Answer>, AllocError> {
         run(alloc, &mut self.analyzer, commands)
     }
 
-    /// Whether this is one of the states. Takes no memory.
+    /// Whether the analyzer is in one of the states. Allocates nothing.
     fn is_in(&self, alloc: Global, states: &[State]) -> Result<bool, AllocError> {
         for (calls, first, second) in states {
             if self.calls.get() == *calls
@@ -127,7 +127,7 @@ impl Tested {
         Ok(false)
     }
 
-    /// Whether the source under a specifier has this text, or there is none.
+    /// Whether the source under a specifier has this text, or there is no source if `text` is `None`.
     fn has_text(
         &self,
         alloc: Global,
@@ -143,8 +143,8 @@ impl Tested {
     }
 }
 
-/// What the commands answer an analyzer whose memory isn't refused.
-fn expected_answers(alloc: Global, commands: &[Command]) -> Result<Vec<Answer>, Fault> {
+/// Returns the answers of a run in which no allocation fails.
+fn expected_answers(alloc: Global, commands: &[Command]) -> Result<Vec<Answer>, Failure> {
     let mut fresh = Tested::new(alloc)?;
     carry_out_all(alloc, &mut fresh, commands)
 }
@@ -153,50 +153,53 @@ fn carry_out_all(
     alloc: Global,
     fresh: &mut Tested,
     commands: &[Command],
-) -> Result<Vec<Answer>, Fault> {
-    fresh.keep_another(alloc)?;
+) -> Result<Vec<Answer>, Failure> {
+    fresh.store_another(alloc)?;
     let answers = fresh.carry_out(alloc, commands)?;
     check(fresh.is_in(alloc, &[END])?, "a command didn't run")?;
     Ok(answers)
 }
 
-/// How a run of commands ended, which has these answers. It left a state that a command leaves.
+/// Runs the commands. Checks the answers, and that the state is one after some part of the commands.
 fn run_once(
     alloc: Global,
     tested: &mut Tested,
     commands: &[Command],
     expected: &[Answer],
-) -> Result<Outcome, Fault> {
+) -> Result<Outcome, Failure> {
     let outcome = outcome_of(tested.carry_out(alloc, commands), expected)?;
     outcome.provided(
         tested.is_in(alloc, &STATES)?,
-        "a state is left that none leaves",
+        "the state is not after a part of the commands",
     )
 }
 
-fn outcome_of(answers: Result<Vec<Answer>, Fault>, expected: &[Answer]) -> Result<Outcome, Fault> {
+fn outcome_of(
+    answers: Result<Vec<Answer>, Failure>,
+    expected: &[Answer],
+) -> Result<Outcome, Failure> {
     match answers {
         Ok(answers) => {
-            Outcome::Answered.provided(answers.as_slice() == expected, "the answers are others")
+            Outcome::Returned.provided(answers.as_slice() == expected, "the answers differ")
         }
-        Err(Fault::OutOfMemory) => Ok(Outcome::Refused),
-        Err(fault) => Err(fault),
+        Err(Failure::OutOfMemory) => Ok(Outcome::OutOfMemory),
+        Err(failure) => Err(failure),
     }
 }
 
-/// The commands before the refused one have run in full, that one as far as it came and none after
-/// it, and a second run answers as if there had been none before it.
-pub fn run_all(alloc: Global) -> Result<Outcome, Fault> {
+/// The commands before the failed command have run, the failed command in part, and none after it. A second
+/// run returns the same answers as the first run of a new analyzer.
+pub fn run_all(alloc: Global) -> Result<Outcome, Failure> {
     let commands = commands(alloc, &COMMANDS)?;
     run_each(alloc, &commands)
 }
 
-fn run_each(alloc: Global, commands: &[Command]) -> Result<Outcome, Fault> {
+fn run_each(alloc: Global, commands: &[Command]) -> Result<Outcome, Failure> {
     let expected = expected_answers(alloc, commands)?;
-    run_anew(alloc, commands, &expected)
+    run_first(alloc, commands, &expected)
 }
 
-fn run_anew(alloc: Global, commands: &[Command], expected: &[Answer]) -> Result<Outcome, Fault> {
+fn run_first(alloc: Global, commands: &[Command], expected: &[Answer]) -> Result<Outcome, Failure> {
     let mut tested = Tested::new(alloc)?;
     run_twice(alloc, &mut tested, commands, expected)
 }
@@ -206,34 +209,37 @@ fn run_twice(
     tested: &mut Tested,
     commands: &[Command],
     expected: &[Answer],
-) -> Result<Outcome, Fault> {
-    tested.keep_another(alloc)?;
+) -> Result<Outcome, Failure> {
+    tested.store_another(alloc)?;
     let outcome = run_once(alloc, tested, commands, expected)?;
-    tested.keep_another(alloc)?;
+    tested.store_another(alloc)?;
     let again = tested.carry_out(alloc, commands)?;
     outcome.provided(
         again.as_slice() == expected,
-        "the answers after it are others",
+        "the answers of the second run differ",
     )
 }
 
-/// A run that takes no memory but the room for its answer: where that is refused, no command ran.
-pub fn run_without_room(alloc: Global) -> Result<Outcome, Fault> {
+/// A run that allocates only the capacity for its answer: if that fails, no command has run.
+pub fn run_without_room(alloc: Global) -> Result<Outcome, Failure> {
     let commands = commands(alloc, &[(Action::Remove, U, "")])?;
     let mut tested = Tested::new(alloc)?;
     run_one(alloc, &mut tested, &commands)
 }
 
-fn run_one(alloc: Global, tested: &mut Tested, commands: &[Command]) -> Result<Outcome, Fault> {
-    tested.keep_another(alloc)?;
+fn run_one(alloc: Global, tested: &mut Tested, commands: &[Command]) -> Result<Outcome, Failure> {
+    tested.store_another(alloc)?;
     let (outcome, state) = match tested.run(alloc, commands) {
-        Ok(_) => (Outcome::Answered, (0, None, None)),
-        Err(_) => (Outcome::Refused, START),
+        Ok(_) => (Outcome::Returned, (0, None, None)),
+        Err(_) => (Outcome::OutOfMemory, START),
     };
-    outcome.provided(tested.is_in(alloc, &[state])?, "a command ran without room")
+    outcome.provided(
+        tested.is_in(alloc, &[state])?,
+        "a command ran without capacity",
+    )
 }
 
-fn commands(alloc: Global, planned: &[Planned]) -> Result<Vec<Command>, Fault> {
+fn commands(alloc: Global, planned: &[Planned]) -> Result<Vec<Command>, Failure> {
     let mut commands = Vec::new(alloc);
     for (action, specifier, text) in planned {
         commands.push(command(alloc, *action, specifier, text)?)?;
@@ -241,7 +247,7 @@ fn commands(alloc: Global, planned: &[Planned]) -> Result<Vec<Command>, Fault> {
     Ok(commands)
 }
 
-fn command(alloc: Global, action: Action, specifier: &str, text: &str) -> Result<Command, Fault> {
+fn command(alloc: Global, action: Action, specifier: &str, text: &str) -> Result<Command, Failure> {
     let specifier = url(alloc, specifier)?;
     let source = RcStr::from_str(alloc, text)?;
     let media_type = MediaType::JavaScript;

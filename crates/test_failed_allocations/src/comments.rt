@@ -1,14 +1,14 @@
-//! Comments, filed by hand.
+//! `Comments::add_leading` and `add_trailing`.
 
-use crate::fault::Fault;
+use crate::failure::Failure;
 use crate::outcome::{Outcome, check};
 use deno_graph_source::text::SourceRange;
 use deno_graph_source::tree::{CommentKind, CommentSide, Comments, DependencyComment};
 use deno_graph_source::values::{Text, TryClone};
 use std::alloc::{AllocError, Global};
 
-/// Where one comment after another is filed: at new positions before, behind and between the others,
-/// and again and again at one.
+/// The side and offset at which each comment is filed: at new offsets before, after and between the
+/// others, and several times at one offset.
 const FILINGS: [(CommentSide, usize); 16] = [
     (CommentSide::Leading, 8),
     (CommentSide::Leading, 8),
@@ -28,20 +28,20 @@ const FILINGS: [(CommentSide, usize); 16] = [
     (CommentSide::Leading, 8),
 ];
 
-/// Positions up to one behind the last of them.
-const POSITIONS: usize = 18;
+/// The number of offsets that are looked up: up to one after the last offset.
+const OFFSETS: usize = 18;
 
-/// A refused filing leaves every look-up as it was, and is answered when it is tried again.
-pub fn file_all(alloc: Global) -> Result<Outcome, Fault> {
+/// A failed call changes no look-up, and returns when it is tried again.
+pub fn file_all(alloc: Global) -> Result<Outcome, Failure> {
     let mut comments = Comments::new(alloc);
     file_each(alloc, &mut comments)
 }
 
-fn file_each(alloc: Global, comments: &mut Comments) -> Result<Outcome, Fault> {
-    let mut outcome = Outcome::Answered;
+fn file_each(alloc: Global, comments: &mut Comments) -> Result<Outcome, Failure> {
+    let mut outcome = Outcome::Returned;
     for (side, pos) in &FILINGS {
-        if file_one(alloc, comments, *side, *pos)? == Outcome::Refused {
-            outcome = Outcome::Refused;
+        if file_one(alloc, comments, *side, *pos)? == Outcome::OutOfMemory {
+            outcome = Outcome::OutOfMemory;
         }
     }
     outcome.provided(
@@ -55,7 +55,7 @@ fn file_one(
     comments: &mut Comments,
     side: CommentSide,
     pos: usize,
-) -> Result<Outcome, Fault> {
+) -> Result<Outcome, Failure> {
     let before = comments.try_clone(alloc)?;
     file_over(alloc, comments, &before, side, pos)
 }
@@ -66,39 +66,39 @@ fn file_over(
     before: &Comments,
     side: CommentSide,
     pos: usize,
-) -> Result<Outcome, Fault> {
-    file_behind(alloc, comments, before, side, pos)?.provided(
+) -> Result<Outcome, Failure> {
+    file_after(alloc, comments, before, side, pos)?.provided(
         is_filed(comments, before, side, pos),
         "a comment isn't where it was filed",
     )
 }
 
-/// Files a comment behind those from before, again where that was refused.
-fn file_behind(
+/// Files a comment after those of `before`, and tries again if the first call fails.
+fn file_after(
     alloc: Global,
     comments: &mut Comments,
     before: &Comments,
     side: CommentSide,
     pos: usize,
-) -> Result<Outcome, Fault> {
+) -> Result<Outcome, Failure> {
     let comment = comment(alloc, pos)?;
     if file(comments, side, pos, comment).is_ok() {
-        return Ok(Outcome::Answered);
+        return Ok(Outcome::Returned);
     }
     check_unchanged(alloc, comments, before)?;
     file(comments, side, pos, self::comment(alloc, pos)?)?;
-    Ok(Outcome::Refused)
+    Ok(Outcome::OutOfMemory)
 }
 
-fn check_unchanged(alloc: Global, comments: &Comments, before: &Comments) -> Result<(), Fault> {
-    check(comments == before, "a refused filing changed the comments")?;
+fn check_unchanged(alloc: Global, comments: &Comments, before: &Comments) -> Result<(), Failure> {
+    check(comments == before, "a failed call changed the comments")?;
     check(
         look_ups_agree(comments, before),
-        "a refused filing changed a look-up",
+        "a failed call changed a look-up",
     )?;
     check(
         count(alloc, comments)? == count(alloc, before)?,
-        "a comment more or less",
+        "the number of comments changed",
     )
 }
 
@@ -130,13 +130,13 @@ fn count(alloc: Global, comments: &Comments) -> Result<usize, AllocError> {
 }
 
 fn look_ups_agree(comments: &Comments, before: &Comments) -> bool {
-    (0..POSITIONS).all(|pos| {
+    (0..OFFSETS).all(|pos| {
         comments.get_leading(pos) == before.get_leading(pos)
             && comments.get_trailing(pos) == before.get_trailing(pos)
     })
 }
 
-/// Whether there is one comment more than before where one was filed.
+/// Whether there are more comments than before at the offset, after the comments of `before`.
 fn is_filed(comments: &Comments, before: &Comments, side: CommentSide, pos: usize) -> bool {
     let (now, then) = match side {
         CommentSide::Leading => (comments.get_leading(pos), before.get_leading(pos)),

@@ -1,54 +1,54 @@
-//! Copies of values that hold memory.
+//! `try_clone` of values that own memory.
 
-use crate::fault::Fault;
+use crate::failure::Failure;
 use crate::outcome::Outcome;
 use crate::without_memory::made::Made;
 use deno_graph_source::values::TryClone;
 use std::alloc::{AllocError, Global};
 
-/// Each value is as it was, and each copy that there is equals it.
-pub fn copy_all(alloc: Global) -> Result<Outcome, Fault> {
+/// No value changes, and each copy is equal to its value.
+pub fn copy_all(alloc: Global) -> Result<Outcome, Failure> {
     let made = Made::new(alloc)?;
     copy_made(alloc, &made)
 }
 
-fn copy_made(alloc: Global, made: &Made) -> Result<Outcome, Fault> {
+fn copy_made(alloc: Global, made: &Made) -> Result<Outcome, Failure> {
     let twin = Made::new(alloc)?;
     copy_parts(alloc, made, &twin)
 }
 
-/// Apart from what owns the values, so that no `?` here drops them.
-fn copy_parts(alloc: Global, made: &Made, twin: &Made) -> Result<Outcome, Fault> {
+/// Takes the values by reference, so that no `?` drops them.
+fn copy_parts(alloc: Global, made: &Made, twin: &Made) -> Result<Outcome, Failure> {
     let outcomes = [
         copy(alloc, made.source.program(), twin.source.program())?,
         copy(alloc, made.source.comments(), twin.source.comments())?,
         copy(alloc, &made.info, &twin.info)?,
         copy(alloc, &made.strings.surrogate, &twin.strings.surrogate)?,
     ];
-    if outcomes.contains(&Outcome::Refused) {
-        Ok(Outcome::Refused)
+    if outcomes.contains(&Outcome::OutOfMemory) {
+        Ok(Outcome::OutOfMemory)
     } else {
-        Ok(Outcome::Answered)
+        Ok(Outcome::Returned)
     }
 }
 
-/// Copies a value, which has an equal twin.
+/// Copies a value, and compares the copy and the value with an equal value, `twin`.
 fn copy<T: TryClone + PartialEq + Drop>(
     alloc: Global,
     value: &T,
     twin: &T,
-) -> Result<Outcome, Fault> {
+) -> Result<Outcome, Failure> {
     let copied = value.try_clone(alloc);
     let outcome = outcome_of(copied, twin)?;
-    outcome.provided(value == twin, "a copied value is another")
+    outcome.provided(value == twin, "the value changed")
 }
 
 fn outcome_of<T: PartialEq + Drop>(
     copied: Result<T, AllocError>,
     twin: &T,
-) -> Result<Outcome, Fault> {
+) -> Result<Outcome, Failure> {
     match copied {
-        Ok(copy) => Outcome::Answered.provided(copy == *twin, "a copy is another value"),
-        Err(_) => Ok(Outcome::Refused),
+        Ok(copy) => Outcome::Returned.provided(copy == *twin, "the copy differs from the value"),
+        Err(_) => Ok(Outcome::OutOfMemory),
     }
 }

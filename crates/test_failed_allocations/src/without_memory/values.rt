@@ -1,6 +1,6 @@
-//! Positions, strings, look-ups, parts of values, and what is made of nothing.
+//! Positions, strings, look-ups, accessors and constructors.
 
-use crate::fault::Fault;
+use crate::failure::Failure;
 use crate::outcome::{check, check_each};
 use crate::without_memory::made::{Made, Strings, TEXT};
 use deno_graph_analysis::ast::{
@@ -17,16 +17,16 @@ use deno_graph_source::values::TryClone;
 use example_table_parser::TableParser;
 use std::alloc::Global;
 
-/// The boundaries of the text of one line, and their positions.
+/// The boundaries of a text of one line: offset, line and character.
 const BOUNDARIES: [(usize, usize, usize); 3] = [(0, 0, 0), (2, 0, 1), (3, 1, 0)];
 
-/// Positions that no boundary of that text has.
+/// Positions outside the text of one line.
 const NOWHERE: [(usize, usize); 2] = [(0, 2), (usize::MAX, usize::MAX)];
 
-/// Where the specifier of the import is.
+/// The range of the specifier of the import.
 const SPECIFIER: SourceRange = SourceRange { start: 16, end: 19 };
 
-pub fn look_up(alloc: Global, made: &Made) -> Result<(), Fault> {
+pub fn look_up(alloc: Global, made: &Made) -> Result<(), Failure> {
     find_boundaries(&made.line)?;
     let source = &made.source;
     check_each(&[
@@ -60,7 +60,7 @@ fn has_comments(alloc: Global, comments: &Comments) -> bool {
     Comments::new(alloc) != *comments
 }
 
-fn find_boundaries(line: &SourceTextInfo) -> Result<(), Fault> {
+fn find_boundaries(line: &SourceTextInfo) -> Result<(), Failure> {
     for (pos, line_number, character) in &BOUNDARIES {
         let position = Position::new(*line_number, *character);
         check(is_boundary(line, *pos, position), "a boundary's position")?;
@@ -69,13 +69,13 @@ fn find_boundaries(line: &SourceTextInfo) -> Result<(), Fault> {
         let position = Position::new(*line_number, *character);
         check(
             position.as_source_pos(line).is_none(),
-            "a position off the text",
+            "a position outside the text",
         )?;
     }
     Ok(())
 }
 
-/// Whether this is a boundary, and each of offset and position is found by the other.
+/// Whether the offset is a boundary, and the offset and the position are converted into each other.
 fn is_boundary(line: &SourceTextInfo, pos: usize, position: Position) -> bool {
     line.text().is_char_boundary(pos)
         && Position::from_source_pos(pos, line) == position
@@ -146,7 +146,7 @@ fn dependency_is_found(found: Option<&DependencyDescriptor>) -> bool {
         && DynamicArgument::default().is_expr()
 }
 
-/// Whether a static and a dynamic dependency that borrow are wrapped as what they are.
+/// Whether `From` wraps a static and a dynamic dependency that borrow.
 fn are_borrowed_wrapped() -> bool {
     let import = dep::DependencyDescriptor::from(dep::StaticDependencyDescriptor {
         kind: StaticDependencyKind::Import,
@@ -170,8 +170,8 @@ fn are_borrowed_wrapped() -> bool {
             if found.kind == DynamicDependencyKind::Require)
 }
 
-/// The calls that take their value over, and those that make one of nothing.
-pub fn take_apart(alloc: Global, made: Made) -> Result<(), Fault> {
+/// The calls that take their value, and the constructors.
+pub fn take_apart(alloc: Global, made: Made) -> Result<(), Failure> {
     let Made {
         source,
         info,
@@ -190,7 +190,7 @@ pub fn take_apart(alloc: Global, made: Made) -> Result<(), Fault> {
     ])
 }
 
-/// Whether the last dependency, taken out and wrapped again, is static.
+/// Whether `From` wraps the last dependency, taken out of the info, as static.
 fn is_static_wrapped(info: ModuleInfo) -> bool {
     let Some(DependencyDescriptor::Static(import)) = info.dependencies.into_vec().pop() else {
         return false;

@@ -1,6 +1,6 @@
-//! The conversion of a module's stored information.
+//! `module_graph_1_to_2`.
 
-use crate::fault::Fault;
+use crate::failure::Failure;
 use crate::outcome::Outcome;
 use deno_graph_info::analysis::{ConvertFault, module_graph_1_to_2};
 use serde_json::Value;
@@ -12,8 +12,8 @@ const STORED: &str =
 const CONVERTED: &str =
     r#"{"dependencies":[{"specifier":"./a.js","typesSpecifier":{"range":[[0,15],[0,25]],"text":"./a.d.ts"}},{"specifier":"./b.js"},{"specifier":"./c.js","typesSpecifier":{"range":[[2,18],[2,28]],"text":"./c.d.ts"}}]}"#;
 
-/// The value is converted, or unchanged.
-pub fn convert(alloc: Global) -> Result<Outcome, Fault> {
+/// A failed conversion leaves the value unchanged.
+pub fn convert(alloc: Global) -> Result<Outcome, Failure> {
     let stored = Value::from_str(alloc, STORED)?;
     let converted = Value::from_str(alloc, CONVERTED)?;
     let mut value = stored.clone()?;
@@ -25,12 +25,15 @@ fn convert_copy(
     value: &mut Value,
     stored: &Value,
     converted: &Value,
-) -> Result<Outcome, Fault> {
+) -> Result<Outcome, Failure> {
     match module_graph_1_to_2(alloc, value) {
-        Ok(()) => Outcome::Answered.provided(*value == *converted, "the value isn't converted"),
+        Ok(()) => Outcome::Returned.provided(*value == *converted, "the value isn't converted"),
         Err(ConvertFault::OutOfMemory) => {
-            Outcome::Refused.provided(*value == *stored, "a refused conversion changed the value")
+            Outcome::OutOfMemory.provided(
+                *value == *stored,
+                "a failed conversion changed the value",
+            )
         }
-        Err(_) => Err(Fault::State("the value isn't read")),
+        Err(_) => Err(Failure::Unexpected("the value isn't read")),
     }
 }

@@ -1,4 +1,4 @@
-use crate::fault::Fault;
+use crate::failure::Failure;
 use crate::sources::{U, info_of, table, url};
 use deno_graph_info::analysis::ModuleInfo;
 use deno_graph_source::text::{JsString, SourceRange, SourceTextInfo};
@@ -13,13 +13,13 @@ use std::rc::RcStr;
 
 pub const TEXT: &str = "/* é */ import \"a\";";
 
-/// What the calls are made on, made while there is memory.
+/// The values that the calls are made on. They are made before allocations fail.
 #[derive(Drop)]
 pub struct Made {
-    /// A comment and an import.
+    /// The source of `TEXT`: a comment and an import.
     pub source: ParsedSource,
     pub info: ModuleInfo,
-    /// A text of two characters, a line feed the second.
+    /// A text of two characters. The second is a line feed.
     pub line: SourceTextInfo,
     pub strings: Strings,
     pub parser: TableParser,
@@ -37,7 +37,7 @@ pub struct Strings {
 }
 
 impl Made {
-    pub fn new(alloc: Global) -> Result<Made, Fault> {
+    pub fn new(alloc: Global) -> Result<Made, Failure> {
         let line = SourceTextInfo::new(alloc, RcStr::from_str(alloc, "é\n")?)?;
         let strings = strings_of_units(alloc)?;
         let parser = table(alloc)?;
@@ -60,7 +60,7 @@ fn strings_of_units(alloc: Global) -> Result<Strings, AllocError> {
     })
 }
 
-fn source(alloc: Global) -> Result<ParsedSource, Fault> {
+fn source(alloc: Global) -> Result<ParsedSource, Failure> {
     Ok(ParsedSource::new(
         alloc,
         url(alloc, U)?,

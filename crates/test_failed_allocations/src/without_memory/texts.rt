@@ -1,6 +1,6 @@
-//! Calls on texts: the finders, the parsers of JSDoc imports, the names of modes.
+//! The finders, the parsers of JSDoc imports, and the names of modes.
 
-use crate::fault::Fault;
+use crate::failure::Failure;
 use crate::outcome::{check, check_each};
 use deno_graph_analysis::jsdoc::{
     JsDocImport, NoParse, parse_jsdoc_dynamic_import, parse_jsdoc_import_decl,
@@ -13,7 +13,7 @@ use deno_graph_info::analysis::{
 };
 use deno_graph_source::tree::{MediaType, ResolutionMode};
 
-/// The finders that give a `Match`.
+/// The finders that return a `Match`.
 #[derive(Clone, Copy)]
 enum Finder {
     Path,
@@ -26,7 +26,7 @@ enum Finder {
     TsTypes,
 }
 
-/// A text that was found, its first byte, and the byte after it.
+/// A match: its text, its start and its end, in bytes.
 type Found = (&'static str, usize, usize);
 
 const MATCHES: [(Finder, &str, Option<Found>); 14] = [
@@ -82,14 +82,14 @@ const MATCHES: [(Finder, &str, Option<Found>); 14] = [
     (Finder::TsTypes, "@t\u{17f}-types='a\"", Some(("a", 12, 13))),
 ];
 
-/// What `find_deno_types` finds, and whether that is without quotes.
+/// Texts, the match of `find_deno_types`, and whether it is without quotes.
 const DENO_TYPES: [(&str, Found, bool); 3] = [
     (" @deno-types=\"./a.d.ts\"", ("./a.d.ts", 14, 22), false),
     ("@deno-types=\"a b", ("\"a", 12, 14), true),
     ("@deno-types=\"\"", ("\"\"", 12, 14), true),
 ];
 
-/// The import that a text begins with: its specifier, its mode, and the rest of the text.
+/// The import at the start of a text: its specifier, its mode, and the rest of the text.
 type Import = (Found, Option<TypeScriptTypesResolutionMode>, &'static str);
 
 const DECLARATIONS: [(&str, Option<Import>); 4] = [
@@ -130,7 +130,7 @@ const DYNAMIC_IMPORTS: [(&str, Option<Import>); 5] = [
     ("{ imported: import('./a') }", None),
 ];
 
-pub fn read() -> Result<(), Fault> {
+pub fn read() -> Result<(), Failure> {
     find_matches()?;
     find_types_of_deno()?;
     parse_imports()?;
@@ -140,7 +140,7 @@ pub fn read() -> Result<(), Fault> {
     ])
 }
 
-fn find_matches() -> Result<(), Fault> {
+fn find_matches() -> Result<(), Failure> {
     for (finder, text, expected) in &MATCHES {
         check(is_match(find(*finder, *text), *expected), *text)?;
     }
@@ -170,7 +170,7 @@ fn is_match(found: Option<Match<'_>>, expected: Option<Found>) -> bool {
     }
 }
 
-fn find_types_of_deno() -> Result<(), Fault> {
+fn find_types_of_deno() -> Result<(), Failure> {
     for (text, (specifier, start, end), is_quoteless) in &DENO_TYPES {
         let is_found = find_deno_types(text).is_some_and(|found| found.text == *specifier
             && found.range == (*start..*end)
@@ -180,7 +180,7 @@ fn find_types_of_deno() -> Result<(), Fault> {
     Ok(())
 }
 
-fn parse_imports() -> Result<(), Fault> {
+fn parse_imports() -> Result<(), Failure> {
     for (text, expected) in &DECLARATIONS {
         check(is_import(parse_jsdoc_import_decl(text), *expected), *text)?;
     }

@@ -1,11 +1,11 @@
-//! Calls that change something, and what is there after memory was refused to them.
+//! Tests the state after a call that is out of memory.
 //!
-//!     test_after_refusal           each call, once
-//!     test_after_refusal NAME      one of them
+//!     test_failed_allocations           each call, once
+//!     test_failed_allocations NAME      one call
 //!
-//! `tools/refuse_memory` runs each call again and again, with each of its requests for memory refused
-//! in turn. A line says whether the call answered or was refused; what it changes was looked at then.
-//! Status 1 where that isn't what it has to be, and 3 where memory was refused outside the call.
+//! `tools/refuse_memory` runs each call with each of its allocations failing in turn. Prints one line per
+//! call: whether the call returned or was out of memory. Status 0 if the state after the call is right,
+//! 1 if it is wrong, and 3 if an allocation failed outside the call.
 #![tactic(auto)]
 
 mod analysis;
@@ -13,14 +13,14 @@ mod commands;
 mod comments;
 mod conversion;
 mod copies;
-mod fault;
+mod failure;
 mod outcome;
 mod sources;
 mod steps;
 mod stores;
 mod without_memory;
 
-use crate::fault::Fault;
+use crate::failure::Failure;
 use crate::outcome::Outcome;
 use std::alloc::Global;
 use std::env;
@@ -45,15 +45,15 @@ const NAMES: [&str; 13] = [
 fn main(rt: HostRuntime) -> ExitCode {
     match print_all(&rt) {
         Ok(()) => ExitCode::SUCCESS,
-        Err(Fault::OutOfMemory) => ExitCode::from(3),
-        Err(fault) => {
-            let _ = eprintln!(rt; "test_after_refusal: {fault}");
+        Err(Failure::OutOfMemory) => ExitCode::from(3),
+        Err(failure) => {
+            let _ = eprintln!(rt; "test_failed_allocations: {failure}");
             ExitCode::FAILURE
         }
     }
 }
 
-fn print_all(rt: &HostRuntime) -> Result<(), Fault> {
+fn print_all(rt: &HostRuntime) -> Result<(), Failure> {
     let mut names = env::args(rt)?.skip(1);
     if let Some(name) = names.next() {
         return print_outcome(rt, name.as_str());
@@ -64,13 +64,13 @@ fn print_all(rt: &HostRuntime) -> Result<(), Fault> {
     Ok(())
 }
 
-fn print_outcome<R: AllocGlobal + Print>(rt: &R, name: &str) -> Result<(), Fault> {
+fn print_outcome<R: AllocGlobal + Print>(rt: &R, name: &str) -> Result<(), Failure> {
     let outcome = outcome_of(rt.alloc(), name)?;
     println!(rt; "{name}: {}", outcome.as_str())?;
     Ok(())
 }
 
-fn outcome_of(alloc: Global, name: &str) -> Result<Outcome, Fault> {
+fn outcome_of(alloc: Global, name: &str) -> Result<Outcome, Failure> {
     match name {
         "conversion" => conversion::convert(alloc),
         "set_another" => stores::set_another(alloc),
@@ -85,6 +85,6 @@ fn outcome_of(alloc: Global, name: &str) -> Result<Outcome, Fault> {
         "steps_through_a_deep_tree" => steps::through_a_deep_tree(alloc),
         "steps_through_a_wide_tree" => steps::through_a_wide_tree(alloc),
         "calls_without_memory" => without_memory::call_all(alloc),
-        _ => Err(Fault::State("no call has this name")),
+        _ => Err(Failure::Unexpected("no call has this name")),
     }
 }
