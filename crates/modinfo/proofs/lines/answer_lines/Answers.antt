@@ -40,7 +40,7 @@ lines-init g c = (
   Appends-nil _,
 )
 
--- a write failed, before the next line was read
+-- A write failed, before the next line was read.
 pub returns-in_err-hand_on : goal.returns-in_err-hand_on
 returns-in_err-hand_on g c =
     let (done, sent, taken, prints, appended) = c.lines.invariant in
@@ -51,7 +51,7 @@ returns-in_err-hand_on g c =
     (TakesLines-same _ _ _ done c.in_ok-input.ensures taken) prints
     (AppendsFront-more _ _ _ sent c.lines.waiting.items appended front))
 
--- the next line couldn't be read or printed
+-- The next line couldn't be read or printed.
 pub returns-in_err-passes : goal.returns-in_err-passes
 returns-in_err-passes g c =
     let (done, sent, taken, prints, appended) = c.lines.invariant in
@@ -65,7 +65,7 @@ returns-in_err-passes g c =
     split)
     (AppendsFront-sent _ _ (sent ++ written) left (Appends-trans _ _ _ sent written appended wrote)))
 
--- a write failed after the last line
+-- A write failed after the last line.
 pub returns-in_err-hand_on-in-None : goal.returns-in_err-hand_on-in-None
 returns-in_err-hand_on-in-None g c =
     let (done, sent, taken, prints, appended) = c.lines.invariant in
@@ -81,7 +81,7 @@ returns-in_err-hand_on-in-None g c =
     (split ∙ ap (λ l. written ++ l) (sym same)))
     (AppendsFront-more _ _ _ (sent ++ written) new (Appends-trans _ _ _ sent written appended wrote) front))
 
--- all lines were read, and all that is printed was written
+-- All lines were read, and all printed lines were written.
 pub returns-in-None : goal.returns-in-None
 returns-in-None g c =
     let (done, sent, taken, prints, appended) = c.lines.invariant in
@@ -101,7 +101,7 @@ returns-in-None g c =
           (Appends-trans _ _ _ sent written appended wrote) wrote'),
     )
 
--- a line more was read, and what is printed for it waits
+-- One more line was read, and the printed line is waiting.
 pub lines-preserved : goal.lines-preserved
 lines-preserved g c =
     let (done, sent, taken, prints, appended) = c.lines.invariant in

@@ -1,4 +1,4 @@
--- The lines that were read, and what is printed for them, which was written or waits.
+-- The lines that were read, and the printed lines for them, which were written or are waiting.
 use Rattle.std.proofs.Common.{◌++◌, ℕ, List}
 use Rattle.std.specs.Io.Buffered.{reader_remaining}
 use Rattle.std.specs.Io.KnownBytes.{Appends}

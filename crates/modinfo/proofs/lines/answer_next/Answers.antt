@@ -18,7 +18,7 @@ returns-in_ok-print_refused-in-Skipped g c =
       put,
     )
 
--- the line is whole in the buffer
+-- The line is whole in the buffer.
 pub returns-in-Some : goal.returns-in-Some
 returns-in-Some g c =
     let (printed, one, put) = c.in_ok-passes.ensures in

@@ -4,14 +4,14 @@ use Rattle.modinfo.specs.declared.invocation.Invocation.TheVariants.{Help, Versi
 use Rattle.modinfo.specs.declared.task.Task.{Task}
 use Rattle.modinfo.proofs.program.answer.Goals as goal
 
--- what is done with the one document, or `other`
+-- The task for the only document, or `other`.
 abbrev document_task : Task → Invocation → Task
 document_task other (Document task) = task
 document_task other Help = other
 document_task other Version = other
 document_task other (Lines _) = other
 
--- the task that was matched is the subcommand's
+-- The matched task is that of the subcommand.
 pub returns-in-Document-clause-answer : goal.returns-in-Document-clause-answer
 returns-in-Document-clause-answer g c subcommand is =
     c.answer_document.ensures.answer subcommand
@@ -22,7 +22,7 @@ returns-in-Document-clause-check g c subcommand is_strict is =
     c.answer_document.ensures.check subcommand is_strict
     (ap (document_task c.in-Document.task) (sym c.in-Document.is ∙ is))
 
--- the task of the lines, or `other`
+-- The task for the lines, or `other`.
 abbrev lines_task : Task → Invocation → Task
 lines_task other (Lines task) = task
 lines_task other (Document _) = other

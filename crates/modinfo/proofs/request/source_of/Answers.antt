@@ -15,14 +15,14 @@ no_module text notation.Specifier has = (notation.Specifier, refl, has)
 no_module text (notation.Source fault) has = (notation.Source fault, refl, has)
 no_module text notation.OutOfMemory has = tt
 
--- the document that was read is no source
+-- The document has no source.
 pub returns-in_err-into_source : goal.returns-in_err-into_source
 returns-in_err-into_source c text is_document =
     let is = err_from_is_err_and c.from_residual.result c.from_residual.ensures.1 in
     rw (is.1, is.2) (no_module text c.in_err-into_source.field-0.0
     (inr (c.args.document, is_document, c.in_err-into_source.ensures)))
 
--- the document that was read is the source's
+-- The document has this source.
 pub returns : goal.returns
 returns c text is_document = record {
   document = c.args.document;
