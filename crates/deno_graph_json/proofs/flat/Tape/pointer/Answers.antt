@@ -2,7 +2,7 @@ use Rattle.std.proofs.Common.{◌++◌, ◌∷◌, [], arith, sym, ap, ◌∙◌
 use Rattle.std.specs.Prelude.{flat_map}
 use Rattle.std.specs.String.{string_bytes}
 use Rattle.deno_graph_json.specs.Pointer.{part_text, part_of_token}
-use Rattle.deno_graph_json.proofs.pointer.Tape.pointer.Goals as goal
+use Rattle.deno_graph_json.proofs.flat.Tape.pointer.Goals as goal
 
 pub loop-step-init : goal.loop-step-init
 loop-step-init c = (

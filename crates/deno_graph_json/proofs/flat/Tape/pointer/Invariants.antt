@@ -3,7 +3,7 @@ use Rattle.std.specs.Prelude.{flat_map}
 use Rattle.std.specs.String.{string_bytes}
 use Rattle.deno_graph_json.specs.Pointer.{IsPath, Part, part_text}
 use Rattle.deno_graph_json.specs.Tape.{size_of}
-use Rattle.deno_graph_json.proofs.pointer.Tape.pointer.Given as goal
+use Rattle.deno_graph_json.proofs.flat.Tape.pointer.Given as goal
 
 abbrev pub invariant-loop-step : goal.invariant-loop-step
 invariant-loop-step l = (l.fn.number ≡ 0 → string_bytes l.pointer ≡ [])
