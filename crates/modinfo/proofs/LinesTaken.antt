@@ -350,7 +350,8 @@ IsDocumentFault-out_of_memory Reach line = tt
 
 pub PrintsLine-out_of_memory : (task : Task) (line : List ℕ)
     → PrintsLine task line (passes_without task) (fault_line OutOfMemory)
-PrintsLine-out_of_memory (Answer subcommand) line = faulted OutOfMemory (IsDocumentFault-out_of_memory subcommand line)
+PrintsLine-out_of_memory (Answer subcommand) line =
+    faulted OutOfMemory (IsDocumentFault-out_of_memory subcommand line)
 PrintsLine-out_of_memory (Check subcommand is_strict) line = out_of_memory
 
 -- A text of which a part was written.

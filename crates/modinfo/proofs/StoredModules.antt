@@ -97,7 +97,8 @@ all_modules (member key d ms) = one_more key d ms (one_module d) (all_modules ms
 
 -- ---- The document
 
--- The modules and the root that are read at once are those of the document; if none are read, there is a fault.
+-- The modules and the root that are read at once are those of the document. If none are read, there is a
+-- fault.
 abbrev pub Outcome : Data → Type 0
 Outcome value = ((found : List (List ℕ × StoredInfo) × List ℕ) × (reads_modules value ≡ Some found) ×
     AsksSome value)

@@ -29,8 +29,8 @@ pub record IsPut (text before after : List ℕ) : Type 0 where
   pub fits : length text ≤ length before
   pub is : after ≡ text ++ drop (length text) before
 
--- With the wanted status the text was written to the buffer. With status 2 the text is longer than the buffer,
--- which is unchanged. In both cases `needed` is the length of the text.
+-- With the wanted status the text was written to the buffer. With status 2 the text is longer than the
+-- buffer, which is unchanged. In both cases `needed` is the length of the text.
 pub data IsLeft (text : List ℕ) (wanted : ℕ) (before after : List ℕ) (needed status : ℕ) : Type 0 where
   put : status ≡ wanted → needed ≡ length text → IsPut text before after
       → IsLeft text wanted before after needed status
@@ -38,8 +38,8 @@ pub data IsLeft (text : List ℕ) (wanted : ℕ) (before after : List ℕ) (need
       → IsLeft text wanted before after needed status
 
 -- With status 0 an answer was written to the buffer, with status 1 the name of a fault of the document. With
--- status 2 the answer or name is longer than the buffer, which is unchanged. In each case `needed` is the length
--- of the answer or name.
+-- status 2 the answer or name is longer than the buffer, which is unchanged. In each case `needed` is the
+-- length of the answer or name.
 pub data IsAnswered (IsAnswer : List ℕ → Type 0) (IsFault : Fault → Type 0) (before after : List ℕ)
     (needed status : ℕ) : Type 0 where
   answered : (line : List ℕ) → IsAnswer line → IsLeft line 0 before after needed status

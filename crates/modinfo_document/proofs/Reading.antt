@@ -57,10 +57,12 @@ pub fails : {A : Type 0} (wanted : Option A) (fault : DocumentError) (answer : R
 fails wanted fault answer is h = let p = err_from_is_err_and answer is in rw (p.1, p.2) h
 
 -- `ok_or` returns the value if there is one, else the mismatch.
-pub seen_or_mismatch : {A B : Type 0} (seen : B → A) (o : Option B) (wanted : Option A) (fault : DocumentError)
-    (answer : Result B DocumentError) → option_map seen o ≡ wanted → IsMismatch fault → answer ≡ ok_or o fault
+pub seen_or_mismatch : {A B : Type 0} (seen : B → A) (o : Option B) (wanted : Option A)
+    (fault : DocumentError) (answer : Result B DocumentError) → option_map seen o ≡ wanted → IsMismatch fault
+    → answer ≡ ok_or o fault
     → ReturnsSeen seen wanted answer
-seen_or_mismatch seen None wanted fault answer is mismatch made = rw made (mismatches wanted fault mismatch (sym is))
+seen_or_mismatch seen None wanted fault answer is mismatch made =
+    rw made (mismatches wanted fault mismatch (sym is))
 seen_or_mismatch seen (Some x) wanted fault answer is mismatch made = rw made (sym is)
 
 module _ {A B : Type 0} (wanted : Option A) (f : A → Option B) where
