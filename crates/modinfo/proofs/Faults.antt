@@ -64,17 +64,17 @@ no_conversion text (Info told) none = none
 no_conversion text Output none = none
 no_conversion text OutOfMemory none = none
 
-pub refused_conversion : (text : List ℕ) (before : Data) (told : ConvertFault)
+pub failed_conversion : (text : List ℕ) (before : Data) (told : ConvertFault)
     → read_text text ≡ Some before → IsConvertFault before told
     → IsNoConversion text (fault_of_conversion told)
-refused_conversion text before convert.ColumnOverflow read refused = (
+failed_conversion text before convert.ColumnOverflow read refused = (
   (λ same. cc (same)),
   before,
   read,
   refused,
 )
-refused_conversion text before convert.Float read refused = ((λ same. cc (same)), before, read, refused)
-refused_conversion text before convert.OutOfMemory read refused = tt
+failed_conversion text before convert.Float read refused = ((λ same. cc (same)), before, read, refused)
+failed_conversion text before convert.OutOfMemory read refused = tt
 
 -- A text that isn't JSON isn't a document of `reach`.
 pub no_reach : (text : List ℕ) (fault : Fault) → IsNoJson text fault → IsNoReach text fault

@@ -14,12 +14,12 @@ document_task other (Lines _) = other
 -- The matched task is that of the subcommand.
 pub returns-in-Document-clause-answer : goal.returns-in-Document-clause-answer
 returns-in-Document-clause-answer g c subcommand is =
-    c.answer_document.ensures.answer subcommand
+    c.run_document.ensures.answer subcommand
     (ap (document_task c.in-Document.task) (sym c.in-Document.is ∙ is))
 
 pub returns-in-Document-clause-check : goal.returns-in-Document-clause-check
 returns-in-Document-clause-check g c subcommand is_strict is =
-    c.answer_document.ensures.check subcommand is_strict
+    c.run_document.ensures.check subcommand is_strict
     (ap (document_task c.in-Document.task) (sym c.in-Document.is ∙ is))
 
 -- The task for the lines, or `other`.
@@ -32,4 +32,4 @@ lines_task other Version = other
 pub returns-in-Lines-clause-lines : goal.returns-in-Lines-clause-lines
 returns-in-Lines-clause-lines g c task is =
     let same : c.in-Lines.task ≡ task = ap (lines_task c.in-Lines.task) (sym c.in-Lines.is ∙ is) in
-    rw (sym same) c.answer_lines.ensures
+    rw (sym same) c.run_lines.ensures

@@ -5,7 +5,7 @@ use Rattle.std.specs.String.{string_bytes}
 use Rattle.modinfo.specs.declared.fault.Fault.TheVariants.{OutOfMemory}
 use Rattle.modinfo.proofs.Faults.{failed_run, read_failure}
 use Rattle.modinfo.proofs.Written.{known_or_none}
-use Rattle.modinfo.proofs.program.answer_document.Goals as goal
+use Rattle.modinfo.proofs.program.run_document.Goals as goal
 
 -- The input wasn't read.
 pub returns-in_err-document-clause-answer : goal.returns-in_err-document-clause-answer
