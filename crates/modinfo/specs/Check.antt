@@ -69,4 +69,4 @@ PointsInto value report = (mismatch : Mismatch) × IsIn value (read.Mismatch mis
 -- If the report is `Invalid`, its pointer leads to a value that isn't what the report expects there.
 abbrev pub HasPointerInto : Data → Report → Type 0
 HasPointerInto value (Valid _) = Unit {0}
-HasPointerInto value (Invalid fault) = PointsInto value wrong
+HasPointerInto value (Invalid report) = PointsInto value report

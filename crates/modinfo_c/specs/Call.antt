@@ -44,7 +44,7 @@ pub data IsAnswered (IsAnswer : List ℕ → Type 0) (IsFault : Fault → Type 0
     (needed status : ℕ) : Type 0 where
   answered : (line : List ℕ) → IsAnswer line → IsLeft line 0 before after needed status
       → IsAnswered IsAnswer IsFault before after needed status
-  refused : (fault : Fault) → IsFault fault → IsLeft (name_of_fault fault) 1 before after needed status
+  faulted : (fault : Fault) → IsFault fault → IsLeft (name_of_fault fault) 1 before after needed status
       → IsAnswered IsAnswer IsFault before after needed status
 
 -- The only fault of a check: an allocation failed.

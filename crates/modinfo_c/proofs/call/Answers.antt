@@ -1,4 +1,4 @@
-use Rattle.modinfo_c.specs.Call.{answered, refused}
+use Rattle.modinfo_c.specs.Call.{answered, faulted}
 use Rattle.modinfo_c.proofs.call.Goals as goal
 
 -- The line is the answer, and was written.
@@ -7,4 +7,4 @@ returns-in-Ok c = answered _ c.in-Ok.ensures (rw c.as_bytes.ensures.value at c.p
 
 -- The name of the fault was written.
 pub returns-in-Err : goal.returns-in-Err
-returns-in-Err c = refused c.in-Err.fault c.in-Err.ensures c.put_name.ensures
+returns-in-Err c = faulted c.in-Err.fault c.in-Err.ensures c.put_name.ensures

@@ -1,5 +1,5 @@
 use Rattle.std.proofs.Common.{refl}
-use Rattle.modinfo_c.specs.Call.{answered, refused}
+use Rattle.modinfo_c.specs.Call.{answered, faulted}
 use Rattle.modinfo_c.proofs.check.Goals as goal
 
 -- The report was written.
@@ -8,4 +8,4 @@ returns-in-Ok c = answered _ tt c.put.ensures
 
 -- The name of the fault was written.
 pub returns-in-Err : goal.returns-in-Err
-returns-in-Err c = refused _ refl c.put_name.ensures
+returns-in-Err c = faulted _ refl c.put_name.ensures

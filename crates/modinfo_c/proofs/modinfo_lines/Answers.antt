@@ -1,6 +1,6 @@
 use Rattle.std.proofs.Common.{◌∙◌, refl, subst, sym}
 use Rattle.std.proofs.lemmas.Option.{same_Some}
-use Rattle.modinfo_c.specs.Call.{IsAnswered, IsLinesText, IsOutOfMemory, answered, refused}
+use Rattle.modinfo_c.specs.Call.{IsAnswered, IsLinesText, IsOutOfMemory, answered, faulted}
 use Rattle.modinfo_c.proofs.modinfo_lines.Goals as goal
 
 -- The output of the command was written.
@@ -11,4 +11,4 @@ returns-in-Ok-clause-lines c task is =
 
 -- The name of the fault was written.
 pub returns-in-Err-clause-lines : goal.returns-in-Err-clause-lines
-returns-in-Err-clause-lines c task is = refused _ refl c.put_name.ensures
+returns-in-Err-clause-lines c task is = faulted _ refl c.put_name.ensures
