@@ -9,8 +9,8 @@ use Rattle.modinfo_document.specs.Partial.{◌>>=◌}
 use Rattle.modinfo_document.specs.Comments.{FiledEntry, Sides, comments_at, reads_comment}
 use Rattle.modinfo_document.specs.Node.{reads_node, reads_program}
 
--- The node at the path is read from the value; for the empty path, the program. There is a value exactly where
--- there is a node.
+-- The node at the path is read from the value; for the empty path, the program. There is a value exactly
+-- where there is a node.
 abbrev pub IsReadAt : Program → NodePath → Option Value → Type 0
 IsReadAt program [] found = (found >>= reads_program) ≡ Some program
 IsReadAt program (index ∷ path) found = (found >>= reads_node) ≡ node_at program.body (index ∷ path)

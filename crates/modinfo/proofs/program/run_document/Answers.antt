@@ -5,9 +5,9 @@ use Rattle.std.specs.String.{string_bytes}
 use Rattle.modinfo.specs.declared.fault.Fault.TheVariants.{OutOfMemory}
 use Rattle.modinfo.proofs.Faults.{failed_run, read_failure}
 use Rattle.modinfo.proofs.Written.{known_or_none}
-use Rattle.modinfo.proofs.program.answer_document.Goals as goal
+use Rattle.modinfo.proofs.program.run_document.Goals as goal
 
--- the input wasn't read
+-- The input wasn't read.
 pub returns-in_err-document-clause-answer : goal.returns-in_err-document-clause-answer
 returns-in_err-document-clause-answer g c subcommand is =
     let f = err_from_is_err_and c.from_residual.result c.from_residual.ensures.1 in
@@ -32,7 +32,7 @@ returns-in_err-document-clause-check g c subcommand is_strict is =
       ),
     )
 
--- no memory for the line feed
+-- An allocation for the line feed failed.
 pub returns-in_err-push-clause-answer : goal.returns-in_err-push-clause-answer
 returns-in_err-push-clause-answer g c subcommand is =
     let pushed = c.from_residual-in_err-push in
@@ -45,7 +45,7 @@ returns-in_err-push-clause-answer g c subcommand is =
       ),
     )
 
--- the line is the answer, and a line feed
+-- The line is the answer and a line feed.
 pub returns-clause-answer : goal.returns-clause-answer
 returns-clause-answer g c subcommand is =
     let found = rw is at c.in_ok-line.ensures in (

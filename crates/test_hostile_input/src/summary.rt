@@ -7,23 +7,26 @@ use deno_graph_info::analysis::{
 use std::alloc::{AllocError, Global};
 
 /// The dependencies and then the JSDoc imports of a module.
-pub fn found(alloc: Global, info: &ModuleInfo) -> Result<String, AllocError> {
+pub fn summary(alloc: Global, info: &ModuleInfo) -> Result<String, AllocError> {
     let mut runs = Runs::new(alloc);
     for dependency in info.dependencies.iter() {
-        runs.push(known(alloc, dependency)?)?;
+        runs.push(dependency_summary(alloc, dependency)?)?;
     }
     for import in info.jsdoc_imports.iter() {
-        runs.push(imported(alloc, import)?)?;
+        runs.push(import_summary(alloc, import)?)?;
     }
     runs.line(alloc)
 }
 
-fn known(alloc: Global, dependency: &DependencyDescriptor) -> Result<String, AllocError> {
+fn dependency_summary(
+    alloc: Global,
+    dependency: &DependencyDescriptor,
+) -> Result<String, AllocError> {
     match dependency {
-        DependencyDescriptor::Static(found) => {
-            format!(in alloc; "{:?}", found.specifier.as_str())
+        DependencyDescriptor::Static(dependency) => {
+            format!(in alloc; "{:?}", dependency.specifier.as_str())
         }
-        DependencyDescriptor::Dynamic(found) => match &found.argument {
+        DependencyDescriptor::Dynamic(dependency) => match &dependency.argument {
             DynamicArgument::String(text) => format!(in alloc; "{:?}", text.as_str()),
             DynamicArgument::Template(parts) => of_parts(alloc, parts.as_slice()),
             DynamicArgument::Expr => String::from_str(alloc, "an expression"),
@@ -43,7 +46,7 @@ fn of_parts(alloc: Global, parts: &[DynamicTemplatePart]) -> Result<String, Allo
 }
 
 /// An argument that borrows from the tree.
-pub fn known_text(
+pub fn argument_summary(
     alloc: Global,
     argument: &dep::DynamicArgument<'_>,
 ) -> Result<String, AllocError> {
@@ -68,7 +71,7 @@ fn of_borrowed_parts(
     format!(in alloc; "[{}]", runs.line(alloc)?)
 }
 
-fn imported(alloc: Global, import: &JsDocImportInfo) -> Result<String, AllocError> {
+fn import_summary(alloc: Global, import: &JsDocImportInfo) -> Result<String, AllocError> {
     let (start, end) = (import.specifier.range.start, import.specifier.range.end);
     format!(in alloc;
         "{:?} from {}:{} to {}:{}",

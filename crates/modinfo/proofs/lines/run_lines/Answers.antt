@@ -18,7 +18,7 @@ use Rattle.modinfo.proofs.LinesTaken.{
   TakesLines-same,
   exits,
 }
-use Rattle.modinfo.proofs.lines.answer_lines.Goals as goal
+use Rattle.modinfo.proofs.lines.run_lines.Goals as goal
 
 pub returns-in_err-input : goal.returns-in_err-input
 returns-in_err-input g c =
@@ -40,23 +40,23 @@ lines-init g c = (
   Appends-nil _,
 )
 
--- a write failed, before the next line was read
-pub returns-in_err-hand_on : goal.returns-in_err-hand_on
-returns-in_err-hand_on g c =
+-- A write failed, before the next line was read.
+pub returns-in_err-write_waiting : goal.returns-in_err-write_waiting
+returns-in_err-write_waiting g c =
     let (done, sent, taken, prints, appended) = c.lines.invariant in
-    let (told, front) = c.in_err-hand_on.ensures in
-    exits _ _ _ c.in_err-hand_on.field-0.0 c.from_residual-in_err-hand_on.ensures.1
+    let (told, front) = c.in_err-write_waiting.ensures in
+    exits _ _ _ c.in_err-write_waiting.field-0.0 c.from_residual-in_err-write_waiting.ensures.1
     (LeavesFirstLines-at c.args.task _ _ _ _ done c.lines.is_passed (sent ++ c.lines.waiting.items)
-    c.in_err-hand_on.field-0.0 (subst IsFailure (sym told) tt)
+    c.in_err-write_waiting.field-0.0 (subst IsFailure (sym told) tt)
     (TakesLines-same _ _ _ done c.in_ok-input.ensures taken) prints
     (AppendsFront-more _ _ _ sent c.lines.waiting.items appended front))
 
--- the next line couldn't be read or printed
+-- The next line couldn't be read or printed.
 pub returns-in_err-passes : goal.returns-in_err-passes
 returns-in_err-passes g c =
     let (done, sent, taken, prints, appended) = c.lines.invariant in
-    let (written, split, wrote, empty) = c.in_ok-hand_on.ensures in
-    let left = c.hand_on.new.waiting.items in
+    let (written, split, wrote, empty) = c.in_ok-write_waiting.ensures in
+    let left = c.write_waiting.new.waiting.items in
     exits _ _ _ c.in_err-passes.field-0.0 c.from_residual-in_err-passes.ensures.1
     (LeavesFirstLines-at c.args.task _ _ _ _ done c.lines.is_passed ((sent ++ written) ++ left)
     c.in_err-passes.field-0.0 c.in_err-passes.ensures
@@ -65,30 +65,30 @@ returns-in_err-passes g c =
     split)
     (AppendsFront-sent _ _ (sent ++ written) left (Appends-trans _ _ _ sent written appended wrote)))
 
--- a write failed after the last line
-pub returns-in_err-hand_on-in-None : goal.returns-in_err-hand_on-in-None
-returns-in_err-hand_on-in-None g c =
+-- A write failed after the last line.
+pub returns-in_err-write_waiting-in-None : goal.returns-in_err-write_waiting-in-None
+returns-in_err-write_waiting-in-None g c =
     let (done, sent, taken, prints, appended) = c.lines.invariant in
-    let (written, split, wrote, empty) = c.in_ok-hand_on.ensures in
+    let (written, split, wrote, empty) = c.in_ok-write_waiting.ensures in
     let (same, end) = rw c.in-None.is at c.in_ok-passes.ensures in
-    let (told, front) = c.in_err-hand_on-in-None.ensures in
-    let new = c.answer_next.new.waiting.items in
-    exits _ _ _ c.in_err-hand_on-in-None.field-0.0 c.from_residual-in_err-hand_on-in-None.ensures.1
+    let (told, front) = c.in_err-write_waiting-in-None.ensures in
+    let new = c.run_next.new.waiting.items in
+    exits _ _ _ c.in_err-write_waiting-in-None.field-0.0 c.from_residual-in_err-write_waiting-in-None.ensures.1
     (LeavesFirstLines-at c.args.task _ _ _ _ done c.lines.is_passed ((sent ++ written) ++ new)
-    c.in_err-hand_on-in-None.field-0.0 (subst IsFailure (sym told) tt)
+    c.in_err-write_waiting-in-None.field-0.0 (subst IsFailure (sym told) tt)
     (TakesLines-same _ _ _ done c.in_ok-input.ensures taken)
     (PrintsLines-written c.args.task done c.lines.is_passed sent c.lines.waiting.items written new prints
     (split ∙ ap (λ l. written ++ l) (sym same)))
     (AppendsFront-more _ _ _ (sent ++ written) new (Appends-trans _ _ _ sent written appended wrote) front))
 
--- all lines were read, and all that is printed was written
+-- All lines were read, and all printed lines were written.
 pub returns-in-None : goal.returns-in-None
 returns-in-None g c =
     let (done, sent, taken, prints, appended) = c.lines.invariant in
-    let (written, split, wrote, empty) = c.in_ok-hand_on.ensures in
+    let (written, split, wrote, empty) = c.in_ok-write_waiting.ensures in
     let (same, end) = rw c.in-None.is at c.in_ok-passes.ensures in
-    let (last, split', wrote', empty') = c.in_ok-hand_on-in-None.ensures in
-    let new = c.answer_next.new.waiting.items in (
+    let (last, split', wrote', empty') = c.in_ok-write_waiting-in-None.ensures in
+    let new = c.run_next.new.waiting.items in (
       done,
       TakesLines-all _ _ done (TakesLines-same _ _ _ done c.in_ok-input.ensures taken) end,
       (sent ++ written) ++ new,
@@ -101,18 +101,18 @@ returns-in-None g c =
           (Appends-trans _ _ _ sent written appended wrote) wrote'),
     )
 
--- a line more was read, and what is printed for it waits
+-- One more line was read, and the printed line is waiting.
 pub lines-preserved : goal.lines-preserved
 lines-preserved g c =
     let (done, sent, taken, prints, appended) = c.lines.invariant in
-    let (written, split, wrote, empty) = c.in_ok-hand_on.ensures in
+    let (written, split, wrote, empty) = c.in_ok-write_waiting.ensures in
     let (line, printed, next, one, put) = rw c.in-Some.is at c.in_ok-passes.ensures in (
       done ++ line ∷ [],
       sent ++ written,
       TakesLines-more _ _ _ done line taken next,
       PrintsLines-next c.args.task done line c.lines.is_passed c.in-Some.passes sent c.lines.waiting.items
           written
-          c.hand_on.new.waiting.items printed c.answer_next.new.waiting.items prints split one put,
+          c.write_waiting.new.waiting.items printed c.run_next.new.waiting.items prints split one put,
       Appends-trans _ _ _ sent written appended wrote,
     )
 

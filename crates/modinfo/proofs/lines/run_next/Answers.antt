@@ -4,12 +4,12 @@ use Rattle.modinfo.specs.Lines.{PrintsLine, fault_line}
 use Rattle.modinfo.specs.declared.fault.Fault.TheVariants.{OutOfMemory}
 use Rattle.modinfo.proofs.LinesSplit.{TakesLines-buffered}
 use Rattle.modinfo.proofs.LinesTaken.{PrintsLine-out_of_memory}
-use Rattle.modinfo.proofs.lines.answer_next.Goals as goal
+use Rattle.modinfo.proofs.lines.run_next.Goals as goal
 
-pub returns-in_ok-print_refused-in-Skipped : goal.returns-in_ok-print_refused-in-Skipped
-returns-in_ok-print_refused-in-Skipped g c =
+pub returns-in_ok-put_out_of_memory-in-Skipped : goal.returns-in_ok-put_out_of_memory-in-Skipped
+returns-in_ok-put_out_of_memory-in-Skipped g c =
     let (line, taken) = rw c.in-Skipped.is at c.in_ok-line.ensures in
-    let (passes, put) = c.in_ok-print_refused-in-Skipped.ensures in (
+    let (passes, put) = c.in_ok-put_out_of_memory-in-Skipped.ensures in (
       line,
       fault_line OutOfMemory,
       taken,
@@ -18,7 +18,7 @@ returns-in_ok-print_refused-in-Skipped g c =
       put,
     )
 
--- the line is whole in the buffer
+-- The line is whole in the buffer.
 pub returns-in-Some : goal.returns-in-Some
 returns-in-Some g c =
     let (printed, one, put) = c.in_ok-passes.ensures in
