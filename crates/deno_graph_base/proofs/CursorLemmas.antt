@@ -1,4 +1,4 @@
--- Boundaries of a text, and the characters before and behind them.
+-- Boundaries of a text, with the characters before and after them.
 use Rattle.std.proofs.Common.{
   ◌≡◌,
   ℕ,
@@ -51,9 +51,9 @@ use Rattle.std.specs.Ordering.{nat_cmp}
 use Rattle.std.specs.declared.cmp.Ordering.TheVariants.{Less, Equal, Greater}
 use Rattle.std.specs.Str.{IsCharBoundary, IsUtf8, chars}
 use lib.Utf8.{encodes, encode}
-use Rattle.deno_graph_base.specs.Place.{IsPlace}
+use Rattle.deno_graph_base.specs.internal.Cursor.{IsCursor}
 use Rattle.deno_graph_base.specs.Position.{HasPosition, IsBefore, position_at, position_of}
-use Rattle.deno_graph_base.specs.declared.text.place.Place.{Place}
+use Rattle.deno_graph_base.specs.declared.text.cursor.Cursor.{Cursor}
 use Rattle.deno_graph_base.specs.declared.text.position.Position.{Position}
 use Rattle.deno_graph_base.proofs.PositionLemmas.{
   line_of-le,
@@ -62,74 +62,74 @@ use Rattle.deno_graph_base.proofs.PositionLemmas.{
   IsBefore-irreflexive,
   position_cmp,
   position_cmp-before,
-  position_cmp-behind,
+  position_cmp-after,
   position_cmp-same,
 }
 
 -- a boundary has at most as many characters before it as bytes
-pub chars_le : (text : List ℕ) (pos : ℕ) → IsUtf8 text → IsCharBoundary text pos
-    → length (chars (take pos text)) ≤ pos
-chars_le text pos utf8 boundary =
-    let front : encodes (chars (take pos text)) ≡ take pos text =
-    encodes-chars (take pos text) (IsUtf8-take text pos utf8 boundary) in
+pub chars_le : (text : List ℕ) (offset : ℕ) → IsUtf8 text → IsCharBoundary text offset
+    → length (chars (take offset text)) ≤ offset
+chars_le text offset utf8 boundary =
+    let front : encodes (chars (take offset text)) ≡ take offset text =
+    encodes-chars (take offset text) (IsUtf8-take text offset utf8 boundary) in
     omega (
       arith,
-      length-le-encodes (chars (take pos text)),
+      length-le-encodes (chars (take offset text)),
       ap length front,
-      length-take-le pos text boundary.0,
+      length-take-le offset text boundary.0,
     )
 
-pub line_le_pos : (text : List ℕ) (place : Place) → IsUtf8 text → IsPlace text place
-    → place.position.line ≤ place.pos
-line_le_pos text place utf8 is =
+pub line_le_offset : (text : List ℕ) (cursor : Cursor) → IsUtf8 text → IsCursor text cursor
+    → cursor.position.line ≤ cursor.offset
+line_le_offset text cursor utf8 is =
     omega (
       arith,
       ap (λ p. p.line) is.position,
-      line_of-le (chars (take place.pos text)),
-      chars_le text place.pos utf8 is.boundary,
+      line_of-le (chars (take cursor.offset text)),
+      chars_le text cursor.offset utf8 is.boundary,
     )
 
-pub character_le_pos : (text : List ℕ) (place : Place) → IsUtf8 text → IsPlace text place
-    → place.position.character ≤ place.pos
-character_le_pos text place utf8 is =
+pub character_le_offset : (text : List ℕ) (cursor : Cursor) → IsUtf8 text → IsCursor text cursor
+    → cursor.position.character ≤ cursor.offset
+character_le_offset text cursor utf8 is =
     omega (
       arith,
       ap (λ p. p.character) is.position,
-      character_of-le (chars (take place.pos text)),
-      chars_le text place.pos utf8 is.boundary,
+      character_of-le (chars (take cursor.offset text)),
+      chars_le text cursor.offset utf8 is.boundary,
     )
 
--- the characters before the boundary behind `c`
-pub chars_before_next : (text rest : List ℕ) (pos c : ℕ) → IsUtf8 text → IsCharBoundary text pos
-    → drop pos text ≡ encode c ++ rest → chars (take (pos + len_utf8 c) text) ≡ chars (take pos text) ++ c
+-- the characters before the boundary after `c`
+pub chars_before_next : (text rest : List ℕ) (offset c : ℕ) → IsUtf8 text → IsCharBoundary text offset
+    → drop offset text ≡ encode c ++ rest → chars (take (offset + len_utf8 c) text) ≡ chars (take offset text) ++ c
     ∷ []
-chars_before_next text rest pos c utf8 boundary here =
-    let next : IsCharBoundary text (pos + len_utf8 c) =
-    IsCharBoundary-past_char text rest pos c boundary.0 (IsUtf8-drop text pos utf8 boundary) here in
-    let piece : take (len_utf8 c) (drop pos text) ≡ encode c =
+chars_before_next text rest offset c utf8 boundary here =
+    let next : IsCharBoundary text (offset + len_utf8 c) =
+    IsCharBoundary-past_char text rest offset c boundary.0 (IsUtf8-drop text offset utf8 boundary) here in
+    let piece : take (len_utf8 c) (drop offset text) ≡ encode c =
     ap (take (len_utf8 c)) here ∙ take-append-le (len_utf8 c) (encode c) rest (omega (arith, length-encode c))
     ∙ take_all (len_utf8 c) (encode c) (omega (arith, length-encode c)) in
-    let size : pos + len_utf8 c - pos ≡ len_utf8 c = omega arith in
-    let between : IsUtf8 (take (pos + len_utf8 c - pos) (drop pos text)) =
-    IsUtf8-between text pos (pos + len_utf8 c) utf8 (omega arith) boundary next in
-    let one : IsUtf8 (encode c) = subst IsUtf8 (ap (λ n. take n (drop pos text)) size ∙ piece) between in
-    ap chars (take-add pos (len_utf8 c) text ∙ ap (λ bs. take pos text ++ bs) piece)
-    ∙ chars-append (take pos text) (encode c) (IsUtf8-take text pos utf8 boundary)
-    ∙ ap (λ cs. chars (take pos text)
+    let size : offset + len_utf8 c - offset ≡ len_utf8 c = omega arith in
+    let between : IsUtf8 (take (offset + len_utf8 c - offset) (drop offset text)) =
+    IsUtf8-between text offset (offset + len_utf8 c) utf8 (omega arith) boundary next in
+    let one : IsUtf8 (encode c) = subst IsUtf8 (ap (λ n. take n (drop offset text)) size ∙ piece) between in
+    ap chars (take-add offset (len_utf8 c) text ∙ ap (λ bs. take offset text ++ bs) piece)
+    ∙ chars-append (take offset text) (encode c) (IsUtf8-take text offset utf8 boundary)
+    ∙ ap (λ cs. chars (take offset text)
     ++ cs) (chars_past_char (encode c) [] c one (sym (append-nil (encode c))) ∙ ap (λ cs. c ∷ cs) chars-nil)
 
--- one character further on
-pub IsPlace-past : (text rest : List ℕ) (place next : Place) (c : ℕ) → IsUtf8 text → IsPlace text place
-    → drop place.pos text ≡ encode c ++ rest → next.pos ≡ place.pos + len_utf8 c
-    → ((front : List ℕ) → place.position ≡ position_of front → next.position ≡ position_of (front ++ c ∷ []))
-    → IsPlace text next
-IsPlace-past text rest place next c utf8 is here pos moves = record {
-  boundary = subst (IsCharBoundary text) (sym pos)
-      (IsCharBoundary-past_char text rest place.pos c is.boundary.0
-      (IsUtf8-drop text place.pos utf8 is.boundary) here);
-  position = moves (chars (take place.pos text)) is.position
-      ∙ ap position_of (sym (chars_before_next text rest place.pos c utf8 is.boundary here))
-      ∙ ap (position_at text) (sym pos);
+-- the cursor one character after another
+pub IsCursor-past : (text rest : List ℕ) (cursor next : Cursor) (c : ℕ) → IsUtf8 text → IsCursor text cursor
+    → drop cursor.offset text ≡ encode c ++ rest → next.offset ≡ cursor.offset + len_utf8 c
+    → ((front : List ℕ) → cursor.position ≡ position_of front → next.position ≡ position_of (front ++ c ∷ []))
+    → IsCursor text next
+IsCursor-past text rest cursor next c utf8 is here offset moves = record {
+  boundary = subst (IsCharBoundary text) (sym offset)
+      (IsCharBoundary-past_char text rest cursor.offset c is.boundary.0
+      (IsUtf8-drop text cursor.offset utf8 is.boundary) here);
+  position = moves (chars (take cursor.offset text)) is.position
+      ∙ ap position_of (sym (chars_before_next text rest cursor.offset c utf8 is.boundary here))
+      ∙ ap (position_at text) (sym offset);
 }
 
 -- a text that begins with the character `c` holds all its bytes
@@ -142,30 +142,30 @@ first_char_le (d ∷ ds) rest more c same some =
     omega (arith, length-encode d, ap len_utf8 first.0, length-append (encode d) (encodes ds))
 
 -- no boundary lies inside a character
-pub past_char_le : (text rest : List ℕ) (pos c n : ℕ) → IsUtf8 text → IsCharBoundary text pos
-    → drop pos text ≡ encode c ++ rest → IsCharBoundary text n → pos < n → pos + len_utf8 c ≤ n
-past_char_le text rest pos c n utf8 boundary here other beyond =
-    let between = IsUtf8-between text pos n utf8 (omega arith) boundary other in
-    let piece : encodes (chars (take (n - pos) (drop pos text))) ≡ take (n - pos) (drop pos text) =
-    encodes-chars (take (n - pos) (drop pos text)) between in
-    let same : encodes (chars (take (n - pos) (drop pos text))) ++ drop (n - pos) (drop pos text) ≡ encode c
-    ++ rest = ap (λ bs. bs ++ drop (n - pos) (drop pos text)) piece
-    ∙ take-append-drop (n - pos) (drop pos text) ∙ here in
-    let size : length (encodes (chars (take (n - pos) (drop pos text)))) ≡ n - pos =
-    ap length piece ∙ length-take-le (n - pos) (drop pos text)
-    (omega (arith, length-drop pos text, other.0)) in
+pub past_char_le : (text rest : List ℕ) (offset c n : ℕ) → IsUtf8 text → IsCharBoundary text offset
+    → drop offset text ≡ encode c ++ rest → IsCharBoundary text n → offset < n → offset + len_utf8 c ≤ n
+past_char_le text rest offset c n utf8 boundary here other beyond =
+    let between = IsUtf8-between text offset n utf8 (omega arith) boundary other in
+    let piece : encodes (chars (take (n - offset) (drop offset text))) ≡ take (n - offset) (drop offset text) =
+    encodes-chars (take (n - offset) (drop offset text)) between in
+    let same : encodes (chars (take (n - offset) (drop offset text))) ++ drop (n - offset) (drop offset text) ≡ encode c
+    ++ rest = ap (λ bs. bs ++ drop (n - offset) (drop offset text)) piece
+    ∙ take-append-drop (n - offset) (drop offset text) ∙ here in
+    let size : length (encodes (chars (take (n - offset) (drop offset text)))) ≡ n - offset =
+    ap length piece ∙ length-take-le (n - offset) (drop offset text)
+    (omega (arith, length-drop offset text, other.0)) in
     omega (
       arith,
-      first_char_le (chars (take (n - pos) (drop pos text))) rest (drop (n - pos) (drop pos text))
+      first_char_le (chars (take (n - offset) (drop offset text))) rest (drop (n - offset) (drop offset text))
           c same (omega (arith, size)),
     )
 
--- the start of a text
-pub IsPlace-start : (text : List ℕ) (place : Place) → IsUtf8 text → place.pos ≡ 0
-    → place.position ≡ position_of [] → IsPlace text place
-IsPlace-start text place utf8 pos position = record {
-  boundary = subst (IsCharBoundary text) (sym pos) (IsCharBoundary-start text utf8);
-  position = position ∙ ap position_of (sym chars-nil) ∙ ap (position_at text) (sym pos);
+-- the cursor at the start of a text
+pub IsCursor-start : (text : List ℕ) (cursor : Cursor) → IsUtf8 text → cursor.offset ≡ 0
+    → cursor.position ≡ position_of [] → IsCursor text cursor
+IsCursor-start text cursor utf8 offset position = record {
+  boundary = subst (IsCharBoundary text) (sym offset) (IsCharBoundary-start text utf8);
+  position = position ∙ ap position_of (sym chars-nil) ∙ ap (position_at text) (sym offset);
 }
 
 -- a piece of a text that isn't empty has a first character
@@ -184,7 +184,7 @@ chars_between text a b utf8 first order =
     (take-add a (b - a) text) in
     ap chars split ∙ chars-append (take a text) (take (b - a) (drop a text)) (IsUtf8-take text a utf8 first)
 
--- of two boundaries the first has the earlier position
+-- of two boundaries, the one with the smaller offset has the earlier position
 pub before_from_lt : (text : List ℕ) (a b : ℕ) → IsUtf8 text → IsCharBoundary text a → IsCharBoundary text b
     → a < b → IsBefore (position_at text a) (position_at text b)
 before_from_lt text a b utf8 first second less =
@@ -213,42 +213,42 @@ same_boundary text a b utf8 first second same = elim (cases_lt a b) [
   ]
 ]
 
--- a search from a place that isn't beyond `wanted`, which stops at another position, finds nothing
-pub not_found : (text : List ℕ) (start place : Place) (wanted : Position) → IsUtf8 text → IsPlace text start
-    → IsPlace text place → ¬ (IsBefore wanted start.position)
-    → ((pos : ℕ) → start.pos ≤ pos → pos < place.pos → IsCharBoundary text pos
-    → IsBefore (position_at text pos) wanted) → (IsBefore place.position wanted → place.pos ≡ length text)
-    → ¬ (place.position ≡ wanted) → ¬ (HasPosition text wanted)
-not_found text start place wanted utf8 first stop reaches before end other (pos, (boundary, here)) =
-    elim (cases_lt pos start.pos) [
+-- no boundary has the position `wanted` if a search, which starts at or before it, stops at another
+pub not_found : (text : List ℕ) (start cursor : Cursor) (wanted : Position) → IsUtf8 text → IsCursor text start
+    → IsCursor text cursor → ¬ (IsBefore wanted start.position)
+    → ((offset : ℕ) → start.offset ≤ offset → offset < cursor.offset → IsCharBoundary text offset
+    → IsBefore (position_at text offset) wanted) → (IsBefore cursor.position wanted → cursor.offset ≡ length text)
+    → ¬ (cursor.position ≡ wanted) → ¬ (HasPosition text wanted)
+not_found text start cursor wanted utf8 first stop reaches before end other (offset, (boundary, here)) =
+    elim (cases_lt offset start.offset) [
       | inl early ↦
-          let less = before_from_lt text pos start.pos utf8 boundary first.boundary early in
+          let less = before_from_lt text offset start.offset utf8 boundary first.boundary early in
           reaches (subst (λ p. IsBefore p start.position) here
-          (subst (IsBefore (position_at text pos)) (sym first.position) less))
-      | inr from ↦ elim (cases_lt pos place.pos) [
+          (subst (IsBefore (position_at text offset)) (sym first.position) less))
+      | inr from ↦ elim (cases_lt offset cursor.offset) [
         | inl under ↦ IsBefore-irreflexive wanted
-            (subst (λ p. IsBefore p wanted) here (before pos from under boundary))
-        | inr over ↦ elim (cases_lt place.pos pos) [
+            (subst (λ p. IsBefore p wanted) here (before offset from under boundary))
+        | inr over ↦ elim (cases_lt cursor.offset offset) [
           | inl beyond ↦
-              let less = before_from_lt text place.pos pos utf8 stop.boundary boundary beyond in
+              let less = before_from_lt text cursor.offset offset utf8 stop.boundary boundary beyond in
               let at_end = end (subst (λ p. IsBefore p wanted) (sym stop.position)
-              (subst (IsBefore (position_at text place.pos)) here less)) in
+              (subst (IsBefore (position_at text cursor.offset)) here less)) in
               omega (arith, at_end, boundary.0)
           | inr no_beyond ↦
-              let is_it : place.pos ≡ pos = omega arith in
+              let is_it : cursor.offset ≡ offset = omega arith in
               other (stop.position ∙ ap (position_at text) is_it ∙ here)
         ]
       ]
     ]
 
--- positions compare as their boundaries
+-- positions compare as the offsets of their boundaries
 pub position_cmp-position_at : (text : List ℕ) (a b : ℕ) → IsUtf8 text → IsCharBoundary text a
     → IsCharBoundary text b → position_cmp (position_at text a) (position_at text b) ≡ nat_cmp a b
 position_cmp-position_at text a b utf8 first second = elim (cases_lt a b) [
   | inl less ↦ position_cmp-before _ _ (before_from_lt text a b utf8 first second less)
       ∙ nat_cmp_is a b Less less
   | inr no_less ↦ elim (cases_lt b a) [
-    | inl more ↦ position_cmp-behind _ _ (before_from_lt text b a utf8 second first more)
+    | inl more ↦ position_cmp-after _ _ (before_from_lt text b a utf8 second first more)
         ∙ nat_cmp_is a b Greater more
     | inr no_more ↦
         let same : a ≡ b = omega arith in
@@ -256,25 +256,25 @@ position_cmp-position_at text a b utf8 first second = elim (cases_lt a b) [
   ]
 ]
 
--- from a boundary on, there is one at most three bytes before any byte
+-- from a boundary on, each offset has a boundary at most three bytes before it
 near_step : (text : List ℕ) (fuel a n : ℕ) → IsUtf8 text → IsCharBoundary text a → a ≤ n → n ≤ length text
     → n ≤ a + fuel → (b : ℕ) × IsCharBoundary text b × (b ≤ n) × (n < b + 4)
 near_step text zero a n utf8 from order within short = (a, from, order, omega arith)
 near_step text (suc fuel) a n utf8 from order within short = elim (cases_lt n (a + 4)) [
   | inl close ↦ (a, from, order, close)
   | inr far ↦
-      let behind = IsUtf8-drop text a utf8 from in
-      let piece = some_char (chars (drop a text)) (drop a text) (encodes-chars (drop a text) behind)
+      let later = IsUtf8-drop text a utf8 from in
+      let piece = some_char (chars (drop a text)) (drop a text) (encodes-chars (drop a text) later)
       (omega (arith, length-drop a text)) in
       let here : drop a text ≡ encode piece.0 ++ encodes piece.1 =
-      sym (encodes-chars (drop a text) behind) ∙ ap encodes piece.2 in
+      sym (encodes-chars (drop a text) later) ∙ ap encodes piece.2 in
       let size = len_utf8_bounds piece.0 in
-      let next = IsCharBoundary-past_char text (encodes piece.1) a piece.0 from.0 behind here in
+      let next = IsCharBoundary-past_char text (encodes piece.1) a piece.0 from.0 later here in
       near_step text fuel (a + len_utf8 piece.0) n utf8 next (omega (arith, size)) within
       (omega (arith, size))
 ]
 
--- so the last boundary up to a byte is at most three before it
+-- the last boundary up to an offset is at most three bytes before it
 pub near_floor : (text : List ℕ) (a n floor : ℕ) → IsUtf8 text → IsCharBoundary text a → a ≤ n
     → n ≤ length text → ((i : ℕ) → floor < i → i ≤ n → ¬ (IsCharBoundary text i)) → n < floor + 4
 near_floor text a n floor utf8 from order within none =
@@ -284,14 +284,14 @@ near_floor text a n floor utf8 from order within none =
       | inr above ↦ omega (arith, near.3)
     ]
 
--- a place that is counted on from another
-pub IsPlace-ahead : (text : List ℕ) (place next : Place) → IsUtf8 text → IsPlace text place
-    → IsCharBoundary text next.pos → place.pos ≤ next.pos
-    → ((front : List ℕ) → place.position ≡ position_of front
-    → next.position ≡ position_of (front ++ chars (take (next.pos - place.pos) (drop place.pos text))))
-    → IsPlace text next
-IsPlace-ahead text place next utf8 is boundary order moves = record {
+-- the cursor found from another by counting
+pub IsCursor-ahead : (text : List ℕ) (cursor next : Cursor) → IsUtf8 text → IsCursor text cursor
+    → IsCharBoundary text next.offset → cursor.offset ≤ next.offset
+    → ((front : List ℕ) → cursor.position ≡ position_of front
+    → next.position ≡ position_of (front ++ chars (take (next.offset - cursor.offset) (drop cursor.offset text))))
+    → IsCursor text next
+IsCursor-ahead text cursor next utf8 is boundary order moves = record {
   boundary = boundary;
-  position = moves (chars (take place.pos text)) is.position
-      ∙ ap position_of (sym (chars_between text place.pos next.pos utf8 is.boundary order));
+  position = moves (chars (take cursor.offset text)) is.position
+      ∙ ap position_of (sym (chars_between text cursor.offset next.offset utf8 is.boundary order));
 }
