@@ -80,7 +80,8 @@ All-one P cursor is zero d within = is
 All-one P cursor is (suc k) d within = absurd (omega (arith, within))
 
 -- a list with one more cursor, at or after the others
-pub AreCursors-push : (text : List ℕ) (cursors : List Cursor) (cursor : Cursor) (last : ℕ) → AreCursors text cursors
+pub AreCursors-push : (text : List ℕ) (cursors : List Cursor) (cursor : Cursor) (last : ℕ)
+    → AreCursors text cursors
     → IsCursor text cursor → All (λ p. p.offset ≤ last) cursors → last ≤ cursor.offset
     → AreCursors text (cursors ++ cursor ∷ [])
 AreCursors-push text cursors cursor last are is below later = record {
@@ -99,7 +100,8 @@ below_last cursors cursor last below later =
 
 -- offsets near the cursors stay near, and those up to a reach after the new cursor become near
 pub near_push : (cursors : List Cursor) (cursor : Cursor) (last : ℕ)
-    → ((offset : ℕ) → offset < last + reach → IsNear cursors offset) → cursor.offset < last + reach → (offset : ℕ)
+    → ((offset : ℕ) → offset < last + reach → IsNear cursors offset) → cursor.offset < last + reach
+    → (offset : ℕ)
     → offset < cursor.offset + reach → IsNear (cursors ++ cursor ∷ []) offset
 near_push cursors cursor last near gap offset under = elim (cases_lt offset (last + reach)) [
   | inl early ↦ elim (near offset early) [
@@ -132,7 +134,8 @@ pub near_passed : (cursors : List Cursor) (passed : ℕ) (test : Cursor → Bool
 near_passed cursors passed test offset d ascending failed passes bound (inl first) =
     (λ _. first, λ _. omega arith)
 near_passed cursors passed test offset d ascending failed passes bound (inr (k, x, within, is, at)) =
-    let from : (get_or cursors k x).offset ≤ offset = subst (λ (p : Cursor). p.offset ≤ offset) (sym is) at.0 in
+    let from : (get_or cursors k x).offset ≤ offset = subst (λ (p : Cursor). p.offset ≤ offset) (sym is)
+    at.0 in
     let to : offset < (get_or cursors k x).offset + reach =
     subst (λ (p : Cursor). offset < p.offset + reach) (sym is) at.1 in
     let before : k < passed = elim (cases_lt k passed) [

@@ -101,7 +101,8 @@ character_le_offset text cursor utf8 is =
 
 -- the characters before the boundary after `c`
 pub chars_before_next : (text rest : List ℕ) (offset c : ℕ) → IsUtf8 text → IsCharBoundary text offset
-    → drop offset text ≡ encode c ++ rest → chars (take (offset + len_utf8 c) text) ≡ chars (take offset text) ++ c
+    → drop offset text ≡ encode c ++ rest → chars (take (offset + len_utf8 c) text)
+    ≡ chars (take offset text) ++ c
     ∷ []
 chars_before_next text rest offset c utf8 boundary here =
     let next : IsCharBoundary text (offset + len_utf8 c) =
@@ -146,9 +147,11 @@ pub past_char_le : (text rest : List ℕ) (offset c n : ℕ) → IsUtf8 text →
     → drop offset text ≡ encode c ++ rest → IsCharBoundary text n → offset < n → offset + len_utf8 c ≤ n
 past_char_le text rest offset c n utf8 boundary here other beyond =
     let between = IsUtf8-between text offset n utf8 (omega arith) boundary other in
-    let piece : encodes (chars (take (n - offset) (drop offset text))) ≡ take (n - offset) (drop offset text) =
+    let piece : encodes (chars (take (n - offset) (drop offset text)))
+    ≡ take (n - offset) (drop offset text) =
     encodes-chars (take (n - offset) (drop offset text)) between in
-    let same : encodes (chars (take (n - offset) (drop offset text))) ++ drop (n - offset) (drop offset text) ≡ encode c
+    let same : encodes (chars (take (n - offset) (drop offset text))) ++ drop (n - offset) (drop offset
+    text) ≡ encode c
     ++ rest = ap (λ bs. bs ++ drop (n - offset) (drop offset text)) piece
     ∙ take-append-drop (n - offset) (drop offset text) ∙ here in
     let size : length (encodes (chars (take (n - offset) (drop offset text)))) ≡ n - offset =
@@ -214,10 +217,12 @@ same_boundary text a b utf8 first second same = elim (cases_lt a b) [
 ]
 
 -- no boundary has the position `wanted` if a search, which starts at or before it, stops at another
-pub not_found : (text : List ℕ) (start cursor : Cursor) (wanted : Position) → IsUtf8 text → IsCursor text start
+pub not_found : (text : List ℕ) (start cursor : Cursor) (wanted : Position) → IsUtf8 text
+    → IsCursor text start
     → IsCursor text cursor → ¬ (IsBefore wanted start.position)
     → ((offset : ℕ) → start.offset ≤ offset → offset < cursor.offset → IsCharBoundary text offset
-    → IsBefore (position_at text offset) wanted) → (IsBefore cursor.position wanted → cursor.offset ≡ length text)
+    → IsBefore (position_at text offset) wanted) → (IsBefore cursor.position wanted → cursor.offset
+    ≡ length text)
     → ¬ (cursor.position ≡ wanted) → ¬ (HasPosition text wanted)
 not_found text start cursor wanted utf8 first stop reaches before end other (offset, (boundary, here)) =
     elim (cases_lt offset start.offset) [
@@ -288,7 +293,8 @@ near_floor text a n floor utf8 from order within none =
 pub IsCursor-ahead : (text : List ℕ) (cursor next : Cursor) → IsUtf8 text → IsCursor text cursor
     → IsCharBoundary text next.offset → cursor.offset ≤ next.offset
     → ((front : List ℕ) → cursor.position ≡ position_of front
-    → next.position ≡ position_of (front ++ chars (take (next.offset - cursor.offset) (drop cursor.offset text))))
+    → next.position ≡ position_of (front ++ chars (take (next.offset - cursor.offset) (drop cursor.offset
+    text))))
     → IsCursor text next
 IsCursor-ahead text cursor next utf8 is boundary order moves = record {
   boundary = boundary;

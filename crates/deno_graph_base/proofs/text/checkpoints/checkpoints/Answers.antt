@@ -36,7 +36,8 @@ loop-cursor-preserved c =
     sym c.in_ok-push.ensures.items in
     record {
       cursor = c.ahead-cursor.ensures.cursor;
-      cursors = subst (AreCursors text) pushed (AreCursors-push text _ next c.loop-cursor.cursor.offset inv.cursors
+      cursors = subst (AreCursors text) pushed (AreCursors-push text _ next c.loop-cursor.cursor.offset
+          inv.cursors
           c.ahead-cursor.ensures.cursor inv.before order);
       near = λ offset under. subst (λ cursors. IsNear cursors offset) pushed
           (near_push _ next c.loop-cursor.cursor.offset inv.near

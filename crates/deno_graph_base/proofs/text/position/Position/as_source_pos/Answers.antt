@@ -31,9 +31,11 @@ use Rattle.deno_graph_base.proofs.text.position.Position.as_source_pos.Goals as 
 -- the result is the offset where the search stopped exactly if the cursor has the position
 abbrev IsExact : List ℕ → Position → Option ℕ → Type 0
 IsExact text wanted found =
-    (IsNone found ↔ ¬ (HasPosition text wanted)) × ((offset : ℕ) → IsAt text wanted offset → found ≡ Some offset)
+    (IsNone found ↔ ¬ (HasPosition text wanted)) × ((offset : ℕ) → IsAt text wanted offset → found
+    ≡ Some offset)
 
-exact : (text : List ℕ) (cursor : Cursor) (wanted : Position) (here : Bool) → IsUtf8 text → IsCursor text cursor
+exact : (text : List ℕ) (cursor : Cursor) (wanted : Position) (here : Bool) → IsUtf8 text
+    → IsCursor text cursor
     → (¬ (cursor.position ≡ wanted) → ¬ (HasPosition text wanted))
     → here ≡ ((cursor.position.line == wanted.line) && (cursor.position.character == wanted.character))
     → IsExact text wanted (then_some here cursor.offset)

@@ -26,7 +26,8 @@ returns-in_default-clause-before c =
     c.as_slice-cursors.ensures.value ∙ ap (λ v. v.items) c.deref.ensures in
     let are : AreCheckpoints (rc_str_bytes c.self.inside.text) cursors =
     subst (AreCheckpoints (rc_str_bytes c.self.inside.text)) (sym same) c.self.invariant in
-    let parts = IsPartitionedBy-leb (λ (cursor : Cursor). cursor.offset) cursors c.args.offset are.ordered.ascending in
+    let parts = IsPartitionedBy-leb (λ (cursor : Cursor). cursor.offset) cursors c.args.offset
+    are.ordered.ascending in
     let point = IsPartitionPoint-from_clause (λ (cursor : Cursor). leb cursor.offset c.args.offset) cursors
     c.partition_point.result c.partition_point.ensures.partitioned parts
     (λ a r f k. search (rules, of_calls)) in
@@ -40,13 +41,20 @@ returns-in-0-clause-near c = λ within.
     c.as_slice-cursors.ensures.value ∙ ap (λ v. v.items) c.deref.ensures in
     let are : AreCheckpoints (rc_str_bytes c.self.inside.text) cursors =
     subst (AreCheckpoints (rc_str_bytes c.self.inside.text)) (sym same) c.self.invariant in
-    let parts = IsPartitionedBy-leb (λ (cursor : Cursor). cursor.offset) cursors c.args.offset are.ordered.ascending in
+    let parts = IsPartitionedBy-leb (λ (cursor : Cursor). cursor.offset) cursors c.args.offset
+    are.ordered.ascending in
     let point = IsPartitionPoint-from_clause (λ (cursor : Cursor). leb cursor.offset c.args.offset) cursors
     c.partition_point.result c.partition_point.ensures.partitioned parts
     (λ a r f k. search (rules, of_calls)) in
-    let end = near_passed cursors c.partition_point.result (λ (cursor : Cursor). leb cursor.offset c.args.offset)
+    let end = near_passed cursors c.partition_point.result (λ (cursor : Cursor). leb cursor.offset
+    c.args.offset)
     c.args.offset start are.ordered.ascending point.1 (λ k e inside up. grind (arith, nat_tests))
-    c.partition_point.ensures.bound (are.near c.args.offset (omega (arith, within, ap length c.self.view_is))) in
+    c.partition_point.ensures.bound (are.near c.args.offset (omega (
+      arith,
+      within,
+      ap length
+          c.self.view_is,
+    ))) in
     omega (arith, end.0 c.in-0.is)
 
 pub returns-in_default-clause-near : goal.returns-in_default-clause-near
@@ -57,11 +65,18 @@ returns-in_default-clause-near c = λ within.
     c.as_slice-cursors.ensures.value ∙ ap (λ v. v.items) c.deref.ensures in
     let are : AreCheckpoints (rc_str_bytes c.self.inside.text) cursors =
     subst (AreCheckpoints (rc_str_bytes c.self.inside.text)) (sym same) c.self.invariant in
-    let parts = IsPartitionedBy-leb (λ (cursor : Cursor). cursor.offset) cursors c.args.offset are.ordered.ascending in
+    let parts = IsPartitionedBy-leb (λ (cursor : Cursor). cursor.offset) cursors c.args.offset
+    are.ordered.ascending in
     let point = IsPartitionPoint-from_clause (λ (cursor : Cursor). leb cursor.offset c.args.offset) cursors
     c.partition_point.result c.partition_point.ensures.partitioned parts
     (λ a r f k. search (rules, of_calls)) in
-    let end = near_passed cursors c.partition_point.result (λ (cursor : Cursor). leb cursor.offset c.args.offset)
+    let end = near_passed cursors c.partition_point.result (λ (cursor : Cursor). leb cursor.offset
+    c.args.offset)
     c.args.offset start are.ordered.ascending point.1 (λ k e inside up. grind (arith, nat_tests))
-    c.partition_point.ensures.bound (are.near c.args.offset (omega (arith, within, ap length c.self.view_is))) in
+    c.partition_point.ensures.bound (are.near c.args.offset (omega (
+      arith,
+      within,
+      ap length
+          c.self.view_is,
+    ))) in
     end.1 (omega arith)

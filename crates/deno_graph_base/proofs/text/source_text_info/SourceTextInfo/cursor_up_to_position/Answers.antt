@@ -56,7 +56,8 @@ returns-in-0-clause-near c = λ offset is.
     subst (λ text. IsAt text c.args.position offset) (sym c.self.view_is) is in
     let end = near_passed cursors c.partition_point.result
     (λ (cursor : Cursor). not (is_before c.args.position cursor.position)) offset start are.ordered.ascending
-    point.1 (passes_up_to (rc_str_bytes c.self.inside.text) cursors c.args.position offset utf8 are.ordered found)
+    point.1 (passes_up_to (rc_str_bytes c.self.inside.text) cursors c.args.position offset utf8 are.ordered
+    found)
     c.partition_point.ensures.bound (are.near offset found.0.0) in
     omega (arith, end.0 c.in-0.is)
 
@@ -77,6 +78,7 @@ returns-in_default-clause-near c = λ offset is.
     subst (λ text. IsAt text c.args.position offset) (sym c.self.view_is) is in
     let end = near_passed cursors c.partition_point.result
     (λ (cursor : Cursor). not (is_before c.args.position cursor.position)) offset start are.ordered.ascending
-    point.1 (passes_up_to (rc_str_bytes c.self.inside.text) cursors c.args.position offset utf8 are.ordered found)
+    point.1 (passes_up_to (rc_str_bytes c.self.inside.text) cursors c.args.position offset utf8 are.ordered
+    found)
     c.partition_point.ensures.bound (are.near offset found.0.0) in
     end.1 (omega arith)

@@ -3,7 +3,7 @@ ghost use Rattle.std.specs.List.{All};
 ghost use Rattle.std.specs.List.Sorted.{IsStrictlySortedBy};
 ghost use Rattle.std.specs.Map.{keys_of};
 ghost use Rattle.std.specs.Ordering.{nat_cmp};
-ghost use Rattle.deno_graph_source.specs.ByPosition.{AddsItem};
+ghost use Rattle.deno_graph_source.specs.ByOffset.{AddsItem};
 ghost use Rattle.std.specs.Option.{option_copied};
 
 use deno_graph_base::values::{Items, TryClone};
@@ -11,15 +11,15 @@ use std::alloc::{AllocError, Global};
 use std::collections::BTreeMap;
 use std::marker::Model;
 
-/// Values by a position in a text, in bytes: contracts see the positions with their values, in
-/// ascending order of positions.
+/// Values by an offset in a text, in bytes. Contracts see the offsets with their values, in
+/// ascending order of the offsets.
 #[derive(Debug, Drop)]
-pub(crate) struct ByPosition<V> {
+pub(crate) struct ByOffset<V> {
     map: BTreeMap<usize, V>,
     alloc: Global,
 }
 
-impl<V> Model for ByPosition<V> {
+impl<V> Model for ByOffset<V> {
     ghost use Rattle.std.specs.Prelude.{List, ℕ};
     ghost use Rattle.std.specs.Coded.{coded_list, coded×, coded_ℕ};
     ghost use Rattle.std.specs.List.Sorted.{IsStrictlySortedBy};
@@ -35,19 +35,20 @@ impl<V> Model for ByPosition<V> {
     ghost invariant = { λ by. IsStrictlySortedBy nat_cmp (keys_of by.map.entries) };
 }
 
-impl<V> ByPosition<V> {
-    ghost use Rattle.deno_graph_source.specs.ByPosition.{value_at};
+impl<V> ByOffset<V> {
+    ghost use Rattle.deno_graph_source.specs.ByOffset.{value_at};
 
-    /// No values. Takes no memory.
-    pub(crate) fn new(alloc: Global) -> ByPosition<V>
+    /// Returns no values. Allocates nothing.
+    pub(crate) fn new(alloc: Global) -> ByOffset<V>
         ensures { result ≡ [] }
     {
-        ByPosition {
+        ByOffset {
             map: BTreeMap::new(alloc),
             alloc,
         }
     }
 
+    /// Returns the value at `pos`, or `None` if there is none.
     pub(crate) fn get(&self, pos: usize) -> Option<&V>
         ensures { option_copied result ≡ value_at self.now pos }
     {
@@ -55,10 +56,10 @@ impl<V> ByPosition<V> {
     }
 }
 
-impl<T> ByPosition<Items<T>> {
-    ghost use Rattle.deno_graph_source.specs.ByPosition.{all_items};
+impl<T> ByOffset<Items<T>> {
+    ghost use Rattle.deno_graph_source.specs.ByOffset.{all_items};
 
-    /// Adds the items at all positions at the end of `all`.
+    /// Adds the items at all offsets at the end of `all`. Fails only if an allocation fails.
     pub(crate) fn push_items<'a>(&'a self, all: &mut Vec<&'a T>) -> Result<(), AllocError>
         ensures { OnOk result
             (map (λ item. item.now) all.new.items
@@ -71,6 +72,7 @@ impl<T> ByPosition<Items<T>> {
     }
 }
 
+/// Adds `items` at the end of `all`. Fails only if an allocation fails.
 fn push_each<'a, T>(all: &mut Vec<&'a T>, items: &'a [T]) -> Result<(), AllocError>
     ensures { OnOk result
         (map (λ item. item.now) all.new.items
@@ -82,12 +84,13 @@ fn push_each<'a, T>(all: &mut Vec<&'a T>, items: &'a [T]) -> Result<(), AllocErr
     Ok(())
 }
 
-impl<T: PartialEq> ByPosition<Items<T>> {
-    ghost use Rattle.deno_graph_source.specs.ByPosition.{all_items, HasEqualAt};
+impl<T: PartialEq> ByOffset<Items<T>> {
+    ghost use Rattle.deno_graph_source.specs.ByOffset.{all_items};
+    ghost use Rattle.deno_graph_source.specs.internal.ByOffset.{HasEqualAt};
 
-    /// The first position with an item that is equal to `wanted`, and which of the items there it
-    /// is. `None` where no item is equal.
-    pub(crate) fn place_of(&self, wanted: &T) -> Option<(usize, usize)>
+    /// Returns the first offset with an item that is equal to `wanted`, and the index of the item
+    /// among those at this offset. Returns `None` if no item is equal.
+    pub(crate) fn find(&self, wanted: &T) -> Option<(usize, usize)>
         ensures { MatchOption result
             (All (λ item. T.eq item wanted.now ≡ false) (all_items self.now))
             (λ place. HasEqualAt T.eq self.now place.0 place.1 wanted.now) }
@@ -101,7 +104,7 @@ impl<T: PartialEq> ByPosition<Items<T>> {
     }
 }
 
-/// Which item, counted from zero, is the first that is equal to `wanted`.
+/// Returns the index of the first item that is equal to `wanted`, or `None` if no item is equal.
 fn number_of<T: PartialEq>(items: &[T], wanted: &T) -> Option<usize>
     ensures { MatchOption result
         (All (λ item. T.eq item wanted.now ≡ false) items.now)
@@ -115,9 +118,9 @@ fn number_of<T: PartialEq>(items: &[T], wanted: &T) -> Option<usize>
     None
 }
 
-impl<T: Drop> ByPosition<Items<T>> {
-    /// Adds `item` as the last of those at `pos`. Where memory is refused all stays as it was, and
-    /// `item` is dropped.
+impl<T: Drop> ByOffset<Items<T>> {
+    /// Adds `item` as the last item at the offset `pos`. If an allocation fails, drops `item` and
+    /// leaves the values unchanged.
     pub(crate) fn add(&mut self, pos: usize, item: T) -> Result<(), AllocError>
         ensures ok { OnOk result (AddsItem self.old self.new pos item) }
         ensures ascending { IsStrictlySortedBy nat_cmp (keys_of self.new) }
@@ -127,6 +130,8 @@ impl<T: Drop> ByPosition<Items<T>> {
     }
 }
 
+/// Adds `item` as the last item at the offset `pos` of `map`. If an allocation fails, drops `item`
+/// and leaves `map` unchanged.
 fn add_item<T: Drop>(
     map: &mut BTreeMap<usize, Items<T>>,
     alloc: Global,
@@ -146,17 +151,17 @@ fn add_item<T: Drop>(
     Ok(())
 }
 
-impl<V: TryClone + Drop> TryClone for ByPosition<V> {
-    fn try_clone(&self, alloc: Global) -> Result<ByPosition<V>, AllocError> {
+impl<V: TryClone + Drop> TryClone for ByOffset<V> {
+    fn try_clone(&self, alloc: Global) -> Result<ByOffset<V>, AllocError> {
         let mut map = BTreeMap::new(alloc);
         for (pos, value) in &self.map {
             drop(map.insert(*pos, value.try_clone(alloc)?)?);
         }
-        Ok(ByPosition { map, alloc })
+        Ok(ByOffset { map, alloc })
     }
 }
 
-impl<V: PartialEq> PartialEq for ByPosition<V> {
+impl<V: PartialEq> PartialEq for ByOffset<V> {
     ghost use Rattle.std.specs.Prelude.{nat_eq};
     ghost use Rattle.std.specs.Cmp.{on_per, and_per, partial_equiv_from_equiv};
     ghost use Rattle.std.specs.Cmp.Lexicographic.{pointwise, lists_per};
@@ -170,12 +175,12 @@ impl<V: PartialEq> PartialEq for ByPosition<V> {
         (on_per (λ entry. entry.0) (partial_equiv_from_equiv nat_eq_equiv))
         (on_per (λ entry. entry.1) V.laws)) };
 
-    fn eq(&self, other: &ByPosition<V>) -> bool {
+    fn eq(&self, other: &ByOffset<V>) -> bool {
         self.map == other.map
     }
 }
 
-impl<V: Eq> Eq for ByPosition<V> {
+impl<V: Eq> Eq for ByOffset<V> {
     ghost use Rattle.std.specs.Cmp.{on_equiv, and_equiv};
     ghost use Rattle.std.specs.Cmp.Lexicographic.{lists_equiv};
     ghost use Rattle.std.proofs.lemmas.Cmp.{nat_eq_equiv};

@@ -4,8 +4,8 @@ use Rattle.std.specs.Map.{set_value}
 use Rattle.std.proofs.lemmas.Map.Steps.{set_value_same}
 use Rattle.std.proofs.lemmas.Result.{on_ok_weaker, on_err_weaker}
 use Rattle.deno_graph_source.proofs.AddedItems.{added_set, added_inserted}
-use Rattle.deno_graph_source.specs.ByPosition.{value_at}
-use Rattle.deno_graph_source.proofs.tree.by_position.add_item.Goals as goal
+use Rattle.deno_graph_source.specs.ByOffset.{value_at}
+use Rattle.deno_graph_source.proofs.tree.by_offset.add_item.Goals as goal
 
 pub returns-in-Some-clause-ok : goal.returns-in-Some-clause-ok
 returns-in-Some-clause-ok g c =

@@ -1,9 +1,9 @@
--- None of the items at the positions so far is equal.
+-- None of the items at the offsets so far is equal.
 use Rattle.std.proofs.Common.{◌≡◌, false, map}
 use Rattle.std.specs.List.{All}
 use Rattle.std.specs.Map.Iter.{deref_pair}
-use Rattle.deno_graph_source.specs.ByPosition.{all_items}
-use Rattle.deno_graph_source.proofs.tree.by_position.ByPosition+Items+T.place_of.Given as goal
+use Rattle.deno_graph_source.specs.ByOffset.{all_items}
+use Rattle.deno_graph_source.proofs.tree.by_offset.ByOffset+Items+T.find.Given as goal
 
 abbrev pub invariant-loop-pos : goal.invariant-loop-pos
 invariant-loop-pos g l =

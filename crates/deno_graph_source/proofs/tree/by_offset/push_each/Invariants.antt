@@ -1,6 +1,6 @@
--- The items so far follow what was there.
+-- The list is the old list and the items so far.
 use Rattle.std.proofs.Common.{◌≡◌, ◌++◌, map, take}
-use Rattle.deno_graph_source.proofs.tree.by_position.push_each.Given as goal
+use Rattle.deno_graph_source.proofs.tree.by_offset.push_each.Given as goal
 
 abbrev pub invariant-loop-item : goal.invariant-loop-item
 invariant-loop-item g l =

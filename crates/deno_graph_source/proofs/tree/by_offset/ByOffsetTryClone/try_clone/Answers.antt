@@ -2,7 +2,7 @@ use Rattle.std.proofs.Common.{◌++◌, ◌∙◌, ap, sym, append_assoc}
 use Rattle.std.specs.Map.Iter.{deref_pair}
 use Rattle.std.proofs.lemmas.Map.Iter.{rest_more}
 use Rattle.deno_graph_base.proofs.PositionOrder.{insert_entry_last}
-use Rattle.deno_graph_source.proofs.tree.by_position.ByPositionTryClone.try_clone.Goals as goal
+use Rattle.deno_graph_source.proofs.tree.by_offset.ByOffsetTryClone.try_clone.Goals as goal
 
 pub loop-pos-preserved : goal.loop-pos-preserved
 loop-pos-preserved g c =

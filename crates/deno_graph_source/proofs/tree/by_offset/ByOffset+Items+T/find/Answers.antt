@@ -2,8 +2,8 @@ use Rattle.std.proofs.Common.{◌≡◌, false, length, ◌∙◌}
 use Rattle.std.specs.Map.Iter.{deref_pair}
 use Rattle.std.proofs.lemmas.List.Elements.{All-append}
 use Rattle.std.proofs.lemmas.Map.Iter.{iter_turn, iter_end}
-use Rattle.deno_graph_source.proofs.Places.{all_items_more, equal_at_place}
-use Rattle.deno_graph_source.proofs.tree.by_position.ByPosition+Items+T.place_of.Goals as goal
+use Rattle.deno_graph_source.proofs.Offsets.{all_items_more, equal_at_place}
+use Rattle.deno_graph_source.proofs.tree.by_offset.ByOffset+Items+T.find.Goals as goal
 
 pub returns-in-Some-number_of : goal.returns-in-Some-number_of
 returns-in-Some-number_of g c =

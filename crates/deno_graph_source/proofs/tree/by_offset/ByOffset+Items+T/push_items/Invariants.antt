@@ -1,8 +1,8 @@
--- With the items that are still to come, all follow what was there.
+-- The list and the remaining items are the old list and all items.
 use Rattle.std.proofs.Common.{◌≡◌, ◌++◌, map}
 use Rattle.std.specs.List.{flat_map}
-use Rattle.deno_graph_source.specs.ByPosition.{all_items}
-use Rattle.deno_graph_source.proofs.tree.by_position.ByPosition+Items+T.push_items.Given as goal
+use Rattle.deno_graph_source.specs.ByOffset.{all_items}
+use Rattle.deno_graph_source.proofs.tree.by_offset.ByOffset+Items+T.push_items.Given as goal
 
 abbrev pub invariant-loop-items : goal.invariant-loop-items
 invariant-loop-items g l =
