@@ -42,7 +42,7 @@ use Rattle.url.specs.Parser.{parse_url}
 use Rattle.deno_graph_json.specs.Value.{Value, plain_value}
 use Rattle.deno_graph_json.specs.View.{IsValueOf}
 use Rattle.deno_graph_json.proofs.Ahead.{same_ahead}
-use Rattle.deno_graph_source.specs.ByPosition.{value_at}
+use Rattle.deno_graph_source.specs.ByOffset.{value_at}
 use Rattle.deno_graph_source.specs.Comments.{Ascends, Filing, FiledComments}
 use Rattle.deno_graph_source.specs.ParsedSource.{ParsedModule}
 use Rattle.deno_graph_source.specs.Source.{HasFault, IsValid}

@@ -1,8 +1,8 @@
 -- The values of a document that a program, a node and a comment are read from.
 use Rattle.std.specs.Prelude.{◌≡◌, ℕ, List, [], ◌∷◌, Option, Some, slice_get}
 use Rattle.deno_graph_json.specs.Value.{Value}
-use Rattle.deno_graph_source.specs.declared.tree.fault_place.CommentSide.{CommentSide}
-use Rattle.deno_graph_source.specs.declared.tree.fault_place.CommentSide.TheVariants.{Leading, Trailing}
+use Rattle.deno_graph_source.specs.declared.tree.comments.CommentSide.{CommentSide}
+use Rattle.deno_graph_source.specs.declared.tree.comments.CommentSide.TheVariants.{Leading, Trailing}
 use Rattle.deno_graph_source.specs.declared.tree.node.Program.{Program}
 use Rattle.deno_graph_source.specs.NodePath.{NodePath, node_at}
 use Rattle.modinfo_document.specs.Partial.{◌>>=◌}
