@@ -1,4 +1,4 @@
--- Which faults a document has, by the step that found one.
+-- The faults of a document, by the step that failed.
 use Rattle.std.proofs.Common.{◌≡◌, ◌≢◌, ℕ, List, Some, None, inl, inr, refl, sym, ◌∙◌, MatchOption, false}
 use Rattle.serde_json.specs.Data.{Data, Members}
 use Rattle.serde_json.specs.Read.{read as read_text}
@@ -35,11 +35,11 @@ use Rattle.modinfo.specs.declared.fault.Fault.TheVariants.{
 use Rattle.modinfo.specs.declared.subcommand.Subcommand.{Subcommand}
 use Rattle.modinfo.specs.declared.subcommand.Subcommand.TheVariants.{Analyze, Convert, Reach}
 
--- neither is the fault that of failed memory, nor the other one
+-- A fault that is neither `OutOfMemory` nor `Json` can't be.
 neither : {A : Type 0} (M : Type 0) → (M → ⊥) → ((M → ⊥) → ⊥) → A
 neither M not_memory not_json = absurd (not_json not_memory)
 
--- a text that isn't read as a value, unless memory failed
+-- An error in parsing JSON.
 pub no_json : (text : List ℕ) (fault : Fault) (M : Type 0) → (M → fault ≡ OutOfMemory)
     → ((M → ⊥) → fault ≡ Json) → ((M → ⊥) → read_text text ≡ None) → IsNoJson text fault
 no_json text Json M memory other none = none (λ m. cc (memory m))
@@ -52,7 +52,7 @@ no_json text (Convert told) M memory other none = neither M (λ m. cc (memory m)
 no_json text (Info told) M memory other none = neither M (λ m. cc (memory m)) (λ n. cc (other n))
 no_json text Output M memory other none = neither M (λ m. cc (memory m)) (λ n. cc (other n))
 
--- what is no JSON isn't converted
+-- A text that isn't JSON isn't converted.
 pub no_conversion : (text : List ℕ) (fault : Fault) → IsNoJson text fault → IsNoConversion text fault
 no_conversion text Input none = none
 no_conversion text Json none = none
@@ -64,19 +64,19 @@ no_conversion text (Info told) none = none
 no_conversion text Output none = none
 no_conversion text OutOfMemory none = none
 
-pub refused_conversion : (text : List ℕ) (before : Data) (told : ConvertFault)
+pub failed_conversion : (text : List ℕ) (before : Data) (told : ConvertFault)
     → read_text text ≡ Some before → IsConvertFault before told
     → IsNoConversion text (fault_of_conversion told)
-refused_conversion text before convert.ColumnOverflow read refused = (
+failed_conversion text before convert.ColumnOverflow read refused = (
   (λ same. cc (same)),
   before,
   read,
   refused,
 )
-refused_conversion text before convert.Float read refused = ((λ same. cc (same)), before, read, refused)
-refused_conversion text before convert.OutOfMemory read refused = tt
+failed_conversion text before convert.Float read refused = ((λ same. cc (same)), before, read, refused)
+failed_conversion text before convert.OutOfMemory read refused = tt
 
--- what is no JSON is no document of `reach`
+-- A text that isn't JSON isn't a document of `reach`.
 pub no_reach : (text : List ℕ) (fault : Fault) → IsNoJson text fault → IsNoReach text fault
 no_reach text Input none = none
 no_reach text Json none = none
@@ -100,7 +100,7 @@ asks_nothing text value (Source told) read none = absurd none
 asks_nothing text value (Convert told) read none = absurd none
 asks_nothing text value Output read none = absurd none
 
--- a value that has no root or no modules
+-- A value without a root or without modules.
 pub no_question : (value : Data) → reads_question value ≡ None → IsNoQuestion value (Info info.Shape)
 no_question value none =
     let lacks : IsQuestionFault value info.Shape = rw none refl in
@@ -111,7 +111,7 @@ no_infos ms info.Shape first = ((λ same. cc (same)), first)
 no_infos ms info.Float first = ((λ same. cc (same)), first)
 no_infos ms info.OutOfMemory first = tt
 
--- a value whose modules aren't read
+-- A value whose modules can't be read.
 pub no_modules : (value : Data) (question : Question) (fault : Fault) → reads_question value ≡ Some question
     → IsNoInfos question.modules fault → IsNoQuestion value fault
 no_modules value question (Info told) asks none =
@@ -126,7 +126,7 @@ no_modules value question (Source told) asks none = absurd none
 no_modules value question (Convert told) asks none = absurd none
 no_modules value question Output asks none = absurd none
 
--- the fault is one of the value, where no allocation failed
+-- A fault other than a failed allocation is one of the value.
 pub question_fault : (value : Data) (fault : Fault) → fault ≢ OutOfMemory → IsNoQuestion value fault
     → (told : InfoFault) × (told ≢ info.OutOfMemory) × IsQuestionFault value told
 question_fault value (Info told) apart none = (told, none.0, none.1)
@@ -139,7 +139,7 @@ question_fault value (Source told) apart none = absurd none
 question_fault value (Convert told) apart none = absurd none
 question_fault value Output apart none = absurd none
 
--- a fault of the document is one of the run
+-- A fault of the document is one of the run.
 pub input_fault : (subcommand : Subcommand) (text : List ℕ) (fault : Fault)
     → IsDocumentFault subcommand text fault → IsInputFault subcommand text fault
 input_fault subcommand text Input has = tt
@@ -164,13 +164,13 @@ run_fault subcommand text (Info told) has = has
 run_fault subcommand text Output has = tt
 run_fault subcommand text OutOfMemory has = has
 
--- so is a failed allocation, of each subcommand
+-- A failed allocation is a fault of a document, for each subcommand.
 no_memory : (subcommand : Subcommand) (text : List ℕ) → IsDocumentFault subcommand text OutOfMemory
 no_memory Analyze text = tt
 no_memory Convert text = tt
 no_memory Reach text = tt
 
--- and a failed read
+-- A failed read is a fault of the run.
 pub failed_input : (subcommand : Subcommand) (text : List ℕ) (fault : Fault) → IsReadFailure fault
     → IsInputFault subcommand text fault
 failed_input subcommand text Input failed = tt

@@ -41,8 +41,8 @@ IsInfoText document text = (module_ : ParsedModule) × IsModuleOf document modul
     × (info : ModuleInfo) × IsInfoOfModule module_ info
     × (text ≡ compact_text (json_of_info info))
 
--- Why bytes have no module: they aren't UTF-8, or the text has an error as a module document; or an allocation
--- failed.
+-- Why bytes have no module: they aren't UTF-8, or the text has an error as a module document; or an
+-- allocation failed.
 abbrev pub IsNoModule : List ℕ → Fault → Type 0
 IsNoModule text Input = ¬ IsUtf8 text
 IsNoModule text OutOfMemory = Unit {0}

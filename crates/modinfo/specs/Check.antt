@@ -63,9 +63,10 @@ ReportsOnQuestion text = MatchReport (IsQuestionText text) (IsNoQuestionText tex
 
 -- The pointer of the report leads to a value that isn't what the report expects there.
 abbrev pub PointsInto : Data → FaultReport → Type 0
-PointsInto value report = (mismatch : Mismatch) × IsIn value (read.Mismatch mismatch) × Reports mismatch report
+PointsInto value report = (mismatch : Mismatch) × IsIn value (read.Mismatch mismatch)
+    × Reports mismatch report
 
 -- If the report is `Invalid`, its pointer leads to a value that isn't what the report expects there.
 abbrev pub HasPointerInto : Data → Report → Type 0
 HasPointerInto value (Valid _) = Unit {0}
-HasPointerInto value (Invalid fault) = PointsInto value wrong
+HasPointerInto value (Invalid report) = PointsInto value report

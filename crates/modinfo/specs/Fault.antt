@@ -3,7 +3,7 @@ use Rattle.std.specs.Prelude.{ℕ, List, codes}
 use Rattle.deno_graph_source.specs.declared.tree.fault.SourceFault.{SourceFault}
 use Rattle.deno_graph_source.specs.declared.tree.fault.SourceFault.TheVariants as source
 use Rattle.modinfo_document.specs.declared.error.DocumentError.{DocumentError}
-use Rattle.modinfo_document.specs.declared.error.DocumentError.TheVariants as notation
+use Rattle.modinfo_document.specs.declared.error.DocumentError.TheVariants as error
 use Rattle.deno_graph_info.specs.declared.analysis.fault.InfoFault.{InfoFault}
 use Rattle.deno_graph_info.specs.declared.analysis.fault.InfoFault.TheVariants as info
 use Rattle.deno_graph_info.specs.declared.conversion.fault.ConvertFault.{ConvertFault}
@@ -23,11 +23,11 @@ use Rattle.modinfo.specs.declared.fault.Fault.TheVariants.{
 
 -- The fault for an error of a document.
 abbrev pub fault_of_document : DocumentError → Fault
-fault_of_document (notation.Json _) = Json
-fault_of_document (notation.Tree _) = Tree
-fault_of_document notation.Specifier = Specifier
-fault_of_document (notation.Source fault) = Source fault
-fault_of_document notation.OutOfMemory = OutOfMemory
+fault_of_document (error.Json _) = Json
+fault_of_document (error.Tree _) = Tree
+fault_of_document error.Specifier = Specifier
+fault_of_document (error.Source fault) = Source fault
+fault_of_document error.OutOfMemory = OutOfMemory
 
 -- The fault for an error of the conversion.
 abbrev pub fault_of_conversion : ConvertFault → Fault

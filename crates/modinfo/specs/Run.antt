@@ -64,9 +64,9 @@ PrintsReport subcommand is_strict document passes line =
     MatchBool passes (IsValidDocument subcommand document)
     (IsFaultyDocument subcommand document ⊎ (is_strict ≡ true))
 
--- Either a line was appended to the output, and the error output is unchanged. Or there was a fault: its line,
--- or a beginning of that line, was appended to the error output, and the output is unchanged unless a write to
--- the output failed.
+-- Either a line was appended to the output, and the error output is unchanged. Or there was a fault: its
+-- line, or a beginning of that line, was appended to the error output, and the output is unchanged unless a
+-- write to the output failed.
 pub data IsRun (Prints : Bool → List ℕ → Type 0) (Fails : Fault → Type 0)
     (output_before output_after errors_before errors_after : Option (List ℕ)) (status : ℕ) : Type 0 where
   printed : (passes : Bool) (line : List ℕ) → Prints passes line

@@ -25,7 +25,7 @@ const FAULT_ROOM: usize = 64;
 /// Prints a line for each line of the input, in the same order: `{"answer":..}`, a report or
 /// `{"fault":"NAME"}`. Returns whether each check passed. Writes before each read that may wait for
 /// input. `Input` if a read fails, `Output` if a write fails, `OutOfMemory` if an allocation fails.
-pub fn answer_lines<R: Read, W: Write>(
+pub fn run_lines<R: Read, W: Write>(
     alloc: Global,
     task: Task,
     input: R,
@@ -42,11 +42,11 @@ where
     let mut is_passed = true;
     'lines: for _ in 0..u64::MAX {
         let is_due = waiting.len() >= CHUNK || memchr(b'\n', input.buffer()).is_none();
-        hand_on(output, &mut waiting, is_due)?;
-        match answer_next(alloc, task, &mut input, &mut waiting)? {
+        write_waiting(output, &mut waiting, is_due)?;
+        match run_next(alloc, task, &mut input, &mut waiting)? {
             Some(passes) => is_passed &= passes,
             None => {
-                hand_on(output, &mut waiting, true)?;
+                write_waiting(output, &mut waiting, true)?;
                 return Ok(is_passed);
             }
         }
@@ -68,7 +68,7 @@ where
 }
 
 /// Writes the waiting bytes if they are due, and flushes the output.
-fn hand_on<W: Write>(output: &mut W, waiting: &mut Vec<u8>, is_due: bool) -> Result<(), Fault>
+fn write_waiting<W: Write>(output: &mut W, waiting: &mut Vec<u8>, is_due: bool) -> Result<(), Fault>
     ensures { MatchResult result
         (λ _. (written : List ℕ) × (waiting.old.items ≡ written ++ waiting.new.items)
         × Appends (W.contents output.old) (W.contents output.new) written
@@ -89,7 +89,7 @@ fn hand_on<W: Write>(output: &mut W, waiting: &mut Vec<u8>, is_due: bool) -> Res
 
 /// Reads a line, and appends the printed line to the waiting bytes. Returns whether the line passes,
 /// `None` at the end of the input. Doesn't copy a line that is whole in the buffer.
-fn answer_next<R: Read>(
+fn run_next<R: Read>(
     alloc: Global,
     task: Task,
     input: &mut BufReader<R, Global>,
@@ -112,7 +112,7 @@ fn answer_next<R: Read>(
     }
     match next_line(alloc, input)? {
         Next::Line(line) => Ok(Some(print_owned(alloc, task, line, waiting)?)),
-        Next::Skipped => Ok(Some(print_refused(task, waiting)?)),
+        Next::Skipped => Ok(Some(put_out_of_memory(task, waiting)?)),
         Next::End => Ok(None),
     }
 }
@@ -244,7 +244,7 @@ fn put_printed(
     match printed {
         Ok(printed) => match put_framed(task, printed.line.as_str(), waiting) {
             Ok(()) => Ok(printed.is_passed),
-            Err(_) => print_refused(task, waiting),
+            Err(_) => put_out_of_memory(task, waiting),
         },
         Err(fault) => {
             put_fault(&fault, waiting)?;
@@ -254,7 +254,7 @@ fn put_printed(
 }
 
 /// Appends the line with the fault `OutOfMemory`. Returns whether the line passes.
-fn print_refused(task: Task, waiting: &mut Vec<u8>) -> Result<bool, Fault>
+fn put_out_of_memory(task: Task, waiting: &mut Vec<u8>) -> Result<bool, Fault>
     ensures { MatchResult result
         (λ passes. (passes ≡ passes_without task)
         × (waiting.new.items ≡ waiting.old.items ++ fault_line Fault.OutOfMemory))

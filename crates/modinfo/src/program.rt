@@ -11,7 +11,7 @@ ghost use Rattle.modinfo.specs.internal.Run.{Leaves, LeavesFault};
 use crate::fault::Fault;
 use crate::input::read_to_end;
 use crate::invocation::{HELP, Invocation, USAGE, VERSION, unexpected_word};
-use crate::lines::answer_lines;
+use crate::lines::run_lines;
 use crate::output::write_front;
 use crate::subcommand::Subcommand;
 use crate::task::{Printed, Task};
@@ -172,15 +172,15 @@ fn answer<R: Read, W: Write>(
     match invocation {
         Invocation::Help => print(output, HELP)?,
         Invocation::Version => print(output, VERSION)?,
-        Invocation::Document(task) => return answer_document(alloc, task, input, output),
-        Invocation::Lines(task) => return answer_lines(alloc, task, input, output),
+        Invocation::Document(task) => return run_document(alloc, task, input, output),
+        Invocation::Lines(task) => return run_lines(alloc, task, input, output),
     }
     Ok(true)
 }
 
 /// Reads the input, which is one document, and prints one line. Returns whether its check passed; true
 /// without a check.
-fn answer_document<R: Read, W: Write>(
+fn run_document<R: Read, W: Write>(
     alloc: Global,
     task: Task,
     input: &mut R,

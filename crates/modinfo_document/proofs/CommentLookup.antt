@@ -1,4 +1,4 @@
--- The comments of the entries at a position, by their numbers.
+-- Comments by position and number, among the entries of a side.
 use Rattle.std.proofs.Common.{
   ◌≡◌,
   ℕ,
@@ -45,8 +45,8 @@ use Rattle.deno_graph_json.specs.Value.{
   last_named,
   Members,
 }
-use Rattle.deno_graph_source.specs.declared.tree.fault_place.CommentSide.{CommentSide}
-use Rattle.deno_graph_source.specs.declared.tree.fault_place.CommentSide.TheVariants.{Leading, Trailing}
+use Rattle.deno_graph_source.specs.declared.tree.comments.CommentSide.{CommentSide}
+use Rattle.deno_graph_source.specs.declared.tree.comments.CommentSide.TheVariants.{Leading, Trailing}
 use Rattle.modinfo_document.specs.Comments.{
   FiledEntry,
   Sides,
@@ -67,7 +67,7 @@ use Rattle.modinfo_document.specs.Comments.{entry_with}
 use Rattle.modinfo_document.proofs.NodeLookup.{items_from, read_from, step}
 use Rattle.modinfo_document.proofs.Reading.{goes_on}
 
--- as many items were read as there are
+-- The length of the list that is read is the number of items.
 items_count : {A : Type 0} (reads : Value → Option A) (values : Items) (xs : List A)
     → reads_items reads values ≡ Some xs → item_count values ≡ length xs
 unfolding reads_items
@@ -78,7 +78,7 @@ items_count reads (item value values) xs is =
     ap (λ n. n + 1) (items_count reads values rest.0 rest.1) ∙ omega arith
     ∙ ap length (same_Some (first.0 ∷ rest.0) xs rest.2)
 
--- what an entry has at a position: its comments, where it is filed there
+-- The comments of an entry at a position: none if the entry has another position.
 abbrev IsFoundIn : FiledEntry → ℕ → Option Items → Type 0
 IsFoundIn entry position None = eqb entry.position position ≡ false
 IsFoundIn entry position (Some values) = (eqb entry.position position ≡ true)
@@ -139,7 +139,7 @@ module _ (position : ℕ) (value : Value) (values : Items) (rest : List FiledEnt
       let others = step (reads_items reads_entry values) (λ ys. Some (first.0 ∷ ys)) rest first.2 in
       (first.0, others.0, first.1, others.1, same_Some (first.0 ∷ others.0) rest others.2)
 
-  -- the entry is filed elsewhere
+  -- The first entry has another position.
   pub elsewhere : None ≡ entry_items position value
       → (more : List FiledEntry) × (reads_items reads_entry values ≡ Some more)
       × (comments_at position rest ≡ comments_at position more)
@@ -161,7 +161,7 @@ module _ (position : ℕ) (value : Value) (values : Items) (rest : List FiledEnt
               ∙ ap (comments_at position) split.4,
         )
 
-    -- it is one of this entry
+    -- The comment is one of the first entry.
     pub within : (n : ℕ) → n < item_count comments
         → (nth_item n comments >>= reads_comment) ≡ slice_get (comments_at position rest) n
     within n fits =
@@ -171,7 +171,7 @@ module _ (position : ℕ) (value : Value) (values : Items) (rest : List FiledEnt
         ∙ within_front split.0.comments (comments_at position split.1) n (subst (λ m. n < m) count fits)
         ∙ ap (λ cs. slice_get cs n) here.1
 
-    -- it is behind those of this entry
+    -- The comment is one of a later entry.
     pub past : (n : ℕ) → item_count comments ≤ n
         → (more : List FiledEntry) × (reads_items reads_entry values ≡ Some more)
         × (slice_get (comments_at position rest) n ≡ slice_get (comments_at position more)
@@ -185,15 +185,15 @@ module _ (position : ℕ) (value : Value) (values : Items) (rest : List FiledEnt
               ∙ ap (λ m. slice_get (comments_at position split.1) (n - m)) (sym count),
         )
 
--- no entry is left
+-- There is no entry.
 pub none_left : (values : Items) (rest : List FiledEntry) → values ≡ no_items
     → reads_items reads_entry values ≡ Some rest → [] ≡ rest
 unfolding reads_items
 none_left values rest empty is = same_Some [] rest (sym (ap (reads_items reads_entry) empty) ∙ is)
 
--- ---- the entries of a side
+-- ---- The entries of a side
 
--- what was found are the items that the entries are read from; without them there is no entry
+-- The entries are read from these items. Without items there are no entries.
 abbrev pub IsOfEntries : List FiledEntry → Option Items → Type 0
 IsOfEntries entries None = entries ≡ []
 IsOfEntries entries (Some values) = reads_items reads_entry values ≡ Some entries
@@ -237,7 +237,7 @@ side_in side members sides is =
     of_side Leading leading trailing first second = first
     of_side Trailing leading trailing first second = second
 
--- the items of a side's member in a document
+-- The entries of a side, from the member of a document.
 abbrev pub side_items : CommentSide → Value → Option Items
 side_items side value = as_object value >>= (λ members. last_named (side_name side) members >>= as_array)
 

@@ -1,4 +1,4 @@
--- Documents, read by their parts.
+-- Reading a document from its parts.
 use Rattle.std.proofs.Common.{◌≡◌, ℕ, List, codes, Option, Some, None, refl}
 use Rattle.deno_graph_json.specs.Value.{Value, Members, as_object, as_str}
 use Rattle.deno_graph_source.specs.declared.tree.media_type.MediaType.{MediaType}
@@ -11,7 +11,7 @@ use Rattle.modinfo_document.specs.Node.{reads_program}
 use Rattle.modinfo_document.specs.Partial.{◌>>=◌, required}
 use Rattle.modinfo_document.proofs.Reading.{goes_on}
 
--- two are read, and something is made of both
+-- A value made of two values that are read.
 both_read : {A B C : Type 0} (a : Option A) (b : Option B) (make : A → B → C)
     → (a >>= (λ x. b >>= (λ y. Some (make x y))))
     ≡ (◌>>=◌ {A = A × B} (a >>= (λ x. b >>= (λ y. Some (x, y)))) (λ both. Some (make both.0 both.1)))
@@ -20,7 +20,7 @@ both_read (Some x) None make = refl
 both_read (Some x) (Some y) make = refl
 
 module _ (specifier : List ℕ) (media_type : MediaType) (source : List ℕ) where
-  -- what is stated, once its first three parts are known
+  -- The contents of a document, once the first three parts are known.
   abbrev pub stated_with : Sides × Program → Contents
   stated_with tree = record {
     specifier = specifier;

@@ -1,4 +1,4 @@
--- The values that items, nodes and comments are read from.
+-- The values that items, nodes and a program are read from.
 use Rattle.std.proofs.Common.{
   ◌≡◌,
   ℕ,
@@ -49,13 +49,13 @@ use Rattle.modinfo_document.specs.Lookup.{IsReadAt}
 use Rattle.modinfo_document.specs.internal.Lookup.{member_item, below}
 use Rattle.modinfo_document.proofs.Nodes.{node_read, nodes_read}
 
--- a step of a reader that has a value
+-- A reader with a value has a value at its first step.
 pub step : {A B : Type 0} (o : Option A) (f : A → Option B) (y : B) → (o >>= f) ≡ Some y
     → (x : A) × (o ≡ Some x) × (f x ≡ Some y)
 step (Some x) f y is = (x, refl, is)
 step None f y is = absurd (none-some y is)
 
--- both are there, and the one is read from the other, or neither is
+-- The second is read from the first, or there is neither.
 abbrev pub IsReadFrom : {A : Type 0} → (Value → Option A) → Option Value → Option A → Type 0
 IsReadFrom reads None None = Unit {0}
 IsReadFrom reads None (Some x) = ⊥
@@ -69,7 +69,7 @@ module _ {A : Type 0} (reads : Value → Option A) where
   read_from (Some value) None is = absurd is
   read_from (Some value) (Some x) is = is
 
-  -- the items that were read are read from those with their numbers
+  -- The value with a number is read from the item with that number.
   pub items_from : (values : Items) (xs : List A) → reads_items reads values ≡ Some xs → (k : ℕ)
       → IsReadFrom reads (nth_item k values) (slice_get xs k)
   unfolding reads_items
@@ -86,7 +86,7 @@ module _ {A : Type 0} (reads : Value → Option A) where
       at_number zero x ys is others = is
       at_number (suc n) x ys is others = others n
 
--- the nodes of an array
+-- The nodes of an array.
 array_from : (value : Value) (nodes : List Node) → reads_nodes value ≡ Some nodes → (k : ℕ)
     → IsReadFrom reads_node (as_array value >>= nth_item k) (slice_get nodes k)
 array_from value nodes is k =
@@ -94,7 +94,7 @@ array_from value nodes is k =
     subst (λ o. IsReadFrom reads_node (o >>= nth_item k) (slice_get nodes k)) (sym found.1)
     (items_from reads_node found.0 nodes found.2 k)
 
--- the nodes of a member that may be missing
+-- The nodes of a member that may be missing.
 member_from : (found : Option Value) (nodes : List Node) → or_default reads_nodes [] found ≡ Some nodes
     → (k : ℕ)
     → IsReadFrom reads_node (found >>= (λ value. as_array value >>= nth_item k)) (slice_get nodes k)
@@ -102,7 +102,7 @@ member_from None nodes is k = subst (λ ns. IsReadFrom reads_node None (slice_ge
     (same_Some [] nodes is) tt
 member_from (Some value) nodes is k = array_from value nodes is k
 
--- the children that a node was made with
+-- The children of a node that is made of them.
 rolled : (range : SourceRange) (kind : Kind) (children : List Node) (node : Node)
     → Some (roll-Node (record { range = range; kind = kind; children = children })) ≡ Some node
     → Some children ≡ Some (children_of node)
@@ -123,7 +123,7 @@ children_with members below node is =
     (λ kind _ with_kind. option_and_then_some _ below node with_kind
     (λ children found made. found ∙ rolled range kind children node made)))
 
--- a node's children
+-- The children of a node.
 pub children_from : (value : Value) (node : Node) → reads_node value ≡ Some node → (k : ℕ)
     → IsReadFrom reads_node (member_item (codes "children") k value) (slice_get (children_of node) k)
 unfolding member_item
@@ -137,7 +137,7 @@ children_from value node is k =
     (children_with members (or_default reads_nodes []
     (last_named (codes "children") members)) node with_members) k))
 
--- a program's body
+-- The body of a program.
 pub body_from : (value : Value) (program : Program) → reads_program value ≡ Some program → (k : ℕ)
     → IsReadFrom reads_node (member_item (codes "body") k value) (slice_get program.body k)
 unfolding member_item reads_program required
@@ -159,7 +159,7 @@ body_from value program is k =
     (same_Some _ program made)
     (array_from found body is_body k))))))))
 
--- ---- paths
+-- ---- Paths
 
 below_from : (path : NodePath) (found : Option Value) (node : Option Node) → IsReadFrom reads_node found node
     → IsReadFrom reads_node (found >>= below path) (node_below node path)
@@ -171,7 +171,7 @@ below_from (index ∷ path) (Some value) (Some node) is =
     below_from path (member_item (codes "children") index value) (slice_get (children_of node) index)
     (children_from value node is index)
 
--- a path leads from a program's value to the values of its nodes
+-- A path leads from the value of a program to the value of the node at the path.
 pub path_from : (value : Value) (program : Program) → reads_program value ≡ Some program
     → (index : ℕ) (path : NodePath)
     → IsReadAt program (index ∷ path) (member_item (codes "body") index value >>= below path)
@@ -181,17 +181,17 @@ path_from value program is index path =
     (below_from path (member_item (codes "body") index value) (slice_get program.body index)
     (body_from value program is index))
 
--- the value of the program
+-- The value of the program.
 abbrev pub program_in : Value → Option Value
 program_in value = as_object value >>= last_named (codes "program")
 
--- the value that a path leads to in a document
+-- The value at a path in a document.
 abbrev pub at_path : Value → NodePath → Option Value
 at_path value [] = program_in value
 at_path value (index ∷ path) = program_in value
     >>= (λ program. member_item (codes "body") index program >>= below path)
 
--- what is read at a path
+-- The node at a path is read from the value at the path.
 pub read_at : (value : Value) (contents : Contents) → reads_document value ≡ Some contents → (path : NodePath)
     → IsReadAt contents.program path (at_path value path)
 unfolding reads_document required
@@ -225,13 +225,13 @@ pub of_path : (value : Value) (found : Option Value) (path : NodePath) → found
 of_path value found path at contents is = subst (λ o. IsReadAt contents.program path o) (sym at)
     (read_at value contents is path)
 
--- a document without a program has nothing at any path
+-- A document without a program has no value at any path.
 pub none_at : (value : Value) (path : NodePath) → program_in value ≡ None → None ≡ at_path value path
 none_at value [] none = sym none
 none_at value (index ∷ path) none = sym
     (ap (λ o. o >>= (λ program. member_item (codes "body") index program >>= below path)) none)
 
--- a path through the body
+-- A path through the body.
 pub body_path : (value : Value) (program : Value) (path rest : NodePath) (index : ℕ)
     → program_in value ≡ Some program
     → path ≡ index ∷ rest → (member_item (codes "body") index program >>= below rest) ≡ at_path value path

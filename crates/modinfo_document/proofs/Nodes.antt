@@ -1,4 +1,4 @@
--- Nodes, read by the members of the object.
+-- Reading nodes from the members of their objects.
 use Rattle.std.proofs.Common.{
   ◌≡◌,
   List,
@@ -63,7 +63,7 @@ nodes_read (array vs) = each_read vs
     each_read (item v vs) = ap (λ o. reads_node v >>= (λ x. o >>= (λ xs. Some (x ∷ xs)))) (each_read vs)
 nodes_read (object ms) = refl
 
--- an array of nodes is read item by item
+-- An array of nodes is read item by item.
 pub nodes_items : (v : Value) (vs : Items) → as_array v ≡ Some vs → reads_nodes v ≡ reads_items reads_node vs
 nodes_items v vs is = nodes_read v ∙ goes_on (as_array v) (reads_items reads_node) vs
     (reads_items reads_node vs) is refl

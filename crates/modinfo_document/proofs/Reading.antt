@@ -1,4 +1,4 @@
--- How a reader ends: each step of a partial function, and the fault that a `?` returns.
+-- Lemmas for readers: the steps of a partial function, and the error that a `?` returns.
 use Rattle.std.proofs.Common.{
   IsSomeAnd,
   ◌≡◌,
@@ -37,7 +37,7 @@ use Rattle.modinfo_document.specs.declared.error.DocumentError.TheVariants.{
   OutOfMemory,
 }
 
--- a fault of the notation says that there is nothing to be read
+-- A mismatch is a read error where nothing can be read.
 pub mismatches : {A : Type 0} (wanted : Option A) (fault : DocumentError) → IsMismatch fault → wanted ≡ None
     → IsReadError wanted fault
 mismatches wanted (Tree m) is none = none
@@ -46,25 +46,27 @@ mismatches wanted (Json n) is none = absurd is
 mismatches wanted Specifier is none = absurd is
 mismatches wanted (Source s) is none = absurd is
 
--- a step that has a value goes on with it
+-- A step with a value continues with that value.
 pub goes_on : {A B : Type 0} (o : Option A) (f : A → Option B) (x : A) (r : Option B) → o ≡ Some x → f x ≡ r
     → (o >>= f) ≡ r
 goes_on o f x r is later = ap (λ v. v >>= f) is ∙ later
 
--- the exit of a `?` that fails the whole
+-- The error that a `?` returns is one of the whole reader.
 pub fails : {A : Type 0} (wanted : Option A) (fault : DocumentError) (answer : Result A DocumentError)
     → IsErrAnd answer (λ other. other ≡ fault) → IsReadError wanted fault → Returns wanted answer
 fails wanted fault answer is h = let p = err_from_is_err_and answer is in rw (p.1, p.2) h
 
--- a value that is there or not
-pub seen_or_mismatch : {A B : Type 0} (seen : B → A) (o : Option B) (wanted : Option A) (fault : DocumentError)
-    (answer : Result B DocumentError) → option_map seen o ≡ wanted → IsMismatch fault → answer ≡ ok_or o fault
+-- `ok_or` returns the value if there is one, else the mismatch.
+pub seen_or_mismatch : {A B : Type 0} (seen : B → A) (o : Option B) (wanted : Option A)
+    (fault : DocumentError) (answer : Result B DocumentError) → option_map seen o ≡ wanted → IsMismatch fault
+    → answer ≡ ok_or o fault
     → ReturnsSeen seen wanted answer
-seen_or_mismatch seen None wanted fault answer is mismatch made = rw made (mismatches wanted fault mismatch (sym is))
+seen_or_mismatch seen None wanted fault answer is mismatch made =
+    rw made (mismatches wanted fault mismatch (sym is))
 seen_or_mismatch seen (Some x) wanted fault answer is mismatch made = rw made (sym is)
 
 module _ {A B : Type 0} (wanted : Option A) (f : A → Option B) where
-  -- a step that is refused fails the whole
+  -- An error of the first step is one of the whole.
   pub fails_on : (fault : DocumentError) → IsReadError wanted fault → IsReadError (wanted >>= f) fault
   fails_on (Tree m) h = ap (λ o. o >>= f) h
   fails_on OutOfMemory h = h
@@ -72,19 +74,19 @@ module _ {A B : Type 0} (wanted : Option A) (f : A → Option B) where
   fails_on Specifier h = absurd h
   fails_on (Source s) h = absurd h
 
-  -- the exit of a `?`
+  -- The error that a `?` returns, after the first step.
   pub exits : (fault : DocumentError) (answer : Result B DocumentError)
       → IsErrAnd answer (λ other. other ≡ fault)
       → IsReadError wanted fault → Returns (wanted >>= f) answer
   exits fault answer is h = let p = err_from_is_err_and answer is in rw (p.1, p.2) (fails_on fault h)
 
-  -- a step that has a value goes on with it
+  -- A step with a value continues with that value.
   pub returns_on : (x : A) (answer : Result B DocumentError) → wanted ≡ Some x → Returns (f x) answer
       → Returns (wanted >>= f) answer
   returns_on x answer is h =
       let Goal : Option A → Type 0 = λ o. Returns (o >>= f) answer in subst Goal (sym is) h
 
--- the same, where the answer is seen as a value
+-- ---- For `ReturnsSeen`
 module _ {A B C : Type 0} (seen : C → B) (wanted : Option A) (f : A → Option B) where
   pub exits_seen : (fault : DocumentError) (answer : Result C DocumentError)
       → IsErrAnd answer (λ other. other ≡ fault)
@@ -97,7 +99,7 @@ module _ {A B C : Type 0} (seen : C → B) (wanted : Option A) (f : A → Option
   returns_seen_on x answer is h =
       let Goal : Option A → Type 0 = λ o. ReturnsSeen seen (o >>= f) answer in subst Goal (sym is) h
 
--- the same, where the answer meets what is to be read
+-- ---- For `ReturnsBy`
 module _ {A B C : Type 0} (Meets : B → C → Type 0) (wanted : Option A) (f : A → Option B) where
   pub exits_by : (fault : DocumentError) (answer : Result C DocumentError)
       → IsErrAnd answer (λ other. other ≡ fault)
@@ -110,7 +112,7 @@ module _ {A B C : Type 0} (Meets : B → C → Type 0) (wanted : Option A) (f : 
   returns_by_on x answer is h =
       let Goal : Option A → Type 0 = λ o. ReturnsBy Meets (o >>= f) answer in subst Goal (sym is) h
 
--- what is read, and what holds of it
+-- ---- A value with a property
 pub some_and : {A : Type 0} (P : A → Type 0) (wanted : Option A) (x : A) → wanted ≡ Some x → P x
     → IsSomeAnd wanted P
 some_and P wanted x is h = subst (λ o. IsSomeAnd o P) (sym is) h
@@ -125,7 +127,7 @@ pub fails_by : {B C : Type 0} (Meets : B → C → Type 0) (wanted : Option B) (
     → IsErrAnd answer (λ other. other ≡ fault) → IsReadError wanted fault → ReturnsBy Meets wanted answer
 fails_by Meets wanted fault answer is h = let p = err_from_is_err_and answer is in rw (p.1, p.2) h
 
--- what is made of what was read
+-- A value made of the value that is read.
 pub made_of : {A B C : Type 0} (Meets : B → C → Type 0) (make : A → B) (wanted : Option A)
     (answer : Result C DocumentError) → ReturnsBy (λ x. Meets (make x)) wanted answer
     → ReturnsBy Meets (wanted >>= (λ x. Some (make x))) answer
@@ -133,15 +135,16 @@ made_of Meets make None (Ok c) h = h
 made_of Meets make (Some x) (Ok c) h = h
 made_of Meets make wanted (Err fault) h = fails_on wanted (λ x. Some (make x)) fault h
 
--- how a reader that reads step by step ends
+-- Readers whose results are `Returns` or `ReturnsSeen`.
 pub ruleset reading = (goes_on, exits, returns_on, exits_seen, returns_seen_on)
 
+-- Readers whose results are `ReturnsBy`.
 pub ruleset reading_by = (goes_on, exits_by, returns_by_on, fails_on)
 
--- ---- items
+-- ---- Items
 
 module _ {A : Type 0} where
-  -- the items that were read, before those that are still to be read
+  -- The values that were read, followed by those of the other items.
   abbrev pub before : List A → Option (List A) → Option (List A)
   before xs rest = rest >>= (λ ys. Some (xs ++ ys))
 
@@ -155,13 +158,13 @@ module _ {A : Type 0} where
   before_more xs x (Some ys) = ap Some (sym (append_assoc xs (x ∷ []) ys))
 
   module _ (reads : Value → Option A) (xs : List A) (v : Value) (vs : Items) where
-    -- one item more is read
+    -- One more item is read.
     pub items_more : (x : A) → reads v ≡ Some x
         → before xs (reads_items reads (item v vs)) ≡ before (xs ++ x ∷ []) (reads_items reads vs)
     unfolding reads_items
     items_more x is = rw is (before_more xs x (reads_items reads vs))
 
-    -- an item that is refused fails all
+    -- An error of an item is one of the whole.
     pub items_failed : (all : Option (List A)) (fault : DocumentError)
         → before xs (reads_items reads (item v vs)) ≡ all
         → IsReadError (reads v) fault → IsReadError all fault
@@ -169,13 +172,13 @@ module _ {A : Type 0} where
     items_failed all fault is h = subst (λ o. IsReadError o fault) is
         (fails_on _ _ fault (fails_on (reads v) _ fault h))
 
-  -- no item is left
+  -- No item is left.
   pub items_done : (reads : Value → Option A) (xs : List A) (all : Option (List A))
       → before xs (reads_items reads no_items) ≡ all → all ≡ Some xs
   unfolding reads_items
   items_done reads xs all is = sym is ∙ ap Some (append-nil xs)
 
--- an array is read item by item
+-- An array is read item by item.
 pub array_items : {A : Type 0} (reads : Value → Option A) (v : Value) (vs : Items) → as_array v ≡ Some vs
     → reads_array reads v ≡ reads_items reads vs
 unfolding reads_array

@@ -17,10 +17,10 @@ use Rattle.std.specs.Prelude.{
 }
 use Rattle.std.specs.List.{flat_map}
 use Rattle.deno_graph_json.specs.Value.{Value, Members, as_object, as_str, as_whole, last_named}
-use Rattle.deno_graph_source.specs.ByPosition.{all_items, value_at}
+use Rattle.deno_graph_source.specs.ByOffset.{all_items, value_at}
 use Rattle.deno_graph_source.specs.Comments.{Ascends, Filing, FiledComments}
-use Rattle.deno_graph_source.specs.declared.tree.fault_place.CommentSide.{CommentSide}
-use Rattle.deno_graph_source.specs.declared.tree.fault_place.CommentSide.TheVariants.{Leading, Trailing}
+use Rattle.deno_graph_source.specs.declared.tree.comments.CommentSide.{CommentSide}
+use Rattle.deno_graph_source.specs.declared.tree.comments.CommentSide.TheVariants.{Leading, Trailing}
 use Rattle.deno_graph_source.specs.declared.tree.comments.CommentKind.{CommentKind}
 use Rattle.deno_graph_source.specs.declared.tree.comments.CommentKind.TheVariants.{Line, Block}
 use Rattle.deno_graph_source.specs.declared.tree.comments.DependencyComment.{DependencyComment}

@@ -82,8 +82,8 @@ pub record IsSourceOf (document : Document) (module_ : ParsedModule) : Type 0 wh
   pub scope_analysis : module_.scope_analysis ≡ false
   pub valid : IsValid (rc_str_bytes document.source) document.program document.comments
 
--- Why the document has no source: its specifier is no URL, or the tree or the comments don't fit the source; or
--- an allocation failed.
+-- Why the document has no source: its specifier is no URL, or the tree or the comments don't fit the source;
+-- or an allocation failed.
 abbrev pub IsNoSource : Document → DocumentError → Type 0
 IsNoSource document Specifier = (error : ParseError) × (parse_url None document.specifier ≡ Err error)
 IsNoSource document (Source fault) = HasFault

@@ -13,14 +13,14 @@
 mod breaking;
 mod broken;
 mod comments;
-mod found;
 mod lines;
 mod modules;
 mod outcome;
+mod summary;
 mod trees;
 
 use crate::broken::print_outcomes;
-use crate::modules::{print_found, source};
+use crate::modules::{print_summary, source};
 use anyhow::{Context, Result};
 use std::env;
 use std::fs::Files;
@@ -56,5 +56,5 @@ fn run<R: Files + AllocGlobal + Print>(rt: &R, name: &str, count: usize) -> Resu
     if name == "broken" {
         return print_outcomes(rt, count);
     }
-    print_found(rt, name, count)
+    print_summary(rt, name, count)
 }

@@ -1,7 +1,7 @@
 //! Analysis of modules, made in code, that are deeper, wider or longer than real ones.
 
 use crate::comments::{braces, filed};
-use crate::found::{found, known_text};
+use crate::summary::{argument_summary, summary};
 use crate::trees::{calls, nested, operands, sum, types};
 use anyhow::{Context, Result, bail};
 use deno_graph_analysis::ast::module_info;
@@ -17,8 +17,8 @@ use url::Url;
 
 /// Prints the dependencies and the JSDoc imports of a module, each with the number of its repetitions;
 /// for `sum` the value of the sum as an argument.
-pub fn print_found<R: AllocGlobal + Print>(rt: &R, name: &str, count: usize) -> Result<()> {
-    let text = found_in(rt.alloc(), name, count)?;
+pub fn print_summary<R: AllocGlobal + Print>(rt: &R, name: &str, count: usize) -> Result<()> {
+    let text = summary_of(rt.alloc(), name, count)?;
     println!(rt; "{name} {count}: {text}")?;
     if name == "braces" {
         print_starts(rt, count)?;
@@ -26,19 +26,19 @@ pub fn print_found<R: AllocGlobal + Print>(rt: &R, name: &str, count: usize) -> 
     Ok(())
 }
 
-fn found_in(alloc: Global, name: &str, count: usize) -> Result<String> {
+fn summary_of(alloc: Global, name: &str, count: usize) -> Result<String> {
     let source = source(alloc, name, count)?;
     if name == "sum" {
         return known_of_first(alloc, &source);
     }
     let info = info_of(alloc, &source)?;
-    Ok(found(alloc, &info)?)
+    Ok(summary(alloc, &info)?)
 }
 
 /// The result of `argument_of` for the first node of a module.
 fn known_of_first(alloc: Global, source: &ParsedSource) -> Result<String> {
     let argument = first_argument(alloc, source)?.context("the module has no node")?;
-    Ok(known_text(alloc, &argument)?)
+    Ok(argument_summary(alloc, &argument)?)
 }
 
 fn first_argument(

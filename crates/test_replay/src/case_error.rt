@@ -17,7 +17,7 @@ pub enum CaseError {
     File,
     /// The test case is invalid: the reason, in words.
     #[error("{0}")]
-    Case(&'static str),
+    Invalid(&'static str),
 }
 
 impl From<AllocError> for CaseError {

@@ -1,9 +1,9 @@
 -- How comments are filed, one after another.
 use Rattle.std.specs.Prelude.{◌≡◌, ℕ, List, ◌++◌, IsPermutation}
-use Rattle.deno_graph_source.specs.ByPosition.{AddsItem, all_items, value_at}
+use Rattle.deno_graph_source.specs.ByOffset.{AddsItem, all_items, value_at}
 use Rattle.deno_graph_source.specs.Comments.{Ascends, Filing, FiledComments}
-use Rattle.deno_graph_source.specs.declared.tree.fault_place.CommentSide.{CommentSide}
-use Rattle.deno_graph_source.specs.declared.tree.fault_place.CommentSide.TheVariants.{Leading, Trailing}
+use Rattle.deno_graph_source.specs.declared.tree.comments.CommentSide.{CommentSide}
+use Rattle.deno_graph_source.specs.declared.tree.comments.CommentSide.TheVariants.{Leading, Trailing}
 use Rattle.deno_graph_source.specs.declared.tree.comments.DependencyComment.{DependencyComment}
 use Rattle.modinfo_document.specs.Comments.{FiledEntry, all_comments, comments_at, followed_by}
 

@@ -2,7 +2,7 @@
 
 ghost use Rattle.std.specs.Prelude.{◌≡◌, ◌++◌, IfOk, OnOk};
 ghost use Rattle.std.specs.String.{string_bytes};
-ghost use Rattle.deno_graph_json.specs.Pointer.{part_of_step};
+ghost use Rattle.deno_graph_json.specs.Pointer.{part_of_token};
 ghost use Rattle.modinfo_document.specs.Pointer.{part_of, pointer_text};
 
 use deno_graph_json::{ReferenceToken, Step, push_token};
@@ -34,7 +34,7 @@ fn push_path(pointer: &mut String, path: &[Step]) -> Result<(), AllocError>
 
 /// A step as a reference token.
 fn pointer_step(step: &Step) -> ReferenceToken<'_>
-    ensures { part_of_step result ≡ part_of step.now }
+    ensures { part_of_token result ≡ part_of step.now }
 {
     match step {
         Step::Item(number) => ReferenceToken::Index(*number),

@@ -2,7 +2,7 @@ use Rattle.std.proofs.Common.{Err, ap, inl, rules}
 use Rattle.modinfo_document.specs.declared.error.DocumentError.TheVariants.{Json}
 use Rattle.modinfo_document.proofs.check.check_document.Goals as goal
 
--- the text states what was read
+-- The value that was read is the value of the text.
 pub returns-in-Ok : goal.returns-in-Ok
 returns-in-Ok c = c.check_tape.ensures c.args.text.now c.in-Ok.ensures.value
 

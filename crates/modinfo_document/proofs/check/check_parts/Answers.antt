@@ -6,7 +6,7 @@ use Rattle.modinfo_document.proofs.check.check_parts.Goals.{
 }
 use Rattle.modinfo_document.proofs.check.check_parts.Goals as goal
 
--- the specifier is a URL, memory was refused, or the specifier is none
+-- The specifier is a URL, an allocation failed, or the specifier is no URL.
 pub returns : goal.returns
 returns c text is = elim c.match-url.branch [
   | in-Ok w ↦ rw w.result-is (w.check_source.ensures text is w.in-Ok.field-0 w.in-Ok.ensures)

@@ -2,7 +2,7 @@ use Rattle.std.proofs.Common.{inr, rules}
 use Rattle.modinfo_document.specs.declared.error.DocumentError.TheVariants.{Source}
 use Rattle.modinfo_document.proofs.check.check_source.Goals as goal
 
--- the document is stated, and its source has the fault that was found
+-- The text has this document, whose source has the fault.
 pub returns-in_ok-source_report-in-Some : goal.returns-in_ok-source_report-in-Some
 returns-in_ok-source_report-in-Some c text is url has_url = (
   Source c.in-Some.found.fault,

@@ -1,7 +1,7 @@
 use Rattle.deno_graph_json.specs.View.{tape_value}
 use Rattle.modinfo_document.proofs.check.check_tape.Goals as goal
 
--- the text states the document that was read
+-- The text has the document that was read.
 pub returns-in-Ok : goal.returns-in-Ok
 returns-in-Ok c text is =
     let read = rw c.root.ensures.value at c.in-Ok.ensures.read in

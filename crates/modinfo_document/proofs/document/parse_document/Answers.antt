@@ -14,7 +14,7 @@ use Rattle.modinfo_document.specs.declared.error.DocumentError.TheVariants.{
 }
 use Rattle.modinfo_document.proofs.document.parse_document.Goals as goal
 
--- what the value states is what the text states
+-- The document of the value is the document of the text.
 of_text : (text : List ℕ) (value : Value) (answer : Result Document DocumentError) → IsValueOf text value
     → ReturnsBy Has (reads_document value) answer → MatchResult answer (IsDocumentOf text) (IsNoDocument text)
 of_text text value (Ok document) is h = (value, is, h)

@@ -23,7 +23,7 @@ use Rattle.modinfo_document.specs.Partial.{◌>>=◌}
 use Rattle.modinfo_document.specs.internal.Lookup.{below}
 use Rattle.modinfo_document.proofs.lookup.below.Goals as goal
 
--- the number of this turn, and those behind it
+-- The number of this turn, and the later ones.
 turn : (path : List ℕ) (i : ℕ) → i < length path → drop i path ≡ get_or path i 0 ∷ drop (i + 1) path
 turn path i fits = drop-cons path i 0 fits ∙ ap (λ n. get_or path i 0 ∷ drop n path) (sym (add-one i))
 

@@ -38,12 +38,12 @@ loop-entry-preserved-in-Some-comments_at c = (
       let kept = c.loop-entry.invariant.3 all is in
       let here = ap (reads_items reads_entry) (sym c.in-Some.ensures.steps.2) ∙ kept.1 in
       let count = c.array_len-count.ensures ∙ c.in-Some-comments_at.ensures.counted in
-      let behind = past c.args.position (value_of c.in-Some.entry) (items_left c.next.new.self) kept.0 here
+      let later = past c.args.position (value_of c.in-Some.entry) (items_left c.next.new.self) kept.0 here
       (items_left c.in-Some-comments_at.comments) c.in-Some-comments_at.ensures.items c.loop-entry.left
       (subst (λ n. n ≤ c.loop-entry.left) count c.if-left-count.false) in (
-        behind.0,
-        behind.1,
-        kept.2 ∙ behind.2 ∙ ap (λ n. slice_get (comments_at c.args.position behind.0)
+        later.0,
+        later.1,
+        kept.2 ∙ later.2 ∙ ap (λ n. slice_get (comments_at c.args.position later.0)
             (c.loop-entry.left - n)) (sym count),
       ),
 )
@@ -56,9 +56,9 @@ loop-entry-preserved c = (
   λ all is.
       let kept = c.loop-entry.invariant.3 all is in
       let here = ap (reads_items reads_entry) (sym c.in-Some.ensures.steps.2) ∙ kept.1 in
-      let behind = elsewhere c.args.position (value_of c.in-Some.entry)
+      let later = elsewhere c.args.position (value_of c.in-Some.entry)
       (items_left c.next.new.self) kept.0 here c.in_default.ensures.items in
-      (behind.0, behind.1, kept.2 ∙ ap (λ comments. slice_get comments c.loop-entry.left) behind.2),
+      (later.0, later.1, kept.2 ∙ ap (λ comments. slice_get comments c.loop-entry.left) later.2),
 )
 
 pub returns-clause-read : goal.returns-clause-read

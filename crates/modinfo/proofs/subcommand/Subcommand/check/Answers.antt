@@ -8,7 +8,7 @@ use Rattle.modinfo_document.specs.Check.{ReportsOn}
 use Rattle.modinfo.specs.declared.subcommand.Subcommand.TheVariants.{Analyze}
 use Rattle.modinfo.proofs.subcommand.Subcommand.check.Goals as goal
 
--- a text is faulty where it has a fault of the notation
+-- A text with an error as a module document is faulty.
 of_text : (text : List ℕ) (answer : Result Report AllocError) → IfOk answer (ReportsOn text)
     → IfOk answer (MatchReport (IsValidDocument Analyze text) (IsFaultyDocument Analyze text))
 of_text text (Ok (Valid warnings)) h = h
