@@ -96,10 +96,7 @@ module _ (quoted : HasOnePart deno_types_pattern) (bare : HasOnePart quoteless_d
       let q : HasNoColumn comments = rw is at b in
       column_or_none comments p.0 p.1 q
 
-  -- a dependency whose comments can't be read, or name types, doesn't overflow
-  pub unread_fits : (d : Data) → comments_in d ≡ None → ¬ DependencyOverflows d
-  unread_fits d is h = let q : ⊥ = rw is at h in q
-
+  -- a dependency whose comments name types that fit, or none, doesn't overflow
   pub typed_fits : (d : Data) (comments : List Comment) (types : Option SpecifierWithRange)
       → comments_in d ≡ Some comments → AreTypes comments types → ¬ DependencyOverflows d
   typed_fits d comments types is are h =
