@@ -63,7 +63,7 @@ use Rattle.deno_graph_source.specs.Source.{IsSpelled, IsValid}
 use Rattle.deno_graph_source.specs.declared.tree.comments.DependencyComment.{DependencyComment}
 use Rattle.deno_graph_source.specs.declared.tree.media_type.MediaType.{MediaType}
 use Rattle.deno_graph_source.specs.declared.tree.node.Program.{Program}
-use Rattle.deno_graph_dep.specs.Item.{Item, static_item, dynamic_item}
+use Rattle.deno_graph_dep.specs.Descriptor.{Descriptor, static_descriptor, dynamic_descriptor}
 use Rattle.deno_graph_module_info.specs.CommentImports.{IsImportOf, quoted_range, reads_jsdoc}
 use Rattle.deno_graph_module_info.specs.FoundPragma.{Covers}
 use Rattle.deno_graph_module_info.specs.HeadTail.{head_comments, tail_comments}
@@ -195,12 +195,13 @@ module _ (source : List ℕ) where
       (at_middle Quotes dependency_types_pragmas first.before first.after pragma first.whole type_quotes)
       fits names)
 
-  types_are : (item : Item) (types : Option SpecifierWithRange)
+  types_are : (item : Descriptor) (types : Option SpecifierWithRange)
       → types_of (dependency_of source item types) ≡ types
-  types_are (static_item item) types = refl
-  types_are (dynamic_item item) types = refl
+  types_are (static_descriptor item) types = refl
+  types_are (dynamic_descriptor item) types = refl
 
-  dependency_covers : (item : Item) (dependency : DependencyDescriptor) → All Fits (comments_before item)
+  dependency_covers : (item : Descriptor) (dependency : DependencyDescriptor)
+      → All Fits (comments_before item)
       → Describes source item dependency → CoversTypes source dependency
   dependency_covers item dependency fit describes =
       subst (CoversTypes source) (sym describes.is)
@@ -209,7 +210,7 @@ module _ (source : List ℕ) where
       (some_of_all Fits (comments_before item) (length (comments_before item) - 1) fit)
       describes.names_types))
 
-  dependencies_cover : (items : List Item) (dependencies : List DependencyDescriptor)
+  dependencies_cover : (items : List Descriptor) (dependencies : List DependencyDescriptor)
       → All (λ item. All Fits (comments_before item)) items
       → AllZip (Describes source) items dependencies → All (CoversTypes source) dependencies
   dependencies_cover [] [] fit describe = All-nil (CoversTypes source)

@@ -51,7 +51,7 @@ use Rattle.deno_graph_source.specs.Comments.{FiledComments, comments_of}
 use Rattle.deno_graph_source.specs.declared.tree.comments.DependencyComment.{DependencyComment}
 use Rattle.deno_graph_source.specs.declared.tree.media_type.MediaType.{MediaType}
 use Rattle.deno_graph_source.specs.declared.tree.node.Program.{Program}
-use Rattle.deno_graph_dep.specs.Item.{Item}
+use Rattle.deno_graph_dep.specs.Descriptor.{Descriptor}
 use Rattle.deno_graph_dep.proofs.Unique.{AreDependencies-unique}
 use Rattle.deno_graph_module_info.specs.CommentImports.{reads_jsdoc}
 use Rattle.deno_graph_module_info.specs.HeadTail.{head_comments, tail_comments}
@@ -190,7 +190,7 @@ module _ (parts : AllByRecursion HasOnePart finder.finder_patterns) (source : Li
       ap Some (one_name source pragma comment a b one names
       (subst (λ p. Names source p comment b) (sym same) also_names))
 
-  one_dependency : (item : Item) (a b : DependencyDescriptor) → Describes source item a
+  one_dependency : (item : Descriptor) (a b : DependencyDescriptor) → Describes source item a
       → Describes source item b → a ≡ b
   one_dependency item a b is also =
       let comments = comments_before item in

@@ -7,7 +7,10 @@ use Rattle.deno_graph_source.specs.declared.tree.comments.DependencyComment.{Dep
 use Rattle.deno_graph_source.specs.declared.tree.media_type.MediaType.{MediaType}
 use Rattle.deno_graph_source.specs.declared.tree.node.Program.{Program}
 use Rattle.deno_graph_info.specs.declared.analysis.dependency.DependencyDescriptor.{DependencyDescriptor}
-use Rattle.deno_graph_info.specs.declared.analysis.dependency.DependencyDescriptor.TheVariants.{Static, Dynamic}
+use Rattle.deno_graph_info.specs.declared.analysis.dependency.DependencyDescriptor.TheVariants.{
+  Static,
+  Dynamic,
+}
 use Rattle.deno_graph_info.specs.declared.analysis.dynamic_argument.DynamicArgument.{DynamicArgument}
 use Rattle.deno_graph_info.specs.declared.analysis.dynamic_argument.DynamicArgument.TheVariants as argument
 use Rattle.deno_graph_info.specs.declared.analysis.dynamic_argument.DynamicTemplatePart.{DynamicTemplatePart}
@@ -22,7 +25,14 @@ use Rattle.deno_graph_info.specs.declared.analysis.static_dependency.StaticDepen
 }
 use Rattle.deno_graph_dep.specs.Argument.{Form, ArgumentPart, text, parts, expression, known, unknown}
 use Rattle.deno_graph_dep.specs.Dependencies.{AreDependencies}
-use Rattle.deno_graph_dep.specs.Item.{Item, StaticItem, DynamicItem, static_item, dynamic_item, HasTextRanges}
+use Rattle.deno_graph_dep.specs.Descriptor.{
+  Descriptor,
+  StaticDescriptor,
+  DynamicDescriptor,
+  static_descriptor,
+  dynamic_descriptor,
+  HasTextRanges,
+}
 use Rattle.deno_graph_module_info.specs.JsDocInfo.{CoversInEqualQuotes, IsJsDocList}
 use Rattle.deno_graph_module_info.specs.CommentImports.{reads_jsdoc}
 use Rattle.deno_graph_module_info.specs.HeadTail.{head_comments, tail_comments}
@@ -44,7 +54,7 @@ use Rattle.deno_graph_module_info.specs.Spelled.{CoversAsWritten, CoversBare, Co
 
 -- a static dependency with the positions of its specifier, and these types
 abbrev pub static_dependency_of :
-    List ℕ → StaticItem → Option SpecifierWithRange → StaticDependencyDescriptor
+    List ℕ → StaticDescriptor → Option SpecifierWithRange → StaticDependencyDescriptor
 static_dependency_of source item types = record {
   kind = item.kind;
   types_specifier = types;
@@ -67,7 +77,7 @@ argument_of_form expression = argument.Expr
 
 -- a dynamic dependency with the positions of its argument, and these types
 abbrev pub dynamic_dependency_of :
-    List ℕ → DynamicItem → Option SpecifierWithRange → DynamicDependencyDescriptor
+    List ℕ → DynamicDescriptor → Option SpecifierWithRange → DynamicDependencyDescriptor
 dynamic_dependency_of source item types = record {
   kind = item.kind;
   types_specifier = types;
@@ -77,24 +87,24 @@ dynamic_dependency_of source item types = record {
 }
 
 -- a dependency with its positions in the text, and these types
-abbrev pub dependency_of : List ℕ → Item → Option SpecifierWithRange → DependencyDescriptor
-dependency_of source (static_item item) types = Static (static_dependency_of source item types)
-dependency_of source (dynamic_item item) types = Dynamic (dynamic_dependency_of source item types)
+abbrev pub dependency_of : List ℕ → Descriptor → Option SpecifierWithRange → DependencyDescriptor
+dependency_of source (static_descriptor item) types = Static (static_dependency_of source item types)
+dependency_of source (dynamic_descriptor item) types = Dynamic (dynamic_dependency_of source item types)
 
 -- the comments before a dependency
-abbrev pub comments_before : Item → List DependencyComment
-comments_before (static_item item) = item.leading_comments
-comments_before (dynamic_item item) = item.leading_comments
+abbrev pub comments_before : Descriptor → List DependencyComment
+comments_before (static_descriptor item) = item.leading_comments
+comments_before (dynamic_descriptor item) = item.leading_comments
 
 -- the ranges of a dependency are ranges of the text, and the comments before it are in the text
 -- as they say
-pub record FitsText (source : List ℕ) (item : Item) : Type 0 where
+pub record FitsText (source : List ℕ) (item : Descriptor) : Type 0 where
   pub ranges : HasTextRanges source item
   pub comments : All (IsSpelled source) (comments_before item)
 
 -- the dependency is the item with its positions in the text, and the types that the comments before
 -- it name
-pub record Describes (source : List ℕ) (item : Item)
+pub record Describes (source : List ℕ) (item : Descriptor)
     (dependency : DependencyDescriptor) : Type 0 where
   pub types : Option SpecifierWithRange
   pub names_types : NamesDependencyTypes source (comments_before item) types
@@ -113,7 +123,7 @@ CoversTypes source dependency = IfSome (types_of dependency) (CoversAsWritten so
 -- positions in the text and the types that the comments before them name.
 pub record AreDescribed (source : List ℕ) (program : Program) (comments : FiledComments)
     (dependencies : List DependencyDescriptor) : Type 0 where
-  pub items : List Item
+  pub items : List Descriptor
   pub are_dependencies : AreDependencies comments program.body items
   pub describe : AllZip (Describes source) items dependencies
 

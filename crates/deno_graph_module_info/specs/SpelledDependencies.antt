@@ -3,14 +3,17 @@ use Rattle.std.specs.Prelude.{List, map}
 use Rattle.std.specs.List.{AllZip}
 use Rattle.deno_graph_source.specs.declared.tree.node.Node.{Node}
 use Rattle.deno_graph_info.specs.declared.analysis.dependency.DependencyDescriptor.{DependencyDescriptor}
-use Rattle.deno_graph_info.specs.declared.analysis.dependency.DependencyDescriptor.TheVariants.{Static, Dynamic}
+use Rattle.deno_graph_info.specs.declared.analysis.dependency.DependencyDescriptor.TheVariants.{
+  Static,
+  Dynamic,
+}
 use Rattle.deno_graph_info.specs.declared.analysis.dynamic_argument.DynamicArgument.{DynamicArgument}
 use Rattle.deno_graph_info.specs.declared.analysis.dynamic_argument.DynamicArgument.TheVariants as argument
 use Rattle.deno_graph_info.specs.declared.analysis.dynamic_argument.DynamicTemplatePart.{DynamicTemplatePart}
 use Rattle.deno_graph_info.specs.declared.analysis.dynamic_argument.DynamicTemplatePart.TheVariants as part
 use Rattle.deno_graph_dep.specs.Argument.{Form, ArgumentPart, text, parts, expression, known, unknown}
-use Rattle.deno_graph_dep.specs.ListedNodes.{AreListed}
-use Rattle.deno_graph_dep.specs.SpelledItems.{SpellsArgument}
+use Rattle.deno_graph_dep.specs.DependencyNodes.{AreDependencyNodes}
+use Rattle.deno_graph_dep.specs.SpelledArguments.{SpellsArgument}
 
 -- the part that a part of an argument says
 abbrev pub part_said : DynamicTemplatePart → ArgumentPart
@@ -31,5 +34,5 @@ SpellsDependency node (Dynamic dependency) = SpellsArgument node (form_said depe
 -- each dependency does so for the node in its place in the listing
 pub record SpellDependencies (body : List Node) (dependencies : List DependencyDescriptor) : Type 0 where
   pub nodes : List Node
-  pub are_listed : AreListed body nodes
+  pub are_nodes : AreDependencyNodes body nodes
   pub spell : AllZip SpellsDependency nodes dependencies

@@ -27,7 +27,12 @@ use Rattle.deno_graph_jsdoc.specs.declared.import.JsDocImport.{JsDocImport}
 use Rattle.deno_graph_module_info.specs.CommentImports.{IsJsDoc}
 use Rattle.deno_graph_module_info.specs.CommentImportSteps.{AreJsDocOf}
 use Rattle.deno_graph_module_info.proofs.Chosen.{all, item_in}
-use Rattle.deno_graph_module_info.proofs.Gathered.{Gathered, Gathered-jsdoc, Gathered-imports, Gathered-quoted}
+use Rattle.deno_graph_module_info.proofs.Gathered.{
+  Gathered,
+  Gathered-jsdoc,
+  Gathered-imports,
+  Gathered-quoted,
+}
 use Rattle.deno_graph_module_info.proofs.Places.{comment_size}
 use Rattle.deno_graph_module_info.proofs.ReadComments.{AreRead, AreRead-again, AreRead-more, AreRead-start}
 use Rattle.deno_graph_source.specs.Source.{IsSpelled}

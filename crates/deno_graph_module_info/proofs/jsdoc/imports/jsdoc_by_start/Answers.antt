@@ -30,7 +30,10 @@ use Rattle.deno_graph_module_info.proofs.Chosen.{
   AreJsDocOf-skip,
 }
 use Rattle.deno_graph_module_info.proofs.jsdoc.imports.jsdoc_by_start.Goals as goal
-use Rattle.deno_graph_module_info.proofs.jsdoc.imports.jsdoc_by_start.Goals.{then-is_jsdoc+in_ok-push, else-is_jsdoc}
+use Rattle.deno_graph_module_info.proofs.jsdoc.imports.jsdoc_by_start.Goals.{
+  then-is_jsdoc+in_ok-push,
+  else-is_jsdoc,
+}
 
 pub loop-comment-preserved : goal.loop-comment-preserved
 loop-comment-preserved c =
