@@ -1,5 +1,5 @@
--- The comments before the dependencies of a program, at its head and at its tail: what holds of all
--- comments holds of them.
+-- The comments before the dependencies of a program, at its head and at its tail are among all
+-- comments.
 use Rattle.std.proofs.Common.{
   ◌≡◌,
   ℕ,
@@ -45,10 +45,15 @@ use Rattle.deno_graph_dep.specs.Dependencies.{AreDependencies}
 use Rattle.deno_graph_dep.specs.Item.{Item}
 use Rattle.deno_graph_dep.specs.Stated.{AllStated, States, StatesAt}
 use Rattle.deno_graph_dep.proofs.DependencyRanges.{dependency_ranges}
-use Rattle.deno_graph_module_info.specs.HeadTail.{comments_before_items, head_comments, tail_comments, trailing_at}
+use Rattle.deno_graph_module_info.specs.HeadTail.{
+  comments_before_items,
+  head_comments,
+  tail_comments,
+  trailing_at,
+}
 use Rattle.deno_graph_module_info.specs.ModuleInfo.{comments_before, FitsText}
 
--- what holds of all comments holds of those at a position, at the head and at the tail
+-- a property of all comments, for those at an offset, at the head and at the tail
 module _ (P : DependencyComment → Type 0) (comments : FiledComments)
     (all : All P (comments_of comments)) where
   all_found : (found : Option (List DependencyComment))

@@ -30,7 +30,13 @@ use Rattle.deno_graph_module_info.specs.Pragma.{
   source_mapping_url_pragma,
 }
 use Rattle.deno_graph_module_info.proofs.Collected.{imports_of}
-use Rattle.deno_graph_module_info.proofs.SomeNamed.{names_first, names_last, names_types, partners, references}
+use Rattle.deno_graph_module_info.proofs.SomeNamed.{
+  names_first,
+  names_last,
+  names_types,
+  partners,
+  references,
+}
 use Rattle.deno_graph_module_info.proofs.SomeScript.{some_script}
 
 described : (source : List ℕ) (item : Item)

@@ -3,7 +3,7 @@ ghost use Rattle.deno_graph_source.specs.Source.{IsValid};
 ghost use Rattle.deno_graph_dep.specs.Argument.{form_seen, part_seen};
 ghost use Rattle.deno_graph_dep.specs.Item.{dynamic_item, dynamic_item_of, item_of, static_item, static_item_of};
 ghost use Rattle.deno_graph_module_info.specs.ModuleInfo.{argument_of_form, template_part_of, AreDescribed, CoversTypes, Describes, FitsText};
-ghost use Rattle.deno_graph_module_info.specs.ReadTypes.{AreRead};
+ghost use Rattle.deno_graph_module_info.specs.internal.ReadTypes.{AreRead};
 ghost use Rattle.deno_graph_info.specs.declared.analysis.dependency.DependencyDescriptor.TheVariants.{Static, Dynamic};
 
 use crate::read_types::{ReadTypes, types_before};
