@@ -83,7 +83,7 @@ module _ (P : DependencyComment → Type 0) (comments : FiledComments)
   pub all_tail : (program : Program) → All P (tail_comments program comments)
   all_tail program = all_trailing program.range.end
 
--- the comments before what a node states are those that lead the node
+-- the comments before the dependency of a node are those that are filed as leading at the node
 stated_at : (comments : FiledComments) (node : Node) (kind : Kind) (item : Item)
     → StatesAt comments node kind item → comments_before item ≡ leading_at comments (range_of node).start
 stated_at comments node (ImportDecl type_only phase src has_specifiers has_with) item states =
@@ -100,7 +100,7 @@ stated_at comments node (ModuleDecl (Some name)) item states = ap comments_befor
 stated_at comments node (Call callee args) item states = ap comments_before states.says
 stated_at comments node _ item states = absurd states
 
--- and of those before what nodes state
+-- a property of all comments, for those before the dependencies of nodes
 all_before : (P : DependencyComment → Type 0) (comments : FiledComments) (nodes : List Node)
     (items : List Item) → All P (comments_of comments) → AllStated comments nodes items
     → All (λ item. All P (comments_before item)) items
