@@ -1,4 +1,4 @@
--- What a listed call is, and that its arguments are among its children.
+-- The arguments of a call among its children, and which calls are no dependencies.
 use Rattle.std.proofs.Common.{
   ◌≡◌,
   ℕ,
@@ -32,7 +32,7 @@ use Rattle.std.proofs.Common.{
   inr,
 }
 use Rattle.std.specs.Prelude.{is_some}
-use Rattle.std.proofs.lemmas.Option.{slice_get_within, get_or_from_slice_get}
+use Rattle.std.proofs.lemmas.Option.{same_Some, slice_get_within, get_or_from_slice_get}
 use Rattle.deno_graph_source.specs.Node.{
   kind_of,
   children_of,
@@ -49,13 +49,19 @@ use Rattle.deno_graph_source.specs.declared.tree.node.Kind.TheVariants.{Call}
 use Rattle.deno_graph_source.specs.declared.tree.node.Node.{Node}
 use Rattle.deno_graph_source.proofs.ValidSource.{All-child_nodes, node-holds}
 use Rattle.deno_graph_info.specs.declared.analysis.dynamic_dependency.DynamicDependencyKind.TheVariants as dynamic_kind
-use Rattle.deno_graph_dep.specs.CallSteps.{IsNoModuleCall}
+use Rattle.deno_graph_dep.specs.internal.CallSteps.{IsNoModuleCall}
 use Rattle.deno_graph_dep.specs.DependencyKind.{call_kind}
-use Rattle.deno_graph_dep.specs.DependencyRules.{is_dependency, is_listed, is_module_call, is_require}
-use Rattle.deno_graph_dep.specs.Stated.{argument_at, argument_node}
+use Rattle.deno_graph_dep.specs.DependencyRules.{
+  is_dependency_kind,
+  is_dependency,
+  is_module_call,
+  is_require,
+}
+use Rattle.deno_graph_dep.specs.DescriptorOf.{argument_at, argument_node}
 
--- the node with an index that is below the length of a list
-pub node_within : (nodes : List Node) (k : ℕ) → k < length nodes → (node : Node) × (slice_get nodes k ≡ Some node)
+-- a list has a node at each index below its length
+pub node_within : (nodes : List Node) (k : ℕ) → k < length nodes
+    → (node : Node) × (slice_get nodes k ≡ Some node)
 node_within [] k within = absurd (omega (arith, within))
 node_within (node ∷ nodes) zero within = (node, refl)
 node_within (node ∷ nodes) (suc k) within = node_within nodes k (omega (arith, within))
@@ -91,11 +97,15 @@ argument_parts callee args children index arg argument at =
     parts (slice_get args index) (argument_node callee children index) at
   where
     parts : (a : Option Arg) (n : Option Node)
-        → option_and_then (λ x. option_map (λ node. (x, node)) n) a ≡ Some (arg, argument)
+        → option_and_then {U = Arg × Node} (λ x. option_map (λ node. (x, node)) n) a ≡ Some (arg, argument)
         → (a ≡ Some arg) × (n ≡ Some argument)
     parts None n is = cc
     parts (Some x) None is = cc
-    parts (Some x) (Some node) is = (cc, cc)
+    parts (Some x) (Some node) is =
+        let a : Arg × Node = (x, node) in
+        let b : Arg × Node = (arg, argument) in
+        let same : a ≡ b = same_Some a b is in
+        (ap (λ (p : Arg × Node). Some p.0) same, ap (λ (p : Arg × Node). Some p.1) same)
 
 no_kind : (callee : Callee) (children : List Node) → call_kind callee children ≡ None
     → is_module_call callee children ≡ false
@@ -123,10 +133,11 @@ and_false false c is = refl
 
 -- a call that is none of `import` or `require`, or that has no first argument, is no dependency
 pub no_module_call : (node : Node) (callee : Callee) (args : List Arg) → kind_of node ≡ Call callee args
-    → All IsShaped (nodes_in node) → IsNoModuleCall callee args (children_of node) → is_listed node ≡ false
-unfolding is_listed
+    → All IsShaped (nodes_in node) → IsNoModuleCall callee args (children_of node)
+    → is_dependency node ≡ false
+unfolding is_dependency
 no_module_call node callee args is shaped none =
-    let P : Kind → Type 0 = λ kind. is_dependency kind (children_of node) ≡ false in
+    let P : Kind → Type 0 = λ kind. is_dependency_kind kind (children_of node) ≡ false in
     subst P (sym is) (by_case none)
   where
     by_case : IsNoModuleCall callee args (children_of node)

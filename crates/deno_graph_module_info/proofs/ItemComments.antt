@@ -1,5 +1,5 @@
--- The comments before the dependencies of a program, at its head and at its tail: what holds of all
--- comments holds of them.
+-- The comments before the dependencies of a program, at its head and at its tail are among all
+-- comments.
 use Rattle.std.proofs.Common.{
   ◌≡◌,
   ℕ,
@@ -42,13 +42,18 @@ use Rattle.deno_graph_source.specs.declared.tree.node.Program.{Program}
 use Rattle.deno_graph_source.proofs.Lists.{All-within}
 use Rattle.deno_graph_source.proofs.ValidSource.{Contains-leading, Contains-trailing}
 use Rattle.deno_graph_dep.specs.Dependencies.{AreDependencies}
-use Rattle.deno_graph_dep.specs.Item.{Item}
-use Rattle.deno_graph_dep.specs.Stated.{AllStated, States, StatesAt}
+use Rattle.deno_graph_dep.specs.Descriptor.{Descriptor}
+use Rattle.deno_graph_dep.specs.DescriptorOf.{AreDescriptorsOf, IsDescriptorOf, IsDescriptorOfKind}
 use Rattle.deno_graph_dep.proofs.DependencyRanges.{dependency_ranges}
-use Rattle.deno_graph_module_info.specs.HeadTail.{comments_before_items, head_comments, tail_comments, trailing_at}
+use Rattle.deno_graph_module_info.specs.HeadTail.{
+  comments_before_items,
+  head_comments,
+  tail_comments,
+  trailing_at,
+}
 use Rattle.deno_graph_module_info.specs.ModuleInfo.{comments_before, FitsText}
 
--- what holds of all comments holds of those at a position, at the head and at the tail
+-- a property of all comments, for those at an offset, at the head and at the tail
 module _ (P : DependencyComment → Type 0) (comments : FiledComments)
     (all : All P (comments_of comments)) where
   all_found : (found : Option (List DependencyComment))
@@ -78,9 +83,9 @@ module _ (P : DependencyComment → Type 0) (comments : FiledComments)
   pub all_tail : (program : Program) → All P (tail_comments program comments)
   all_tail program = all_trailing program.range.end
 
--- the comments before what a node states are those that lead the node
-stated_at : (comments : FiledComments) (node : Node) (kind : Kind) (item : Item)
-    → StatesAt comments node kind item → comments_before item ≡ leading_at comments (range_of node).start
+-- the comments before the dependency of a node are those that are filed as leading at the node
+stated_at : (comments : FiledComments) (node : Node) (kind : Kind) (item : Descriptor)
+    → IsDescriptorOfKind comments node kind item → comments_before item ≡ leading_at comments (range_of node).start
 stated_at comments node (ImportDecl type_only phase src has_specifiers has_with) item states =
     ap comments_before states.2
 stated_at comments node (NamedExport type_only None has_with) item states = absurd states
@@ -95,11 +100,11 @@ stated_at comments node (ModuleDecl (Some name)) item states = ap comments_befor
 stated_at comments node (Call callee args) item states = ap comments_before states.says
 stated_at comments node _ item states = absurd states
 
--- and of those before what nodes state
+-- a property of all comments, for those before the dependencies of nodes
 all_before : (P : DependencyComment → Type 0) (comments : FiledComments) (nodes : List Node)
-    (items : List Item) → All P (comments_of comments) → AllStated comments nodes items
+    (items : List Descriptor) → All P (comments_of comments) → AreDescriptorsOf comments nodes items
     → All (λ item. All P (comments_before item)) items
-unfolding States
+unfolding IsDescriptorOf
 all_before P comments [] [] all stated = All-nil (λ item. All P (comments_before item))
 all_before P comments [] (item ∷ items) all stated = absurd stated
 all_before P comments (node ∷ nodes) [] all stated = absurd stated
@@ -109,13 +114,14 @@ all_before P comments (node ∷ nodes) (item ∷ items) all stated =
     (all_leading P comments all (range_of node).start)) (all_before P comments nodes items all stated.1)
 
 pub all_before_dependencies : (P : DependencyComment → Type 0) (program : Program) (comments : FiledComments)
-    (items : List Item) → All P (comments_of comments) → AreDependencies comments program.body items
+    (items : List Descriptor) → All P (comments_of comments) → AreDependencies comments program.body items
     → All (λ item. All P (comments_before item)) items
 all_before_dependencies P program comments items all are =
     all_before P comments are.nodes items all are.stated
 
 -- the dependencies of a valid source fit its text
-pub dependencies_fit : (text : List ℕ) (program : Program) (comments : FiledComments) (items : List Item)
+pub dependencies_fit : (text : List ℕ) (program : Program) (comments : FiledComments)
+    (items : List Descriptor)
     → IsValid text program comments → AreDependencies comments program.body items → All (FitsText text) items
 dependencies_fit text program comments items valid are =
     let ranges = dependency_ranges text program comments items valid are in

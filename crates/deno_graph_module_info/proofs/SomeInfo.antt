@@ -9,8 +9,8 @@ use Rattle.deno_graph_source.specs.declared.tree.node.Program.{Program}
 use Rattle.deno_graph_info.specs.declared.analysis.dependency.DependencyDescriptor.{DependencyDescriptor}
 use Rattle.deno_graph_info.specs.declared.analysis.js_doc_import_info.JsDocImportInfo.{JsDocImportInfo}
 use Rattle.deno_graph_info.specs.declared.analysis.module_info.ModuleInfo.{ModuleInfo}
-use Rattle.deno_graph_dep.specs.Item.{Item}
-use Rattle.deno_graph_dep.proofs.SomeItem.{some_dependencies}
+use Rattle.deno_graph_dep.specs.Descriptor.{Descriptor}
+use Rattle.deno_graph_dep.proofs.SomeDescriptor.{some_dependencies}
 use Rattle.deno_graph_module_info.specs.CommentImports.{AreApart, reads_jsdoc}
 use Rattle.deno_graph_module_info.specs.HeadTail.{head_comments, tail_comments}
 use Rattle.deno_graph_module_info.specs.JsDocInfo.{IsJsDocList, info_of}
@@ -30,10 +30,16 @@ use Rattle.deno_graph_module_info.specs.Pragma.{
   source_mapping_url_pragma,
 }
 use Rattle.deno_graph_module_info.proofs.Collected.{imports_of}
-use Rattle.deno_graph_module_info.proofs.SomeNamed.{names_first, names_last, names_types, partners, references}
+use Rattle.deno_graph_module_info.proofs.SomeNamed.{
+  names_first,
+  names_last,
+  names_types,
+  partners,
+  references,
+}
 use Rattle.deno_graph_module_info.proofs.SomeScript.{some_script}
 
-described : (source : List ℕ) (item : Item)
+described : (source : List ℕ) (item : Descriptor)
     → (dependency : DependencyDescriptor) × Describes source item dependency
 described source item =
     let types = names_types source (comments_before item) in

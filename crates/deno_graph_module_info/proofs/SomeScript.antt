@@ -1,4 +1,4 @@
--- A body is a script, or it is none.
+-- A body is a script or isn't.
 use Rattle.std.proofs.Common.{
   ◌≡◌,
   ◌↔◌,
@@ -29,10 +29,10 @@ use Rattle.std.proofs.lemmas.Bool.{false≢true}
 use Rattle.std.proofs.lemmas.List.Elements.{All-cons, All-head, All-nil, All-tail}
 use Rattle.deno_graph_source.specs.declared.tree.node.Node.{Node}
 use Rattle.deno_graph_source.specs.Node.{kind_of}
-use Rattle.deno_graph_dep.specs.ListedPaths.{listed_paths}
+use Rattle.deno_graph_dep.specs.internal.ListingPaths.{listing_paths}
 use Rattle.deno_graph_dep.specs.Listing.{IsReachable, Rules}
 use Rattle.deno_graph_source.specs.NodePath.{NodePath, LeadsTo, node_at}
-use Rattle.deno_graph_dep.proofs.Listings.{IsListing-listed_paths}
+use Rattle.deno_graph_dep.proofs.Listings.{IsListing-listing_paths}
 use Rattle.deno_graph_module_info.specs.Script.{
   is_await,
   is_function,
@@ -42,22 +42,22 @@ use Rattle.deno_graph_module_info.specs.Script.{
   IsImportMeta,
   IsScript,
 }
-use Rattle.deno_graph_module_info.specs.ScriptSteps.{MakesModule}
+use Rattle.deno_graph_module_info.specs.internal.ScriptSteps.{MakesModule}
 use Rattle.deno_graph_module_info.proofs.Scripts.{in_body, no_function_round, IsScript-made}
 use Rattle.deno_graph_pragmas.proofs.SomeSplit.{Decided}
 
--- every `import.meta`, and every await in no function, by its path
+-- the paths to each `import.meta` and to each await outside functions
 abbrev metas : Rules
 metas = record {
   is_closed = λ node. false;
-  is_listed = λ node. is_import_meta (kind_of node);
+  is_member = λ node. is_import_meta (kind_of node);
   is_after_inside = λ node. false;
 }
 
 abbrev awaits : Rules
 awaits = record {
   is_closed = λ node. is_function (kind_of node);
-  is_listed = λ node. is_await (kind_of node);
+  is_member = λ node. is_await (kind_of node);
   is_after_inside = λ node. false;
 }
 
@@ -73,7 +73,7 @@ none_in : (paths : List NodePath) (path : NodePath) → paths ≡ [] → Contain
 none_in paths path is has =
     let here = subst (λ ps. Contains ps path) is has in absurd (omega (arith, here.1))
 
--- an item that a script may have
+-- an item that a script may have: no import or export, and nothing in it makes a module
 abbrev IsPlain : Node → Type 0
 IsPlain item = is_module_item (kind_of item) ≡ false
 
@@ -93,7 +93,7 @@ decide_items (item ∷ body) = by (is_module_item (kind_of item)) refl (decide_i
         cc)
 
 module _ (body : List Node) where
-  made : listed_paths metas body ≡ [] → listed_paths awaits body ≡ [] → (k : ℕ) (item : Node)
+  made : listing_paths metas body ≡ [] → listing_paths awaits body ≡ [] → (k : ℕ) (item : Node)
       → slice_get body k ≡ Some item → MakesModule false item → ⊥
   made no_metas no_awaits k item at (path, inl meta) =
       let leads = in_body IsImportMeta body k item path at meta in
@@ -101,26 +101,26 @@ module _ (body : List Node) where
         to_node = to_some IsImportMeta (node_at body (k ∷ path)) leads;
         is_open = λ front goes closed. never (node_at body front) closed;
       } in
-      none_in (listed_paths metas body) (k ∷ path) no_metas
-      (((IsListing-listed_paths metas body).members (k ∷ path)).1 (reachable, leads))
+      none_in (listing_paths metas body) (k ∷ path) no_metas
+      (((IsListing-listing_paths metas body).members (k ∷ path)).1 (reachable, leads))
   made no_metas no_awaits k item at (path, inr (outside, bare)) =
       let leads = in_body IsAwait body k item path at bare.await in
       let reachable : IsReachable awaits body (k ∷ path) = record {
         to_node = to_some IsAwait (node_at body (k ∷ path)) leads;
         is_open = λ front goes closed. no_function_round body k item path front at bare goes closed;
       } in
-      none_in (listed_paths awaits body) (k ∷ path) no_awaits
-      (((IsListing-listed_paths awaits body).members (k ∷ path)).1 (reachable, leads))
+      none_in (listing_paths awaits body) (k ∷ path) no_awaits
+      (((IsListing-listing_paths awaits body).members (k ∷ path)).1 (reachable, leads))
 
   first_of : (rules : Rules) (path : NodePath) (paths : List NodePath)
-      → listed_paths rules body ≡ path ∷ paths
-      → IsReachable rules body path × LeadsTo (λ node. IsTrue (rules.is_listed node)) body path
+      → listing_paths rules body ≡ path ∷ paths
+      → IsReachable rules body path × LeadsTo (λ node. IsTrue (rules.is_member node)) body path
   first_of rules path paths is =
-      ((IsListing-listed_paths rules body).members path).0
+      ((IsListing-listing_paths rules body).members path).0
       (subst (λ ps. Contains ps path) (sym is) (0, omega arith, refl))
 
   by_paths : All IsPlain body → (ps qs : List NodePath)
-      → listed_paths metas body ≡ ps → listed_paths awaits body ≡ qs → Decided (IsScript body)
+      → listing_paths metas body ≡ ps → listing_paths awaits body ≡ qs → Decided (IsScript body)
   by_paths items [] [] no_metas no_awaits =
       inl (IsScript-made body items (λ k item at makes. made no_metas no_awaits k item at makes))
   by_paths items (path ∷ ps) qs is _ =
@@ -134,7 +134,7 @@ module _ (body : List Node) where
   decide_script = by (decide_items body)
     where
       by : Decided (All IsPlain body) → Decided (IsScript body)
-      by (inl items) = by_paths items (listed_paths metas body) (listed_paths awaits body) refl refl
+      by (inl items) = by_paths items (listing_paths metas body) (listing_paths awaits body) refl refl
       by (inr none) = inr (λ script. none script.no_module_item)
 
   pub some_script : (is_script : Bool) × (IsTrue is_script ↔ IsScript body)

@@ -1,4 +1,4 @@
--- The dependencies of a valid source spell what their arguments evaluate to.
+-- The arguments of the dependencies of a valid source spell the texts of their expressions.
 use Rattle.std.proofs.Common.{◌≡◌, ℕ, List, [], ◌∷◌, map, refl, sym, ap, subst}
 use Rattle.std.specs.List.{AllZip}
 use Rattle.deno_graph_source.specs.Comments.{FiledComments}
@@ -9,9 +9,9 @@ use Rattle.deno_graph_info.specs.declared.analysis.dependency.DependencyDescript
 use Rattle.deno_graph_info.specs.declared.analysis.specifier_with_range.SpecifierWithRange.{SpecifierWithRange}
 use Rattle.std.specs.Prelude.{Option}
 use Rattle.deno_graph_dep.specs.Argument.{Form, ArgumentPart, text, parts, expression, known, unknown}
-use Rattle.deno_graph_dep.specs.Item.{Item, static_item, dynamic_item}
-use Rattle.deno_graph_dep.specs.SpelledItems.{SpellsArgument, SpellsIn}
-use Rattle.deno_graph_dep.proofs.SpelledItems.{dependencies_spell}
+use Rattle.deno_graph_dep.specs.Descriptor.{Descriptor, static_descriptor, dynamic_descriptor}
+use Rattle.deno_graph_dep.specs.SpelledArguments.{SpellsArgument, SpellsIn}
+use Rattle.deno_graph_dep.proofs.SpelledArguments.{dependencies_spell}
 use Rattle.deno_graph_module_info.specs.ModuleInfo.{
   AreDescribed,
   Describes,
@@ -34,19 +34,20 @@ same_parts : (ps : List ArgumentPart) → map part_said (map template_part_of ps
 same_parts [] = refl
 same_parts (p ∷ ps) = λ i. same_part p i ∷ same_parts ps i
 
--- an argument says the form that it was made of
+-- the form of the argument made of a form is that form
 same_form : (form : Form) → form_said (argument_of_form form) ≡ form
 same_form (text known_text) = refl
 same_form (parts ps) = ap parts (same_parts ps)
 same_form expression = refl
 
-spells_as : (source : List ℕ) (node : Node) (item : Item) (types : Option SpecifierWithRange)
+spells_as : (source : List ℕ) (node : Node) (item : Descriptor) (types : Option SpecifierWithRange)
     → SpellsIn node item → SpellsDependency node (dependency_of source item types)
-spells_as source node (static_item item) types spells = tt
-spells_as source node (dynamic_item item) types spells =
+spells_as source node (static_descriptor item) types spells = tt
+spells_as source node (dynamic_descriptor item) types spells =
     subst (SpellsArgument node) (sym (same_form item.argument)) spells
 
-all_as : (source : List ℕ) (nodes : List Node) (items : List Item) (dependencies : List DependencyDescriptor)
+all_as : (source : List ℕ) (nodes : List Node) (items : List Descriptor)
+    (dependencies : List DependencyDescriptor)
     → AllZip SpellsIn nodes items → AllZip (Describes source) items dependencies
     → AllZip SpellsDependency nodes dependencies
 all_as source [] [] [] spell describe = tt
@@ -67,6 +68,6 @@ described_spell source program comments dependencies valid are =
     let spelled = dependencies_spell comments program are.items valid.shapes are.are_dependencies in
     record {
       nodes = spelled.nodes;
-      are_listed = spelled.are_listed;
+      are_nodes = spelled.are_nodes;
       spell = all_as source spelled.nodes are.items dependencies spelled.spell are.describe;
     }

@@ -1,9 +1,9 @@
 ghost use Rattle.std.specs.Prelude.{◌≡◌, All, IfOk, OnOk, map};
 ghost use Rattle.deno_graph_source.specs.Source.{IsValid};
 ghost use Rattle.deno_graph_dep.specs.Argument.{form_seen, part_seen};
-ghost use Rattle.deno_graph_dep.specs.Item.{dynamic_item, dynamic_item_of, item_of, static_item, static_item_of};
+ghost use Rattle.deno_graph_dep.specs.Descriptor.{dynamic_descriptor, dynamic_descriptor_seen, descriptor_seen, static_descriptor, static_descriptor_seen};
 ghost use Rattle.deno_graph_module_info.specs.ModuleInfo.{argument_of_form, template_part_of, AreDescribed, CoversTypes, Describes, FitsText};
-ghost use Rattle.deno_graph_module_info.specs.ReadTypes.{AreRead};
+ghost use Rattle.deno_graph_module_info.specs.internal.ReadTypes.{AreRead};
 ghost use Rattle.deno_graph_info.specs.declared.analysis.dependency.DependencyDescriptor.TheVariants.{Static, Dynamic};
 
 use crate::read_types::{ReadTypes, types_before};
@@ -18,8 +18,8 @@ use deno_graph_info::analysis::{
 use deno_graph_source::tree::{Comments, Program};
 use std::alloc::{AllocError, Global};
 
-/// The dependencies as values of their own, with their positions in the text and with the types
-/// that the comments before them name.
+/// Returns the dependencies of a module as values that own their texts, with positions in the text,
+/// and with the types that the comments before them name. The only error is that memory ran out.
 pub(crate) fn analyze_dependencies(
     alloc: Global,
     program: &Program,
@@ -39,15 +39,16 @@ pub(crate) fn analyze_dependencies(
     Ok(dependencies)
 }
 
+/// Returns the dependency that a descriptor describes.
 fn dependency(
     alloc: Global,
     text_info: &SourceTextInfo,
     descriptor: dep::DependencyDescriptor<'_>,
     read: &mut ReadTypes,
 ) -> Result<DependencyDescriptor, AllocError>
-    requires fits { FitsText text_info.now (item_of descriptor) }
+    requires fits { FitsText text_info.now (descriptor_seen descriptor) }
     requires read { AreRead text_info.now read.old }
-    ensures is { IfOk result (Describes text_info.now (item_of descriptor.entry)) }
+    ensures is { IfOk result (Describes text_info.now (descriptor_seen descriptor.entry)) }
     ensures covers { IfOk result (CoversTypes text_info.now) }
     ensures read { OnOk result (AreRead text_info.now read.new) }
 {
@@ -61,16 +62,17 @@ fn dependency(
     }
 }
 
+/// Returns the static dependency that a descriptor describes.
 fn static_dependency(
     alloc: Global,
     text_info: &SourceTextInfo,
     found: dep::StaticDependencyDescriptor<'_>,
     read: &mut ReadTypes,
 ) -> Result<StaticDependencyDescriptor, AllocError>
-    requires fits { FitsText text_info.now (static_item (static_item_of found)) }
+    requires fits { FitsText text_info.now (static_descriptor (static_descriptor_seen found)) }
     requires read { AreRead text_info.now read.old }
     ensures is { IfOk result (λ dependency.
-        Describes text_info.now (static_item (static_item_of found.entry)) (Static dependency)) }
+        Describes text_info.now (static_descriptor (static_descriptor_seen found.entry)) (Static dependency)) }
     ensures covers { IfOk result (λ dependency. CoversTypes text_info.now (Static dependency)) }
     ensures read { OnOk result (AreRead text_info.now read.new) }
 {
@@ -84,16 +86,17 @@ fn static_dependency(
     })
 }
 
+/// Returns the dynamic dependency that a descriptor describes.
 fn dynamic_dependency(
     alloc: Global,
     text_info: &SourceTextInfo,
     found: dep::DynamicDependencyDescriptor<'_>,
     read: &mut ReadTypes,
 ) -> Result<DynamicDependencyDescriptor, AllocError>
-    requires fits { FitsText text_info.now (dynamic_item (dynamic_item_of found)) }
+    requires fits { FitsText text_info.now (dynamic_descriptor (dynamic_descriptor_seen found)) }
     requires read { AreRead text_info.now read.old }
     ensures is { IfOk result (λ dependency.
-        Describes text_info.now (dynamic_item (dynamic_item_of found.entry)) (Dynamic dependency)) }
+        Describes text_info.now (dynamic_descriptor (dynamic_descriptor_seen found.entry)) (Dynamic dependency)) }
     ensures covers { IfOk result (λ dependency. CoversTypes text_info.now (Dynamic dependency)) }
     ensures read { OnOk result (AreRead text_info.now read.new) }
 {
@@ -106,6 +109,7 @@ fn dynamic_dependency(
     })
 }
 
+/// Returns a copy of an argument that owns its texts.
 fn owned_argument(
     alloc: Global,
     argument: &dep::DynamicArgument<'_>,
@@ -123,6 +127,7 @@ fn owned_argument(
     }
 }
 
+/// Returns copies of the parts of a template that own their texts.
 fn owned_parts(
     alloc: Global,
     parts: &[dep::DynamicTemplatePart<'_>],
@@ -136,6 +141,7 @@ fn owned_parts(
     Ok(owned)
 }
 
+/// Returns a copy of a part of a template that owns its text.
 fn owned_part(
     alloc: Global,
     part: &dep::DynamicTemplatePart<'_>,

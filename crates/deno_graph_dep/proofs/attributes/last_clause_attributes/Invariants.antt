@@ -1,4 +1,4 @@
--- The properties so far are looked at as they are to be.
+-- The last clause among the properties so far, and whether one has the key `with`.
 use Rattle.std.specs.Option.{option_copied}
 use Rattle.deno_graph_dep.proofs.LastClause.{LookedAtBelow}
 use Rattle.deno_graph_dep.proofs.attributes.last_clause_attributes.Given as goal

@@ -1,7 +1,7 @@
 use Rattle.std.proofs.Common.{◌≡◌, ◌++◌, [], ◌∷◌, map, sym, ap, subst, ◌∙◌, refl, All, append_assoc}
 use Rattle.std.proofs.lemmas.List.Elements.{All-nil, All-push, All-head, All-tail}
 use Rattle.std.specs.List.{AllZip}
-use Rattle.deno_graph_dep.specs.Item.{item_of}
+use Rattle.deno_graph_dep.specs.Descriptor.{descriptor_seen}
 use Rattle.deno_graph_module_info.specs.ModuleInfo.{CoversTypes, Describes, FitsText}
 use Rattle.deno_graph_module_info.proofs.ItemComments.{dependencies_fit}
 use Rattle.deno_graph_module_info.proofs.ReadTypes.{read_none}
@@ -18,28 +18,28 @@ loop-descriptor-init c =
       described = subst (λ made. AllZip (Describes text) [] made) (sym c.in_ok-dependencies.ensures) tt;
       cover = subst (All (CoversTypes text)) (sym c.in_ok-dependencies.ensures) (All-nil (CoversTypes text));
       read = read_none text c.new-read.result c.new-read.ensures.empty;
-      fits = subst (All (FitsText text)) (ap (map item_of) (sym items))
+      fits = subst (All (FitsText text)) (ap (map descriptor_seen) (sym items))
           (dependencies_fit text c.args.program.now c.args.comments.now _ c.requires
           c.in_ok-found.ensures.listing);
     }
 
 pub dependency-requires-clause-fits : goal.dependency-requires-clause-fits
 dependency-requires-clause-fits c =
-    let step : map item_of c.loop-descriptor.descriptor-iterator.rest.items
-    ≡ item_of c.in-Some.descriptor ∷ map item_of c.next.new.self.rest.items =
-    ap (map item_of) c.in-Some.ensures.steps.0 in
-    All-head (FitsText c.args.text_info.now) (item_of c.in-Some.descriptor)
-    (map item_of c.next.new.self.rest.items)
+    let step : map descriptor_seen c.loop-descriptor.descriptor-iterator.rest.items
+    ≡ descriptor_seen c.in-Some.descriptor ∷ map descriptor_seen c.next.new.self.rest.items =
+    ap (map descriptor_seen) c.in-Some.ensures.steps.0 in
+    All-head (FitsText c.args.text_info.now) (descriptor_seen c.in-Some.descriptor)
+    (map descriptor_seen c.next.new.self.rest.items)
     (subst (All (FitsText c.args.text_info.now)) step c.loop-descriptor.invariant.fits)
 
 pub loop-descriptor-preserved : goal.loop-descriptor-preserved
 loop-descriptor-preserved c =
     let text = c.args.text_info.now in
-    let item = item_of c.in-Some.descriptor in
-    let rest = map item_of c.next.new.self.rest.items in
+    let item = descriptor_seen c.in-Some.descriptor in
+    let rest = map descriptor_seen c.next.new.self.rest.items in
     let before = c.loop-descriptor.invariant in
-    let step : map item_of c.loop-descriptor.descriptor-iterator.rest.items ≡ item ∷ rest =
-    ap (map item_of) c.in-Some.ensures.steps.0 in
+    let step : map descriptor_seen c.loop-descriptor.descriptor-iterator.rest.items ≡ item ∷ rest =
+    ap (map descriptor_seen) c.in-Some.ensures.steps.0 in
     record {
       done = before.done ++ item ∷ [];
       whole = before.whole ∙ ap (λ t. before.done ++ t) step

@@ -2,11 +2,16 @@ use Rattle.std.proofs.Common.{◌≡◌, inr, subst, refl}
 use Rattle.deno_graph_pragmas.specs.Finders as finder
 use Rattle.deno_graph_pragmas.specs.Match.{IsQuotedIn, IsSliceIn, match_part_of, pragma_part_of}
 use Rattle.deno_graph_pragmas.specs.Split.{HasSplit, IsCaptured, IsSliceOf, IsInQuotes}
-use Rattle.deno_graph_module_info.proofs.Named.{covers_as_written, deno_types_named, no_types_named, ts_types_named}
+use Rattle.deno_graph_module_info.proofs.Named.{
+  covers_as_written,
+  deno_types_named,
+  no_types_named,
+  ts_types_named,
+}
 use Rattle.deno_graph_module_info.proofs.types.types_in.Goals as goal
 
-pub found_specifier-requires : goal.found_specifier-requires
-found_specifier-requires c = record {
+pub specifier_of_match-requires : goal.specifier_of_match-requires
+specifier_of_match-requires c = record {
   spelled = c.requires;
   slice = subst (λ t. IsSliceIn t c.in-Some.found) c.as_str-text.ensures c.in-Some.ensures.slice;
   quoted = λ _. subst (λ t. IsQuotedIn t c.in-Some.found) c.as_str-text.ensures c.in-Some.ensures.quotes;
