@@ -1,4 +1,4 @@
-//! The imports that JSDoc comments state.
+//! The imports in JSDoc comments.
 
 pub use deno_graph_jsdoc::{
     JsDocImport, NoParse, Scan, parse_jsdoc_dynamic_import, parse_jsdoc_import_decl, scan,

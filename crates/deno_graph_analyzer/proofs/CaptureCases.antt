@@ -1,4 +1,4 @@
--- Two ways of a capturing parser's call: the source in the store is the answer, or the parser is asked.
+-- The two cases of a call of a capturing parser: it returns the stored source, or calls the parser.
 use Rattle.std.proofs.Common.{
   ◌≡◌,
   ℕ,
@@ -22,14 +22,14 @@ use Rattle.std.proofs.Common.{
 }
 use Rattle.deno_graph_source.specs.ParsedSource.{ParsedModule}
 use Rattle.deno_graph_analyzer.specs.Captures.{State, IsSoundState, Captures}
-use Rattle.deno_graph_analyzer.specs.Capturing.{IsFaithful, MatchesInput, HasSourceFor, asked_for}
-use Rattle.deno_graph_analyzer.specs.Parsing.{ParseFunction, AnswerRelation, Input, AnswersAs}
+use Rattle.deno_graph_analyzer.specs.Capturing.{IsFaithful, MatchesInput, HasSourceFor, after_look_up}
+use Rattle.deno_graph_analyzer.specs.Parsing.{ParseFunction, ResultRelation, Input, IsParseResult}
 use Rattle.deno_graph_analyzer.specs.Sources.{Sources, source_at, with_source}
-use Rattle.deno_graph_analyzer.specs.declared.parse_error.ParseError.{ParseError}
-use Rattle.deno_graph_analyzer.specs.declared.parse_error.ParseError.TheVariants.{OutOfMemory}
+use Rattle.deno_graph_analyzer.specs.declared.parser.ParseError.{ParseError}
+use Rattle.deno_graph_analyzer.specs.declared.parser.ParseError.TheVariants.{OutOfMemory}
 use Rattle.deno_graph_analyzer.proofs.Captured.{
-  hit_before,
-  hit_after,
+  stored_before,
+  stored_after,
   faithful_asked,
   faithful_answer,
   faithful_after,
@@ -40,25 +40,25 @@ err_weaker (Ok x) f err = tt
 err_weaker (Err e) f err = f err
 
 module _ {P : Type 0} (parses : P → ParseFunction) (count : P → ℕ) (is_sound : P → Type 0)
-    (may_answer : P → AnswerRelation) (scope : Bool) (input : Input) (old new : State P) where
-  -- the source in the store has the text
-  pub answered_from_store : (source : ParsedModule) → new.parser ≡ old.parser
-      → new.sources ≡ asked_for scope old.sources input.specifier
+    (may_return : P → ResultRelation) (scope : Bool) (input : Input) (old new : State P) where
+  -- the stored source has the text and the media type of the input
+  pub captured_from_store : (source : ParsedModule) → new.parser ≡ old.parser
+      → new.sources ≡ after_look_up scope old.sources input.specifier
       → source_at new.sources input.specifier ≡ Some source → MatchesInput input source
-      → Captures parses count is_sound may_answer scope input old (Ok source) new
-  answered_from_store source parser sources found has =
-      let at : source_at (asked_for scope old.sources input.specifier) input.specifier ≡ Some source =
+      → Captures parses count is_sound may_return scope input old (Ok source) new
+  captured_from_store source parser sources found has =
+      let at : source_at (after_look_up scope old.sources input.specifier) input.specifier ≡ Some source =
       ap (λ m. source_at m input.specifier) (sym sources) ∙ found in
-      let is_hit : HasSourceFor old.sources input = hit_before scope old.sources input source at has in
+      let is_stored : HasSourceFor old.sources input = stored_before scope old.sources input source at has in
       let function : parses new.parser ≡ parses old.parser = ap parses parser in
       let count_same : count new.parser ≡ count old.parser = ap count parser in
       let still : IsSoundState parses is_sound old → IsFaithful (parses old.parser) new.sources = λ sound.
       subst (IsFaithful (parses old.parser)) (sym sources)
       (faithful_asked (parses old.parser) scope old.sources input.specifier sound.sources) in
       record {
-        hit = λ hit. record { answer = at; error = tt; parser = parser; kept = sources };
-        miss = λ miss. absurd (miss is_hit);
-        outcome = λ miss sound. absurd (miss is_hit);
+        stored = λ stored. record { answer = at; error = tt; parser = parser; kept = sources };
+        absent = λ absent. absurd (absent is_stored);
+        outcome = λ absent sound. absurd (absent is_stored);
         err = tt;
         function = function;
         counted = (omega arith, omega arith);
@@ -71,31 +71,31 @@ module _ {P : Type 0} (parses : P → ParseFunction) (count : P → ℕ) (is_sou
             (still sound) found has;
       }
 
-  -- the store that was asked, `between`, has no source with the text
-  pub answered_from_parser : (between : Sources) (result : Result ParsedModule ParseError)
-      → between ≡ asked_for scope old.sources input.specifier
+  -- the sources after the look-up, `between`, have no source for the input
+  pub captured_from_parser : (between : Sources) (result : Result ParsedModule ParseError)
+      → between ≡ after_look_up scope old.sources input.specifier
       → IfSome (source_at between input.specifier) (λ source. ¬ MatchesInput input source)
-      → (is_sound old.parser → AnswersAs (parses old.parser) input result)
-      → ((result ≡ Err OutOfMemory) ⊎ may_answer old.parser input scope result)
+      → (is_sound old.parser → IsParseResult (parses old.parser) input result)
+      → ((result ≡ Err OutOfMemory) ⊎ may_return old.parser input scope result)
       → IfOk result (λ source. new.sources ≡ with_source between input.specifier source)
       → OnErr result (new.sources ≡ between)
       → parses new.parser ≡ parses old.parser
       → (count old.parser ≤ count new.parser) × (count new.parser ≤ count old.parser + 1)
       → (is_sound old.parser → is_sound new.parser)
-      → Captures parses count is_sound may_answer scope input old result new
-  answered_from_parser between result asked other outcome own kept err function counted sound_parser =
-      let no_hit : ¬ HasSourceFor old.sources input = λ hit.
-      let there = hit_after scope old.sources input hit in
+      → Captures parses count is_sound may_return scope input old result new
+  captured_from_parser between result asked other outcome own kept err function counted sound_parser =
+      let not_stored : ¬ HasSourceFor old.sources input = λ stored.
+      let there = stored_after scope old.sources input stored in
       let at = ap (λ m. source_at m input.specifier) asked ∙ there.1 in
       subst (λ found. IfSome found (λ source. ¬ MatchesInput input source)) at other there.2 in
       record {
-        hit = λ hit. absurd (no_hit hit);
-        miss = λ miss. record {
+        stored = λ stored. absurd (not_stored stored);
+        absent = λ absent. record {
           answer = own;
           kept = subst (λ m. IfOk result (λ source. new.sources ≡ with_source m input.specifier source)) asked
               kept;
         };
-        outcome = λ miss. outcome;
+        outcome = λ absent. outcome;
         err = err_weaker result (λ same. inr (same ∙ asked)) err;
         function = function;
         counted = counted;

@@ -1,4 +1,4 @@
--- A store that was asked for a source, and one that was given a new one.
+-- A store after a look-up, and after a new source is stored.
 use Rattle.std.proofs.Common.{
   ◌≡◌,
   ℕ,
@@ -23,13 +23,20 @@ use Rattle.std.proofs.Common.{
 }
 use Rattle.std.specs.Str.{bytes_eq}
 use Rattle.deno_graph_source.specs.ParsedSource.{ParsedModule, marked}
-use Rattle.deno_graph_analyzer.specs.Capturing.{IsFaithful, MatchesInput, HasSourceFor, asked_for}
-use Rattle.deno_graph_analyzer.specs.Parsing.{ParseFunction, Input, IsParsed, AnswersAs, input_of, input_under}
+use Rattle.deno_graph_analyzer.specs.Capturing.{IsFaithful, MatchesInput, HasSourceFor, after_look_up}
+use Rattle.deno_graph_analyzer.specs.Parsing.{
+  ParseFunction,
+  Input,
+  IsParsed,
+  IsParseResult,
+  input_of,
+  input_under,
+}
 use Rattle.deno_graph_analyzer.specs.Sources.{Sources, source_at, with_source, with_mark_of}
-use Rattle.deno_graph_analyzer.specs.declared.parse_error.ParseError.{ParseError}
-use Rattle.deno_graph_analyzer.proofs.KeptSources.{source_at-with_source, equal_text}
+use Rattle.deno_graph_analyzer.specs.declared.parser.ParseError.{ParseError}
+use Rattle.deno_graph_analyzer.proofs.StoredSources.{source_at-with_source, equal_text}
 
--- where a second map of sources has what the first has, or that with its mark
+-- the sources `n` have at a key what `m` has, or the same source with its mark
 pub data MayBeMarked (m n : Sources) (key : List ℕ) : Type 0 where
   as_before : source_at n key ≡ source_at m key → MayBeMarked m n key
   now_marked : (source : ParsedModule) → source_at m key ≡ Some source
@@ -50,10 +57,11 @@ marked_in m key (Some source) is other =
       | false ↦ λ other at. as_before at
     ] refl at
 
--- the store that was asked differs in a mark alone
-pub asked_at : (scope : Bool) (m : Sources) (key other : List ℕ) → MayBeMarked m (asked_for scope m key) other
-asked_at false m key other = as_before refl
-asked_at true m key other = marked_in m key (source_at m key) refl other
+-- a look-up changes at most one mark
+pub look_up_marks : (scope : Bool) (m : Sources) (key other : List ℕ)
+    → MayBeMarked m (after_look_up scope m key) other
+look_up_marks false m key other = as_before refl
+look_up_marks true m key other = marked_in m key (source_at m key) refl other
 
 some_is : {A : Type 0} {x y : A} → Some x ≡ Some y → x ≡ y
 some_is e = cc
@@ -69,40 +77,43 @@ marked_text : (input : Input) (source : ParsedModule) → MatchesInput input sou
     → MatchesInput input (marked source)
 marked_text input source has = record { text = has.text; media_type = has.media_type }
 
-hit_from : (m n : Sources) (input : Input) (source : ParsedModule) → MayBeMarked m n input.specifier
+stored_from : (m n : Sources) (input : Input) (source : ParsedModule) → MayBeMarked m n input.specifier
     → source_at n input.specifier ≡ Some source → MatchesInput input source → HasSourceFor m input
-hit_from m n input source (as_before same) is has = (source, sym same ∙ is, has)
-hit_from m n input source (now_marked before was now) is has =
+stored_from m n input source (as_before same) is has = (source, sym same ∙ is, has)
+stored_from m n input source (now_marked before was now) is has =
     (before, was, unmarked_text input before (subst (MatchesInput input) (some_is (sym is ∙ now)) has))
 
--- a source that the store that was asked has for the input was there before
-pub hit_before : (scope : Bool) (m : Sources) (input : Input) (source : ParsedModule)
-    → source_at (asked_for scope m input.specifier) input.specifier ≡ Some source → MatchesInput input source
+-- a source for the input after the look-up was there before the look-up
+pub stored_before : (scope : Bool) (m : Sources) (input : Input) (source : ParsedModule)
+    → source_at (after_look_up scope m input.specifier) input.specifier ≡ Some source
+    → MatchesInput input source
     → HasSourceFor m input
-hit_before scope m input source = hit_from m _ input source (asked_at scope m input.specifier input.specifier)
+stored_before scope m input source =
+    stored_from m _ input source (look_up_marks scope m input.specifier input.specifier)
 
 found_from : (m n : Sources) (input : Input) → MayBeMarked m n input.specifier → HasSourceFor m input
     → (source : ParsedModule) × (source_at n input.specifier ≡ Some source) × MatchesInput input source
-found_from m n input (as_before same) hit = (hit.0, same ∙ hit.1, hit.2)
-found_from m n input (now_marked before was now) hit = (
+found_from m n input (as_before same) stored = (stored.0, same ∙ stored.1, stored.2)
+found_from m n input (now_marked before was now) stored = (
   marked before,
   now,
   marked_text input before
-      (subst (MatchesInput input) (some_is (sym hit.1 ∙ was)) hit.2),
+      (subst (MatchesInput input) (some_is (sym stored.1 ∙ was)) stored.2),
 )
 
--- and one that was there is found
-pub hit_after : (scope : Bool) (m : Sources) (input : Input) → HasSourceFor m input
-    → (source : ParsedModule) × (source_at (asked_for scope m input.specifier) input.specifier ≡ Some source)
+-- a source for the input before the look-up is there after the look-up
+pub stored_after : (scope : Bool) (m : Sources) (input : Input) → HasSourceFor m input
+    → (source : ParsedModule)
+    × (source_at (after_look_up scope m input.specifier) input.specifier ≡ Some source)
     × MatchesInput input source
-hit_after scope m input = found_from m _ input (asked_at scope m input.specifier input.specifier)
+stored_after scope m input = found_from m _ input (look_up_marks scope m input.specifier input.specifier)
 
 module _ (parses : ParseFunction) where
   parsed_marked : (input : Input) (source : ParsedModule) → IsParsed parses input source
       → IsParsed parses input (marked source)
   parsed_marked input source is = record { from_input = is.from_input; outcome = is.outcome }
 
-  -- the parse function's source for the text that it has itself is that for the input with this text
+  -- a source that matches an input is the outcome of the input if it is the outcome of its own text
   parsed_for : (input : Input) (source : ParsedModule) → MatchesInput input source
       → IsParsed parses (input_under input.specifier source) source → IsParsed parses input source
   parsed_for input source has is =
@@ -113,7 +124,7 @@ module _ (parses : ParseFunction) where
       } in
       subst (λ (asked : Input). IsParsed parses asked source) same is
 
-  -- what a faithful store has for an input is the parse function's
+  -- a source for an input in a faithful store is the outcome of the input
   pub faithful_answer : (m : Sources) (input : Input) (source : ParsedModule) → IsFaithful parses m
       → source_at m input.specifier ≡ Some source → MatchesInput input source → IsParsed parses input source
   unfolding IsFaithful
@@ -129,12 +140,12 @@ module _ (parses : ParseFunction) where
       subst (λ (s : ParsedModule). IsParsed parses (input_under key s) s) (some_is (sym now ∙ is))
       (parsed_marked _ before (faithful key before was))
 
-  -- a faithful store that was asked is faithful
+  -- a faithful store stays faithful after a look-up
   pub faithful_asked : (scope : Bool) (m : Sources) (key : List ℕ) → IsFaithful parses m
-      → IsFaithful parses (asked_for scope m key)
+      → IsFaithful parses (after_look_up scope m key)
   unfolding IsFaithful
   faithful_asked scope m key faithful =
-      λ other source. faithful_at m _ other source faithful (asked_at scope m key other)
+      λ other source. faithful_at m _ other source faithful (look_up_marks scope m key other)
 
   faithful_one : (m : Sources) (input : Input) (source : ParsedModule) → IsFaithful parses m
       → IsParsed parses input source
@@ -153,7 +164,7 @@ module _ (parses : ParseFunction) where
       (subst (λ (asked : Input). IsParsed parses asked source) same_input is)
   faithful_one m input source faithful is key other false apart at = faithful key other at
 
-  -- a faithful store with one more source of the parse function is faithful
+  -- a faithful store stays faithful after an outcome is stored
   pub faithful_with : (m : Sources) (input : Input) (source : ParsedModule) → IsFaithful parses m
       → IsParsed parses input source → IsFaithful parses (with_source m input.specifier source)
   unfolding IsFaithful
@@ -161,10 +172,10 @@ module _ (parses : ParseFunction) where
       faithful_one m input source faithful is key other (bytes_eq input.specifier key) refl
       (sym (source_at-with_source m input.specifier source key) ∙ at)
 
-  -- whatever the parser answered, the store stays faithful
+  -- a faithful store stays faithful after any result of the parser
   pub faithful_after : (m : Sources) (input : Input) (result : Result ParsedModule ParseError)
       (after : Sources)
-      → IsFaithful parses m → AnswersAs parses input result
+      → IsFaithful parses m → IsParseResult parses input result
       → IfOk result (λ source. after ≡ with_source m input.specifier source) → OnErr result (after ≡ m)
       → IsFaithful parses after
   faithful_after m input (Ok source) after faithful answer kept same =

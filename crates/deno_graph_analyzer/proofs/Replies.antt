@@ -1,4 +1,4 @@
--- What a capturing analyzer answers, begun sound, is what the parser alone answers.
+-- From a sound state, the answers of a capturing analyzer are those of the parser alone.
 use Rattle.std.proofs.Common.{
   ◌≡◌,
   ℕ,
@@ -37,28 +37,28 @@ use Rattle.deno_graph_source.specs.ParsedSource.{ParsedModule}
 use Rattle.deno_graph_source.specs.contracts.tree.media_type.MediaType.{the_type}
 use Rattle.deno_graph_source.specs.contracts.tree.media_type.MediaTypePartialEq.TheImpl as media_types
 use Rattle.deno_graph_info.specs.declared.analysis.module_info.ModuleInfo.{ModuleInfo}
-use Rattle.deno_graph_analyzer.specs.Capturing.{IsFaithful, MatchesInput, HasSourceFor, asked_for}
+use Rattle.deno_graph_analyzer.specs.Capturing.{IsFaithful, MatchesInput, HasSourceFor, after_look_up}
 use Rattle.deno_graph_analyzer.specs.Parsing.{
   ParseFunction,
-  AnswerRelation,
+  ResultRelation,
   Input,
   IsParsed,
-  AnswersAs,
+  IsParseResult,
   input_under,
   specifier_text,
 }
 use Rattle.deno_graph_analyzer.specs.Sources.{Sources, source_at, without_source}
-use Rattle.deno_graph_analyzer.specs.declared.parse_error.ParseDiagnostic.{ParseDiagnostic}
-use Rattle.deno_graph_analyzer.specs.declared.parse_error.ParseError.{ParseError}
-use Rattle.deno_graph_analyzer.specs.declared.parse_error.ParseError.TheVariants as parse
+use Rattle.deno_graph_analyzer.specs.declared.parser.ParseDiagnostic.{ParseDiagnostic}
+use Rattle.deno_graph_analyzer.specs.declared.parser.ParseError.{ParseError}
+use Rattle.deno_graph_analyzer.specs.declared.parser.ParseError.TheVariants as parse
 use Rattle.deno_graph_analyzer.proofs.Analyses.{analysis_of_outcome}
-use Rattle.deno_graph_analyzer.proofs.KeptSources.{
+use Rattle.deno_graph_analyzer.proofs.StoredSources.{
   source_at-with_source,
   source_at-without,
   equal_text,
   same_text,
 }
-use Rattle.deno_graph_analyzer.proofs.Captured.{MayBeMarked, as_before, now_marked, asked_at}
+use Rattle.deno_graph_analyzer.proofs.Captured.{MayBeMarked, as_before, now_marked, look_up_marks}
 use Rattle.deno_graph_analyzer.specs.Analysis.{IsAnalysisOf}
 use Rattle.deno_graph_analyzer.specs.Captures.{State, IsSoundState, Captures}
 use Rattle.deno_graph_analyzer.specs.Commands.{
@@ -73,12 +73,12 @@ use Rattle.deno_graph_analyzer.specs.Commands.{
   IsAnswer,
   AreAnswers,
 }
-use Rattle.deno_graph_analyzer.specs.Runs.{as_called, Ran, Runs}
-use Rattle.deno_graph_analyzer.specs.declared.analyze_error.AnalyzeError.TheVariants as analyze
-use Rattle.deno_graph_analyzer.specs.declared.command.Command.{Command}
-use Rattle.deno_graph_analyzer.specs.declared.command.Command.TheVariants.{Analyze, Parse, Remove}
-use Rattle.deno_graph_analyzer.specs.declared.command.Answer.{Answer}
-use Rattle.deno_graph_analyzer.specs.declared.command.Answer.TheVariants.{Analyzed, Parsed, Removed}
+use Rattle.deno_graph_analyzer.specs.Runs.{with_error, Ran, Runs}
+use Rattle.deno_graph_analyzer.specs.declared.analyzer.AnalyzeError.TheVariants as analyze
+use Rattle.deno_graph_analyzer.specs.declared.run.Command.{Command}
+use Rattle.deno_graph_analyzer.specs.declared.run.Command.TheVariants.{Analyze, Parse, Remove}
+use Rattle.deno_graph_analyzer.specs.declared.run.Answer.{Answer}
+use Rattle.deno_graph_analyzer.specs.declared.run.Answer.TheVariants.{Analyzed, Parsed, Removed}
 
 both : (a b : Bool) → a && b ≡ true → (a ≡ true) × (b ≡ true)
 both true b h = (refl, h)
@@ -102,36 +102,37 @@ test_from_text asked source has =
 some_is : {A : Type 0} {x y : A} → Some x ≡ Some y → x ≡ y
 some_is e = cc
 
--- the store has a source for the input exactly where the test says so
-hit_from_test : (m : Sources) (asked : Input) (found : Option ParsedModule)
+-- `has_text` holds exactly if the store has a source for the input
+stored_by_test : (m : Sources) (asked : Input) (found : Option ParsedModule)
     → source_at m asked.specifier ≡ found → has_text asked (option_map unmarked found) ≡ true
     → HasSourceFor m asked
-hit_from_test m asked None is h = cc
-hit_from_test m asked (Some source) is h = (source, is, text_from_test asked source h)
+stored_by_test m asked None is h = cc
+stored_by_test m asked (Some source) is h = (source, is, text_from_test asked source h)
 
-pub is_hit : (m : Sources) (asked : Input)
+pub is_stored : (m : Sources) (asked : Input)
     → has_text asked (option_map unmarked (source_at m asked.specifier)) ≡ true → HasSourceFor m asked
-is_hit m asked = hit_from_test m asked (source_at m asked.specifier) refl
+is_stored m asked = stored_by_test m asked (source_at m asked.specifier) refl
 
-pub is_no_hit : (m : Sources) (asked : Input)
+pub is_not_stored : (m : Sources) (asked : Input)
     → has_text asked (option_map unmarked (source_at m asked.specifier)) ≡ false → ¬ HasSourceFor m asked
-is_no_hit m asked h hit =
-    let yes = ap (λ found. has_text asked (option_map unmarked found)) hit.1
-    ∙ test_from_text asked hit.0 hit.2 in
+is_not_stored m asked h stored =
+    let yes = ap (λ found. has_text asked (option_map unmarked found)) stored.1
+    ∙ test_from_text asked stored.0 stored.2 in
     cc
 
--- a mark shows nowhere aside from the mark
+-- without their marks, marked and unmarked sources are equal
 unmarked_from : (m n : Sources) (key : List ℕ) → MayBeMarked m n key
     → option_map unmarked (source_at n key) ≡ option_map unmarked (source_at m key)
 unmarked_from m n key (as_before same) = ap (option_map unmarked) same
 unmarked_from m n key (now_marked source was now) = ap (option_map unmarked) now
     ∙ sym (ap (option_map unmarked) was)
 
-pub unmarked_asked : (scope : Bool) (m : Sources) (key other : List ℕ)
-    → option_map unmarked (source_at (asked_for scope m key) other) ≡ option_map unmarked (source_at m other)
-unmarked_asked scope m key other = unmarked_from m _ other (asked_at scope m key other)
+pub unmarked_after_look_up : (scope : Bool) (m : Sources) (key other : List ℕ)
+    → option_map unmarked (source_at (after_look_up scope m key) other)
+    ≡ option_map unmarked (source_at m other)
+unmarked_after_look_up scope m key other = unmarked_from m _ other (look_up_marks scope m key other)
 
--- what a parse function has for an input, aside from the mark
+-- the source of an outcome, without its mark
 unmarked_parsed : (f : ParseFunction) (asked : Input) (source : ParsedModule) → IsParsed f asked source
     → Some (unmarked source) ≡ source_of_outcome asked (f asked)
 unmarked_parsed f asked source is =
@@ -152,20 +153,20 @@ cond_same true x = refl
 cond_same false x = refl
 
 module _ {P : Type 0} (parses : P → ParseFunction) (count : P → ℕ) (is_sound : P → Type 0)
-    (may_answer : P → AnswerRelation) (f : ParseFunction) where
-  hit_at : (scope : Bool) (asked : Input) (m : Sources) (source : ParsedModule)
-      → source_at (asked_for scope m asked.specifier) asked.specifier ≡ Some source
+    (may_return : P → ResultRelation) (f : ParseFunction) where
+  stored_at : (scope : Bool) (asked : Input) (m : Sources) (source : ParsedModule)
+      → source_at (after_look_up scope m asked.specifier) asked.specifier ≡ Some source
       → (other : List ℕ) (b : Bool) → bytes_eq asked.specifier other ≡ b
       → option_map unmarked (source_at m other)
       ≡ cond b (Some (unmarked source)) (option_map unmarked (source_at m other))
-  hit_at scope asked m source at other true e =
+  stored_at scope asked m source at other true e =
       ap (λ key. option_map unmarked (source_at m key)) (sym (equal_text asked.specifier other e))
-      ∙ sym (unmarked_asked scope m asked.specifier asked.specifier) ∙ ap (option_map unmarked) at
-  hit_at scope asked m source at other false e = refl
+      ∙ sym (unmarked_after_look_up scope m asked.specifier asked.specifier) ∙ ap (option_map unmarked) at
+  stored_at scope asked m source at other false e = refl
 
-  -- the store after a call that was answered
+  -- the sources after a call that isn't out of memory
   sources_after : (scope : Bool) (asked : Input) (old new : State P) (result : Result ParsedModule ParseError)
-      → Captures parses count is_sound may_answer scope asked old result new → AnswersAs f asked result
+      → Captures parses count is_sound may_return scope asked old result new → IsParseResult f asked result
       → ¬ (result ≡ Err parse.OutOfMemory) → (other : List ℕ)
       → option_map unmarked (source_at new.sources other)
       ≡ cond (bytes_eq asked.specifier other)
@@ -180,19 +181,19 @@ module _ {P : Type 0} (parses : P → ParseFunction) (count : P → ℕ) (is_sou
       ≡ cond (bytes_eq key other) (Some (unmarked source)) was =
       elim [
         | true ↦ λ e.
-            let hit = captures.hit (is_hit old.sources asked e) in
-            ap (λ sources. option_map unmarked (source_at sources other)) hit.kept
-            ∙ unmarked_asked scope old.sources key other
-            ∙ hit_at scope asked old.sources source hit.answer other (bytes_eq key other) refl
+            let stored = captures.stored (is_stored old.sources asked e) in
+            ap (λ sources. option_map unmarked (source_at sources other)) stored.kept
+            ∙ unmarked_after_look_up scope old.sources key other
+            ∙ stored_at scope asked old.sources source stored.answer other (bytes_eq key other) refl
         | false ↦ λ e.
-            let miss = captures.miss (is_no_hit old.sources asked e) in
-            ap (λ sources. option_map unmarked (source_at sources other)) miss.kept
+            let absent = captures.absent (is_not_stored old.sources asked e) in
+            ap (λ sources. option_map unmarked (source_at sources other)) absent.kept
             ∙ ap (option_map unmarked) (source_at-with_source
-            (asked_for scope old.sources key) key source other)
+            (after_look_up scope old.sources key) key source other)
             ∙ option_map-cond (bytes_eq key other) (Some source)
-            (source_at (asked_for scope old.sources key) other)
+            (source_at (after_look_up scope old.sources key) other)
             ∙ ap (λ rest. cond (bytes_eq key other) (Some (unmarked source)) rest)
-            (unmarked_asked scope old.sources key other)
+            (unmarked_after_look_up scope old.sources key other)
       ] in
       by _ refl ∙ put_at (source_of_outcome asked (f asked)) (unmarked source) (bytes_eq key other) was is
   sources_after scope asked old new (Err (parse.Diagnostic diagnostic)) captures answer fine other =
@@ -201,21 +202,21 @@ module _ {P : Type 0} (parses : P → ParseFunction) (count : P → ℕ) (is_sou
       elim captures.err [
         | inl e ↦ ap (λ sources. option_map unmarked (source_at sources other)) e
         | inr e ↦ ap (λ sources. option_map unmarked (source_at sources other)) e
-            ∙ unmarked_asked scope old.sources asked.specifier other
+            ∙ unmarked_after_look_up scope old.sources asked.specifier other
       ] in
       same ∙ sym (cond_same (bytes_eq asked.specifier other) was)
       ∙ ap (λ outcome. cond (bytes_eq asked.specifier other)
       (option_or (source_of_outcome asked outcome) was) was) (sym answer)
   sources_after scope asked old new (Err parse.OutOfMemory) captures answer fine other = absurd (fine refl)
 
-  -- the parser was asked only where the store had no source for the input
+  -- the parser is called only if the store has no source for the input
   counted_after : (scope : Bool) (asked : Input) (old new : State P) (result : Result ParsedModule ParseError)
-      → Captures parses count is_sound may_answer scope asked old result new
+      → Captures parses count is_sound may_return scope asked old result new
       → (test : Bool) → has_text asked (option_map unmarked (source_at old.sources asked.specifier)) ≡ test
       → count new.parser ≤ count old.parser + cond (not test) 1 0
   counted_after scope asked old new result captures true e =
       let same : count new.parser ≡ count old.parser =
-      ap count (captures.hit (is_hit old.sources asked e)).parser in
+      ap count (captures.stored (is_stored old.sources asked e)).parser in
       omega arith
   counted_after scope asked old new result captures false e = captures.counted.1
 
@@ -228,7 +229,7 @@ module _ {P : Type 0} (parses : P → ParseFunction) (count : P → ℕ) (is_sou
       by (bytes_eq key other) (sym (source_at-without m key other) ∙ at)
 
   module _ (start : List ℕ → Option Unmarked) where
-    -- the state is as the parser alone would have left it after these commands
+    -- the state after the past commands: sound, with the latest source of each specifier
     pub record Kept (past : List Command) (state : State P) : Type 0 where
       pub sound : IsSoundState parses is_sound state
       pub function : parses state.parser ≡ f
@@ -241,7 +242,7 @@ module _ {P : Type 0} (parses : P → ParseFunction) (count : P → ℕ) (is_sou
       pub answer : IsAnswer f start past command reply
       pub counted : count new.parser ≤ count old.parser + cond (is_miss f start past command) 1 0
 
-    -- after a call that was answered
+    -- what holds after a call that isn't out of memory
     record CapturedStep (past : List Command) (asked : Input) (result : Result ParsedModule ParseError)
         (old new : State P) : Type 0 where
       sound : IsSoundState parses is_sound new
@@ -249,16 +250,16 @@ module _ {P : Type 0} (parses : P → ParseFunction) (count : P → ℕ) (is_sou
       sources : (key : List ℕ) → option_map unmarked (source_at new.sources key)
           ≡ cond (bytes_eq asked.specifier key)
           (option_or (source_of_outcome asked (f asked)) (latest f start past key)) (latest f start past key)
-      answer : AnswersAs f asked result
+      answer : IsParseResult f asked result
       counted : count new.parser ≤ count old.parser + cond
           (not (has_text asked (latest f start past asked.specifier))) 1 0
 
     captured_step : (past : List Command) (scope : Bool) (asked : Input) (old new : State P)
         (result : Result ParsedModule ParseError)
-        → Kept past old → Captures parses count is_sound may_answer scope asked old result new
+        → Kept past old → Captures parses count is_sound may_return scope asked old result new
         → ¬ (result ≡ Err parse.OutOfMemory) → CapturedStep past asked result old new
     captured_step past scope asked old new result kept captures fine =
-        let answer = subst (λ (g : ParseFunction). AnswersAs g asked result) kept.function
+        let answer = subst (λ (g : ParseFunction). IsParseResult g asked result) kept.function
         (captures.answer kept.sound) in
         record {
           sound = captures.sound kept.sound;
@@ -273,19 +274,19 @@ module _ {P : Type 0} (parses : P → ParseFunction) (count : P → ℕ) (is_sou
         }
 
     analyzed_fine : (result : Result ParsedModule ParseError) (answer : Result ModuleInfo ParseDiagnostic)
-        → IsAnalysisOf result (as_called analyze.Parse answer) → ¬ (result ≡ Err parse.OutOfMemory)
+        → IsAnalysisOf result (with_error analyze.Parse answer) → ¬ (result ≡ Err parse.OutOfMemory)
     analyzed_fine (Ok source) answer h = λ e. cc
     analyzed_fine (Err (parse.Diagnostic d)) answer h = λ e. cc
     analyzed_fine (Err parse.OutOfMemory) (Ok info) h = λ e. cc
     analyzed_fine (Err parse.OutOfMemory) (Err d) h = λ e. cc
 
     parsed_fine : (answer : Result ParsedModule ParseDiagnostic)
-        → ¬ (as_called parse.Diagnostic answer ≡ Err parse.OutOfMemory)
+        → ¬ (with_error parse.Diagnostic answer ≡ Err parse.OutOfMemory)
     parsed_fine (Ok source) = λ e. cc
     parsed_fine (Err d) = λ e. cc
 
     pub step : (past : List Command) (command : Command) (reply : Answer) (old new : State P) → Kept past old
-        → Ran parses count is_sound may_answer old command reply new → Step past command reply old new
+        → Ran parses count is_sound may_return old command reply new → Step past command reply old new
     unfolding latest
     step past (Analyze specifier source media_type) (Analyzed (Ok info)) old new kept ran =
         let asked = input specifier (rc_str_bytes source) media_type in
@@ -355,7 +356,7 @@ module _ {P : Type 0} (parses : P → ParseFunction) (count : P → ℕ) (is_sou
     step past (Remove specifier) (Analyzed x) old new kept ran = absurd ran
     step past (Remove specifier) (Parsed x) old new kept ran = absurd ran
 
-    -- the whole run
+    -- what holds after a whole run
     pub record Replies (past commands : List Command) (answers : List Answer)
         (old new : State P) : Type 0 where
       pub replies : AreAnswers f start past commands answers
@@ -364,7 +365,7 @@ module _ {P : Type 0} (parses : P → ParseFunction) (count : P → ℕ) (is_sou
       pub kept : Kept done new
 
     pub all_replies : (past commands : List Command) (answers : List Answer) (old new : State P)
-        → Kept past old → Runs parses count is_sound may_answer old commands answers new
+        → Kept past old → Runs parses count is_sound may_return old commands answers new
         → Replies past commands answers old new
     all_replies past [] [] old new kept ran =
         let same : count new.parser ≡ count old.parser = ap (λ (s : State P). count s.parser) ran in

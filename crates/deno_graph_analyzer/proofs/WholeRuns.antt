@@ -1,4 +1,4 @@
--- Runs of commands: one command more, and what a run keeps.
+-- Runs of commands: a run with one more command, and what stays true through a run.
 use Rattle.std.proofs.Common.{
   ◌≡◌,
   ℕ,
@@ -26,18 +26,18 @@ use Rattle.std.specs.Cmp.Lexicographic.{slice_cmp}
 use Rattle.std.specs.FinMap.{get-empty}
 use Rattle.std.specs.Ordering.{nat_cmp}
 use Rattle.deno_graph_analyzer.specs.Capturing.{IsFaithful}
-use Rattle.deno_graph_analyzer.specs.Parsing.{ParseFunction, AnswerRelation}
+use Rattle.deno_graph_analyzer.specs.Parsing.{ParseFunction, ResultRelation}
 use Rattle.deno_graph_analyzer.specs.Sources.{Sources, no_sources, source_at}
 use Rattle.deno_graph_analyzer.specs.Captures.{State, IsSoundState}
-use Rattle.deno_graph_analyzer.specs.Commands.{unmarked, seen, latest}
-use Rattle.deno_graph_analyzer.specs.Runs.{Ran, Runs, WasRefused, EndsEarly}
-use Rattle.deno_graph_analyzer.specs.declared.command.Command.{Command}
-use Rattle.deno_graph_analyzer.specs.declared.command.Command.TheVariants.{Analyze, Parse, Remove}
-use Rattle.deno_graph_analyzer.specs.declared.command.Answer.{Answer}
-use Rattle.deno_graph_analyzer.specs.declared.command.Answer.TheVariants.{Analyzed, Parsed, Removed}
+use Rattle.deno_graph_analyzer.specs.Commands.{unmarked, unmarked_at, latest}
+use Rattle.deno_graph_analyzer.specs.Runs.{Ran, Runs, RanOutOfMemory, EndsEarly}
+use Rattle.deno_graph_analyzer.specs.declared.run.Command.{Command}
+use Rattle.deno_graph_analyzer.specs.declared.run.Command.TheVariants.{Analyze, Parse, Remove}
+use Rattle.deno_graph_analyzer.specs.declared.run.Answer.{Answer}
+use Rattle.deno_graph_analyzer.specs.declared.run.Answer.TheVariants.{Analyzed, Parsed, Removed}
 use Rattle.deno_graph_analyzer.proofs.Replies.{Kept, Replies, all_replies}
 
--- what follows at either end of a call that may be refused
+-- a conclusion from both cases of a result
 pub by_result : {X E Q : Type 0} (result : Result X E) (A : X → Type 0) (B : Type 0) → IfOk result A
     → OnErr result B → ((x : X) → A x → Q) → (B → Q) → Q
 by_result (Ok x) A B ok err f g = f x ok
@@ -48,21 +48,21 @@ at_err (Ok x) p = tt
 at_err (Err e) p = p
 
 module _ {P : Type 0} (parses : P → ParseFunction) (count : P → ℕ) (is_sound : P → Type 0)
-    (may_answer : P → AnswerRelation) where
+    (may_return : P → ResultRelation) where
   pub runs_more : (commands : List Command) (answers : List Answer) (old next new : State P)
       (command : Command) (answer : Answer)
-      → Runs parses count is_sound may_answer old commands answers next
-      → Ran parses count is_sound may_answer next command answer new
-      → Runs parses count is_sound may_answer old (commands ++ command ∷ []) (answers ++ answer ∷ []) new
+      → Runs parses count is_sound may_return old commands answers next
+      → Ran parses count is_sound may_return next command answer new
+      → Runs parses count is_sound may_return old (commands ++ command ∷ []) (answers ++ answer ∷ []) new
   runs_more [] [] old next new command answer ran one =
-      (new, subst (λ (s : State P). Ran parses count is_sound may_answer s command answer new) ran one, refl)
+      (new, subst (λ (s : State P). Ran parses count is_sound may_return s command answer new) ran one, refl)
   runs_more [] (a ∷ rest) old next new command answer ran one = absurd ran
   runs_more (c ∷ cs) [] old next new command answer ran one = absurd ran
   runs_more (c ∷ cs) (a ∷ rest) old next new command answer (then, first, others) one =
       (then, first, runs_more cs rest then next new command answer others one)
 
   ran_function : (command : Command) (answer : Answer) (old new : State P)
-      → Ran parses count is_sound may_answer old command answer new → parses new.parser ≡ parses old.parser
+      → Ran parses count is_sound may_return old command answer new → parses new.parser ≡ parses old.parser
   ran_function (Analyze specifier source media_type) (Analyzed x) old new ran = ran.captures.function
   ran_function (Parse specifier source media_type scope) (Parsed x) old new ran = ran.function
   ran_function (Remove specifier) (Removed x) old new ran = ap parses ran.parser
@@ -74,87 +74,88 @@ module _ {P : Type 0} (parses : P → ParseFunction) (count : P → ℕ) (is_sou
   ran_function (Remove specifier) (Parsed x) old new ran = absurd ran
 
   pub runs_function : (commands : List Command) (answers : List Answer) (old new : State P)
-      → Runs parses count is_sound may_answer old commands answers new → parses new.parser ≡ parses old.parser
+      → Runs parses count is_sound may_return old commands answers new → parses new.parser ≡ parses old.parser
   runs_function [] [] old new ran = ap (λ (s : State P). parses s.parser) ran
   runs_function [] (a ∷ rest) old new ran = absurd ran
   runs_function (c ∷ cs) [] old new ran = absurd ran
   runs_function (c ∷ cs) (a ∷ rest) old new (then, first, others) = runs_function cs rest then new others
       ∙ ran_function c a old then first
 
-  refused_function : (command : Command) (old new : State P)
-      → WasRefused parses count is_sound may_answer old command new → parses new.parser ≡ parses old.parser
-  refused_function (Analyze specifier source media_type) old new (inl same) =
+  failed_function : (command : Command) (old new : State P)
+      → RanOutOfMemory parses count is_sound may_return old command new
+      → parses new.parser ≡ parses old.parser
+  failed_function (Analyze specifier source media_type) old new (inl same) =
       ap (λ (s : State P). parses s.parser) same
-  refused_function (Analyze specifier source media_type) old new (inr call) = call.captures.function
-  refused_function (Parse specifier source media_type scope) old new (inl same) =
+  failed_function (Analyze specifier source media_type) old new (inr call) = call.captures.function
+  failed_function (Parse specifier source media_type scope) old new (inl same) =
       ap (λ (s : State P). parses s.parser) same
-  refused_function (Parse specifier source media_type scope) old new (inr call) = call.function
-  refused_function (Remove specifier) old new same = ap (λ (s : State P). parses s.parser) same
+  failed_function (Parse specifier source media_type scope) old new (inr call) = call.function
+  failed_function (Remove specifier) old new same = ap (λ (s : State P). parses s.parser) same
 
-  refused_sound : (command : Command) (old new : State P)
-      → WasRefused parses count is_sound may_answer old command new → IsSoundState parses is_sound old
+  failed_sound : (command : Command) (old new : State P)
+      → RanOutOfMemory parses count is_sound may_return old command new → IsSoundState parses is_sound old
       → IsSoundState parses is_sound new
-  refused_sound (Analyze specifier source media_type) old new (inl same) sound =
+  failed_sound (Analyze specifier source media_type) old new (inl same) sound =
       subst (IsSoundState parses is_sound) (sym same) sound
-  refused_sound (Analyze specifier source media_type) old new (inr call) sound = call.captures.sound sound
-  refused_sound (Parse specifier source media_type scope) old new (inl same) sound =
+  failed_sound (Analyze specifier source media_type) old new (inr call) sound = call.captures.sound sound
+  failed_sound (Parse specifier source media_type scope) old new (inl same) sound =
       subst (IsSoundState parses is_sound) (sym same) sound
-  refused_sound (Parse specifier source media_type scope) old new (inr call) sound = call.sound sound
-  refused_sound (Remove specifier) old new same sound = subst (IsSoundState parses is_sound) (sym same) sound
+  failed_sound (Parse specifier source media_type scope) old new (inr call) sound = call.sound sound
+  failed_sound (Remove specifier) old new same sound = subst (IsSoundState parses is_sound) (sym same) sound
 
-  -- a sound beginning
-  begun : (old : State P) → IsSoundState parses is_sound old
-      → Kept parses count is_sound may_answer (parses old.parser) (seen old.sources) [] old
+  -- a sound state is the state after no command
+  start_is_kept : (old : State P) → IsSoundState parses is_sound old
+      → Kept parses count is_sound may_return (parses old.parser) (unmarked_at old.sources) [] old
   unfolding latest
-  begun old sound = record { sound = sound; function = refl; sources = λ key. refl }
+  start_is_kept old sound = record { sound = sound; function = refl; sources = λ key. refl }
 
   pub run_replies : (commands : List Command) (answers : List Answer) (old new : State P)
-      → IsSoundState parses is_sound old → Runs parses count is_sound may_answer old commands answers new
-      → Replies parses count is_sound may_answer (parses old.parser)
-      (seen old.sources) [] commands answers old new
+      → IsSoundState parses is_sound old → Runs parses count is_sound may_return old commands answers new
+      → Replies parses count is_sound may_return (parses old.parser)
+      (unmarked_at old.sources) [] commands answers old new
   run_replies commands answers old new sound ran =
-      all_replies parses count is_sound may_answer (parses old.parser)
-      (seen old.sources) [] commands answers old new (begun old sound) ran
+      all_replies parses count is_sound may_return (parses old.parser)
+      (unmarked_at old.sources) [] commands answers old new (start_is_kept old sound) ran
 
   pub runs_sound : (commands : List Command) (answers : List Answer) (old new : State P)
-      → Runs parses count is_sound may_answer old commands answers new → IsSoundState parses is_sound old
+      → Runs parses count is_sound may_return old commands answers new → IsSoundState parses is_sound old
       → IsSoundState parses is_sound new
   runs_sound commands answers old new ran sound = (run_replies commands answers old new sound ran).kept.sound
 
   pub early_function : (commands : List Command) (old new : State P)
-      → EndsEarly parses count is_sound may_answer old commands new → parses new.parser ≡ parses old.parser
-  early_function commands old new early = refused_function early.refused early.then new early.refusal
+      → EndsEarly parses count is_sound may_return old commands new → parses new.parser ≡ parses old.parser
+  early_function commands old new early = failed_function early.failed early.then new early.failure
       ∙ runs_function early.before early.answers old early.then early.ran
 
   pub early_sound : (commands : List Command) (old new : State P)
-      → EndsEarly parses count is_sound may_answer old commands new → IsSoundState parses is_sound old
+      → EndsEarly parses count is_sound may_return old commands new → IsSoundState parses is_sound old
       → IsSoundState parses is_sound new
   early_sound commands old new early sound =
-      refused_sound early.refused early.then new early.refusal
+      failed_sound early.failed early.then new early.failure
       (runs_sound early.before early.answers old early.then early.ran sound)
 
-  -- begun sound, a run ends sound, whatever came of it
+  -- a sound state stays sound through a run, also through a run that is out of memory
   pub ends_sound : {A E Same : Type 0} (commands : List Command) (items : A → List Answer)
       (result : Result A E) (old new : State P)
-      → IfOk result (λ answers. Runs parses count is_sound may_answer old commands (items answers) new)
-      → OnErr result (Same ⊎ EndsEarly parses count is_sound may_answer old commands new)
+      → IfOk result (λ answers. Runs parses count is_sound may_return old commands (items answers) new)
+      → OnErr result (Same ⊎ EndsEarly parses count is_sound may_return old commands new)
       → (Same → new ≡ old) → IsSoundState parses is_sound old → IsSoundState parses is_sound new
-  ends_sound commands items (Ok answers) old new ran refused same sound =
+  ends_sound commands items (Ok answers) old new ran failed same sound =
       runs_sound commands (items answers) old new ran sound
   ends_sound commands items (Err e) old new ran (inl nothing) same sound =
       subst (IsSoundState parses is_sound) (sym (same nothing)) sound
   ends_sound commands items (Err e) old new ran (inr early) same sound =
       early_sound commands old new early sound
 
--- an empty store has nothing to be unfaithful in
+-- an empty store is faithful
 pub faithful_empty : (f : ParseFunction) (m : Sources) → m ≡ no_sources → IsFaithful f m
 unfolding IsFaithful
 faithful_empty f m empty = λ key source at.
     let none = ap (λ sources. source_at sources key) empty ∙ get-empty (slice_cmp nat_cmp) key in
     cc
 
-pub seen_empty : (m : Sources) → m ≡ no_sources → seen m ≡ (λ key. None)
-seen_empty m empty = λ i key. (ap (λ sources. option_map unmarked (source_at sources key)) empty
+pub unmarked_at-empty : (m : Sources) → m ≡ no_sources → unmarked_at m ≡ (λ key. None)
+unmarked_at-empty m empty = λ i key. (ap (λ sources. option_map unmarked (source_at sources key)) empty
     ∙ ap (option_map unmarked) (get-empty (slice_cmp nat_cmp) key)) i
 
 pub sound_empty : {P : Type 0} (parses : P → ParseFunction) (is_sound : P → Type 0) (old : State P)

@@ -1,7 +1,7 @@
--- What a capturing analyzer holds.
+-- The parser and the store of a `CapturingModuleAnalyzer`.
 use Rattle.deno_graph_analyzer.specs.Captures.{State, state}
 use Rattle.deno_graph_analyzer.specs.Sources.{Sources}
-use Rattle.deno_graph_analyzer.specs.declared.capturing_module_analyzer.CapturingModuleAnalyzer.{
+use Rattle.deno_graph_analyzer.specs.declared.capturing.CapturingModuleAnalyzer.{
   CapturingModuleAnalyzer,
 }
 
@@ -12,6 +12,6 @@ module _ {P S : Type 0} where
   abbrev pub store_of : CapturingModuleAnalyzer P S → S
   store_of analyzer = analyzer.store
 
-  -- its parser, and the sources in its store
+  -- the parser, and the sources in the store
   abbrev pub analyzer_state : (S → Sources) → CapturingModuleAnalyzer P S → State P
   analyzer_state sources analyzer = state (parser_of analyzer) (sources (store_of analyzer))

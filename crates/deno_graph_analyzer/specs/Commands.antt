@@ -1,4 +1,4 @@
--- Commands, and what the parser alone answers to a list of them.
+-- Commands, and the answers that the parser alone would give to a list of commands.
 use Rattle.std.specs.Prelude.{
   ◌≡◌,
   ℕ,
@@ -32,19 +32,19 @@ use Rattle.deno_graph_analyzer.specs.Parsing.{
   Input,
   Outcome,
   parsed,
-  refused,
+  rejected,
   specifier_text,
   input_of,
   IsParsed,
 }
 use Rattle.deno_graph_analyzer.specs.Sources.{Sources, source_at}
 use Rattle.deno_graph_analyzer.specs.Analysis.{IsInfoOf}
-use Rattle.deno_graph_analyzer.specs.declared.command.Command.{Command}
-use Rattle.deno_graph_analyzer.specs.declared.command.Command.TheVariants.{Analyze, Parse, Remove}
-use Rattle.deno_graph_analyzer.specs.declared.command.Answer.{Answer}
-use Rattle.deno_graph_analyzer.specs.declared.command.Answer.TheVariants.{Analyzed, Parsed, Removed}
+use Rattle.deno_graph_analyzer.specs.declared.run.Command.{Command}
+use Rattle.deno_graph_analyzer.specs.declared.run.Command.TheVariants.{Analyze, Parse, Remove}
+use Rattle.deno_graph_analyzer.specs.declared.run.Answer.{Answer}
+use Rattle.deno_graph_analyzer.specs.declared.run.Answer.TheVariants.{Analyzed, Parsed, Removed}
 
--- the second is the first command: of one kind, with equal specifiers, texts and options
+-- two commands of one kind, with equal specifiers, texts and options
 abbrev pub IsCommand : Command → Command → Type 0
 IsCommand (Analyze specifier source media_type) (Analyze specifier' source' media_type') =
     (specifier' ≡ specifier) × (rc_str_bytes source' ≡ rc_str_bytes source) × (media_type' ≡ media_type)
@@ -54,7 +54,7 @@ IsCommand (Parse specifier source media_type scope) (Parse specifier' source' me
 IsCommand (Remove specifier) (Remove specifier') = specifier' ≡ specifier
 IsCommand _ _ = ⊥
 
--- a parsed source aside from its mark
+-- a parsed source without its mark
 pub record Unmarked : Type 0 where
   pub input : Input
   pub program : Program
@@ -67,18 +67,18 @@ unmarked source = record {
   comments = source.comments;
 }
 
--- the sources, each aside from its mark
-abbrev pub seen : Sources → List ℕ → Option Unmarked
-seen sources key = option_map unmarked (source_at sources key)
+-- the source under a specifier, without its mark
+abbrev pub unmarked_at : Sources → List ℕ → Option Unmarked
+unmarked_at sources key = option_map unmarked (source_at sources key)
 
--- what is kept of an outcome: a tree with its comments, and nothing of a diagnostic
+-- the source of an outcome: none for a diagnostic
 abbrev pub source_of_outcome : Input → Option Outcome → Option Unmarked
 source_of_outcome input (Some (parsed program comments)) =
     Some (record { input = input; program = program; comments = comments })
-source_of_outcome input (Some (refused diagnostic)) = None
+source_of_outcome input (Some (rejected diagnostic)) = None
 source_of_outcome input None = None
 
--- an input, by the parts that a command has
+-- the input of a command
 abbrev pub input : Parts → List ℕ → MediaType → Input
 input specifier text media_type = record {
   specifier = specifier_text specifier;
@@ -86,8 +86,9 @@ input specifier text media_type = record {
   media_type = media_type;
 }
 
--- The last successful Analyze or Parse of a specifier since its last Remove, among the commands so
--- far, of which the newest comes first; else what was there at the start.
+-- The source of the last successful Analyze or Parse of a specifier since the last Remove of the
+-- specifier. Without either, the source at the start. The newest of the past commands is the first in the
+-- list.
 module _ (parses : ParseFunction) (start : List ℕ → Option Unmarked) where
   unfoldable pub latest : List Command → List ℕ → Option Unmarked
   latest [] key = start key
@@ -104,15 +105,15 @@ module _ (parses : ParseFunction) (start : List ℕ → Option Unmarked) where
   latest (Remove specifier ∷ past) key =
       if bytes_eq (specifier_text specifier) key then None else latest past key
 
--- the source has this text and this media type
+-- the source has the text and the media type of the input
 abbrev pub has_text : Input → Option Unmarked → Bool
 has_text asked None = false
 has_text asked (Some source) = bytes_eq source.input.text asked.text
     && (media_types.ghosts).eq source.input.media_type asked.media_type
 
 module _ (parses : ParseFunction) (start : List ℕ → Option Unmarked) where
-  -- the parser has to be asked, since there was no successful command, or the last one had another text or
-  -- media type
+  -- a command for which the parser has to be called: the specifier has no latest source, or a source with
+  -- another text or media type
   abbrev pub is_miss : List Command → Command → Bool
   is_miss past (Analyze specifier source media_type) =
       let asked = input specifier (rc_str_bytes source) media_type in
@@ -122,27 +123,27 @@ module _ (parses : ParseFunction) (start : List ℕ → Option Unmarked) where
       not (has_text asked (latest parses start past asked.specifier))
   is_miss past (Remove specifier) = false
 
-  -- how many of the commands that follow the past are misses
+  -- the number of misses among the commands, which follow the past commands
   abbrev pub misses : List Command → List Command → ℕ
   misses past [] = 0
   misses past (command ∷ commands) =
       (if is_miss past command then 1 else 0) + misses (command ∷ past) commands
 
-  -- the answer is that of the parser alone, and to a Remove the latest source of its specifier
+  -- the answer is that of the parser alone; to a Remove it is the latest source of the specifier
   abbrev pub IsAnswer : List Command → Command → Answer → Type 0
   IsAnswer past (Analyze specifier source media_type) (Analyzed (Ok info)) =
       IsInfoOf parses (input specifier (rc_str_bytes source) media_type) info
   IsAnswer past (Analyze specifier source media_type) (Analyzed (Err diagnostic)) =
-      parses (input specifier (rc_str_bytes source) media_type) ≡ Some (refused diagnostic)
+      parses (input specifier (rc_str_bytes source) media_type) ≡ Some (rejected diagnostic)
   IsAnswer past (Parse specifier source media_type scope) (Parsed (Ok module_source)) =
       IsParsed parses (input specifier (rc_str_bytes source) media_type) module_source
   IsAnswer past (Parse specifier source media_type scope) (Parsed (Err diagnostic)) =
-      parses (input specifier (rc_str_bytes source) media_type) ≡ Some (refused diagnostic)
+      parses (input specifier (rc_str_bytes source) media_type) ≡ Some (rejected diagnostic)
   IsAnswer past (Remove specifier) (Removed found) =
       option_map unmarked found ≡ latest parses start past (specifier_text specifier)
   IsAnswer past _ _ = ⊥
 
-  -- there is an answer to each command in turn
+  -- one answer for each command, in order
   abbrev pub AreAnswers : List Command → List Command → List Answer → Type 0
   AreAnswers past [] [] = Unit {0}
   AreAnswers past (command ∷ commands) (answer ∷ answers) =

@@ -9,3 +9,4 @@ pub mod ParserModuleAnalyzer
 pub mod Parsing
 pub mod Runs
 pub mod Sources
+pub mod internal

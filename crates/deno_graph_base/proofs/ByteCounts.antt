@@ -1,4 +1,4 @@
--- Positions by the bytes of a text: line feeds, and since the last of them the first bytes of characters.
+-- Positions by the bytes of a text: the line feeds, and the first bytes of characters since the last.
 use Rattle.std.proofs.Common.{
   ◌≡◌,
   ◌≢◌,
@@ -55,11 +55,11 @@ use Rattle.deno_graph_base.proofs.PositionLemmas.{position_of-line_feed, positio
 abbrev at : ℕ → ℕ → Position
 at line character = record { line = line; character = character }
 
--- the position behind one more byte
+-- the position after one more byte
 abbrev byte_step : Position → ℕ → Position
 byte_step p b = cond (b == 10) (at (p.line + 1) 0) (at p.line (p.character + cond (is_char_start b) 1 0))
 
--- the position behind some bytes
+-- the position after some more bytes
 abbrev after_bytes : Position → List ℕ → Position
 after_bytes p [] = p
 after_bytes p (b ∷ bs) = after_bytes (byte_step p b) bs
@@ -83,7 +83,7 @@ step-inner p b from to =
     ∙ ap (λ t. at p.line (p.character + cond t 1 0)) inner
     ∙ same_position (at p.line (p.character + 0)) p refl (omega arith)
 
--- a first byte of several
+-- the first byte of a character of several bytes
 step-lead : (p : Position) (b : ℕ) → 192 ≤ b → byte_step p b ≡ at p.line (p.character + 1)
 step-lead p b from = step-start p b (grind (arith, nat_tests)) (grind (arith, nat_tests))
 
@@ -93,7 +93,7 @@ inner_from x = omega arith
 inner_to : (x : ℕ) → next x < 192
 inner_to x = omega arith
 
--- the bytes of a character behind its first
+-- the bytes of a character after its first
 step-next : (p : Position) (x : ℕ) → byte_step p (next x) ≡ p
 step-next p x = step-inner p (next x) (inner_from x) (inner_to x)
 
@@ -134,7 +134,7 @@ wide p c a = elim (cases_Bool (ltb c 2048)) [
   ]
 ]
 
--- the bytes of one character move a position as the character does
+-- the position after the bytes of a character is the position after the character
 one_char : (front : List ℕ) (c : ℕ)
     → after_bytes (position_of front) (encode c) ≡ position_of (front ++ c ∷ [])
 one_char front c = elim (cases_Bool (c == 10)) [
@@ -160,10 +160,10 @@ all_chars front (c ∷ cs) =
     ∙ ap (λ p. after_bytes p (encodes cs)) (one_char front c) ∙ all_chars (front ++ c ∷ []) cs
     ∙ ap position_of (append_assoc front (c ∷ []) cs)
 
--- so the position behind a text is the one behind its bytes
-behind_text : (front text : List ℕ) → IsUtf8 text
+-- the position after a text is the position after its bytes
+after_text : (front text : List ℕ) → IsUtf8 text
     → after_bytes (position_of front) text ≡ position_of (front ++ chars text)
-behind_text front text utf8 =
+after_text front text utf8 =
     ap (after_bytes (position_of front)) (sym (encodes-chars text utf8)) ∙ all_chars front (chars text)
 
 abbrev feeds : List ℕ → ℕ
@@ -191,7 +191,7 @@ no_feed_first b bs none = by_test (b == 10) (sym (sum_by-cons (λ b. cond (b == 
     by_test true none = absurd (omega arith)
     by_test false none = refl
 
--- without line feeds each first byte of a character is one more of the line
+-- without line feeds each first byte of a character is one more character of the line
 character_of_bytes : (p : Position) (bs : List ℕ) → feeds bs ≡ 0
     → (after_bytes p bs).character ≡ p.character + count_by is_char_start bs
 character_of_bytes p [] none = omega arith
@@ -221,14 +221,14 @@ no_feeds (b ∷ bs) none =
       no_feeds bs (λ k within. none (suc k) (omega (arith, within))),
     )
 
--- where there are line feeds, some bytes go up to the last of them
+-- bytes with line feeds have a prefix that ends after the last of them
 pub some_feed : (bs : List ℕ) (end : ℕ) → ((k : ℕ) → end ≤ k → k < length bs → slice_index bs k ≢ 10)
     → 0 < feeds bs → 0 < end
-some_feed bs zero behind some =
-    absurd (omega (arith, no_feeds bs (λ k within. behind k (omega arith) within)))
-some_feed bs (suc end) behind some = omega arith
+some_feed bs zero later some =
+    absurd (omega (arith, no_feeds bs (λ k within. later k (omega arith) within)))
+some_feed bs (suc end) later some = omega arith
 
--- the position behind a text without a line feed
+-- the position after a text without a line feed
 pub one_line : (front text : List ℕ) (self result : Position) → IsUtf8 text → self ≡ position_of front
     → feeds text ≡ 0 → result.line ≡ self.line
     → result.character ≡ self.character + count_by is_char_start text
@@ -236,9 +236,9 @@ pub one_line : (front text : List ℕ) (self result : Position) → IsUtf8 text 
 one_line front text self result utf8 is none line character =
     same_position result (after_bytes self text) (omega (arith, line, line_of_bytes self text, none))
     (omega (arith, character, character_of_bytes self text none)) ∙ ap (λ p. after_bytes p text) is
-    ∙ behind_text front text utf8
+    ∙ after_text front text utf8
 
--- the position behind a text whose last line starts at `start`
+-- the position after a text whose last line starts at `start`
 pub last_line : (front text : List ℕ) (self result : Position) (start : ℕ) → IsUtf8 text
     → self ≡ position_of front → 0 < start → start ≤ length text → slice_index text (start - 1) ≡ 10
     → ((k : ℕ) → start ≤ k → k < length text → slice_index text k ≢ 10) → result.line ≡ self.line + feeds text
@@ -254,14 +254,14 @@ last_line front text self result start utf8 is some within feed none line charac
     let split : text ≡ take (start - 1) text ++ 10 ∷ drop start text =
     sym (take-append-drop (start - 1) text) ∙ ap (λ bs. take (start - 1) text ++ bs) rest in
     let before = after_bytes self (take (start - 1) text) in
-    let behind : (after_bytes self text).character ≡ 0 + count_by is_char_start (drop start text) =
+    let later : (after_bytes self text).character ≡ 0 + count_by is_char_start (drop start text) =
     ap (λ bs. (after_bytes self bs).character) split
     ∙ ap (λ p. p.character) (after_bytes-append self (take (start - 1) text) (10 ∷ drop start text))
     ∙ character_of_bytes (at (before.line + 1) 0) (drop start text) no in
     same_position result (after_bytes self text) (omega (arith, line, line_of_bytes self text))
-    (omega (arith, character, behind)) ∙ ap (λ p. after_bytes p text) is ∙ behind_text front text utf8
+    (omega (arith, character, later)) ∙ ap (λ p. after_bytes p text) is ∙ after_text front text utf8
 
--- what `max` answers
+-- the value of `max`
 pub ord_max-nat : (a b : ℕ) → ord_max nat_cmp a b ≡ max a b
 ord_max-nat a b = elim (cases_lt b a) [
   | inl less ↦

@@ -1,4 +1,4 @@
--- Fronts of the characters of a text, and the boundaries behind them.
+-- Prefixes of the characters of a text, and the boundaries after them.
 use Rattle.std.proofs.Common.{
   ◌≡◌,
   ℕ,
@@ -53,7 +53,7 @@ scalars-front (c ∷ front) rest all =
     ap (λ b. b && scalars front) (and-left (scalar c) (scalars (front ++ rest)) all)
     ∙ scalars-front front rest (and-right (scalar c) (scalars (front ++ rest)) all)
 
--- a text is the bytes of a front and of what follows it
+-- a text is the bytes of a prefix and of the characters after it
 halves : (text front rest : List ℕ) → IsUtf8 text → front ++ rest ≡ chars text → encodes front
     ++ encodes rest ≡ text
 halves text front rest utf8 is = sym (encodes-append front rest) ∙ ap encodes is ∙ encodes-chars text utf8

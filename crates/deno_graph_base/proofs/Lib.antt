@@ -2,7 +2,7 @@ pub mod ByteCounts
 pub mod CheckpointLemmas
 pub mod FrontLemmas
 pub mod LossyText
-pub mod PlaceLemmas
+pub mod CursorLemmas
 pub mod PositionLemmas
 pub mod PositionOrder
 pub mod TextEntries

@@ -1,4 +1,4 @@
--- Lossy texts: what they say of strings without surrogates, and of empty ones.
+-- The lossy text of a string, and of strings without surrogates and empty strings.
 use Rattle.std.proofs.Common.{
   ◌≡◌,
   ℕ,
@@ -65,7 +65,7 @@ use Rattle.deno_graph_base.specs.JsString.{
   IsReadable,
   IsPaired,
 }
-use Rattle.deno_graph_base.specs.StoredString.{lone_from, points_from, points_of, IsStored}
+use Rattle.deno_graph_base.specs.internal.StoredString.{lone_from, points_from, points_of, IsStored}
 
 -- a character is no surrogate
 pub is_surrogate-scalar : (c : ℕ) → IsScalar c → is_surrogate c ≡ false
@@ -78,7 +78,7 @@ is_surrogate-scalar c s =
     and_false true = refl
     and_false false = refl
 
--- each of these is no surrogate
+-- characters are no surrogates
 abbrev pub NoSurrogates : List ℕ → Type 0
 NoSurrogates = AllByRecursion (λ p. is_surrogate p ≡ false)
 
@@ -122,7 +122,7 @@ readable_text-unreadable ps r =
     ap (λ b. cond b (Some (lossy_text ps)) None)
     (false_from_ne_true _ (λ e. r (All-from_recursion _ ps (test_readable ps e))))
 
--- a string has no lone surrogate exactly where it is readable
+-- a string has no lone surrogate exactly if it is readable
 none_lone : (at : ℕ) (ps : List ℕ) → NoSurrogates ps → lone_from at ps ≡ []
 none_lone at [] n = refl
 none_lone at (p ∷ ps) n = rw n.0 (none_lone (at + len_utf8 p) ps n.1)
@@ -139,7 +139,7 @@ readable_none at (p ∷ ps) e =
 pub IsReadable-none_lone : (at : ℕ) (ps : List ℕ) → lone_from at ps ≡ [] → IsReadable ps
 IsReadable-none_lone at ps e = All-from_recursion _ ps (readable_none at ps e)
 
--- without surrogates nothing comes before another
+-- without surrogates no high surrogate is before a low one
 is_surrogate-high : (p : ℕ) → is_high_surrogate p ≡ true → is_surrogate p ≡ true
 is_surrogate-high p h =
     let both = and_parts _ _ h in
@@ -151,7 +151,7 @@ IsPaired-readable ps r k high low =
     (λ past. let none : get_or ps k 0 ≡ 0 = get_or_past ps k 0 past in let h = rw none at high in
     false≢true h) (cases_lt k (length ps))
 
--- a text without lone surrogates is its characters
+-- a stored text without surrogates has its own characters as code points
 pub points_from-none_lone : (at : ℕ) (cs : List ℕ) → points_from at cs [] ≡ cs
 points_from-none_lone at [] = refl
 points_from-none_lone at (c ∷ cs) = refl
@@ -162,16 +162,16 @@ IsStored-text text u =
     let readable = IsReadable-chars text u in
     record {
       characters = rw same (sym (map-lossy_char-readable (chars text) readable));
-      places = rw same (sym (lone_from-readable 0 (chars text) readable));
+      offsets = rw same (sym (lone_from-readable 0 (chars text) readable));
       paired = rw same (IsPaired-readable (chars text) readable);
     }
 
--- the text is the lossy text of the string
+-- the stored text is the lossy text of the string
 pub lossy_text-stored : (text : List ℕ) (lone : List (ℕ × ℕ)) → IsUtf8 text → IsStored text lone
     → text ≡ lossy_text (points_of text lone)
 lossy_text-stored text lone u s = sym (encodes-chars text u) ∙ ap encode_utf8_all s.characters
 
--- the text is empty exactly where the string is
+-- the stored text is empty exactly if the string is
 pub text_empty : (text : List ℕ) (lone : List (ℕ × ℕ)) → IsUtf8 text → IsStored text lone
     → points_of text lone ≡ [] → text ≡ []
 text_empty text lone u s e = lossy_text-stored text lone u s ∙ ap lossy_text e
@@ -179,10 +179,10 @@ text_empty text lone u s e = lossy_text-stored text lone u s ∙ ap lossy_text e
 pub points_empty : (text : List ℕ) (lone : List (ℕ × ℕ)) → text ≡ [] → points_of text lone ≡ []
 points_empty text lone e = rw (e, chars-nil)
 
--- what is stored as a readable string has no lone surrogate, and the text is its characters
+-- a readable string is stored without lone surrogates, and its characters are those of the text
 pub readable_stored : (text : List ℕ) (lone : List (ℕ × ℕ)) → IsStored text lone → lone ≡ []
     → IsReadable (points_of text lone)
-readable_stored text lone s e = IsReadable-none_lone 0 _ (sym s.places ∙ e)
+readable_stored text lone s e = IsReadable-none_lone 0 _ (sym s.offsets ∙ e)
 
 pub encoded_stored : (text : List ℕ) (lone : List (ℕ × ℕ)) → IsUtf8 text → IsStored text lone → lone ≡ []
     → text ≡ encode_utf8_all (points_of text lone)
@@ -191,9 +191,9 @@ encoded_stored text lone u s e =
 
 pub stored_readable : (text : List ℕ) (lone : List (ℕ × ℕ)) → IsStored text lone
     → IsReadable (points_of text lone) → lone ≡ []
-stored_readable text lone s r = s.places ∙ lone_from-readable 0 _ r
+stored_readable text lone s r = s.offsets ∙ lone_from-readable 0 _ r
 
--- a list of code points is what its lossy text and its lone surrogates stand for
+-- the lossy text and the lone surrogates of code points determine the code points
 abbrev IsLater : ℕ → List (ℕ × ℕ) → Type 0
 IsLater at [] = Unit {0}
 IsLater at (l ∷ lone) = nat_eq at l.0 ≡ false
@@ -234,11 +234,11 @@ IsStored-lossy_text ps s paired =
     let same = points_of-lossy_text ps s in
     record {
       characters = chars-encodes (map lossy_char ps) s ∙ ap (map lossy_char) (sym same);
-      places = ap (lone_from 0) (sym same);
+      offsets = ap (lone_from 0) (sym same);
       paired = subst IsPaired (sym same) paired;
     }
 
--- two strings are equal exactly where their texts and their lone surrogates are
+-- two strings are equal exactly if their texts and their lone surrogates are
 pair_Decides : (a b : ℕ × ℕ) → Decides (nat_eq a.0 b.0 && nat_eq a.1 b.1) (a ≡ b)
 pair_Decides a b =
     Decides-like _ (λ e. pair_same a b e.0 e.1) (λ e. (ap (λ p. p.0) e, ap (λ p. p.1) e))
@@ -252,17 +252,17 @@ same_pair a b = nat_eq a.0 b.0 && nat_eq a.1 b.1
 
 module _ (text other : List ℕ) (lone others : List (ℕ × ℕ)) (u : IsUtf8 text) (v : IsUtf8 other)
     (s : IsStored text lone) (t : IsStored other others) where
-  -- the texts are equal, and r says whether the surrogates are
+  -- the texts are equal, and `r` decides whether the surrogates are
   same_lone : (r : Bool) → text ≡ other → r ≡ pointwise same_pair lone others
       → r ≡ pointwise nat_eq (points_of text lone) (points_of other others)
   same_lone r e d =
       let by_lone = slice_eq-Decides pair_Decides lone others r d in
       let decides : Decides r (points_of text lone ≡ points_of other others) =
       Decides-like r (λ l. ap (points_of text) l ∙ ap (λ b. points_of b others) e)
-      (λ p. s.places ∙ ap (lone_from 0) p ∙ sym t.places) by_lone in
+      (λ p. s.offsets ∙ ap (lone_from 0) p ∙ sym t.offsets) by_lone in
       same_from_decides r _ decides (bytes_eq-Decides (points_of text lone) (points_of other others))
 
-  -- r says that the texts differ
+  -- by `r` the texts differ
   same_text : (r : Bool) → r ≡ false → r ≡ pointwise nat_eq text other
       → r ≡ pointwise nat_eq (points_of text lone) (points_of other others)
   same_text r f d =

@@ -1,4 +1,4 @@
--- How a position moves as characters are passed.
+-- The position after each further character, and the order of positions.
 use Rattle.std.proofs.Common.{
   ◌≡◌,
   ℕ,
@@ -42,9 +42,10 @@ use Rattle.std.proofs.lemmas.Bool.Decides.{nat_tests}
 use Rattle.std.proofs.lemmas.List.{reverse-append}
 use Rattle.std.proofs.lemmas.List.Sums.{suffix_len-le-length, sum_by-append, count_by-le-length}
 use Rattle.deno_graph_base.specs.declared.text.position.Position.{Position}
-use Rattle.deno_graph_base.specs.Position.{IsBefore, is_before, line_of, character_of, position_of}
+use Rattle.deno_graph_base.specs.Position.{IsBefore, line_of, character_of, position_of}
+use Rattle.deno_graph_base.specs.internal.Cursor.{is_before}
 
--- what follows the last line feed is what is at the end and no line feed
+-- characters without a line feed at the end belong to what follows the last line feed
 character_of-suffix : (front : List ℕ) → character_of front ≡ suffix_len (λ c. not (c == 10)) front
 character_of-suffix front =
     let short = suffix_len-le-length (λ c. not (c == 10)) front in
@@ -81,7 +82,7 @@ position_of-line_feed front c is =
     character_of-push front c ∙ ap (λ b. cond b 0 (character_of front + 1)) is in
     cc
 
--- any other character is one more of its line
+-- any other character is one more character of its line
 pub position_of-other : (front : List ℕ) (c : ℕ) → (c == 10) ≡ false
     → position_of (front ++ c ∷ []) ≡ record {
       line = (position_of front).line;
@@ -114,12 +115,12 @@ same_position p q line character =
     ap (λ (n : ℕ). let r : Position = record { line = n; character = p.character } in r) line in
     by_line ∙ ap (λ (n : ℕ). let r : Position = record { line = q.line; character = n } in r) character
 
--- the start of every text
+-- the position of the start of every text
 pub position_of-nil : (start : Position) → start.line ≡ 0 → start.character ≡ 0 → start ≡ position_of []
 unfolding position_of
 position_of-nil start line character = same_position start (position_of []) line character
 
--- each character moves the position on
+-- each character makes the position later
 before_push : (front : List ℕ) (c : ℕ) → IsBefore (position_of front) (position_of (front ++ c ∷ []))
 before_push front c = elim (cases_Bool (c == 10)) [
   | inl feed ↦
@@ -140,7 +141,7 @@ pub IsBefore-irreflexive : (p : Position) → ¬ (IsBefore p p)
 IsBefore-irreflexive p (inl a) = omega arith
 IsBefore-irreflexive p (inr a) = omega arith
 
--- so does a text that isn't empty
+-- a text that isn't empty makes the position later
 pub before_longer : (front : List ℕ) (c : ℕ) (more : List ℕ)
     → IsBefore (position_of front) (position_of (front ++ c ∷ more))
 before_longer front c [] = before_push front c
@@ -149,7 +150,7 @@ before_longer front c (d ∷ more) =
     (subst (λ cs. IsBefore (position_of (front ++ c ∷ [])) (position_of cs))
     (append_assoc front (c ∷ []) (d ∷ more)) (before_longer (front ++ c ∷ []) d more))
 
--- what `==` on positions answers
+-- the value of `==` on positions
 pub same_from_test : (p q : Position) → true ≡ ((p.line == q.line) && (p.character == q.character)) → p ≡ q
 same_from_test p q is = same_position p q (grind (arith, nat_tests)) (grind (arith, nat_tests))
 
@@ -161,7 +162,7 @@ differs_from_test p q is same =
     eq-eqb p.character q.character (ap (λ r. r.character) same) in
     false≢true (is ∙ ap (λ b. b && (p.character == q.character)) line ∙ character)
 
--- the test of the order answers the order
+-- `is_before` decides `IsBefore`
 pub is_before-true : (p q : Position) → is_before p q ≡ true → IsBefore p q
 is_before-true p q is = elim (cases_Bool (nat_lt p.line q.line)) [
   | inl line ↦ inl (grind (arith, nat_tests))
@@ -175,7 +176,7 @@ pub is_before-from : (p q : Position) → IsBefore p q → is_before p q ≡ tru
 is_before-from p q (inl line) = grind (arith, nat_tests)
 is_before-from p q (inr character) = grind (arith, nat_tests)
 
--- what `cmp` on positions answers
+-- the value of `cmp` on positions
 less : (a b : ℕ) → a < b → nat_cmp a b ≡ Less
 less a b h = sym (nat_cmp_is a b Less h)
 
@@ -195,10 +196,10 @@ position_cmp-before p q (inr later) =
     ap (λ o. ordering_then o (nat_cmp p.character q.character)) (equal p.line q.line later.0)
     ∙ less p.character q.character later.1
 
-pub position_cmp-behind : (p q : Position) → IsBefore q p → position_cmp p q ≡ Greater
-position_cmp-behind p q (inl line) =
+pub position_cmp-after : (p q : Position) → IsBefore q p → position_cmp p q ≡ Greater
+position_cmp-after p q (inl line) =
     ap (λ o. ordering_then o (nat_cmp p.character q.character)) (greater p.line q.line line)
-position_cmp-behind p q (inr later) =
+position_cmp-after p q (inr later) =
     ap (λ o. ordering_then o (nat_cmp p.character q.character)) (equal p.line q.line (sym later.0))
     ∙ greater p.character q.character later.1
 

@@ -1,4 +1,4 @@
--- Entries by ascending positions: the next one goes to the end.
+-- Entries whose keys ascend: an entry with a greater key goes to the end.
 use Rattle.std.proofs.Common.{◌≡◌, ℕ, List, [], ◌∷◌, ◌++◌, refl, ap, ◌∙◌}
 use Rattle.std.specs.declared.cmp.Ordering.TheVariants.{Less, Greater}
 use Rattle.std.specs.BTreeMap.{insert_entry}
@@ -14,7 +14,7 @@ at_entry : {X : Type 0} (P : ℕ → Type 0) (es : List (ℕ × X)) (k : ℕ) (v
 at_entry P [] k v rest h = h.0
 at_entry P (e ∷ es) k v rest h = at_entry P es k v rest h.1
 
--- an entry that comes after others in ascending order is inserted after them
+-- an entry with a key above all others is inserted at the end
 pub insert_entry_last : {X : Type 0} (es : List (ℕ × X)) (k : ℕ) (v : X) (rest : List (ℕ × X))
     → IsStrictlySortedBy nat_cmp (keys_of (es ++ (k, v) ∷ rest)) → insert_entry nat_cmp es k v ≡ es ++ (k, v)
     ∷ []

@@ -1,4 +1,4 @@
--- The entries of a map from texts, with the bytes of their keys.
+-- The entries of a map with texts as keys, by the bytes of the keys.
 use Rattle.std.proofs.Common.{
   ◌≡◌,
   ℕ,
@@ -37,13 +37,13 @@ map-match_ordering f Equal a b c = refl
 map-match_ordering f Greater a b c = refl
 
 module _ {V Z : Type 0} where
-  -- a look-up among the strings is one among their bytes
+  -- a look-up by strings finds the same value as one by their bytes
   pub lookup-entries : (key : List ℕ) (es : List (String Z × V))
       → lookup (λ k. is_eq (slice_cmp nat_cmp key (string_bytes k))) es ≡ value_at (map entry_of es) key
   lookup-entries key [] = refl
   lookup-entries key (e ∷ es) = rw (is_eq-slice_cmp key (string_bytes e.0), lookup-entries key es)
 
-  -- an insertion among the strings is one among their bytes
+  -- an insertion by strings makes the same entries as one by their bytes
   pub map-inserted : (es : List (String Z × V)) (key : String Z) (value : V)
       → map entry_of (inserted string_cmp es key value) ≡ insert_entry (map entry_of es) (string_bytes key)
       value
@@ -81,7 +81,7 @@ module _ {V : Type 0} where
   key_among P [] key value rest h = h.0
   key_among P (e ∷ front) key value rest h = key_among P front key value rest h.1
 
-  -- a key above all others goes to the end
+  -- an entry with a key above all others is inserted at the end
   pub insert_entry-above : (front : List (List ℕ × V)) (key : List ℕ) (value : V) (rest : List (List ℕ × V))
       → IsAscending (front ++ (key, value) ∷ rest) → insert_entry front key value ≡ front ++ (key, value) ∷ []
   unfolding IsStrictlySortedBy
@@ -92,7 +92,7 @@ module _ {V : Type 0} where
       nat_list_cmp_total.antisymm key e.0 ∙ ap ordering_reverse below in
       rw above (ap (λ es. e ∷ es) (insert_entry-above front key value rest h.1))
 
-  -- one more entry is copied: `left` are the entries that were left
+  -- the copies with one more entry, where `left` were the remaining entries
   pub copied_more : (all front left rest new : List (List ℕ × V)) (key copy : List ℕ) (value clone : V)
       → IsAscending all → front ++ left ≡ all → left ≡ (key, value) ∷ rest → copy ≡ key → clone ≡ value
       → new ≡ insert_entry front copy clone → new ++ rest ≡ all

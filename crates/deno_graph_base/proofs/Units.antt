@@ -1,5 +1,5 @@
--- The code points of units of UTF-16: no high surrogate is before a low one, and each is a
--- character or a surrogate.
+-- The code points of UTF-16 units: no high surrogate is directly before a low one, and each code
+-- point is a character or a surrogate.
 use Rattle.std.proofs.Common.{
   ◌≡◌,
   ℕ,
@@ -56,10 +56,10 @@ use Rattle.std.proofs.lemmas.Bool.{
 use Rattle.std.proofs.lemmas.List.{nil_from_length}
 use Rattle.std.proofs.lemmas.Str.{length-encode}
 use Rattle.deno_graph_base.specs.JsString.{is_surrogate, lossy_char, lossy_text, IsPaired, points_of_units}
-use Rattle.deno_graph_base.specs.StoredString.{lone_from}
+use Rattle.deno_graph_base.specs.internal.StoredString.{lone_from}
 use Rattle.deno_graph_base.proofs.LossyText.{IsPaired-readable}
 
--- what the first units give
+-- the code point of the first units
 pub points_of_units-nil : points_of_units [] ≡ []
 unfolding points_of_units
 points_of_units-nil = refl
@@ -78,7 +78,7 @@ pub points_of_units-alone : (u v : ℕ) (units : List ℕ) → (is_high_surrogat
 unfolding points_of_units
 points_of_units-alone u v units apart = rw apart refl
 
--- the same of what a slice's first units are
+-- the code point of the first units, which are read by index
 pub first_last : (units rest : List ℕ) (u high : ℕ) → high ≡ u → units ≡ u ∷ rest → length rest ≡ 0
     → points_of_units units ≡ high ∷ points_of_units rest
 first_last units rest u high same first none =
@@ -103,7 +103,7 @@ module _ (units rest after : List ℕ) (u v high low : ℕ) (same_high : high �
       ∙ points_of_units-alone high low after apart
       ∙ ap (λ l. high ∷ points_of_units l) (ap (λ l. l ∷ after) same_low ∙ sym second)
 
--- a pair is no surrogate
+-- a code point of two surrogates is no surrogate
 high_bounds : (u : ℕ) → is_high_surrogate u ≡ true → (0xD800 ≤ u) × (u < 0xDC00)
 high_bounds u h = let both = and_parts _ _ h in (leb-true 0xD800 u both.0, ltb-true u 0xDC00 both.1)
 
@@ -187,7 +187,7 @@ all_scalars-points_of_units (u ∷ v ∷ units) fits =
     (all_scalars-points_of_units (v ∷ units) (λ i. fits (suc i)))))
     (cases_Bool (is_high_surrogate u && is_low_surrogate v))
 
--- written as units again, the code points are the units that they came from
+-- the code points as UTF-16 units are the units that they were read from
 pub encode_utf16-alone : (u : ℕ) → u < 0x1_0000 → encode_utf16 u ≡ u ∷ []
 encode_utf16-alone u h = rw (lt-ltb u 0x1_0000 h) refl
 
@@ -218,7 +218,7 @@ flat_map-points_of_units (u ∷ v ∷ units) fits =
     ∙ ap (λ l. u ∷ l) (flat_map-points_of_units (v ∷ units) (λ i. fits (suc i))))
     (cases_Bool (is_high_surrogate u && is_low_surrogate v))
 
--- one more code point is added to the text and to the lone surrogates
+-- a stored string with one more code point
 module _ (points more : List ℕ) (p : ℕ) (first : points ≡ p ∷ more) (text new : List ℕ)
     (adds : new ≡ text ++ encode_utf8 (lossy_char p)) where
   pub text_pushed : (all : List ℕ) → text ++ lossy_text points ≡ all → new ++ lossy_text more ≡ all
@@ -236,7 +236,7 @@ module _ (points more : List ℕ) (p : ℕ) (first : points ≡ p ∷ more) (tex
       ∙ append_assoc lone _ _
       ∙ ap (λ l. lone ++ lone_from (length text) l) (sym first) ∙ so_far
 
--- no unit is left
+-- a stored string of all units
 pub text_whole : (text all : List ℕ) → text ++ lossy_text (points_of_units []) ≡ all → text ≡ all
 text_whole text all so_far =
     sym (append-nil text) ∙ ap (λ l. text ++ lossy_text l) (sym points_of_units-nil) ∙ so_far

@@ -1,4 +1,4 @@
--- JavaScript strings as lists of code points, of which some may be surrogates.
+-- JavaScript strings: lists of code points, some of which may be surrogates.
 use Rattle.std.specs.Prelude.{
   ◌≡◌,
   ℕ,
@@ -25,15 +25,15 @@ use Rattle.std.specs.Prelude.{
 use Rattle.std.specs.Char.Utf16.{is_high_surrogate, is_low_surrogate, surrogate_pair_char}
 use Rattle.std.specs.List.{list_all}
 
--- half of a pair of UTF-16, which is no character: 0xD800 to 0xDFFF
+-- a surrogate of UTF-16: a code point from 0xD800 to 0xDFFF, which is not a character
 abbrev pub is_surrogate : ℕ → Bool
 is_surrogate p = nat_le 0xD800 p && nat_lt p 0xE000
 
--- the character that stands for a code point in a text: U+FFFD for a surrogate
+-- the character for a code point in lossy text: U+FFFD for a surrogate
 abbrev pub lossy_char : ℕ → ℕ
 lossy_char p = if is_surrogate p then 0xFFFD else p
 
--- the UTF-8 of the code points, with U+FFFD for each surrogate
+-- the code points as UTF-8, with U+FFFD for each surrogate
 abbrev pub lossy_text : List ℕ → List ℕ
 lossy_text points = encode_utf8_all (map lossy_char points)
 
@@ -41,7 +41,7 @@ lossy_text points = encode_utf8_all (map lossy_char points)
 abbrev pub IsReadable : List ℕ → Type 0
 IsReadable points = All (λ p. is_surrogate p ≡ false) points
 
--- the text of a readable string
+-- a readable string as UTF-8, and `None` for a string with a surrogate
 abbrev pub readable_text : List ℕ → Option (List ℕ)
 readable_text points = if list_all (λ p. not (is_surrogate p)) points then Some (lossy_text points) else None
 
@@ -51,8 +51,8 @@ IsPaired points =
     (k : ℕ) → IsTrue (is_high_surrogate (slice_index points k))
     → IsTrue (is_low_surrogate (slice_index points (k + 1))) → ⊥
 
--- the code points of units of UTF-16: a high unit directly before a low one joins with it, and
--- every other unit stays
+-- the code points of UTF-16 units: a high surrogate directly before a low one forms one code point
+-- with it, and every other unit is a code point
 unfoldable pub points_of_units : List ℕ → List ℕ
 points_of_units [] = []
 points_of_units (u ∷ []) = u ∷ []

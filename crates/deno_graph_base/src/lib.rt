@@ -1,4 +1,5 @@
-//! What a module is written in: lists, texts and maps as values, positions in a text, and strings.
+//! Texts with their positions, JavaScript strings, and lists, texts and maps that contracts see as
+//! values.
 #![tactic(auto)]
 
 pub mod text;

@@ -1,10 +1,10 @@
-//! Positions, texts with their lines, and strings.
+//! Texts with positions and ranges, and JavaScript strings.
 
 pub(crate) mod bytes;
 pub(crate) mod checkpoints;
+pub(crate) mod cursor;
 pub mod js_string;
 pub mod laws;
-pub(crate) mod place;
 pub mod position;
 pub mod source_text_info;
 

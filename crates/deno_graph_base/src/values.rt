@@ -1,4 +1,4 @@
-//! Lists, texts and maps as values: contracts see what they hold, and no pointer or capacity.
+//! Lists, texts and maps that contracts see as their contents, without pointers or capacities.
 
 pub mod items;
 pub mod resolution_mode;

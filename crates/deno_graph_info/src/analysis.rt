@@ -27,6 +27,6 @@ pub use fault::InfoFault;
 pub use import_attributes::{ImportAttribute, ImportAttributes};
 pub use js_doc_import_info::JsDocImportInfo;
 pub use module_info::ModuleInfo;
-pub use specifier_with_range::{SpecifierWithRange, read_specifier};
+pub use specifier_with_range::SpecifierWithRange;
 pub use static_dependency::{StaticDependencyDescriptor, StaticDependencyKind};
 pub use type_script_reference::TypeScriptReference;

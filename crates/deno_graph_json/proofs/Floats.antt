@@ -26,7 +26,7 @@ use Rattle.std.proofs.Common.{
 use Rattle.std.proofs.lemmas.List.{at_drop_more}
 use Rattle.std.proofs.lemmas.Option.{none-some}
 use Rattle.serde_json.specs.Data.{Data}
-use Rattle.deno_graph_json.proofs.Members.{IsRest, rest_next}
+use Rattle.deno_graph_json.proofs.ObjectMembers.{IsRest, rest_next}
 use Rattle.deno_graph_json.specs.Read.Answer.{IsRefusal}
 use Rattle.deno_graph_json.specs.Read.Partial.{unless_float}
 use Rattle.deno_graph_json.specs.declared.error.ReadError.{ReadError}

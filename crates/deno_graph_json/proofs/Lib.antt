@@ -4,10 +4,10 @@ pub mod Floats
 pub mod Kept
 pub mod Letters
 pub mod Looking
-pub mod Members
 pub mod Nested
 pub mod NoFloats
 pub mod Numbers
+pub mod ObjectMembers
 pub mod Objects
 pub mod Places
 pub mod ReadBack

@@ -32,7 +32,7 @@ use Rattle.serde_json.specs.declared.value.Value.{Value}
 use Rattle.std.specs.String.{string_cmp}
 use Rattle.deno_graph_base.proofs.TextEntries.{IsAscending-entries}
 use Rattle.deno_graph_base.specs.TextMap.{entry_of, insert_entry}
-use Rattle.deno_graph_json.proofs.Members.{AreAscending, IsRest, rest_begin, rest_next}
+use Rattle.deno_graph_json.proofs.ObjectMembers.{AreAscending, IsRest, rest_begin, rest_next}
 use Rattle.deno_graph_json.proofs.Reading.{refused, before, before_more, before_nil}
 use Rattle.deno_graph_json.specs.Read.Answer.{IsRefusal}
 use Rattle.deno_graph_json.specs.Read.Partial.{reads_members}

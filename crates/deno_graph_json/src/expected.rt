@@ -21,16 +21,21 @@ pub enum Expected {
     Member(&'static str),
     /// One of two strings.
     Either(&'static str, &'static str),
-    /// The kind of a static dependency.
-    StaticKind,
-    /// The kind of a dynamic dependency.
-    DynamicKind,
-    /// The argument of a dynamic dependency.
-    Argument,
-    /// Import attributes.
-    Attributes,
-    /// The value of an import attribute.
-    Attribute,
+    /// A value of one of these forms, which the text describes in words.
+    OneOf(&'static str, &'static [Form]),
+}
+
+/// A form of JSON values.
+#[derive(Clone, Copy, Debug, PartialEq, Eq)]
+pub enum Form {
+    Null,
+    /// Any string.
+    String,
+    /// This very string.
+    Name(&'static str),
+    Array,
+    /// An object with exactly one member.
+    ObjectOfOne,
 }
 
 impl Expected {
@@ -48,11 +53,7 @@ impl Expected {
             Expected::Pair(items) => items,
             Expected::Member(name) => return format!(in alloc; "a member `{name}`"),
             Expected::Either(first, second) => return format!(in alloc; "{first} or {second}"),
-            Expected::StaticKind => "the kind of a static dependency",
-            Expected::DynamicKind => "the kind of a dynamic dependency",
-            Expected::Argument => "a string, an array of parts or null",
-            Expected::Attributes => "none, unknown, or an object with the one member known",
-            Expected::Attribute => "a string or null",
+            Expected::OneOf(words, _) => words,
         };
         String::from_str(alloc, text)
     }

@@ -16,7 +16,7 @@ pub mod text_writer;
 pub mod write;
 
 pub use error::{Mismatch, ReadError, Step};
-pub use expected::Expected;
+pub use expected::{Expected, Form};
 pub use flat::{Element, Elements, Entries, Members, Node, Tape, TapeFault};
 pub use float::{find_float, has_float};
 pub use object::{MemberWriter, ToObject, object_value, write_object};

@@ -22,7 +22,7 @@ use Rattle.std.proofs.Common.{
   slice_get,
 }
 use Rattle.std.proofs.lemmas.List.Elements.{All-nil, All-cons}
-use Rattle.deno_graph_source.specs.ByPosition.{value_at}
+use Rattle.deno_graph_source.specs.ByOffset.{value_at}
 use Rattle.deno_graph_source.specs.Comments.{FiledComments, comments_of}
 use Rattle.deno_graph_source.specs.Node.{kind_of, range_of}
 use Rattle.deno_graph_source.specs.Source.{IsSpelled, IsValid}

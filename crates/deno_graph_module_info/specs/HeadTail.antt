@@ -1,6 +1,6 @@
 -- The comments at the head of a program and at its tail.
 use Rattle.std.specs.Prelude.{ℕ, List, [], Option, Some, None, unwrap_or, slice_get, if◌then◌else◌}
-use Rattle.deno_graph_source.specs.ByPosition.{value_at}
+use Rattle.deno_graph_source.specs.ByOffset.{value_at}
 use Rattle.deno_graph_source.specs.Comments.{FiledComments, leading_at}
 use Rattle.deno_graph_source.specs.Node.{range_of}
 use Rattle.deno_graph_source.specs.declared.tree.comments.DependencyComment.{DependencyComment}

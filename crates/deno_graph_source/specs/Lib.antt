@@ -1,14 +1,13 @@
-pub mod ByPosition
-pub mod Check
+pub mod ByOffset
 pub mod Comments
 pub mod FaultPlace
-pub mod Found
 pub mod MediaType
 pub mod Node
 pub mod NodePath
 pub mod ParsedSource
 pub mod SharedModule
 pub mod Source
+pub mod internal
 pub use Rattle.deno_graph_base.specs.JsString
 pub use Rattle.deno_graph_base.specs.Position
 pub use Rattle.deno_graph_base.specs.PositionRange

@@ -7,11 +7,11 @@ use Rattle.deno_graph_analyzer.specs.Parsing.{
   ParseFunction,
   Input,
   Outcome,
-  refused,
+  rejected,
   specifier_text,
   outcome_of,
 }
-use Rattle.deno_graph_analyzer.specs.declared.parse_error.ParseDiagnostic.{ParseDiagnostic}
+use Rattle.deno_graph_analyzer.specs.declared.parser.ParseDiagnostic.{ParseDiagnostic}
 
 -- the source has the specifier, the text and the media type of the input
 abbrev pub is_for : Input → ParsedModule → Bool
@@ -32,7 +32,7 @@ unknown_source = record {
 
 abbrev pub outcome_of_found : Option ParsedModule → Outcome
 outcome_of_found (Some source) = outcome_of source
-outcome_of_found None = refused unknown_source
+outcome_of_found None = rejected unknown_source
 
 -- the tree of the first source that is for the input
 abbrev pub outcome_in : List ParsedModule → ParseFunction

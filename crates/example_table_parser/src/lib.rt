@@ -4,11 +4,11 @@
 
 ghost use Rattle.std.specs.Prelude.{◌≡◌, IfOk, IfErr};
 ghost use Rattle.std.specs.Option.{option_copied};
-ghost use Rattle.deno_graph_analyzer.specs.Parsing.{asked, input_of, outcome_of};
+ghost use Rattle.deno_graph_analyzer.specs.Parsing.{input_of_options, input_of, outcome_of};
 ghost use Rattle.example_table_parser.specs.Table.{source_with, unknown_source};
 ghost use Rattle.example_table_parser.specs.TableParser.{known_of, call_count};
 
-use deno_graph_analyzer::{EsParser, ParseDiagnostic, ParseError, ParseOptions};
+use deno_graph_analyzer::parser::{EsParser, ParseDiagnostic, ParseError, ParseOptions};
 use deno_graph_source::text::Position;
 use deno_graph_source::tree::ParsedSource;
 use deno_graph_source::values::{Text, TryClone};
@@ -64,7 +64,7 @@ impl EsParser for TableParser {
 /// The first source with the specifier, the text and the media type of the options.
 #[tactic(auto, unfolding(deno_graph_analyzer::specs::Parsing::specifier_text))]
 fn find<'a>(sources: &'a [ParsedSource], options: &ParseOptions<'_>) -> Option<&'a ParsedSource>
-    ensures { option_copied result ≡ source_with (asked options.now) sources.now }
+    ensures { option_copied result ≡ source_with (input_of_options options.now) sources.now }
 {
     sources.iter().find(|source| {
         source.specifier() == options.specifier
@@ -80,7 +80,7 @@ fn parsed(
     known: &ParsedSource,
     options: ParseOptions<'_>,
 ) -> Result<ParsedSource, ParseError>
-    ensures answer { IfOk result (λ source. (input_of source ≡ asked options.entry)
+    ensures answer { IfOk result (λ source. (input_of source ≡ input_of_options options.entry)
         × (outcome_of source ≡ outcome_of known.now)) }
     ensures error { IfErr result (λ error. error ≡ ParseError.OutOfMemory) }
 {

@@ -1,19 +1,20 @@
-//! The words after the program's name, and what is printed about them.
+//! The arguments of the program, and its texts about them.
 
 ghost use Rattle.std.specs.Prelude.{◌≡◌, [], ◌∷◌, Bool, codes, if◌then◌else◌, map, Some};
 ghost use Rattle.modinfo.specs.Answer.{name_of};
-ghost use Rattle.modinfo.specs.Invocation.{Flags, are_strict, flag_words, have_lines, invocation_of};
+ghost use Rattle.modinfo.specs.Invocation.{Flags, are_strict, flag_words, have_lines};
+ghost use Rattle.modinfo.specs.internal.Invocation.{invocation_of};
 
 use crate::subcommand::Subcommand;
 use crate::task::Task;
 
-/// The first line that is printed for words that are no invocation.
+/// The first line that is printed for wrong arguments.
 pub const USAGE: &str = "modinfo: usage: modinfo analyze, modinfo convert or modinfo reach";
 
-/// What `--version` prints.
+/// The output of `--version`.
 pub const VERSION: &str = "modinfo 0.1.0\n";
 
-/// What `--help` prints.
+/// The output of `--help`.
 pub const HELP: &str = r#"modinfo: what one JavaScript or TypeScript module depends on
 
 usage: modinfo analyze | convert | reach [--lines]
@@ -60,7 +61,7 @@ Example:
   "specifierRange":[[0,7],[0,15]],"type":"static"}]}
 "#;
 
-/// What the words after the program's name ask for.
+/// A run of the program, as its arguments describe it.
 #[derive(Debug, Clone, Copy, PartialEq, Eq)]
 pub enum Invocation {
     /// `--help`, or `-h`
@@ -74,7 +75,7 @@ pub enum Invocation {
 }
 
 impl Invocation {
-    /// What the words ask for, `None` where they ask for nothing.
+    /// The invocation with these arguments, `None` if they are wrong.
     pub fn from_words(words: &[&str]) -> Option<Invocation>
         ensures answer { (subcommand : Subcommand) → (has_lines : Bool)
             → map (λ word. word.now) words.now
@@ -104,8 +105,8 @@ impl Invocation {
         }
     }
 
-    /// What the words after `check` ask for: a subcommand, which is `analyze` where none is named, and
-    /// then flags.
+    /// The check with the arguments after `check`: the name of a subcommand, `analyze` if there is none,
+    /// and then flags.
     fn from_check(words: &[&str]) -> Option<Invocation>
         ensures named { (subcommand : Subcommand) → (flags : Flags)
             → map (λ word. word.now) words.now ≡ name_of subcommand ∷ flag_words flags
@@ -123,7 +124,7 @@ impl Invocation {
         }
     }
 
-    /// A check of documents of a subcommand, with `--lines` and `--strict` in any order.
+    /// The check of a subcommand with these flags, in any order.
     fn of_check(subcommand: Subcommand, flags: &[&str]) -> Option<Invocation>
         ensures { (given : Flags) → map (λ word. word.now) flags.now ≡ flag_words given
             → result ≡ Some (invocation_of (have_lines given) (Task.Check subcommand (are_strict given))) }
@@ -148,8 +149,7 @@ impl Invocation {
     }
 }
 
-/// The first word that no invocation has at its place, `None` if each can be there and a command is
-/// missing.
+/// The first argument that is wrong, `None` if the arguments lack a command.
 pub fn unexpected_word<'a>(words: &[&'a str]) -> Option<&'a str> {
     match words {
         [] => None,
@@ -164,6 +164,7 @@ pub fn unexpected_word<'a>(words: &[&'a str]) -> Option<&'a str> {
     }
 }
 
+/// The first argument after `check` that is wrong.
 fn unexpected_in_check<'a>(words: &[&'a str]) -> Option<&'a str> {
     let flags = match words {
         [name, flags @ ..] if Subcommand::from_name(name).is_some() => flags,

@@ -1,5 +1,4 @@
-//! What the program `modinfo` does: it reads a module from JSON, analyzes it, and prints what it
-//! found as JSON.
+//! The program `modinfo` as a library: reads documents, analyzes or converts them, and prints JSON.
 #![tactic(auto)]
 
 pub mod check;

@@ -1,16 +1,17 @@
--- Documents, read by their parts.
+-- Reading a document from its parts.
 use Rattle.std.proofs.Common.{◌≡◌, ℕ, List, codes, Option, Some, None, refl}
 use Rattle.deno_graph_json.specs.Value.{Value, Members, as_object, as_str}
 use Rattle.deno_graph_source.specs.declared.tree.media_type.MediaType.{MediaType}
 use Rattle.deno_graph_source.specs.declared.tree.node.Program.{Program}
 use Rattle.modinfo_document.specs.Comments.{Sides, reads_sides}
-use Rattle.modinfo_document.specs.Document.{Stated, reads_document, reads_tree}
+use Rattle.modinfo_document.specs.Document.{Contents, reads_document}
+use Rattle.modinfo_document.specs.internal.Document.{reads_tree}
 use Rattle.modinfo_document.specs.Kind.{media_types, reads_named}
 use Rattle.modinfo_document.specs.Node.{reads_program}
 use Rattle.modinfo_document.specs.Partial.{◌>>=◌, required}
 use Rattle.modinfo_document.proofs.Reading.{goes_on}
 
--- two are read, and something is made of both
+-- A value made of two values that are read.
 both_read : {A B C : Type 0} (a : Option A) (b : Option B) (make : A → B → C)
     → (a >>= (λ x. b >>= (λ y. Some (make x y))))
     ≡ (◌>>=◌ {A = A × B} (a >>= (λ x. b >>= (λ y. Some (x, y)))) (λ both. Some (make both.0 both.1)))
@@ -19,8 +20,8 @@ both_read (Some x) None make = refl
 both_read (Some x) (Some y) make = refl
 
 module _ (specifier : List ℕ) (media_type : MediaType) (source : List ℕ) where
-  -- what is stated, once its first three parts are known
-  abbrev pub stated_with : Sides × Program → Stated
+  -- The contents of a document, once the first three parts are known.
+  abbrev pub stated_with : Sides × Program → Contents
   stated_with tree = record {
     specifier = specifier;
     media_type = media_type;

@@ -1,4 +1,4 @@
--- Comments that are filed one after another.
+-- Filing comments one after another.
 use Rattle.std.proofs.Common.{
   inl,
   inr,
@@ -32,35 +32,33 @@ use Rattle.std.proofs.lemmas.List.Sorted.{
   IsPermutation-refl,
   IsPermutation-trans,
 }
-use Rattle.deno_graph_source.specs.ByPosition.{AddsItem, all_items, value_at}
+use Rattle.deno_graph_source.specs.ByOffset.{AddsItem, all_items, value_at}
 use Rattle.deno_graph_source.specs.Comments.{Ascends, Filing, FiledComments}
-use Rattle.deno_graph_source.specs.declared.tree.fault_place.CommentSide.{CommentSide}
-use Rattle.deno_graph_source.specs.declared.tree.fault_place.CommentSide.TheVariants.{Leading, Trailing}
+use Rattle.deno_graph_source.specs.declared.tree.comments.CommentSide.{CommentSide}
+use Rattle.deno_graph_source.specs.declared.tree.comments.CommentSide.TheVariants.{Leading, Trailing}
 use Rattle.deno_graph_source.specs.declared.tree.comments.DependencyComment.{DependencyComment}
 use Rattle.modinfo_document.specs.Comments.{
   FiledEntry,
   entry_with,
-  AddsOn,
   all_comments,
   comments_at,
   followed_by,
-  AreAppended,
-  AreAppendedOn,
   AreThoseOf,
   HasCommentsOf,
 }
+use Rattle.modinfo_document.specs.internal.Comments.{AddsOn, AreAppended, AreAppendedOn}
 
 abbrev Comments : Type 0
 Comments = List DependencyComment
 
--- two lists after the comments at a position are one list after them
+-- Appending two lists one after the other appends their concatenation.
 followed_twice : (found : Option Comments) (xs ys : Comments)
     → followed_by (followed_by found xs) ys ≡ followed_by found (xs ++ ys)
 followed_twice found [] ys = refl
 followed_twice found (x ∷ xs) [] = ap (λ zs. Some (unwrap_or found [] ++ x ∷ zs)) (sym (append-nil xs))
 followed_twice found (x ∷ xs) (y ∷ ys) = ap Some (append_assoc (unwrap_or found []) (x ∷ xs) (y ∷ ys))
 
--- entries are filed, and then others
+-- Entries are filed, and then other entries.
 filed_both : (old mid new : Filing) (es fs : List FiledEntry) → AreAppended old mid es
     → AreAppended mid new fs
     → AreAppended old new (es ++ fs)
@@ -76,7 +74,7 @@ filed_both old mid new es fs first then_ = record {
       (IsPermutation-trans _ _ _ (IsPermutation-append_left (all_comments fs) _ _ first.all) then_.all);
 }
 
--- one comment more after those of an entry
+-- One more comment of an entry.
 one_more : (found : Option Comments) (xs : Comments) (x : DependencyComment)
     → Some (unwrap_or (followed_by found (xs ++ [])) [] ++ x ∷ []) ≡ followed_by found ((xs ++ x ∷ []) ++ [])
 one_more found [] x = refl
@@ -85,7 +83,7 @@ one_more found (y ∷ ys) x =
     ≡ unwrap_or found [] ++ y ∷ ((ys ++ x ∷ []) ++ []) = simp (append_assoc, append-nil) refl in
     ap Some shorter
 
--- the comments of one entry, up to one, and then that
+-- Some comments of one entry are filed, and then the next.
 filed_more : (old mid new : Filing) (pos : ℕ) (xs : Comments) (x : DependencyComment)
     → AreAppended old mid (entry_with pos xs ∷ []) → AddsItem mid new pos x → Ascends new
     → AreAppended old new (entry_with pos (xs ++ x ∷ []) ∷ [])
@@ -114,7 +112,7 @@ filed_more old mid new pos xs x first added ascending = record {
       (IsPermutation-push_more _ _ _ x before added.items);
 }
 
--- no comment is filed
+-- No comment is filed.
 nothing_filed : (filing : Filing) → IsPermutation (all_items filing ++ []) (all_items filing)
 nothing_filed filing =
     subst (λ xs. IsPermutation xs (all_items filing)) (sym (append-nil (all_items filing)))
@@ -133,13 +131,13 @@ empty_filed filing pos = record {
 none_filed : (filing : Filing) → AreAppended filing filing []
 none_filed filing = record { ascending = λ h. h; at_each = λ q. refl; all = nothing_filed filing }
 
--- ---- on one side
+-- ---- On one side
 
 pub none_on : (side : CommentSide) (filed : FiledComments) → AreAppendedOn side filed filed []
 none_on Leading filed = (none_filed filed.leading, refl)
 none_on Trailing filed = (none_filed filed.trailing, refl)
 
--- an entry without comments
+-- An entry without comments.
 pub empty_on : (side : CommentSide) (filed : FiledComments) (pos : ℕ)
     → AreAppendedOn side filed filed (entry_with pos [] ∷ [])
 empty_on Leading filed pos = (empty_filed filed.leading pos, refl)
@@ -166,7 +164,7 @@ none_ascend : Ascends []
 unfolding IsStrictlySortedBy
 none_ascend = tt
 
--- what was filed where nothing was before
+-- Entries that are filed first.
 from_empty : (old new : Filing) (entries : List FiledEntry) → old ≡ [] → AreAppended old new entries
     → HasCommentsOf entries new
 from_empty old new entries is filed = record {
@@ -175,7 +173,7 @@ from_empty old new entries is filed = record {
   all = subst (λ f. IsPermutation (all_items f ++ all_comments entries) (all_items new)) is filed.all;
 }
 
--- one side is filed, and then the other
+-- One side is filed, and then the other.
 pub both_sides : (none mid new : FiledComments) (leading trailing : List FiledEntry) → none.leading ≡ []
     → none.trailing ≡ []
     → AreAppendedOn Leading none mid leading → AreAppendedOn Trailing mid new trailing

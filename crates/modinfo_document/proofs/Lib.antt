@@ -3,6 +3,6 @@ pub mod Nodes
 pub mod OneDocument
 pub mod Filed
 pub mod Documents
-pub mod Places
-pub mod FoundComments
+pub mod NodeLookup
+pub mod CommentLookup
 pub mod Urls

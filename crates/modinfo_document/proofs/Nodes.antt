@@ -1,4 +1,4 @@
--- Nodes, read by the members of the object.
+-- Reading nodes from the members of their objects.
 use Rattle.std.proofs.Common.{
   ◌≡◌,
   List,
@@ -46,7 +46,7 @@ use Rattle.modinfo_document.specs.Node.{
   node_with,
   last_read,
 }
-use Rattle.modinfo_document.specs.Partial.{◌>>=◌, found_or, reads_items}
+use Rattle.modinfo_document.specs.Partial.{◌>>=◌, or_default, reads_items}
 use Rattle.modinfo_document.proofs.Reading.{goes_on}
 
 pub nodes_read : (v : Value) → reads_nodes v ≡ (as_array v >>= reads_items reads_node)
@@ -63,20 +63,20 @@ nodes_read (array vs) = each_read vs
     each_read (item v vs) = ap (λ o. reads_node v >>= (λ x. o >>= (λ xs. Some (x ∷ xs)))) (each_read vs)
 nodes_read (object ms) = refl
 
--- an array of nodes is read item by item
+-- An array of nodes is read item by item.
 pub nodes_items : (v : Value) (vs : Items) → as_array v ≡ Some vs → reads_nodes v ≡ reads_items reads_node vs
 nodes_items v vs is = nodes_read v ∙ goes_on (as_array v) (reads_items reads_node) vs
     (reads_items reads_node vs) is refl
 
 read_last : (later : Option Value) (rest : Option (List Node)) (b : Bool) (v : Value)
-    → rest ≡ found_or reads_nodes [] later
-    → last_read later rest b (reads_nodes v) ≡ found_or reads_nodes []
+    → rest ≡ or_default reads_nodes [] later
+    → last_read later rest b (reads_nodes v) ≡ or_default reads_nodes []
     (later_or later (if b then Some v else None))
 read_last (Some w) rest b v is = is
 read_last None rest true v is = refl
 read_last None rest false v is = refl
 
-pub children_read : (ms : Members) → children_in ms ≡ found_or reads_nodes []
+pub children_read : (ms : Members) → children_in ms ≡ or_default reads_nodes []
     (last_named (codes "children") ms)
 unfolding reads_nodes
 children_read no_members = refl
@@ -85,7 +85,7 @@ children_read (member k v ms) =
     (children_read ms)
 
 pub node_read : (v : Value) → reads_node v
-    ≡ (as_object v >>= (λ ms. node_with ms (found_or reads_nodes [] (last_named (codes "children") ms))))
+    ≡ (as_object v >>= (λ ms. node_with ms (or_default reads_nodes [] (last_named (codes "children") ms))))
 unfolding reads_node
 node_read null = refl
 node_read (boolean b) = refl

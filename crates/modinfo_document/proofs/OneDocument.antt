@@ -1,4 +1,4 @@
--- A text states at most one document, and one that states a valid source has no fault.
+-- A text has at most one document, and the text of a document with a source has no error.
 use Rattle.std.proofs.Common.{
   ◌≡◌,
   ◌≢◌,
@@ -42,7 +42,7 @@ use Rattle.url.specs.Parser.{parse_url}
 use Rattle.deno_graph_json.specs.Value.{Value, plain_value}
 use Rattle.deno_graph_json.specs.View.{IsValueOf}
 use Rattle.deno_graph_json.proofs.Ahead.{same_ahead}
-use Rattle.deno_graph_source.specs.ByPosition.{value_at}
+use Rattle.deno_graph_source.specs.ByOffset.{value_at}
 use Rattle.deno_graph_source.specs.Comments.{Ascends, Filing, FiledComments}
 use Rattle.deno_graph_source.specs.ParsedSource.{ParsedModule}
 use Rattle.deno_graph_source.specs.Source.{HasFault, IsValid}
@@ -52,26 +52,26 @@ use Rattle.deno_graph_source.specs.declared.tree.node.Program.{Program}
 use Rattle.modinfo_document.specs.Comments.{AreThoseOf, FiledEntry, HasCommentsOf, Sides}
 use Rattle.modinfo_document.specs.Document.{
   Has,
-  HasNotationFault,
+  HasDocumentError,
   IsDocumentOf,
   IsNoDocument,
   IsNoSource,
   IsSourceOf,
-  Stated,
+  Contents,
   reads_document,
 }
 use Rattle.modinfo_document.specs.declared.document.Document.{Document}
-use Rattle.modinfo_document.specs.declared.fault.NotationFault.{NotationFault}
-use Rattle.modinfo_document.specs.declared.fault.NotationFault.TheVariants.{
+use Rattle.modinfo_document.specs.declared.error.DocumentError.{DocumentError}
+use Rattle.modinfo_document.specs.declared.error.DocumentError.TheVariants.{
   Json,
-  NotInNotation,
+  Tree,
   Specifier,
   Source,
   OutOfMemory,
 }
 use Rattle.modinfo_document.proofs.Reading.{some_with}
 
--- Values by ascending positions
+-- ---- Values by ascending positions
 
 at_itself : (pos : ℕ) → is_at (nat_cmp pos) pos ≡ true
 at_itself pos = grind (arith, nat_tests)
@@ -86,7 +86,7 @@ equal_is : (p q : ℕ) → nat_cmp p q ≡ Equal → p ≡ q
 equal_is p q equal = grind (arith, nat_tests, equal)
 
 module _ {V : Type 0} where
-  -- a position that is not above the first of all has no value after it
+  -- No value after the first is at a position that is at most the first position.
   not_below : (pos first : ℕ) (es : List (ℕ × V)) → pos ≤ first
       → AllByRecursion (λ k. nat_cmp first k ≡ Less) (keys_of es) → value_at es pos ≡ None
   not_below pos first [] most below = refl
@@ -103,7 +103,7 @@ module _ {V : Type 0} where
   not_first pos other value es apart = ap (λ b. cond b (Some value) (value_at es pos))
       (not_at pos other apart)
 
-  -- a first position that is below another's first has a value in one list alone
+  -- If the first positions differ, only one list has a value at the lower one.
   no_first : (pos other : ℕ) (value there : V) (es fs : List (ℕ × V)) → nat_cmp pos other ≡ Less
       → AllByRecursion (λ k. nat_cmp other k ≡ Less) (keys_of fs)
       → value_at ((pos, value) ∷ es) pos ≡ value_at ((other, there) ∷ fs) pos → ⊥
@@ -114,7 +114,7 @@ module _ {V : Type 0} where
       not_first pos other there fs apart ∙ not_below pos other fs (omega (arith, before)) below in
       none-some value (sym nothing ∙ (sym same ∙ found_first pos value es))
 
-  -- past an equal first position, two lists that have the same values have them still
+  -- The rests of two lists with the same values and the same first position have the same values.
   same_rest : (pos : ℕ) (value there : V) (es fs : List (ℕ × V))
       → AllByRecursion (λ k. nat_cmp pos k ≡ Less) (keys_of es)
       → AllByRecursion (λ k. nat_cmp pos k ≡ Less) (keys_of fs)
@@ -150,7 +150,7 @@ module _ {V : Type 0} where
       let others = rests a.1 b.1 (same_rest pos value there es fs a.0 below at_pos) in
       λ i. (sym one i, values i) ∷ others i
 
-  -- two lists with ascending positions and the same values are equal
+  -- Two lists with ascending positions and the same values are equal.
   pub ascending_unique : (es fs : List (ℕ × V)) → IsStrictlySortedBy nat_cmp (keys_of es)
       → IsStrictlySortedBy nat_cmp (keys_of fs)
       → ((q : ℕ) → value_at es q ≡ value_at fs q) → es ≡ fs
@@ -162,7 +162,7 @@ module _ {V : Type 0} where
   ascending_unique ((pos, value) ∷ es) ((other, there) ∷ fs) a b same =
       same_by_order pos other value there es fs a b same (ascending_unique es fs) (nat_cmp pos other) refl
 
--- The comments of the same entries
+-- ---- The comments of the same entries
 
 one_filing : (entries : List FiledEntry) (f g : Filing) → HasCommentsOf entries f → HasCommentsOf entries g
     → f ≡ g
@@ -175,14 +175,14 @@ one_comments sides f g a b =
     let trailing = one_filing sides.trailing f.trailing g.trailing a.1 b.1 in
     λ i. record { leading = leading i; trailing = trailing i }
 
--- The value of a text, and the document
+-- ---- The value and the document of a text
 
 pub one_value : (text : List ℕ) (v w : Value) → IsValueOf text v → IsValueOf text w → v ≡ w
 one_value text v w a b =
     let same = same_ahead a.0 b.0 [] [] (ap (λ ts. ts ++ []) (sym a.1.0 ∙ b.1.0)) in
     a.2 ∙ ap plain_value same.0 ∙ sym b.2
 
--- two documents with the same parts
+-- Two documents of one text are equal.
 pub record AreSame (d e : Document) : Type 0 where
   pub specifier : d.specifier ≡ e.specifier
   pub media_type : d.media_type ≡ e.media_type
@@ -192,11 +192,11 @@ pub record AreSame (d e : Document) : Type 0 where
 
 pub one_document : (text : List ℕ) (d e : Document) → IsDocumentOf text d → IsDocumentOf text e → AreSame d e
 one_document text d e a b =
-    let s = some_with (λ stated. Has stated d) (reads_document a.0) a.2 in
-    let t = some_with (λ stated. Has stated e) (reads_document b.0) b.2 in
+    let s = some_with (λ contents. Has contents d) (reads_document a.0) a.2 in
+    let t = some_with (λ contents. Has contents e) (reads_document b.0) b.2 in
     let values = ap reads_document (one_value text a.0 b.0 a.1 b.1) in
     let same : s.0 ≡ t.0 = same_Some s.0 t.0 (sym s.1 ∙ values ∙ t.1) in
-    let mine : Has t.0 d = subst (λ stated. Has stated d) same s.2 in
+    let mine : Has t.0 d = subst (λ contents. Has contents d) same s.2 in
     record {
       specifier = mine.specifier ∙ sym t.2.specifier;
       media_type = mine.media_type ∙ sym t.2.media_type;
@@ -205,7 +205,7 @@ one_document text d e a b =
       comments = one_comments t.0.comments d.comments e.comments mine.comments t.2.comments;
     }
 
--- the module of two documents with the same parts
+-- Two modules of equal documents are equal.
 pub one_source : (d e : Document) (m n : ParsedModule) → AreSame d e → IsSourceOf d m → IsSourceOf e n → m ≡ n
 one_source d e m n same a b =
     let urls = sym a.specifier ∙ ap (parse_url None) same.specifier ∙ b.specifier in
@@ -224,13 +224,13 @@ one_source d e m n same a b =
       scope_analysis = scope_analysis i;
     }
 
--- A document that fits its source has no fault, and so its text has none
+-- A document with a source has no error, and so its text has none.
 
-no_source_fault : (d e : Document) (url : Parts) (fault : NotationFault) → AreSame d e
+no_source_fault : (d e : Document) (url : Parts) (fault : DocumentError) → AreSame d e
     → parse_url None d.specifier ≡ Ok url → IsValid (rc_str_bytes d.source) d.program d.comments
     → fault ≢ OutOfMemory → IsNoSource e fault → ⊥
 no_source_fault d e url (Json offset) same is valid apart none = none
-no_source_fault d e url (NotInNotation misfit) same is valid apart none = none
+no_source_fault d e url (Tree mismatch) same is valid apart none = none
 no_source_fault d e url Specifier same is valid apart none =
     let urls = sym is ∙ ap (parse_url None) same.specifier ∙ none.1 in
     cc (urls)
@@ -242,20 +242,20 @@ no_source_fault d e url (Source fault) same is valid apart none =
     fault_refutes (rc_str_bytes e.source) e.program e.comments fault none there
 no_source_fault d e url OutOfMemory same is valid apart none = apart refl
 
-no_document_fault : (text : List ℕ) (d : Document) (fault : NotationFault) → IsDocumentOf text d
+no_document_fault : (text : List ℕ) (d : Document) (fault : DocumentError) → IsDocumentOf text d
     → fault ≢ OutOfMemory → IsNoDocument text fault → ⊥
 no_document_fault text d (Json offset) is apart none = none is.1.0 is.1.1
-no_document_fault text d (NotInNotation misfit) is apart none =
-    let s = some_with (λ stated. Has stated d) (reads_document is.0) is.2 in
+no_document_fault text d (Tree mismatch) is apart none =
+    let s = some_with (λ contents. Has contents d) (reads_document is.0) is.2 in
     let values = ap reads_document (one_value text none.0 is.0 none.1 is.1) in
     none-some s.0 (sym none.2 ∙ values ∙ s.1)
 no_document_fault text d Specifier is apart none = none
 no_document_fault text d (Source fault) is apart none = none
 no_document_fault text d OutOfMemory is apart none = apart refl
 
-pub valid_refutes : (text : List ℕ) (d : Document) (url : Parts) (fault : NotationFault) → IsDocumentOf text d
+pub valid_refutes : (text : List ℕ) (d : Document) (url : Parts) (fault : DocumentError) → IsDocumentOf text d
     → parse_url None d.specifier ≡ Ok url → IsValid (rc_str_bytes d.source) d.program d.comments
-    → fault ≢ OutOfMemory → HasNotationFault text fault → ⊥
+    → fault ≢ OutOfMemory → HasDocumentError text fault → ⊥
 valid_refutes text d url fault is has_url valid apart
     (inl none) = no_document_fault text d fault is apart none
 valid_refutes text d url fault is has_url valid apart (inr found) =

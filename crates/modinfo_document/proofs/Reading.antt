@@ -1,4 +1,4 @@
--- How a reader ends: each step of a partial function, and the fault that a `?` returns.
+-- Lemmas for readers: the steps of a partial function, and the error that a `?` returns.
 use Rattle.std.proofs.Common.{
   IsSomeAnd,
   ◌≡◌,
@@ -24,92 +24,95 @@ use Rattle.std.proofs.Common.{
   ◌∙◌,
 }
 use Rattle.std.proofs.lemmas.Result.{err_from_is_err_and}
-use Rattle.modinfo_document.specs.Answer.{IsRefusal, IsMisfit, Answers, AnswersSeen, AnswersBy}
+use Rattle.modinfo_document.specs.Returned.{IsReadError, Returns, ReturnsBy}
+use Rattle.modinfo_document.specs.internal.Returned.{IsMismatch, ReturnsSeen}
 use Rattle.deno_graph_json.specs.Value.{Value, Items, no_items, item, as_array}
 use Rattle.modinfo_document.specs.Partial.{◌>>=◌, reads_items, reads_array}
-use Rattle.modinfo_document.specs.declared.fault.NotationFault.{NotationFault}
-use Rattle.modinfo_document.specs.declared.fault.NotationFault.TheVariants.{
+use Rattle.modinfo_document.specs.declared.error.DocumentError.{DocumentError}
+use Rattle.modinfo_document.specs.declared.error.DocumentError.TheVariants.{
   Json,
-  NotInNotation,
+  Tree,
   Specifier,
   Source,
   OutOfMemory,
 }
 
--- a fault of the notation says that there is nothing to be read
-pub misfits : {A : Type 0} (wanted : Option A) (fault : NotationFault) → IsMisfit fault → wanted ≡ None
-    → IsRefusal wanted fault
-misfits wanted (NotInNotation m) is none = none
-misfits wanted OutOfMemory is none = absurd is
-misfits wanted (Json n) is none = absurd is
-misfits wanted Specifier is none = absurd is
-misfits wanted (Source s) is none = absurd is
+-- A mismatch is a read error where nothing can be read.
+pub mismatches : {A : Type 0} (wanted : Option A) (fault : DocumentError) → IsMismatch fault → wanted ≡ None
+    → IsReadError wanted fault
+mismatches wanted (Tree m) is none = none
+mismatches wanted OutOfMemory is none = absurd is
+mismatches wanted (Json n) is none = absurd is
+mismatches wanted Specifier is none = absurd is
+mismatches wanted (Source s) is none = absurd is
 
--- a step that has a value goes on with it
+-- A step with a value continues with that value.
 pub goes_on : {A B : Type 0} (o : Option A) (f : A → Option B) (x : A) (r : Option B) → o ≡ Some x → f x ≡ r
     → (o >>= f) ≡ r
 goes_on o f x r is later = ap (λ v. v >>= f) is ∙ later
 
--- the exit of a `?` that refuses the whole
-pub refuses : {A : Type 0} (wanted : Option A) (fault : NotationFault) (answer : Result A NotationFault)
-    → IsErrAnd answer (λ other. other ≡ fault) → IsRefusal wanted fault → Answers wanted answer
-refuses wanted fault answer is h = let p = err_from_is_err_and answer is in rw (p.1, p.2) h
+-- The error that a `?` returns is one of the whole reader.
+pub fails : {A : Type 0} (wanted : Option A) (fault : DocumentError) (answer : Result A DocumentError)
+    → IsErrAnd answer (λ other. other ≡ fault) → IsReadError wanted fault → Returns wanted answer
+fails wanted fault answer is h = let p = err_from_is_err_and answer is in rw (p.1, p.2) h
 
--- a value that is there or not
-pub seen_or_misfit : {A B : Type 0} (seen : B → A) (o : Option B) (wanted : Option A) (fault : NotationFault)
-    (answer : Result B NotationFault) → option_map seen o ≡ wanted → IsMisfit fault → answer ≡ ok_or o fault
-    → AnswersSeen seen wanted answer
-seen_or_misfit seen None wanted fault answer is misfit made = rw made (misfits wanted fault misfit (sym is))
-seen_or_misfit seen (Some x) wanted fault answer is misfit made = rw made (sym is)
+-- `ok_or` returns the value if there is one, else the mismatch.
+pub seen_or_mismatch : {A B : Type 0} (seen : B → A) (o : Option B) (wanted : Option A)
+    (fault : DocumentError) (answer : Result B DocumentError) → option_map seen o ≡ wanted → IsMismatch fault
+    → answer ≡ ok_or o fault
+    → ReturnsSeen seen wanted answer
+seen_or_mismatch seen None wanted fault answer is mismatch made =
+    rw made (mismatches wanted fault mismatch (sym is))
+seen_or_mismatch seen (Some x) wanted fault answer is mismatch made = rw made (sym is)
 
 module _ {A B : Type 0} (wanted : Option A) (f : A → Option B) where
-  -- a step that is refused refuses the whole
-  pub refused : (fault : NotationFault) → IsRefusal wanted fault → IsRefusal (wanted >>= f) fault
-  refused (NotInNotation m) h = ap (λ o. o >>= f) h
-  refused OutOfMemory h = h
-  refused (Json n) h = absurd h
-  refused Specifier h = absurd h
-  refused (Source s) h = absurd h
+  -- An error of the first step is one of the whole.
+  pub fails_on : (fault : DocumentError) → IsReadError wanted fault → IsReadError (wanted >>= f) fault
+  fails_on (Tree m) h = ap (λ o. o >>= f) h
+  fails_on OutOfMemory h = h
+  fails_on (Json n) h = absurd h
+  fails_on Specifier h = absurd h
+  fails_on (Source s) h = absurd h
 
-  -- the exit of a `?`
-  pub exits : (fault : NotationFault) (answer : Result B NotationFault)
+  -- The error that a `?` returns, after the first step.
+  pub exits : (fault : DocumentError) (answer : Result B DocumentError)
       → IsErrAnd answer (λ other. other ≡ fault)
-      → IsRefusal wanted fault → Answers (wanted >>= f) answer
-  exits fault answer is h = let p = err_from_is_err_and answer is in rw (p.1, p.2) (refused fault h)
+      → IsReadError wanted fault → Returns (wanted >>= f) answer
+  exits fault answer is h = let p = err_from_is_err_and answer is in rw (p.1, p.2) (fails_on fault h)
 
-  -- a step that has a value goes on with it
-  pub answers_on : (x : A) (answer : Result B NotationFault) → wanted ≡ Some x → Answers (f x) answer
-      → Answers (wanted >>= f) answer
-  answers_on x answer is h =
-      let Goal : Option A → Type 0 = λ o. Answers (o >>= f) answer in subst Goal (sym is) h
+  -- A step with a value continues with that value.
+  pub returns_on : (x : A) (answer : Result B DocumentError) → wanted ≡ Some x → Returns (f x) answer
+      → Returns (wanted >>= f) answer
+  returns_on x answer is h =
+      let Goal : Option A → Type 0 = λ o. Returns (o >>= f) answer in subst Goal (sym is) h
 
--- the same, where the answer is seen as a value
+-- ---- For `ReturnsSeen`
 module _ {A B C : Type 0} (seen : C → B) (wanted : Option A) (f : A → Option B) where
-  pub exits_seen : (fault : NotationFault) (answer : Result C NotationFault)
+  pub exits_seen : (fault : DocumentError) (answer : Result C DocumentError)
       → IsErrAnd answer (λ other. other ≡ fault)
-      → IsRefusal wanted fault → AnswersSeen seen (wanted >>= f) answer
+      → IsReadError wanted fault → ReturnsSeen seen (wanted >>= f) answer
   exits_seen fault answer is h = let p = err_from_is_err_and answer is in rw (p.1, p.2)
-      (refused wanted f fault h)
+      (fails_on wanted f fault h)
 
-  pub answers_seen_on : (x : A) (answer : Result C NotationFault) → wanted ≡ Some x
-      → AnswersSeen seen (f x) answer → AnswersSeen seen (wanted >>= f) answer
-  answers_seen_on x answer is h =
-      let Goal : Option A → Type 0 = λ o. AnswersSeen seen (o >>= f) answer in subst Goal (sym is) h
+  pub returns_seen_on : (x : A) (answer : Result C DocumentError) → wanted ≡ Some x
+      → ReturnsSeen seen (f x) answer → ReturnsSeen seen (wanted >>= f) answer
+  returns_seen_on x answer is h =
+      let Goal : Option A → Type 0 = λ o. ReturnsSeen seen (o >>= f) answer in subst Goal (sym is) h
 
--- the same, where the answer meets what is to be read
+-- ---- For `ReturnsBy`
 module _ {A B C : Type 0} (Meets : B → C → Type 0) (wanted : Option A) (f : A → Option B) where
-  pub exits_by : (fault : NotationFault) (answer : Result C NotationFault)
+  pub exits_by : (fault : DocumentError) (answer : Result C DocumentError)
       → IsErrAnd answer (λ other. other ≡ fault)
-      → IsRefusal wanted fault → AnswersBy Meets (wanted >>= f) answer
+      → IsReadError wanted fault → ReturnsBy Meets (wanted >>= f) answer
   exits_by fault answer is h = let p = err_from_is_err_and answer is in rw (p.1, p.2)
-      (refused wanted f fault h)
+      (fails_on wanted f fault h)
 
-  pub answers_by_on : (x : A) (answer : Result C NotationFault) → wanted ≡ Some x
-      → AnswersBy Meets (f x) answer → AnswersBy Meets (wanted >>= f) answer
-  answers_by_on x answer is h =
-      let Goal : Option A → Type 0 = λ o. AnswersBy Meets (o >>= f) answer in subst Goal (sym is) h
+  pub returns_by_on : (x : A) (answer : Result C DocumentError) → wanted ≡ Some x
+      → ReturnsBy Meets (f x) answer → ReturnsBy Meets (wanted >>= f) answer
+  returns_by_on x answer is h =
+      let Goal : Option A → Type 0 = λ o. ReturnsBy Meets (o >>= f) answer in subst Goal (sym is) h
 
--- what is read, and what holds of it
+-- ---- A value with a property
 pub some_and : {A : Type 0} (P : A → Type 0) (wanted : Option A) (x : A) → wanted ≡ Some x → P x
     → IsSomeAnd wanted P
 some_and P wanted x is h = subst (λ o. IsSomeAnd o P) (sym is) h
@@ -119,28 +122,29 @@ pub some_with : {A : Type 0} (P : A → Type 0) (wanted : Option A) → IsSomeAn
 some_with P (Some x) h = (x, refl, h)
 some_with P None h = absurd h
 
-pub refuses_by : {B C : Type 0} (Meets : B → C → Type 0) (wanted : Option B) (fault : NotationFault)
-    (answer : Result C NotationFault)
-    → IsErrAnd answer (λ other. other ≡ fault) → IsRefusal wanted fault → AnswersBy Meets wanted answer
-refuses_by Meets wanted fault answer is h = let p = err_from_is_err_and answer is in rw (p.1, p.2) h
+pub fails_by : {B C : Type 0} (Meets : B → C → Type 0) (wanted : Option B) (fault : DocumentError)
+    (answer : Result C DocumentError)
+    → IsErrAnd answer (λ other. other ≡ fault) → IsReadError wanted fault → ReturnsBy Meets wanted answer
+fails_by Meets wanted fault answer is h = let p = err_from_is_err_and answer is in rw (p.1, p.2) h
 
--- what is made of what was read
+-- A value made of the value that is read.
 pub made_of : {A B C : Type 0} (Meets : B → C → Type 0) (make : A → B) (wanted : Option A)
-    (answer : Result C NotationFault) → AnswersBy (λ x. Meets (make x)) wanted answer
-    → AnswersBy Meets (wanted >>= (λ x. Some (make x))) answer
+    (answer : Result C DocumentError) → ReturnsBy (λ x. Meets (make x)) wanted answer
+    → ReturnsBy Meets (wanted >>= (λ x. Some (make x))) answer
 made_of Meets make None (Ok c) h = h
 made_of Meets make (Some x) (Ok c) h = h
-made_of Meets make wanted (Err fault) h = refused wanted (λ x. Some (make x)) fault h
+made_of Meets make wanted (Err fault) h = fails_on wanted (λ x. Some (make x)) fault h
 
--- how a reader that reads step by step ends
-pub ruleset reading = (goes_on, exits, answers_on, exits_seen, answers_seen_on)
+-- Readers whose results are `Returns` or `ReturnsSeen`.
+pub ruleset reading = (goes_on, exits, returns_on, exits_seen, returns_seen_on)
 
-pub ruleset reading_by = (goes_on, exits_by, answers_by_on, refused)
+-- Readers whose results are `ReturnsBy`.
+pub ruleset reading_by = (goes_on, exits_by, returns_by_on, fails_on)
 
--- ---- items
+-- ---- Items
 
 module _ {A : Type 0} where
-  -- the items that were read, before those that are still to be read
+  -- The values that were read, followed by those of the other items.
   abbrev pub before : List A → Option (List A) → Option (List A)
   before xs rest = rest >>= (λ ys. Some (xs ++ ys))
 
@@ -154,27 +158,27 @@ module _ {A : Type 0} where
   before_more xs x (Some ys) = ap Some (sym (append_assoc xs (x ∷ []) ys))
 
   module _ (reads : Value → Option A) (xs : List A) (v : Value) (vs : Items) where
-    -- one item more is read
+    -- One more item is read.
     pub items_more : (x : A) → reads v ≡ Some x
         → before xs (reads_items reads (item v vs)) ≡ before (xs ++ x ∷ []) (reads_items reads vs)
     unfolding reads_items
     items_more x is = rw is (before_more xs x (reads_items reads vs))
 
-    -- an item that is refused refuses all
-    pub items_refused : (all : Option (List A)) (fault : NotationFault)
+    -- An error of an item is one of the whole.
+    pub items_failed : (all : Option (List A)) (fault : DocumentError)
         → before xs (reads_items reads (item v vs)) ≡ all
-        → IsRefusal (reads v) fault → IsRefusal all fault
+        → IsReadError (reads v) fault → IsReadError all fault
     unfolding reads_items
-    items_refused all fault is h = subst (λ o. IsRefusal o fault) is
-        (refused _ _ fault (refused (reads v) _ fault h))
+    items_failed all fault is h = subst (λ o. IsReadError o fault) is
+        (fails_on _ _ fault (fails_on (reads v) _ fault h))
 
-  -- no item is left
+  -- No item is left.
   pub items_done : (reads : Value → Option A) (xs : List A) (all : Option (List A))
       → before xs (reads_items reads no_items) ≡ all → all ≡ Some xs
   unfolding reads_items
   items_done reads xs all is = sym is ∙ ap Some (append-nil xs)
 
--- an array is read item by item
+-- An array is read item by item.
 pub array_items : {A : Type 0} (reads : Value → Option A) (v : Value) (vs : Items) → as_array v ≡ Some vs
     → reads_array reads v ≡ reads_items reads vs
 unfolding reads_array

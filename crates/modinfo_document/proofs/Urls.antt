@@ -1,4 +1,4 @@
--- What the refusals of the URL's parser say of a document.
+-- The errors of the URL parser as errors of a document.
 use Rattle.std.proofs.Common.{
   ◌≡◌,
   ◌⊎◌,
@@ -19,7 +19,7 @@ use Rattle.url.specs.Parser.{IsOutOfRoom, parse_url}
 use Rattle.url.specs.declared.error.ParseError.{ParseError}
 use Rattle.url.specs.declared.error.ParseError.TheVariants as url
 use Rattle.modinfo_document.specs.Document.{IsNoSource}
-use Rattle.modinfo_document.specs.Fault.{of_url}
+use Rattle.modinfo_document.specs.Error.{of_url}
 use Rattle.modinfo_document.specs.declared.document.Document.{Document}
 
 abbrev is_room : ParseError → Bool
@@ -36,7 +36,7 @@ is_room url.RelativeUrlWithCannotBeABaseBase = false
 is_room url.SetHostOnCannotBeABaseUrl = false
 is_room url.CannotSet = false
 
--- where there was room, the specifier is no URL
+-- Any error but a failed allocation shows that the specifier is no URL.
 no_url : (document : Document) (error : ParseError) → is_room error ≡ false
     → ((parse_url None document.specifier ≡ Err error) ⊎ IsOutOfRoom error)
     → parse_url None document.specifier ≡ Err error
@@ -44,7 +44,7 @@ no_url document error room (inl is) = is
 no_url document error room (inr (inl is)) = absurd (true≢false (sym (ap is_room is) ∙ room))
 no_url document error room (inr (inr is)) = absurd (true≢false (sym (ap is_room is) ∙ room))
 
--- the fault that comes of the refusal is one of the document, or memory was refused
+-- The error is one of the document, or an allocation failed.
 pub no_source : (document : Document) (error : ParseError)
     → ((parse_url None document.specifier ≡ Err error) ⊎ IsOutOfRoom error)
     → IsNoSource document (of_url error)

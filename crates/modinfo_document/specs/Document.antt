@@ -1,4 +1,4 @@
--- A document: what it states, and the text that it is read from.
+-- Module documents: reading one from a text, and making its source.
 use Rattle.std.specs.Prelude.{◌≡◌, ◌⊎◌, List, codes, ℕ, Option, Some, None, Ok, Err, false, IsSomeAnd}
 use Rattle.std.specs.Rc.{rc_str_bytes}
 use Rattle.deno_graph_json.specs.Flat.{IsRefused}
@@ -16,33 +16,26 @@ use Rattle.modinfo_document.specs.Kind.{media_types, reads_named}
 use Rattle.modinfo_document.specs.Comments.{Sides, reads_sides, AreThoseOf}
 use Rattle.modinfo_document.specs.Node.{reads_program}
 use Rattle.modinfo_document.specs.declared.document.Document.{Document}
-use Rattle.modinfo_document.specs.declared.fault.NotationFault.{NotationFault}
-use Rattle.modinfo_document.specs.declared.fault.NotationFault.TheVariants.{
+use Rattle.modinfo_document.specs.declared.error.DocumentError.{DocumentError}
+use Rattle.modinfo_document.specs.declared.error.DocumentError.TheVariants.{
   Json,
-  NotInNotation,
+  Tree,
   Specifier,
   Source,
   OutOfMemory,
 }
 
--- what a document states
-pub record Stated : Type 0 where
+-- The contents of a document.
+pub record Contents : Type 0 where
   pub specifier : List ℕ
   pub media_type : MediaType
   pub source : List ℕ
   pub comments : Sides
   pub program : Program
 
--- the comments of both sides, and the program
-unfoldable pub reads_tree : Members → Option (Sides × Program)
-reads_tree members = do
-  comments ← reads_sides members
-  program ← required reads_program (codes "program") members
-  Some (comments, program)
-
 -- `{"specifier":TEXT,"mediaType":NAME,"source":TEXT,"leading":[ENTRY ..],"trailing":[ENTRY
--- ..],"program":PROGRAM}`
-unfoldable pub reads_document : Value → Option Stated
+-- ..],"program":PROGRAM}`.
+unfoldable pub reads_document : Value → Option Contents
 reads_document value = do
   members ← as_object value
   specifier ← required as_str (codes "specifier") members
@@ -58,32 +51,28 @@ reads_document value = do
     program = program;
   })
 
--- the comments of these entries, and this program
-abbrev pub HasTree : Sides × Program → FiledComments × Program → Type 0
-HasTree stated tree = AreThoseOf stated.0 tree.0 × (tree.1 ≡ stated.1)
+-- The document has these contents.
+pub record Has (contents : Contents) (document : Document) : Type 0 where
+  pub specifier : document.specifier ≡ contents.specifier
+  pub media_type : document.media_type ≡ contents.media_type
+  pub source : rc_str_bytes document.source ≡ contents.source
+  pub comments : AreThoseOf contents.comments document.comments
+  pub program : document.program ≡ contents.program
 
--- the document has what is stated
-pub record Has (stated : Stated) (document : Document) : Type 0 where
-  pub specifier : document.specifier ≡ stated.specifier
-  pub media_type : document.media_type ≡ stated.media_type
-  pub source : rc_str_bytes document.source ≡ stated.source
-  pub comments : AreThoseOf stated.comments document.comments
-  pub program : document.program ≡ stated.program
-
--- the text is JSON, and its value states what the document has
+-- The text is JSON, and the document has the contents of its value.
 abbrev pub IsDocumentOf : List ℕ → Document → Type 0
 IsDocumentOf text document = (value : Value) × IsValueOf text value
-    × IsSomeAnd (reads_document value) (λ stated. Has stated document)
+    × IsSomeAnd (reads_document value) (λ contents. Has contents document)
 
--- why the text is no document
-abbrev pub IsNoDocument : List ℕ → NotationFault → Type 0
+-- Why the text is no document: it isn't JSON, or JSON of another form; or an allocation failed.
+abbrev pub IsNoDocument : List ℕ → DocumentError → Type 0
 IsNoDocument text (Json _) = IsRefused text
-IsNoDocument text (NotInNotation _) = (value : Value) × IsValueOf text value × (reads_document value ≡ None)
+IsNoDocument text (Tree _) = (value : Value) × IsValueOf text value × (reads_document value ≡ None)
 IsNoDocument text OutOfMemory = Unit {0}
 IsNoDocument text Specifier = ⊥
 IsNoDocument text (Source _) = ⊥
 
--- the source has the parts of the document, which fit one another, and the URL that its specifier spells
+-- The source has the URL and the parts of the document, which fit one another.
 pub record IsSourceOf (document : Document) (module_ : ParsedModule) : Type 0 where
   pub specifier : parse_url None document.specifier ≡ Ok module_.specifier
   pub text : module_.text ≡ rc_str_bytes document.source
@@ -93,16 +82,17 @@ pub record IsSourceOf (document : Document) (module_ : ParsedModule) : Type 0 wh
   pub scope_analysis : module_.scope_analysis ≡ false
   pub valid : IsValid (rc_str_bytes document.source) document.program document.comments
 
--- why the document is no source
-abbrev pub IsNoSource : Document → NotationFault → Type 0
+-- Why the document has no source: its specifier is no URL, or the tree or the comments don't fit the source;
+-- or an allocation failed.
+abbrev pub IsNoSource : Document → DocumentError → Type 0
 IsNoSource document Specifier = (error : ParseError) × (parse_url None document.specifier ≡ Err error)
 IsNoSource document (Source fault) = HasFault
     (rc_str_bytes document.source) document.program document.comments fault
 IsNoSource document OutOfMemory = Unit {0}
 IsNoSource document (Json _) = ⊥
-IsNoSource document (NotInNotation _) = ⊥
+IsNoSource document (Tree _) = ⊥
 
--- the notation's fault in a text: of the text itself, or of the document that it states
-abbrev pub HasNotationFault : List ℕ → NotationFault → Type 0
-HasNotationFault text fault = IsNoDocument text fault
+-- The error of a text: the text is no document, or the document has no source.
+abbrev pub HasDocumentError : List ℕ → DocumentError → Type 0
+HasDocumentError text fault = IsNoDocument text fault
     ⊎ ((document : Document) × IsDocumentOf text document × IsNoSource document fault)

@@ -1,4 +1,4 @@
--- What a node is, by the name of its kind and the members of that kind.
+-- Reading a kind of node, by its name and its members; and the names that a document may have.
 use Rattle.std.specs.Prelude.{ℕ, List, [], ◌∷◌, codes, bytes_eq, Option, Some, None, if◌then◌else◌}
 use Rattle.deno_graph_json.specs.Value.{Value, Members, as_object, as_str, last_named}
 use Rattle.deno_graph_source.specs.declared.tree.node.Arg.{Arg}
@@ -51,37 +51,41 @@ use Rattle.deno_graph_source.specs.declared.tree.media_type.MediaType.TheVariant
   Json,
   Other as OtherType,
 }
-use Rattle.modinfo_document.specs.Partial.{◌>>=◌, reads_array, required, optional, found_or, flag}
+use Rattle.modinfo_document.specs.Partial.{◌>>=◌, reads_array, required, optional, or_default, flag}
 use Rattle.modinfo_document.specs.Literal.{reads_source_range, reads_string, reads_literal}
 
--- the value of a name in a table of names
+-- The value of a name in a table.
 unfoldable pub named : {A : Type 0} → List (List ℕ × A) → List ℕ → Option A
 named [] name = None
 named ((key, x) ∷ table) name = if bytes_eq name key then Some x else named table name
 
+-- The phases of an import, by name.
 abbrev pub phases : List (List ℕ × ImportPhase)
 phases = (codes "evaluation", Evaluation) ∷ (codes "source", Source) ∷ (codes "defer", Defer) ∷ []
 
+-- The callees of a call, by name.
 abbrev pub callees : List (List ℕ × Callee)
 callees = (codes "import", Import Evaluation) ∷ (codes "importSource", Import Source)
     ∷ (codes "importDefer", Import Defer) ∷ (codes "expr", Expr) ∷ (codes "super", Super) ∷ []
 
+-- The operators of a binary expression, by name.
 abbrev pub operators : List (List ℕ × BinaryOp)
 operators = (codes "add", Add) ∷ (codes "other", OtherOperator) ∷ []
 
+-- The media types, by name.
 abbrev pub media_types : List (List ℕ × MediaType)
 media_types = (codes "JavaScript", JavaScript) ∷ (codes "Jsx", Jsx) ∷ (codes "Mjs", Mjs) ∷ (codes "Cjs", Cjs)
     ∷ (codes "TypeScript", TypeScript) ∷ (codes "Mts", Mts) ∷ (codes "Cts", Cts) ∷ (codes "Dts", Dts)
     ∷ (codes "Dmts", Dmts) ∷ (codes "Dcts", Dcts) ∷ (codes "Tsx", Tsx) ∷ (codes "Json", Json)
     ∷ (codes "Other", OtherType) ∷ []
 
--- a name of the table
+-- A string that is a name of the table.
 unfoldable pub reads_named : {A : Type 0} → List (List ℕ × A) → Value → Option A
 reads_named table value = do
   name ← as_str value
   named table name
 
--- `{"range":[START,END],"spread":BOOL}`
+-- An argument: `{"range":[START,END],"spread":BOOL}`.
 unfoldable pub reads_arg : Value → Option Arg
 reads_arg value = do
   members ← as_object value
@@ -89,7 +93,7 @@ reads_arg value = do
   spread ← flag (codes "spread") members
   Some (record { spread = spread; range = range })
 
--- one of the two members `str` and `ident`
+-- The key by the values of `str` and `ident`, of which exactly one is present.
 abbrev pub string_or_identifier : Option Value → Option Value → Option PropKey
 string_or_identifier (Some value) None = do
   text ← reads_string value
@@ -100,25 +104,27 @@ string_or_identifier None (Some value) = do
 string_or_identifier None None = None
 string_or_identifier (Some _) (Some _) = None
 
--- `{"str":STRING}` or `{"ident":TEXT}`
+-- A key that is known: `{"str":STRING}` or `{"ident":TEXT}`.
 unfoldable pub reads_static_key : Value → Option PropKey
 reads_static_key value = do
   members ← as_object value
   string_or_identifier (last_named (codes "str") members) (last_named (codes "ident") members)
 
+-- The key, by its text if it is a string.
 abbrev pub key_of : Option (List ℕ) → Value → Option PropKey
 key_of (Some text) value = if bytes_eq text (codes "other") then Some OtherKey else reads_static_key value
 key_of None value = reads_static_key value
 
--- the same, or `"other"`
+-- A key: `"other"`, or one that is known.
 unfoldable pub reads_key : Value → Option PropKey
 reads_key value = key_of (as_str value) value
 
+-- Reading each kind of node, from the members of the node.
 module _ (members : Members) where
   unfoldable pub reads_import_decl : Option Kind
   reads_import_decl = do
     type_only ← flag (codes "typeOnly") members
-    phase ← found_or (reads_named phases) Evaluation (last_named (codes "phase") members)
+    phase ← or_default (reads_named phases) Evaluation (last_named (codes "phase") members)
     has_specifiers ← flag (codes "hasSpecifiers") members
     has_with ← flag (codes "hasWith") members
     src ← required reads_literal (codes "src") members
@@ -187,7 +193,7 @@ module _ (members : Members) where
     key ← required reads_key (codes "key") members
     Some (KeyValue key)
 
-  -- each kind by its name
+  -- The kinds by their names.
   abbrev pub kinds : List (List ℕ × Option Kind)
   kinds =
       (codes "Other", Some Other) ∷ (codes "ImportDecl", reads_import_decl)
@@ -199,7 +205,7 @@ module _ (members : Members) where
       ∷ (codes "KeyValue", reads_key_value) ∷ (codes "Await", Some Await)
       ∷ (codes "Function", Some Function) ∷ (codes "ImportMeta", Some ImportMeta) ∷ []
 
-  -- the kind that the value names, with what is among the members beside it
+  -- The kind that the value names.
   unfoldable pub reads_kind : Value → Option Kind
   reads_kind value = do
     name ← as_str value

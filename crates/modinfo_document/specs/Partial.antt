@@ -1,4 +1,5 @@
--- Readers: partial functions from a JSON value, with no value where it isn't in the notation.
+-- Partial functions from a JSON value, and how they are put together. `None` where the value isn't of the
+-- expected form.
 use Rattle.std.specs.Prelude.{ℕ, Bool, false, List, [], ◌∷◌, Option, Some, None, option_and_then}
 use Rattle.deno_graph_json.specs.Value.{
   Value,
@@ -18,12 +19,12 @@ use Rattle.deno_graph_json.specs.Value.{
   last_named,
 }
 
--- `x ← o` goes on with the value x of o, where it has one
+-- `x ← o` binds x to the value of o; the whole is `None` where o is.
 infixl 10 ◌>>=◌
 abbrev pub ◌>>=◌ : {A B : Type 0} → Option A → (A → Option B) → Option B
 o >>= f = option_and_then f o
 
--- the value, where there is one that isn't null
+-- The value, or `None` where there is none or it is null.
 abbrev pub unless_null : Option Value → Option Value
 unless_null None = None
 unless_null (Some null) = None
@@ -35,7 +36,7 @@ unless_null (Some (array vs)) = Some (array vs)
 unless_null (Some (object ms)) = Some (object ms)
 
 module _ {A : Type 0} (reads : Value → Option A) where
-  -- the items, each as it is read
+  -- Reads each item.
   unfoldable pub reads_items : Items → Option (List A)
   reads_items no_items = Some []
   reads_items (item value values) = do
@@ -43,33 +44,34 @@ module _ {A : Type 0} (reads : Value → Option A) where
     xs ← reads_items values
     Some (x ∷ xs)
 
-  -- an array, each item as it is read
+  -- Reads each item of an array.
   unfoldable pub reads_array : Value → Option (List A)
   reads_array value = do
     values ← as_array value
     reads_items values
 
-  -- a member that has to be there, the last of its name
+  -- Reads a required member. Of several members of one name the last counts.
   unfoldable pub required : List ℕ → Members → Option A
   required name members = do
     value ← last_named name members
     reads value
 
-  -- what was found of a member, or the default where it is missing
-  abbrev pub found_or : A → Option Value → Option A
-  found_or default None = Some default
-  found_or default (Some value) = reads value
+  -- Reads a member if there is one; else the default.
+  abbrev pub or_default : A → Option Value → Option A
+  or_default default None = Some default
+  or_default default (Some value) = reads value
 
-  -- what is read of a value that may be missing
-  abbrev pub found_optional : Option Value → Option (Option A)
-  found_optional None = Some None
-  found_optional (Some value) = do
+  -- Reads a value if there is one.
+  abbrev pub optional_value : Option Value → Option (Option A)
+  optional_value None = Some None
+  optional_value (Some value) = do
     x ← reads value
     Some (Some x)
 
+  -- Reads a member that may be missing or null.
   unfoldable pub optional : List ℕ → Members → Option (Option A)
-  optional name members = found_optional (unless_null (last_named name members))
+  optional name members = optional_value (unless_null (last_named name members))
 
--- a truth value, false where it is missing
+-- Reads a boolean member, false where it is missing.
 unfoldable pub flag : List ℕ → Members → Option Bool
-flag name members = found_or as_bool false (last_named name members)
+flag name members = or_default as_bool false (last_named name members)

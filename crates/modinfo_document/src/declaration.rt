@@ -1,28 +1,29 @@
-//! Imports, exports and modules.
+//! Reading imports, exports and modules, each from the members of its node.
 
 ghost use Rattle.std.specs.Prelude.{IfErr, IfSome};
 ghost use Rattle.deno_graph_json.specs.Tape.{object_of_members};
-ghost use Rattle.modinfo_document.specs.Misfit.{IsIn, IsInFound, IsMemberOf};
+ghost use Rattle.modinfo_document.specs.Mismatch.{IsIn};
+ghost use Rattle.modinfo_document.specs.internal.Mismatch.{IsInOptional, IsMemberOf};
 ghost use Rattle.std.specs.Prelude.{◌≡◌, option_map, codes};
 ghost use Rattle.deno_graph_json.specs.Value.{last_named};
 ghost use Rattle.deno_graph_json.specs.View.{value_of, members_of};
-ghost use Rattle.modinfo_document.specs.Answer.{Answers};
+ghost use Rattle.modinfo_document.specs.Returned.{Returns};
 ghost use Rattle.modinfo_document.specs.Kind.{phases, reads_named, reads_import_decl, reads_named_export, reads_export_all, reads_import_equals, reads_import_type, reads_module_decl};
-ghost use Rattle.modinfo_document.specs.Partial.{found_or};
+ghost use Rattle.modinfo_document.specs.Partial.{or_default};
 ghost use Rattle.deno_graph_source.specs.declared.tree.node.ImportPhase.TheVariants.{Evaluation};
 
-use crate::fault::{Expected, NotationFault};
+use crate::error::{DocumentError, Expected};
 use crate::literal::{optional_literal, read_literal};
-use crate::member::{flag, misfit, present, required, text_of, truth_or_false};
+use crate::member::{flag, mismatch, present, required, text_of, truth_or_false};
 use deno_graph_json::{Element, Members};
 use deno_graph_source::tree::{ImportPhase, Kind};
 use std::alloc::Global;
 
-/// An import declaration.
+/// Reads an import declaration.
 #[tactic(auto, using(crate::proofs::Reading::reading), unfolding(crate::specs::Kind::reads_import_decl, crate::specs::Partial::required, crate::specs::Partial::flag))]
-pub fn read_import_decl(alloc: Global, members: Members<'_>) -> Result<Kind, NotationFault>
-    ensures misfit { IfErr result (IsIn (object_of_members members.entry)) }
-    ensures read { Answers (reads_import_decl (members_of members.entry)) result }
+pub fn read_import_decl(alloc: Global, members: Members<'_>) -> Result<Kind, DocumentError>
+    ensures mismatch { IfErr result (IsIn (object_of_members members.entry)) }
+    ensures read { Returns (reads_import_decl (members_of members.entry)) result }
 {
     let found = SourceMembers::find(members);
     let type_only = truth_or_false(found.type_only)?;
@@ -39,7 +40,7 @@ pub fn read_import_decl(alloc: Global, members: Members<'_>) -> Result<Kind, Not
     })
 }
 
-/// The members that an import or an export of another module may have beside those of any node.
+/// The members of an import, or of an export with a source, besides those of every node.
 #[derive(Clone, Copy)]
 struct SourceMembers<'a> {
     type_only: Option<Element<'a>>,
@@ -50,7 +51,7 @@ struct SourceMembers<'a> {
 }
 
 impl<'a> SourceMembers<'a> {
-    /// The last of each name.
+    /// Finds the last member of each name.
     fn find(members: Members<'a>) -> SourceMembers<'a>
         ensures type_only { IfSome result.type_only (IsMemberOf members.entry) }
         ensures phase { IfSome result.phase (IsMemberOf members.entry) }
@@ -93,12 +94,12 @@ impl<'a> SourceMembers<'a> {
     }
 }
 
-const PHASES: &str = "evaluation, source, defer";
+const PHASES: &[&str] = &["evaluation", "source", "defer"];
 
 #[tactic(auto, using(crate::proofs::Reading::reading), unfolding(crate::specs::Kind::reads_named, crate::specs::Kind::named))]
-fn import_phase(found: Option<Element<'_>>) -> Result<ImportPhase, NotationFault>
-    ensures misfit { IfErr result (IsInFound found.entry) }
-    ensures read { Answers (found_or (reads_named phases) Evaluation
+fn import_phase(found: Option<Element<'_>>) -> Result<ImportPhase, DocumentError>
+    ensures mismatch { IfErr result (IsInOptional found.entry) }
+    ensures read { Returns (or_default (reads_named phases) Evaluation
         (option_map value_of found.entry)) result }
 {
     let Some(value) = found else {
@@ -108,15 +109,15 @@ fn import_phase(found: Option<Element<'_>>) -> Result<ImportPhase, NotationFault
         "evaluation" => Ok(ImportPhase::Evaluation),
         "source" => Ok(ImportPhase::Source),
         "defer" => Ok(ImportPhase::Defer),
-        _ => Err(misfit(value, Expected::OneOf(PHASES))),
+        _ => Err(mismatch(value, Expected::OneOf(PHASES))),
     }
 }
 
-/// An export of names, with or without a source.
+/// Reads an export of names, with or without a source.
 #[tactic(auto, using(crate::proofs::Reading::reading), unfolding(crate::specs::Kind::reads_named_export))]
-pub fn read_named_export(alloc: Global, members: Members<'_>) -> Result<Kind, NotationFault>
-    ensures misfit { IfErr result (IsIn (object_of_members members.entry)) }
-    ensures read { Answers (reads_named_export (members_of members.entry)) result }
+pub fn read_named_export(alloc: Global, members: Members<'_>) -> Result<Kind, DocumentError>
+    ensures mismatch { IfErr result (IsIn (object_of_members members.entry)) }
+    ensures read { Returns (reads_named_export (members_of members.entry)) result }
 {
     let type_only = flag(members, "typeOnly")?;
     let has_with = flag(members, "hasWith")?;
@@ -128,11 +129,11 @@ pub fn read_named_export(alloc: Global, members: Members<'_>) -> Result<Kind, No
     })
 }
 
-/// An export of all names of another module.
+/// Reads an export of all names of another module.
 #[tactic(auto, using(crate::proofs::Reading::reading), unfolding(crate::specs::Kind::reads_export_all, crate::specs::Partial::required, crate::specs::Partial::flag))]
-pub fn read_export_all(alloc: Global, members: Members<'_>) -> Result<Kind, NotationFault>
-    ensures misfit { IfErr result (IsIn (object_of_members members.entry)) }
-    ensures read { Answers (reads_export_all (members_of members.entry)) result }
+pub fn read_export_all(alloc: Global, members: Members<'_>) -> Result<Kind, DocumentError>
+    ensures mismatch { IfErr result (IsIn (object_of_members members.entry)) }
+    ensures read { Returns (reads_export_all (members_of members.entry)) result }
 {
     let found = SourceMembers::find(members);
     let type_only = truth_or_false(found.type_only)?;
@@ -145,11 +146,11 @@ pub fn read_export_all(alloc: Global, members: Members<'_>) -> Result<Kind, Nota
     })
 }
 
-/// An import-equals declaration.
+/// Reads an import-equals declaration.
 #[tactic(auto, using(crate::proofs::Reading::reading), unfolding(crate::specs::Kind::reads_import_equals))]
-pub fn read_import_equals(alloc: Global, members: Members<'_>) -> Result<Kind, NotationFault>
-    ensures misfit { IfErr result (IsIn (object_of_members members.entry)) }
-    ensures read { Answers (reads_import_equals (members_of members.entry)) result }
+pub fn read_import_equals(alloc: Global, members: Members<'_>) -> Result<Kind, DocumentError>
+    ensures mismatch { IfErr result (IsIn (object_of_members members.entry)) }
+    ensures read { Returns (reads_import_equals (members_of members.entry)) result }
 {
     let type_only = flag(members, "typeOnly")?;
     let is_export = flag(members, "isExport")?;
@@ -161,22 +162,22 @@ pub fn read_import_equals(alloc: Global, members: Members<'_>) -> Result<Kind, N
     })
 }
 
-/// An import type.
+/// Reads an import type.
 #[tactic(auto, using(crate::proofs::Reading::reading), unfolding(crate::specs::Kind::reads_import_type, crate::specs::Partial::required))]
-pub fn read_import_type(alloc: Global, members: Members<'_>) -> Result<Kind, NotationFault>
-    ensures misfit { IfErr result (IsIn (object_of_members members.entry)) }
-    ensures read { Answers (reads_import_type (members_of members.entry)) result }
+pub fn read_import_type(alloc: Global, members: Members<'_>) -> Result<Kind, DocumentError>
+    ensures mismatch { IfErr result (IsIn (object_of_members members.entry)) }
+    ensures read { Returns (reads_import_type (members_of members.entry)) result }
 {
     let has_with = flag(members, "hasWith")?;
     let arg = read_literal(alloc, required(members, "arg")?)?;
     Ok(Kind::ImportType { arg, has_with })
 }
 
-/// A module or namespace, with or without a name that is a string.
+/// Reads a module or namespace. Its name is kept only if it is a string literal.
 #[tactic(auto, using(crate::proofs::Reading::reading), unfolding(crate::specs::Kind::reads_module_decl))]
-pub fn read_module_decl(alloc: Global, members: Members<'_>) -> Result<Kind, NotationFault>
-    ensures misfit { IfErr result (IsIn (object_of_members members.entry)) }
-    ensures read { Answers (reads_module_decl (members_of members.entry)) result }
+pub fn read_module_decl(alloc: Global, members: Members<'_>) -> Result<Kind, DocumentError>
+    ensures mismatch { IfErr result (IsIn (object_of_members members.entry)) }
+    ensures read { Returns (reads_module_decl (members_of members.entry)) result }
 {
     let name = optional_literal(alloc, members, "name")?;
     Ok(Kind::ModuleDecl { name })

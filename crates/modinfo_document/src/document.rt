@@ -1,17 +1,19 @@
-//! Documents: modules as a parser hands them over.
+//! Module documents.
 
 ghost use Rattle.std.specs.Prelude.{◌≡◌, IfErr, MatchResult, None, Ok};
 ghost use Rattle.url.specs.Parser.{parse_url};
 ghost use Rattle.deno_graph_json.specs.Tape.{object_of_members};
 ghost use Rattle.deno_graph_json.specs.View.{members_of, value_of};
-ghost use Rattle.modinfo_document.specs.Answer.{AnswersBy};
-ghost use Rattle.modinfo_document.specs.Document.{Has, HasTree, IsDocumentOf, IsNoDocument};
+ghost use Rattle.modinfo_document.specs.Returned.{ReturnsBy};
+ghost use Rattle.modinfo_document.specs.Document.{Has, IsDocumentOf, IsNoDocument};
+ghost use Rattle.modinfo_document.specs.internal.Document.{HasTree};
 ghost use Rattle.modinfo_document.specs.Document.{IsNoSource, IsSourceOf};
-ghost use Rattle.modinfo_document.specs.Document.{reads_document, reads_tree};
-ghost use Rattle.modinfo_document.specs.Misfit.{IsIn};
+ghost use Rattle.modinfo_document.specs.Document.{reads_document};
+ghost use Rattle.modinfo_document.specs.internal.Document.{reads_tree};
+ghost use Rattle.modinfo_document.specs.Mismatch.{IsIn};
 
 use crate::comments::read_comments;
-use crate::fault::NotationFault;
+use crate::error::DocumentError;
 use crate::media_type::read_media_type;
 use crate::member::{members_of, required, text};
 use crate::node::read_program;
@@ -23,8 +25,8 @@ use std::alloc::Global;
 use std::rc::RcStr;
 use url::Url;
 
-/// A module as a parser hands it over. Whether the specifier is a URL, and whether the tree fits
-/// the source, hasn't been looked at.
+/// A module document. Its specifier may be no URL, and its tree and comments may not fit its source:
+/// `into_source` checks them.
 #[derive(Debug, Drop)]
 pub struct Document {
     pub specifier: Text,
@@ -34,11 +36,11 @@ pub struct Document {
     pub comments: Comments,
 }
 
-/// Reads a document. `NotInNotation` where the value isn't in the notation, with the first place
-/// that was found where it isn't.
-pub fn read_document(alloc: Global, value: Element<'_>) -> Result<Document, NotationFault>
-    ensures misfit { IfErr result (IsIn value.entry) }
-    ensures read { AnswersBy Has (reads_document (value_of value.entry)) result }
+/// Reads a document. `Tree` with the first mismatch if the value has another form, `OutOfMemory` if
+/// an allocation fails.
+pub fn read_document(alloc: Global, value: Element<'_>) -> Result<Document, DocumentError>
+    ensures mismatch { IfErr result (IsIn value.entry) }
+    ensures read { ReturnsBy Has (reads_document (value_of value.entry)) result }
 {
     let members = members_of(value)?;
     let specifier = Text::from_str(alloc, text(members, "specifier")?)?;
@@ -54,20 +56,21 @@ pub fn read_document(alloc: Global, value: Element<'_>) -> Result<Document, Nota
     })
 }
 
-/// The comments and the program.
-#[tactic(auto, using(crate::proofs::Reading::reading_by), unfolding(crate::specs::Document::reads_tree, crate::specs::Partial::required))]
-fn read_tree(alloc: Global, members: Members<'_>) -> Result<(Comments, Program), NotationFault>
-    ensures misfit { IfErr result (IsIn (object_of_members members.entry)) }
-    ensures read { AnswersBy HasTree (reads_tree (members_of members.entry)) result }
+/// Reads the comments and the program.
+#[tactic(auto, using(crate::proofs::Reading::reading_by), unfolding(crate::specs::internal::Document::reads_tree, crate::specs::Partial::required))]
+fn read_tree(alloc: Global, members: Members<'_>) -> Result<(Comments, Program), DocumentError>
+    ensures mismatch { IfErr result (IsIn (object_of_members members.entry)) }
+    ensures read { ReturnsBy HasTree (reads_tree (members_of members.entry)) result }
 {
     let comments = read_comments(alloc, members)?;
     let program = read_program(alloc, required(members, "program")?)?;
     Ok((comments, program))
 }
 
-/// Reads a document. `Json` where the text is no JSON, nests deeper than 127 or has a number too
-/// large for a float, and `NotInNotation` where it isn't in the notation: each with its place.
-pub fn parse_document(alloc: Global, text: &str) -> Result<Document, NotationFault>
+/// Reads a document from its text. `Json` if the text isn't JSON, nests deeper than 127 or has a
+/// number too large for a float; `Tree` if the JSON has another form; `OutOfMemory` if an allocation
+/// fails.
+pub fn parse_document(alloc: Global, text: &str) -> Result<Document, DocumentError>
     ensures { MatchResult result (IsDocumentOf text.now) (IsNoDocument text.now) }
 {
     let mut scratch = Scratch::new(alloc);
@@ -76,17 +79,18 @@ pub fn parse_document(alloc: Global, text: &str) -> Result<Document, NotationFau
 }
 
 impl Document {
-    /// The URL that the specifier spells. `Specifier` where it is none.
-    pub fn url(&self, alloc: Global) -> Result<Url, NotationFault>
+    /// Parses the specifier. `Specifier` if it is no URL, `OutOfMemory` if an allocation fails or the
+    /// URL would take 4 GB.
+    pub fn url(&self, alloc: Global) -> Result<Url, DocumentError>
         ensures { MatchResult result (λ url. parse_url None self.now.specifier ≡ Ok url)
             (IsNoSource self.now) }
     {
         Ok(Url::parse(alloc, self.specifier.as_str())?)
     }
 
-    /// The source, without scope analysis. `Specifier` where the specifier is no URL, and else a
-    /// fault of the source where the tree or the comments don't fit it.
-    pub fn into_source(self, alloc: Global) -> Result<ParsedSource, NotationFault>
+    /// The source, without scope analysis. `Specifier` if the specifier is no URL; else `Source` if the
+    /// tree or the comments don't fit the source; `OutOfMemory` as for `url`.
+    pub fn into_source(self, alloc: Global) -> Result<ParsedSource, DocumentError>
         ensures { MatchResult result (IsSourceOf self) (IsNoSource self) }
     {
         let Document {

@@ -1,60 +1,60 @@
-//! Literals, names and binary expressions.
+//! Reading literals, identifiers and binary expressions, each from the members of its node.
 
 ghost use Rattle.std.specs.Prelude.{IfErr};
 ghost use Rattle.deno_graph_json.specs.Tape.{object_of_members};
-ghost use Rattle.modinfo_document.specs.Misfit.{IsIn};
+ghost use Rattle.modinfo_document.specs.Mismatch.{IsIn};
 ghost use Rattle.deno_graph_json.specs.View.{members_of};
-ghost use Rattle.modinfo_document.specs.Answer.{Answers};
+ghost use Rattle.modinfo_document.specs.Returned.{Returns};
 ghost use Rattle.modinfo_document.specs.Kind.{reads_str, reads_template, reads_binary, reads_ident};
 
-use crate::fault::{Expected, NotationFault};
+use crate::error::{DocumentError, Expected};
 use crate::literal::{read_string, read_strings};
-use crate::member::{misfit, required, text, text_of};
+use crate::member::{mismatch, required, text, text_of};
 use deno_graph_json::Members;
 use deno_graph_source::tree::{BinaryOp, Kind};
 use deno_graph_source::values::Text;
 use std::alloc::Global;
 
-/// A string literal.
+/// Reads a string literal.
 #[tactic(auto, using(crate::proofs::Reading::reading), unfolding(crate::specs::Kind::reads_str, crate::specs::Partial::required))]
-pub fn read_str(alloc: Global, members: Members<'_>) -> Result<Kind, NotationFault>
-    ensures misfit { IfErr result (IsIn (object_of_members members.entry)) }
-    ensures read { Answers (reads_str (members_of members.entry)) result }
+pub fn read_str(alloc: Global, members: Members<'_>) -> Result<Kind, DocumentError>
+    ensures mismatch { IfErr result (IsIn (object_of_members members.entry)) }
+    ensures read { Returns (reads_str (members_of members.entry)) result }
 {
     Ok(Kind::Str(read_string(alloc, required(members, "value")?)?))
 }
 
-/// A template without a tag, by its quasis.
+/// Reads an untagged template.
 #[tactic(auto, using(crate::proofs::Reading::reading), unfolding(crate::specs::Kind::reads_template, crate::specs::Partial::required))]
-pub fn read_template(alloc: Global, members: Members<'_>) -> Result<Kind, NotationFault>
-    ensures misfit { IfErr result (IsIn (object_of_members members.entry)) }
-    ensures read { Answers (reads_template (members_of members.entry)) result }
+pub fn read_template(alloc: Global, members: Members<'_>) -> Result<Kind, DocumentError>
+    ensures mismatch { IfErr result (IsIn (object_of_members members.entry)) }
+    ensures read { Returns (reads_template (members_of members.entry)) result }
 {
     let quasis = read_strings(alloc, required(members, "quasis")?)?;
     Ok(Kind::Template(quasis))
 }
 
-const OPERATORS: &str = "add, other";
+const OPERATORS: &[&str] = &["add", "other"];
 
-/// A binary expression.
+/// Reads a binary expression.
 #[tactic(auto, using(crate::proofs::Reading::reading), unfolding(crate::specs::Kind::reads_binary, crate::specs::Kind::reads_named, crate::specs::Kind::named, crate::specs::Partial::required))]
-pub fn read_binary(members: Members<'_>) -> Result<Kind, NotationFault>
-    ensures misfit { IfErr result (IsIn (object_of_members members.entry)) }
-    ensures read { Answers (reads_binary (members_of members.entry)) result }
+pub fn read_binary(members: Members<'_>) -> Result<Kind, DocumentError>
+    ensures mismatch { IfErr result (IsIn (object_of_members members.entry)) }
+    ensures read { Returns (reads_binary (members_of members.entry)) result }
 {
     let value = required(members, "op")?;
     match text_of(value)? {
         "add" => Ok(Kind::Binary(BinaryOp::Add)),
         "other" => Ok(Kind::Binary(BinaryOp::Other)),
-        _ => Err(misfit(value, Expected::OneOf(OPERATORS))),
+        _ => Err(mismatch(value, Expected::OneOf(OPERATORS))),
     }
 }
 
-/// An identifier.
+/// Reads an identifier.
 #[tactic(auto, using(crate::proofs::Reading::reading), unfolding(crate::specs::Kind::reads_ident))]
-pub fn read_ident(alloc: Global, members: Members<'_>) -> Result<Kind, NotationFault>
-    ensures misfit { IfErr result (IsIn (object_of_members members.entry)) }
-    ensures read { Answers (reads_ident (members_of members.entry)) result }
+pub fn read_ident(alloc: Global, members: Members<'_>) -> Result<Kind, DocumentError>
+    ensures mismatch { IfErr result (IsIn (object_of_members members.entry)) }
+    ensures read { Returns (reads_ident (members_of members.entry)) result }
 {
     let name = Text::from_str(alloc, text(members, "value")?)?;
     Ok(Kind::Ident(name))

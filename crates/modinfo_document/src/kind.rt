@@ -1,12 +1,10 @@
-//! What a node is: the members of each kind. Those of a kind are read where its group is: imports,
-//! exports and modules in `declaration`, calls in `call`, other expressions in `expression`, and
-//! properties in `property`.
+//! Reading the kind of a node.
 
 ghost use Rattle.std.specs.Prelude.{IfErr};
 ghost use Rattle.deno_graph_json.specs.Tape.{IsInside, object_of_members};
-ghost use Rattle.modinfo_document.specs.Misfit.{IsIn};
+ghost use Rattle.modinfo_document.specs.Mismatch.{IsIn};
 ghost use Rattle.deno_graph_json.specs.View.{members_of, value_of};
-ghost use Rattle.modinfo_document.specs.Answer.{Answers};
+ghost use Rattle.modinfo_document.specs.Returned.{Returns};
 ghost use Rattle.modinfo_document.specs.Kind.{reads_kind};
 
 use crate::call::read_call;
@@ -14,30 +12,46 @@ use crate::declaration::{
     read_export_all, read_import_decl, read_import_equals, read_import_type, read_module_decl,
     read_named_export,
 };
+use crate::error::{DocumentError, Expected};
 use crate::expression::{read_binary, read_ident, read_str, read_template};
-use crate::fault::{Expected, NotationFault};
-use crate::member::{misfit, text_of};
+use crate::member::{mismatch, text_of};
 use crate::property::read_key_value;
 use deno_graph_json::{Element, Members};
 use deno_graph_source::tree::Kind;
 use std::alloc::Global;
 
-/// The names of all kinds.
-pub const KINDS: &str =
-    "ImportDecl, NamedExport, ExportAll, ExportOther, ImportEquals, ImportType, \
-    ModuleDecl, Call, Str, Template, Binary, Ident, Object, KeyValue, Await, Function, ImportMeta, \
-    Other";
+/// The names of the kinds.
+pub const KINDS: &[&str] = &[
+    "ImportDecl",
+    "NamedExport",
+    "ExportAll",
+    "ExportOther",
+    "ImportEquals",
+    "ImportType",
+    "ModuleDecl",
+    "Call",
+    "Str",
+    "Template",
+    "Binary",
+    "Ident",
+    "Object",
+    "KeyValue",
+    "Await",
+    "Function",
+    "ImportMeta",
+    "Other",
+];
 
-/// The kind that `value` names, with what is among the members beside it.
+/// Reads the kind that `value` names, with the members of the kind from `members`.
 #[tactic(auto, using(crate::proofs::Reading::reading), unfolding(crate::specs::Kind::reads_kind, crate::specs::Kind::named))]
 pub fn read_kind(
     alloc: Global,
     members: Members<'_>,
     value: Element<'_>,
-) -> Result<Kind, NotationFault>
-    ensures misfit { IsInside value.entry (object_of_members members.entry)
+) -> Result<Kind, DocumentError>
+    ensures mismatch { IsInside value.entry (object_of_members members.entry)
         → IfErr result (IsIn (object_of_members members.entry)) }
-    ensures read { Answers (reads_kind (members_of members.entry) (value_of value.entry)) result }
+    ensures read { Returns (reads_kind (members_of members.entry) (value_of value.entry)) result }
 {
     match text_of(value)? {
         "Other" => Ok(Kind::Other),
@@ -58,6 +72,6 @@ pub fn read_kind(
         "Await" => Ok(Kind::Await),
         "Function" => Ok(Kind::Function),
         "ImportMeta" => Ok(Kind::ImportMeta),
-        _ => Err(misfit(value, Expected::OneOf(KINDS))),
+        _ => Err(mismatch(value, Expected::OneOf(KINDS))),
     }
 }

@@ -1,25 +1,29 @@
-//! Module documents: the JSON in which a module comes to the program (its specifier, source, syntax
-//! tree and comments), and reports on documents. docs/FORMATS.md describes them.
+//! Module documents: JSON with a module's specifier, source, syntax tree and comments; reports on
+//! documents. docs/FORMATS.md describes both.
 #![tactic(auto)]
 
 mod array;
-pub mod call;
-pub mod comments;
-pub mod declaration;
+mod call;
+mod check;
+mod comments;
+mod declaration;
 pub mod document;
-pub mod expression;
-pub mod fault;
-pub mod kind;
-pub mod literal;
-pub mod media_type;
-pub mod member;
+pub mod error;
+mod expression;
+mod kind;
+mod literal;
+mod lookup;
+mod media_type;
+mod member;
 pub mod names;
-pub mod node;
-pub mod place;
-pub mod property;
+mod node;
+mod property;
 pub mod report;
 
+pub use check::check_document;
 pub use document::{Document, parse_document, read_document};
-pub use fault::{Expected, Misfit, NotationFault};
-pub use names::{Role, known_members};
-pub use place::{comment_at, node_at};
+pub use error::{DocumentError, ElementMismatch, Expected};
+pub use kind::KINDS;
+pub use literal::read_string;
+pub use lookup::{comment_at, node_at};
+pub use names::{Role, member_names};

@@ -1,6 +1,6 @@
-//! The names of the members that the notation has.
+//! The names of the members that a module document may have.
 
-/// What an object of a document is.
+/// What an object of a document describes.
 #[derive(Clone, Copy, Debug)]
 pub enum Role<'a> {
     Document,
@@ -8,19 +8,19 @@ pub enum Role<'a> {
     /// An element of `leading` or `trailing`.
     CommentEntry,
     Comment,
-    /// A string literal, with its range.
+    /// A string literal with a range.
     Literal,
     /// An argument of a call.
     Argument,
     /// A property's key.
     Key,
-    /// A node of the kind that is so named.
+    /// A node of the kind of this name.
     Node(&'a str),
 }
 
-/// The names of the members that are read of an object. Of a node whose kind isn't in the notation
-/// they are those that a node of any kind has.
-pub fn known_members(role: Role<'_>) -> &'static [&'static str] {
+/// The names of the members that an object may have. A node of an unknown kind has those of every
+/// node.
+pub fn member_names(role: Role<'_>) -> &'static [&'static str] {
     match role {
         Role::Document => &[
             "specifier",
@@ -36,11 +36,11 @@ pub fn known_members(role: Role<'_>) -> &'static [&'static str] {
         Role::Literal => &["value", "range"],
         Role::Argument => &["range", "spread"],
         Role::Key => &["str", "ident"],
-        Role::Node(kind) => known_members_of_node(kind),
+        Role::Node(kind) => member_names_of_node(kind),
     }
 }
 
-fn known_members_of_node(kind: &str) -> &'static [&'static str] {
+fn member_names_of_node(kind: &str) -> &'static [&'static str] {
     match kind {
         "ImportDecl" => &[
             "kind",

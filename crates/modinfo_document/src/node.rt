@@ -1,14 +1,15 @@
-//! Syntax trees.
+//! Reading nodes and programs.
 
 ghost use Rattle.std.specs.Prelude.{IfErr, IfSome};
-ghost use Rattle.modinfo_document.specs.Misfit.{IsIn, IsMemberOf};
+ghost use Rattle.modinfo_document.specs.Mismatch.{IsIn};
+ghost use Rattle.modinfo_document.specs.internal.Mismatch.{IsMemberOf};
 ghost use Rattle.std.specs.Prelude.{◌≡◌, option_map, codes};
 ghost use Rattle.deno_graph_json.specs.Value.{last_named};
 ghost use Rattle.deno_graph_json.specs.View.{value_of, members_of};
-ghost use Rattle.modinfo_document.specs.Answer.{Answers};
+ghost use Rattle.modinfo_document.specs.Returned.{Returns};
 ghost use Rattle.modinfo_document.specs.Node.{reads_node, reads_nodes, reads_program};
 
-use crate::fault::NotationFault;
+use crate::error::DocumentError;
 use crate::kind::read_kind;
 use crate::member::{elements_of, flag, members_of, present, range, range_of, required};
 use deno_graph_json::{Element, Members};
@@ -16,11 +17,11 @@ use deno_graph_source::tree::{Node, Program};
 use deno_graph_source::values::Items;
 use std::alloc::Global;
 
-/// A program, `{"range":[START,END],"body":[NODE ..],"shebang":BOOL}`.
+/// Reads a program, `{"range":[START,END],"body":[NODE ..],"shebang":BOOL}`.
 #[tactic(auto, using(crate::proofs::Reading::reading), unfolding(crate::specs::Node::reads_program, crate::specs::Partial::required))]
-pub fn read_program(alloc: Global, value: Element<'_>) -> Result<Program, NotationFault>
-    ensures misfit { IfErr result (IsIn value.entry) }
-    ensures read { Answers (reads_program (value_of value.entry)) result }
+pub fn read_program(alloc: Global, value: Element<'_>) -> Result<Program, DocumentError>
+    ensures mismatch { IfErr result (IsIn value.entry) }
+    ensures read { Returns (reads_program (value_of value.entry)) result }
 {
     let members = members_of(value)?;
     let range = range(members)?;
@@ -33,10 +34,11 @@ pub fn read_program(alloc: Global, value: Element<'_>) -> Result<Program, Notati
     })
 }
 
+/// Reads an array of nodes.
 #[cycle(read)]
-fn read_nodes(alloc: Global, value: Element<'_>) -> Result<Items<Node>, NotationFault>
-    ensures misfit { IfErr result (IsIn value.entry) }
-    ensures read { Answers (reads_nodes (value_of value.entry)) result }
+fn read_nodes(alloc: Global, value: Element<'_>) -> Result<Items<Node>, DocumentError>
+    ensures mismatch { IfErr result (IsIn value.entry) }
+    ensures read { Returns (reads_nodes (value_of value.entry)) result }
 {
     let values = elements_of(value)?;
     let mut nodes = Vec::with_capacity(alloc, values.array_len())?;
@@ -46,11 +48,11 @@ fn read_nodes(alloc: Global, value: Element<'_>) -> Result<Items<Node>, Notation
     Ok(Items::from_vec(nodes))
 }
 
-/// A node, with all nodes below it.
+/// Reads a node, with all nodes below.
 #[cycle(read)]
-pub fn read_node(alloc: Global, value: Element<'_>) -> Result<Node, NotationFault>
-    ensures misfit { IfErr result (IsIn value.entry) }
-    ensures read { Answers (reads_node (value_of value.entry)) result }
+pub fn read_node(alloc: Global, value: Element<'_>) -> Result<Node, DocumentError>
+    ensures mismatch { IfErr result (IsIn value.entry) }
+    ensures read { Returns (reads_node (value_of value.entry)) result }
 {
     let members = members_of(value)?;
     let found = NodeMembers::find(members);
@@ -67,7 +69,7 @@ pub fn read_node(alloc: Global, value: Element<'_>) -> Result<Node, NotationFaul
     })
 }
 
-/// The members that a node of any kind may have.
+/// The members that every node may have.
 #[derive(Clone, Copy)]
 struct NodeMembers<'a> {
     range: Option<Element<'a>>,
@@ -76,7 +78,7 @@ struct NodeMembers<'a> {
 }
 
 impl<'a> NodeMembers<'a> {
-    /// The last of each name.
+    /// Finds the last member of each name.
     fn find(members: Members<'a>) -> NodeMembers<'a>
         ensures range { IfSome result.range (IsMemberOf members.entry) }
         ensures kind { IfSome result.kind (IsMemberOf members.entry) }

@@ -1,54 +1,51 @@
-//! Reports: what is wrong with a document, and where in it. For those who write an adapter from a
-//! parser's tree. docs/FORMATS.md describes the reports.
+//! Reports on documents: the fault of a document, and where it is. docs/FORMATS.md describes them.
 
 ghost use Rattle.std.specs.Prelude.{◌≡◌, ◌↔◌, IfOk, IsTrue, Some};
 ghost use Rattle.modinfo_document.specs.Report.{LetsPass, Reports};
 
-mod conversion;
-mod notation;
-mod place;
+mod element;
 mod pointer;
 mod source;
 mod syntax;
 mod text_place;
 mod token;
+mod tree;
 mod warning;
 mod warnings;
 
 use crate::report::pointer::pointer_of;
-pub use conversion::{convert_fault, wrong_stored};
 use deno_graph_json::{Mismatch, TextWriter};
 use deno_graph_source::text::SourceRange;
-pub use notation::{wrong_notation, wrong_specifier};
-pub use source::wrong_source;
+pub(crate) use source::source_report;
 use std::alloc::{AllocError, Global};
-pub use syntax::{report_bytes, wrong_json, wrong_text};
+pub(crate) use syntax::json_report_at;
+pub use syntax::{json_report, report_invalid_utf8};
 pub use text_place::TextPlace;
+pub(crate) use tree::{specifier_report, tree_report};
 pub use warning::{Warning, Warnings};
-pub use warnings::find_warnings;
+pub(crate) use warnings::find_warnings;
 
-/// What is wrong with a document.
+/// The fault of a document.
 #[derive(Debug, PartialEq, Eq, Drop)]
-pub struct Wrong {
-    /// The fault's name, as the program prints it.
+pub struct FaultReport {
+    /// The name of the fault, as the program prints it.
     pub fault: String,
-    /// The JSON Pointer of the value that is at fault. `None` of `Json` and of `Input`.
+    /// The JSON Pointer of the faulty value. `None` for `Json` and `Input`.
     pub pointer: Option<String>,
-    /// That of the other one, where two don't go together.
+    /// The JSON Pointer of the other value, if two values don't go together.
     pub other: Option<String>,
-    /// The range of the source that is at fault, or that of the node or comment that is, in bytes from
-    /// zero.
+    /// The faulty range, or the range of the faulty node or comment: two offsets in bytes.
     pub range: Option<SourceRange>,
-    /// Of `Json` and of `Input`: where the document stops being JSON or UTF-8.
+    /// For `Json` and `Input`: the place of the first byte that isn't JSON or UTF-8.
     pub at: Option<TextPlace>,
-    /// What was expected there.
+    /// What is expected in place of the value or the byte, in words.
     pub expected: String,
 }
 
-impl Wrong {
-    /// A fault without a place.
-    pub fn new(fault: String, expected: String) -> Wrong {
-        Wrong {
+impl FaultReport {
+    /// A report without a pointer, a range or a place in the text.
+    pub fn new(fault: String, expected: String) -> FaultReport {
+        FaultReport {
             fault,
             pointer: None,
             other: None,
@@ -58,12 +55,12 @@ impl Wrong {
         }
     }
 
-    /// A fault of the value to which this JSON Pointer leads.
-    pub(crate) fn of_value(fault: String, pointer: String, expected: String) -> Wrong
+    /// The report on the value to which this JSON Pointer leads.
+    pub fn of_value(fault: String, pointer: String, expected: String) -> FaultReport
         ensures pointer { result.pointer ≡ Some pointer }
         ensures expected { result.expected ≡ expected }
     {
-        Wrong {
+        FaultReport {
             fault,
             pointer: Some(pointer),
             other: None,
@@ -73,22 +70,22 @@ impl Wrong {
         }
     }
 
-    /// A fault of a value that isn't what was expected. The only error is that an allocation failed.
+    /// The report on a value that isn't what is expected there. The only error is a failed allocation.
     pub fn of_mismatch(
         alloc: Global,
         fault: String,
         mismatch: &Mismatch,
-    ) -> Result<Wrong, AllocError>
+    ) -> Result<FaultReport, AllocError>
         ensures { IfOk result (Reports mismatch.now) }
     {
         let pointer = pointer_of(alloc, &mismatch.path)?;
         let expected = mismatch.expected.to_words(alloc)?;
-        Ok(Wrong::of_value(fault, pointer, expected))
+        Ok(FaultReport::of_value(fault, pointer, expected))
     }
 
-    /// A fault of a text, which is no JSON from there on.
-    pub(crate) fn of_text(fault: String, at: TextPlace, expected: String) -> Wrong {
-        Wrong {
+    /// The report on a text with an invalid byte at this place.
+    pub(crate) fn of_text(fault: String, at: TextPlace, expected: String) -> FaultReport {
+        FaultReport {
             fault,
             pointer: None,
             other: None,
@@ -99,58 +96,58 @@ impl Wrong {
     }
 }
 
-/// What a check has found.
+/// The result of a check.
 #[derive(Debug, PartialEq, Eq, Drop)]
 pub enum Report {
     /// The document is valid.
     Valid(Warnings),
-    /// It has a fault.
-    Wrong(Wrong),
+    /// The document has a fault.
+    Invalid(FaultReport),
 }
 
 impl Report {
-    /// Whether the document is valid and, where warnings count, has none.
+    /// Whether the check passed: the document is valid and, if the check is strict, has no warnings.
     pub fn passes(&self, is_strict: bool) -> bool
         ensures { IsTrue result ↔ LetsPass is_strict self.now }
     {
         match self {
             Report::Valid(warnings) => !is_strict || warnings.is_empty(),
-            Report::Wrong(_) => false,
+            Report::Invalid(_) => false,
         }
     }
 
-    /// The report as one line of JSON, without a line feed.
+    /// The report as one line of JSON, without a line feed. The only error is a failed allocation.
     pub fn to_line(&self, alloc: Global) -> Result<String, AllocError> {
         let mut line = TextWriter::new(alloc)?;
         match self {
             Report::Valid(warnings) => write_warnings(&mut line, warnings)?,
-            Report::Wrong(wrong) => write_wrong(&mut line, wrong)?,
+            Report::Invalid(fault) => write_fault(&mut line, fault)?,
         }
         Ok(line.into_string())
     }
 }
 
-fn write_wrong(line: &mut TextWriter, wrong: &Wrong) -> Result<(), AllocError> {
+fn write_fault(line: &mut TextWriter, report: &FaultReport) -> Result<(), AllocError> {
     line.begin_object()?;
-    write_member(line, "fault", wrong.fault.as_str())?;
-    write_where(line, wrong)?;
-    write_member(line, "expected", wrong.expected.as_str())?;
+    write_member(line, "fault", report.fault.as_str())?;
+    write_location(line, report)?;
+    write_member(line, "expected", report.expected.as_str())?;
     line.end_object()
 }
 
-/// Writes the members that say where a fault is.
-fn write_where(line: &mut TextWriter, wrong: &Wrong) -> Result<(), AllocError> {
-    if let Some(pointer) = &wrong.pointer {
+/// Writes the members with the location of the fault.
+fn write_location(line: &mut TextWriter, report: &FaultReport) -> Result<(), AllocError> {
+    if let Some(pointer) = &report.pointer {
         write_member(line, "pointer", pointer.as_str())?;
     }
-    if let Some(other) = &wrong.other {
+    if let Some(other) = &report.other {
         write_member(line, "other", other.as_str())?;
     }
-    if let Some(range) = wrong.range {
+    if let Some(range) = report.range {
         write_range(line, range)?;
     }
-    match wrong.at {
-        Some(at) => write_place(line, at),
+    match report.at {
+        Some(at) => write_text_place(line, at),
         None => Ok(()),
     }
 }
@@ -163,7 +160,7 @@ fn write_range(line: &mut TextWriter, range: SourceRange) -> Result<(), AllocErr
     line.end_array()
 }
 
-fn write_place(line: &mut TextWriter, at: TextPlace) -> Result<(), AllocError> {
+fn write_text_place(line: &mut TextWriter, at: TextPlace) -> Result<(), AllocError> {
     line.key("at")?;
     line.begin_object()?;
     write_count(line, "line", at.line)?;

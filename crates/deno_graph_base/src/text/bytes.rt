@@ -1,24 +1,24 @@
-//! Line feeds and characters, counted by the bytes of a short text. The counts fit in a byte, so
-//! that the compiler counts many bytes at once.
+//! Counts the line feeds and the characters of a text of fewer than 256 bytes. The counts fit into
+//! a byte, so that the compiler can count many bytes at once.
 
 ghost use Rattle.std.specs.Prelude.{◌≡◌, ◌≢◌, ℕ, ◌==◌, ◌-◌, ◌<◌, ◌≤◌, count_by, length, slice_index};
 ghost use Rattle.std.specs.Fmt.{is_char_start};
 
-/// The line feeds of a text: how many there are, and the number of bytes up to the last of them and
-/// with it, which is zero where there is none.
+/// The number of line feeds of a text, and the offset after the last of them: zero if there is
+/// none.
 #[derive(Clone, Copy)]
 pub(crate) struct LineFeeds {
     pub(crate) count: u8,
     pub(crate) end: u8,
 }
 
-/// The line feeds of `bytes`.
+/// Counts the line feeds of a text.
 pub(crate) fn line_feeds(bytes: &[u8]) -> LineFeeds
     requires { length bytes.now < 256 }
     ensures count { result.count ≡ count_by (λ b. b == 10) bytes.now }
     ensures bound { result.end ≤ length bytes.now }
     ensures last { 0 < result.end → slice_index bytes.now (result.end - 1) ≡ 10 }
-    ensures behind { (k : ℕ) → result.end ≤ k → k < length bytes.now
+    ensures after { (k : ℕ) → result.end ≤ k → k < length bytes.now
         → slice_index bytes.now k ≢ 10 }
 {
     let mut count = 0;
@@ -32,7 +32,7 @@ pub(crate) fn line_feeds(bytes: &[u8]) -> LineFeeds
     LineFeeds { count, end }
 }
 
-/// The number of bytes that begin a character: all but those from 0x80 to 0xBF.
+/// Counts the characters of a text: every byte begins one, but for those from 0x80 to 0xBF.
 pub(crate) fn characters(bytes: &[u8]) -> u8
     requires { length bytes.now < 256 }
     ensures { result ≡ count_by is_char_start bytes.now }

@@ -14,14 +14,14 @@ use crate::values::TryClone;
 use std::alloc::{AllocError, Global};
 use std::marker::Model;
 
-/// A JavaScript string: a list of code points, of which some may be lone surrogates.
+/// A JavaScript string: a list of code points, some of which may be lone surrogates.
 ///
-/// A high surrogate is never directly before a low one: the two are one code point.
+/// A high surrogate is never directly before a low one, since the two are one code point.
 #[derive(Debug, Drop)]
 pub struct JsString {
-    // The code points as a text, with U+FFFD for each surrogate.
+    // The code points as UTF-8, with U+FFFD for each surrogate.
     text: String,
-    // The surrogates, each with the place of its U+FFFD in the text, in bytes.
+    // The surrogates, each after the offset of its U+FFFD in `text`, in bytes.
     lone: Vec<(usize, u16)>,
 }
 
@@ -29,7 +29,7 @@ impl Model for JsString {
     ghost use Rattle.std.specs.Prelude.{List, ℕ};
     ghost use Rattle.std.specs.Coded.{coded_list, coded_ℕ};
     ghost use Rattle.std.specs.String.{string_bytes};
-    ghost use Rattle.deno_graph_base.specs.StoredString.{points_of, IsStored};
+    ghost use Rattle.deno_graph_base.specs.internal.StoredString.{points_of, IsStored};
 
     ghost Value = { List ℕ };
 
@@ -41,7 +41,7 @@ impl Model for JsString {
 }
 
 impl JsString {
-    /// The characters of `text`, or an error where memory was refused.
+    /// Returns the string with the characters of `text`. Fails only if an allocation fails.
     pub fn from_str(alloc: Global, text: &str) -> Result<JsString, AllocError>
         ensures { IfOk result (λ made. made ≡ chars text.now) }
     {
@@ -51,9 +51,9 @@ impl JsString {
         })
     }
 
-    /// The code points of `units` of UTF-16, or an error where memory was refused. A high surrogate
-    /// directly before a low one joins with it to one code point, and every other surrogate is a
-    /// lone one.
+    /// Returns the string with the code points of UTF-16 `units`. A high surrogate directly before a
+    /// low one forms one code point with it, and every other surrogate is a lone one. Fails only if
+    /// an allocation fails.
     pub fn from_units(alloc: Global, units: &[u16]) -> Result<JsString, AllocError>
         ensures points { IfOk result (λ made. made ≡ points_of_units units.now) }
         ensures same_units { IfOk result (λ made. flat_map encode_utf16 made ≡ units.now) }
@@ -68,7 +68,7 @@ impl JsString {
         Ok(JsString { text, lone })
     }
 
-    /// The text, or `None` where there is a lone surrogate.
+    /// Returns the string as UTF-8, or `None` if it has a lone surrogate.
     pub fn as_str(&self) -> Option<&str>
         ensures readable { IsSome result ↔ IsReadable self.now }
         ensures text { IfSome result (λ t. t.now ≡ encode_utf8_all self.now) }
@@ -82,21 +82,22 @@ impl JsString {
         }
     }
 
-    /// The text, with U+FFFD for each lone surrogate.
+    /// Returns the string as UTF-8, with U+FFFD for each lone surrogate.
     pub fn to_str_lossy(&self) -> &str
         ensures { result.now ≡ lossy_text self.now }
     {
         self.text.as_str()
     }
 
-    /// Whether there is no code point.
+    /// Returns whether the string has no code points.
     pub fn is_empty(&self) -> bool
         ensures { IsTrue result ↔ (self.now ≡ []) }
     {
         self.text.is_empty()
     }
 
-    /// A law of all strings: no high surrogate is directly before a low one.
+    /// Ensures that no high surrogate is directly before a low one. This call does nothing: a caller
+    /// learns the law of its string from the contract.
     pub fn law_of_pairs(&self)
         ensures { IsPaired self.now }
     {

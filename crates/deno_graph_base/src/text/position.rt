@@ -1,14 +1,16 @@
 ghost use Rattle.std.specs.Prelude.{◌≡◌, ℕ, ◌+◌, ◌^◌, ◌<◌, ◌≤◌, ◌↔◌, IfSome, IsNone, IsTrue, List, [], ◌∷◌, ◌++◌, length};
 ghost use Rattle.std.specs.Str.{IsCharBoundary, chars};
-ghost use Rattle.deno_graph_base.specs.Position.{HasPosition, IsAt, IsBefore, is_before, position_at, position_of};
+ghost use Rattle.deno_graph_base.specs.Position.{HasPosition, IsAt, IsBefore, position_at, position_of};
 ghost use Rattle.deno_graph_base.specs.PositionRange.{IsRangeAt};
+ghost use Rattle.deno_graph_base.specs.internal.Cursor.{is_before};
 ghost use Rattle.deno_graph_base.specs.declared.text.position.SourceRange.{SourceRange};
 
 use crate::text::bytes::{characters, line_feeds};
-use crate::text::place::Place;
+use crate::text::cursor::Cursor;
 use crate::text::source_text_info::SourceTextInfo;
 
-/// A range of a text in bytes from zero: `end` is the first byte behind it.
+/// A range of a text by the offsets of its ends, in bytes from zero. `end` is the offset of the
+/// first byte after the range.
 #[derive(Clone, Copy, Debug, PartialEq, Eq)]
 pub struct SourceRange {
     pub start: usize,
@@ -16,7 +18,7 @@ pub struct SourceRange {
 }
 
 impl SourceRange {
-    /// The bytes from `start` up to `end`.
+    /// Returns the range from the offset `start` up to the offset `end`.
     pub fn new(start: usize, end: usize) -> SourceRange
         ensures { result ≡ record { start = start; end = end } }
     {
@@ -24,9 +26,9 @@ impl SourceRange {
     }
 }
 
-/// A place in a text: the number of line feeds (U+000A) before it, and the number of characters
-/// (Unicode scalar values) since the last of them. Both count from zero. No other character ends a
-/// line, not even a carriage return.
+/// A line and a character of a text, both counted from zero: the number of line feeds (U+000A)
+/// before a boundary, and the number of characters (Unicode scalar values) since the last of them.
+/// No other character ends a line, not even a carriage return.
 #[derive(Clone, Copy, Debug, PartialEq, Eq, PartialOrd, Ord)]
 pub struct Position {
     pub line: usize,
@@ -34,15 +36,15 @@ pub struct Position {
 }
 
 impl Position {
-    /// The place in this line with this number of characters before it in the line, both counted
-    /// from zero.
+    /// Returns the position in the line `line` after `character` characters of the line, both
+    /// counted from zero.
     pub fn new(line: usize, character: usize) -> Position
         ensures { result ≡ record { line = line; character = character } }
     {
         Position { line, character }
     }
 
-    /// The start of every text.
+    /// Returns the position of the start of every text.
     pub fn zeroed() -> Position
         ensures line { result.line ≡ 0 }
         ensures character { result.character ≡ 0 }
@@ -53,33 +55,32 @@ impl Position {
         }
     }
 
-    /// The position of `pos`, which is a character boundary of the text, in bytes from its start.
-    /// Takes no memory, and a time that doesn't grow with the length of the line.
-    pub fn from_source_pos(pos: usize, text_info: &SourceTextInfo) -> Position
-        requires { IsCharBoundary text_info.now pos }
-        ensures { result ≡ position_at text_info.now pos }
+    /// Returns the position of a character boundary, given as its offset in bytes. Allocates nothing,
+    /// in a time that doesn't grow with the length of the line.
+    pub fn from_source_pos(offset: usize, text_info: &SourceTextInfo) -> Position
+        requires { IsCharBoundary text_info.now offset }
+        ensures { result ≡ position_at text_info.now offset }
     {
         text_info
-            .place_up_to(pos)
-            .ahead(text_info.text(), pos)
+            .cursor_up_to(offset)
+            .ahead(text_info.text(), offset)
             .position
     }
 
-    /// The boundary of the text that has this position, in bytes from the text's start. None where
-    /// no boundary has it. Takes no memory, and a time that doesn't grow with the length of the
-    /// line.
+    /// Returns the offset in bytes of the character boundary with this position, or `None` if no
+    /// boundary has it. Allocates nothing, in a time that doesn't grow with the length of the line.
     pub fn as_source_pos(&self, text_info: &SourceTextInfo) -> Option<usize>
         ensures some { IfSome result (IsAt text_info.now self.now) }
         ensures none { IsNone result ↔ ¬ (HasPosition text_info.now self.now) }
-        ensures found { (pos : ℕ) → IsAt text_info.now self.now pos → result ≡ Some pos }
+        ensures found { (offset : ℕ) → IsAt text_info.now self.now offset → result ≡ Some offset }
     {
-        let place = text_info
-            .place_up_to_position(*self)
+        let cursor = text_info
+            .cursor_up_to_position(*self)
             .first_not_before(*self, text_info.text());
-        (place.position == *self).then_some(place.pos)
+        (cursor.position == *self).then_some(cursor.offset)
     }
 
-    /// Whether this position comes first: by line, and in one line by character.
+    /// Returns whether this position comes before `other`: by line, and in one line by character.
     pub(crate) fn is_before(self, other: Position) -> bool
         ensures test { result ≡ is_before self other }
         ensures fact { IsTrue result ↔ IsBefore self other }
@@ -87,7 +88,7 @@ impl Position {
         self < other
     }
 
-    /// The position behind a short `text`, where `self` is the one before it.
+    /// Returns the position after `text`, which is shorter than 256 bytes and begins at `self`.
     pub(crate) fn after(self, text: &str) -> Position
         requires short { length text.now < 256 }
         requires line { self.line + length text.now < 2 ^ 64 }
@@ -110,7 +111,7 @@ impl Position {
         }
     }
 
-    /// The position behind the character `c`, where `self` is the one before it.
+    /// Returns the position after the character `c`, which begins at `self`.
     pub(crate) fn past(self, c: char) -> Position
         requires line { self.line + 1 < 2 ^ 64 }
         requires character { self.character + 1 < 2 ^ 64 }
@@ -133,7 +134,8 @@ impl Position {
     }
 }
 
-/// A range of a text by the positions of its ends.
+/// A range of a text by the positions of its ends. `end` is the position after the last character
+/// of the range.
 #[derive(Clone, Copy, Debug, PartialEq, Eq)]
 pub struct PositionRange {
     pub start: Position,
@@ -141,7 +143,7 @@ pub struct PositionRange {
 }
 
 impl PositionRange {
-    /// The empty range at the start of every text.
+    /// Returns the empty range at the start of every text.
     pub fn zeroed() -> PositionRange
         ensures start_line { result.start.line ≡ 0 }
         ensures start_character { result.start.character ≡ 0 }
@@ -154,7 +156,7 @@ impl PositionRange {
         }
     }
 
-    /// The positions of the ends of `range`, which are character boundaries of the text.
+    /// Returns the positions of the ends of `range`, which are character boundaries of the text.
     pub fn from_source_range(range: SourceRange, text_info: &SourceTextInfo) -> PositionRange
         requires start { IsCharBoundary text_info.now range.start }
         requires end { IsCharBoundary text_info.now range.end }
@@ -167,8 +169,8 @@ impl PositionRange {
         }
     }
 
-    /// The range of the text whose ends have these positions. None where an end has a position
-    /// that no boundary of the text has.
+    /// Returns the offsets of the boundaries with these two positions, or `None` if no boundary of
+    /// the text has one of them.
     pub fn as_source_range(&self, text_info: &SourceTextInfo) -> Option<SourceRange>
         ensures some { IfSome result (IsRangeAt text_info.now self.now) }
         ensures none { IsNone result ↔ ¬ (HasPosition text_info.now self.now.start

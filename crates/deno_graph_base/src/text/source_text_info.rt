@@ -2,24 +2,24 @@ ghost use Rattle.std.specs.Prelude.{◌≡◌, ℕ, ◌+◌, ◌<◌, ◌≤◌,
 ghost use Rattle.std.specs.Cmp.{partial_equiv_from_equiv};
 ghost use Rattle.std.specs.Cmp.Lexicographic.{pointwise, nat_list_eq_equiv};
 ghost use Rattle.std.specs.Rc.{rc_str_bytes};
-ghost use Rattle.deno_graph_base.specs.Place.{IsPlace, reach};
+ghost use Rattle.deno_graph_base.specs.internal.Cursor.{IsCursor, reach};
 ghost use Rattle.deno_graph_base.specs.Position.{IsAt, IsBefore};
 ghost use Rattle.deno_graph_base.specs.SourceRange.{IsTextRange, slice_of};
 
 use crate::text::checkpoints::checkpoints;
-use crate::text::place::Place;
+use crate::text::cursor::Cursor;
 use crate::text::position::{Position, SourceRange};
 use crate::values::TryClone;
 use std::alloc::{AllocError, Global};
 use std::marker::Model;
 use std::rc::{Rc, RcStr};
 
-/// A text, with what finds positions in it: a look-up counts on from the nearest of some places
-/// that are kept, and never through a whole line. Contracts see the text's bytes alone.
+/// A text with checkpoints, by which positions are found without reading a whole line. Contracts
+/// see only the bytes of the text.
 #[derive(Debug, Drop)]
 pub struct SourceTextInfo {
     text: RcStr,
-    checkpoints: Rc<Vec<Place>>,
+    checkpoints: Rc<Vec<Cursor>>,
 }
 
 impl Model for SourceTextInfo {
@@ -31,7 +31,7 @@ impl Model for SourceTextInfo {
 
     ghost coded = { coded_list coded_ℕ };
 
-    ghost use Rattle.deno_graph_base.specs.Place.{AreCheckpoints};
+    ghost use Rattle.deno_graph_base.specs.internal.Cursor.{AreCheckpoints};
 
     ghost view = { λ t. rc_str_bytes t.text };
 
@@ -39,8 +39,8 @@ impl Model for SourceTextInfo {
 }
 
 impl SourceTextInfo {
-    /// Reads `text` once, and keeps about a quarter of its size besides. An error where memory was
-    /// refused.
+    /// Reads `text` once, and allocates about a quarter of its size for checkpoints. Fails only if an
+    /// allocation fails.
     pub fn new(alloc: Global, text: RcStr) -> Result<SourceTextInfo, AllocError>
         ensures { IfOk result (λ info. info ≡ rc_str_bytes text) }
     {
@@ -51,49 +51,49 @@ impl SourceTextInfo {
         })
     }
 
-    /// The text itself.
+    /// Returns the text.
     pub fn text(&self) -> &str
         ensures { result.now ≡ self.now }
     {
         self.text.as_str()
     }
 
-    /// The text, to be shared without a copy.
+    /// Returns the text as a shared pointer, which a caller can clone without copying the text.
     pub fn rc_text(&self) -> &RcStr
         ensures { rc_str_bytes result.now ≡ self.now }
     {
         &self.text
     }
 
-    /// A place at or before `pos`. Where `pos` lies in the text they are at most 96 bytes apart.
-    pub(crate) fn place_up_to(&self, pos: usize) -> Place
-        ensures place { IsPlace self.now result }
-        ensures before { result.pos ≤ pos }
-        ensures near { pos ≤ length self.now → pos < result.pos + reach }
+    /// Returns a cursor at or before `offset`: at most 96 bytes before, if `offset` is in the text.
+    pub(crate) fn cursor_up_to(&self, offset: usize) -> Cursor
+        ensures cursor { IsCursor self.now result }
+        ensures before { result.offset ≤ offset }
+        ensures near { offset ≤ length self.now → offset < result.offset + reach }
     {
-        let places = self.checkpoints.as_slice();
-        match places.partition_point(|place| place.pos <= pos) {
-            0 => Place::start(),
-            passed => places[passed - 1],
+        let cursors = self.checkpoints.as_slice();
+        match cursors.partition_point(|cursor| cursor.offset <= offset) {
+            0 => Cursor::start(),
+            passed => cursors[passed - 1],
         }
     }
 
-    /// A place whose position is at or before `position`. It is at most 96 bytes before the
-    /// boundary that has this position, if there is one.
-    pub(crate) fn place_up_to_position(&self, position: Position) -> Place
-        ensures place { IsPlace self.now result }
+    /// Returns a cursor at or before `position`: at most 96 bytes before the boundary with this
+    /// position, if there is one.
+    pub(crate) fn cursor_up_to_position(&self, position: Position) -> Cursor
+        ensures cursor { IsCursor self.now result }
         ensures before { ¬ (IsBefore position result.position) }
-        ensures near { (pos : ℕ) → IsAt self.now position pos → pos < result.pos + reach }
+        ensures near { (offset : ℕ) → IsAt self.now position offset → offset < result.offset + reach }
     {
-        let places = self.checkpoints.as_slice();
-        match places.partition_point(|place| !position.is_before(place.position)) {
-            0 => Place::start(),
-            passed => places[passed - 1],
+        let cursors = self.checkpoints.as_slice();
+        match cursors.partition_point(|cursor| !position.is_before(cursor.position)) {
+            0 => Cursor::start(),
+            passed => cursors[passed - 1],
         }
     }
 
-    /// The part of the text at `range`, which is in bytes from its start. None where the range is
-    /// reversed, goes past the text's end or has an end that is no character boundary.
+    /// Returns the part of the text at `range`. Returns `None` if the range is reversed, ends after
+    /// the text, or starts or ends inside a character.
     pub fn range_text(&self, range: &SourceRange) -> Option<&str>
         ensures some { IsSome result ↔ IsTextRange self.now range.now }
         ensures text { IfSome result (λ part. part.now ≡ slice_of self.now range.now) }
@@ -105,7 +105,7 @@ impl SourceTextInfo {
     }
 }
 
-/// A copy shares the text and what finds positions in it.
+/// A copy shares the text and its checkpoints.
 impl TryClone for SourceTextInfo {
     fn try_clone(&self, _alloc: Global) -> Result<SourceTextInfo, AllocError> {
         Ok(SourceTextInfo {

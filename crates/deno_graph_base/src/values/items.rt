@@ -9,7 +9,7 @@ use std::alloc::{AllocError, Global};
 use std::marker::Model;
 use std::slice::Iter;
 
-/// A `Vec` that contracts see as the list of its items, so that a copy equals what it copies.
+/// A `Vec` that contracts see as the list of its items, so that a copy equals its original.
 #[derive(Debug, Drop)]
 pub struct Items<T> {
     vec: Vec<T>,
@@ -27,7 +27,7 @@ impl<T> Model for Items<T> {
 }
 
 impl<T> Items<T> {
-    /// The empty list, which takes no memory.
+    /// Returns the empty list. Allocates nothing.
     pub fn new(alloc: Global) -> Items<T>
         ensures { result ≡ [] }
     {
@@ -36,7 +36,7 @@ impl<T> Items<T> {
         }
     }
 
-    /// The empty list with room for `capacity` items, or an error where memory was refused.
+    /// Returns the empty list with room for `capacity` items. Fails only if an allocation fails.
     pub fn with_capacity(alloc: Global, capacity: usize) -> Result<Items<T>, AllocError>
         ensures { IfOk result (λ made. made ≡ []) }
     {
@@ -45,14 +45,14 @@ impl<T> Items<T> {
         })
     }
 
-    /// The items of `vec`. Takes no memory.
+    /// Returns the list of the items of `vec`. Allocates nothing.
     pub fn from_vec(vec: Vec<T>) -> Items<T>
         ensures { result ≡ vec.items }
     {
         Items { vec }
     }
 
-    /// Gives the `Vec` back. Takes no memory.
+    /// Returns the `Vec` of the items. Allocates nothing.
     pub fn into_vec(self) -> Vec<T>
         ensures { result.items ≡ self }
     {
@@ -60,28 +60,28 @@ impl<T> Items<T> {
         vec
     }
 
-    /// The items.
+    /// Returns the items.
     pub fn as_slice(&self) -> &[T]
         ensures { result.now ≡ self.now }
     {
         self.vec.as_slice()
     }
 
-    /// The number of items.
+    /// Returns the number of items.
     pub fn len(&self) -> usize
         ensures { result ≡ length self.now }
     {
         self.vec.len()
     }
 
-    /// Whether there is no item.
+    /// Returns whether there are no items.
     pub fn is_empty(&self) -> bool
         ensures { IsTrue result ↔ (self.now ≡ []) }
     {
         self.vec.is_empty()
     }
 
-    /// The item at `at`, counted from zero, or `None` past the last one.
+    /// Returns the item with the index `at`, from zero, or `None` if there is none.
     pub fn get(&self, at: usize) -> Option<&T>
         ensures value { option_copied result ≡ slice_get self.now at }
         ensures within { OnSome result (at < length self.now) }
@@ -89,21 +89,21 @@ impl<T> Items<T> {
         self.vec.get(at)
     }
 
-    /// The first item, or `None` where there is none.
+    /// Returns the first item, or `None` if there are no items.
     pub fn first(&self) -> Option<&T>
         ensures { option_copied result ≡ slice_get self.now 0 }
     {
         self.vec.first()
     }
 
-    /// The last item, or `None` where there is none.
+    /// Returns the last item, or `None` if there are no items.
     pub fn last(&self) -> Option<&T>
         ensures { option_copied result ≡ slice_get self.now (length self.now - 1) }
     {
         self.vec.last()
     }
 
-    /// The items in order.
+    /// Returns an iterator over the items, in order.
     pub fn iter(&self) -> Iter<'_, T>
         ensures rest { iter_rest result ≡ self.now }
         ensures bound { length (iter_rest result) < 2 ^ 64 }
@@ -128,7 +128,7 @@ impl<'a, T> IntoIterator for &'a Items<T> {
 }
 
 impl<T: Drop> Items<T> {
-    /// The list of `item` alone. Where memory is refused `item` is dropped.
+    /// Returns the list with the one item `item`. If an allocation fails, drops `item`.
     pub fn from_item(alloc: Global, item: T) -> Result<Items<T>, AllocError>
         ensures { IfOk result (λ made. made ≡ item ∷ []) }
     {
@@ -137,8 +137,7 @@ impl<T: Drop> Items<T> {
         Ok(items)
     }
 
-    /// Adds `item` at the end. Where memory is refused the list stays as it was, and `item` is
-    /// dropped.
+    /// Adds `item` at the end. If an allocation fails, drops `item` and leaves the list unchanged.
     pub fn push(&mut self, item: T) -> Result<(), AllocError>
         ensures ok { OnOk result (self.new ≡ self.old ++ item ∷ []) }
         ensures err { OnErr result (self.new ≡ self.old) }

@@ -1,15 +1,15 @@
-//! How the types of an import are resolved.
+//! Resolution modes: as by `require`, or as by `import`.
 
 ghost use Rattle.std.specs.Prelude.{◌≡◌, ◌↔◌, Some, codes};
 
-/// How a module is resolved: as by `require`, or as by `import`.
+/// The mode in which a module graph resolves a module.
 #[derive(Clone, Copy, Debug, PartialEq, Eq)]
 pub enum ResolutionMode {
     Require,
     Import,
 }
 
-/// How the types of an import are resolved: as by `require`, or as by `import`.
+/// The mode in which the types of an import are resolved, as a `ModuleInfo` holds it.
 #[derive(Clone, Copy, Debug, PartialEq, Eq)]
 pub enum TypeScriptTypesResolutionMode {
     Require,
@@ -19,7 +19,7 @@ pub enum TypeScriptTypesResolutionMode {
 impl TypeScriptTypesResolutionMode {
     ghost use Rattle.deno_graph_base.specs.ResolutionMode.{mode_named, graph_mode};
 
-    /// The mode of this name, `import` or `require`. None for any other text.
+    /// Returns the mode of the name `import` or `require`, and `None` for any other text.
     pub fn from_str(text: &str) -> Option<Self>
         ensures import { (result ≡ Some TypeScriptTypesResolutionMode.Import)
             ↔ (text.now ≡ codes "import") }
@@ -34,7 +34,7 @@ impl TypeScriptTypesResolutionMode {
         }
     }
 
-    /// The mode of the same name.
+    /// Returns the mode of a module graph that has the same name.
     pub fn as_deno_graph(&self) -> ResolutionMode
         ensures { result ≡ graph_mode self.now }
     {

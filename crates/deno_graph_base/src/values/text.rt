@@ -7,7 +7,7 @@ use crate::values::try_clone::TryClone;
 use std::alloc::{AllocError, Global};
 use std::marker::Model;
 
-/// A `String` that contracts see as its bytes, so that a copy equals what it copies.
+/// A `String` that contracts see as its bytes, so that a copy equals its original.
 #[derive(Debug, Drop)]
 pub struct Text {
     string: String,
@@ -26,7 +26,7 @@ impl Model for Text {
 }
 
 impl Text {
-    /// The empty text, which takes no memory.
+    /// Returns the empty text. Allocates nothing.
     pub fn new(alloc: Global) -> Text
         ensures { result ≡ [] }
     {
@@ -35,7 +35,7 @@ impl Text {
         }
     }
 
-    /// A copy of `text`, or an error where memory was refused.
+    /// Copies `text`. Fails only if an allocation fails.
     pub fn from_str(alloc: Global, text: &str) -> Result<Text, AllocError>
         ensures { IfOk result (λ copy. copy ≡ text.now) }
     {
@@ -44,14 +44,14 @@ impl Text {
         })
     }
 
-    /// The text of `string`. Takes no memory.
+    /// Returns the text of `string`. Allocates nothing.
     pub fn from_string(string: String) -> Text
         ensures { result ≡ string_bytes string }
     {
         Text { string }
     }
 
-    /// Gives the `String` back. Takes no memory.
+    /// Returns the `String` of the text. Allocates nothing.
     pub fn into_string(self) -> String
         ensures { string_bytes result ≡ self }
     {
@@ -59,21 +59,21 @@ impl Text {
         string
     }
 
-    /// The text.
+    /// Returns the text.
     pub fn as_str(&self) -> &str
         ensures { result.now ≡ self.now }
     {
         self.string.as_str()
     }
 
-    /// The number of bytes.
+    /// Returns the number of bytes.
     pub fn len(&self) -> usize
         ensures { result ≡ length self.now }
     {
         self.string.len()
     }
 
-    /// Whether there is no byte.
+    /// Returns whether the text is empty.
     pub fn is_empty(&self) -> bool
         ensures { IsTrue result ↔ (self.now ≡ []) }
     {

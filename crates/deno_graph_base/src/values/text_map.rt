@@ -13,7 +13,8 @@ use std::alloc::{AllocError, Global};
 use std::collections::{BTreeMap, btree_map};
 use std::marker::Model;
 
-/// A map from texts that contracts see as the list of its entries, in the order of the keys' bytes.
+/// A map with texts as keys, which contracts see as the list of its entries, in the order of the
+/// keys' bytes.
 #[derive(Debug, Drop)]
 pub struct TextMap<V> {
     map: BTreeMap<String, V>,
@@ -32,7 +33,7 @@ impl<V> Model for TextMap<V> {
 }
 
 impl<V> TextMap<V> {
-    /// The empty map, which takes no memory.
+    /// Returns the empty map. Allocates nothing.
     pub fn new(alloc: Global) -> TextMap<V>
         ensures { result ≡ [] }
     {
@@ -41,14 +42,14 @@ impl<V> TextMap<V> {
         }
     }
 
-    /// The entries of `map`. Takes no memory.
+    /// Returns the map with the entries of `map`. Allocates nothing.
     pub fn from_map(map: BTreeMap<String, V>) -> TextMap<V>
         ensures { result ≡ entries_of map }
     {
         TextMap { map }
     }
 
-    /// Gives the `BTreeMap` back. Takes no memory.
+    /// Returns the `BTreeMap` of the entries. Allocates nothing.
     pub fn into_map(self) -> BTreeMap<String, V>
         ensures { entries_of result ≡ self }
     {
@@ -56,7 +57,7 @@ impl<V> TextMap<V> {
         map
     }
 
-    /// The number of entries.
+    /// Returns the number of entries.
     pub fn len(&self) -> usize
         ensures len { result ≡ length self.now }
         ensures ordered { IsAscending self.now }
@@ -64,21 +65,21 @@ impl<V> TextMap<V> {
         self.map.len()
     }
 
-    /// Whether there is no entry.
+    /// Returns whether there are no entries.
     pub fn is_empty(&self) -> bool
         ensures { IsTrue result ↔ (self.now ≡ []) }
     {
         self.map.is_empty()
     }
 
-    /// The value at `key`, or `None` where the map has no such key.
+    /// Returns the value at `key`, or `None` if the map doesn't have the key.
     pub fn get(&self, key: &str) -> Option<&V>
         ensures { option_copied result ≡ value_at self.now key.now }
     {
         self.map.get(key)
     }
 
-    /// The entries in order.
+    /// Returns an iterator over the entries, in order.
     pub fn iter(&self) -> Iter<'_, V>
         ensures rest { result ≡ self.now }
         ensures ordered { IsAscending self.now }
@@ -91,15 +92,15 @@ impl<V> TextMap<V> {
 }
 
 impl<V: Drop> TextMap<V> {
-    /// Puts `value` at `key` and gives the value that was there. Where memory is refused the map
-    /// stays as it was, and both are dropped.
+    /// Sets the value at `key`, and returns the old value at `key`, if there was one. If an
+    /// allocation fails, drops `key` and `value` and leaves the map unchanged.
     pub fn insert(&mut self, key: Text, value: V) -> Result<Option<V>, AllocError>
         ensures ok { OnOk result (self.new ≡ insert_entry self.old key value) }
         ensures replaced { IfOk result (λ old. old ≡ value_at self.old key) }
         ensures err { OnErr result (self.new ≡ self.old) }
         ensures ordered { IsAscending self.new }
 
-        // Each other key keeps its value.
+        // Every other key keeps its value.
         ensures values { OnOk result ((other : List ℕ) → value_at self.new other
             ≡ (if bytes_eq key other then Some value else value_at self.old other)) }
     {
@@ -107,7 +108,7 @@ impl<V: Drop> TextMap<V> {
     }
 }
 
-/// The entries that are left of a `TextMap`, in order.
+/// An iterator over the entries of a `TextMap`, in order.
 #[derive(Drop)]
 pub struct Iter<'a, V> {
     inner: btree_map::Iter<'a, String, V>,

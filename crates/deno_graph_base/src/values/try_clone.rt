@@ -2,9 +2,9 @@ ghost use Rattle.std.specs.Prelude.{◌≡◌, IfOk};
 
 use std::alloc::{AllocError, Global};
 
-/// A copy that takes memory, and so may fail: what takes the place of `Clone` here.
+/// A type whose values can be copied where an allocation may fail, in place of `Clone`.
 pub trait TryClone {
-    /// An equal value, or an error where memory was refused.
+    /// Returns an equal value. Fails only if an allocation fails.
     fn try_clone(&self, alloc: Global) -> Result<Self, AllocError>
         ensures { IfOk result (λ copy. copy ≡ self.now) };
 }

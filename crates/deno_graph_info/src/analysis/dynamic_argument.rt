@@ -10,7 +10,7 @@ ghost use Rattle.deno_graph_json.specs.Read.Answer.{Answers};
 use deno_graph_base::values::{Items, Text, TryClone};
 use deno_graph_json::read::read_items;
 use deno_graph_json::{
-    Expected, FromJson, MemberWriter, ObjectReader, ReadError, TextWriter, ToJson, ToObject,
+    Expected, Form, FromJson, MemberWriter, ObjectReader, ReadError, TextWriter, ToJson, ToObject,
     object_value, write_object,
 };
 use serde_json::Value;
@@ -79,6 +79,12 @@ impl ToJson for DynamicArgument {
     }
 }
 
+/// What is expected of an argument.
+const EXPECTED_ARGUMENT: Expected = Expected::OneOf(
+    "a string, an array of parts or null",
+    &[Form::String, Form::Array, Form::Null],
+);
+
 impl FromJson for DynamicArgument {
     ghost reads = { reads_argument };
 
@@ -91,7 +97,7 @@ impl FromJson for DynamicArgument {
                 let parts = read_items(alloc, values)?;
                 Ok(DynamicArgument::Template(parts))
             }
-            _ => Err(ReadError::expected(alloc, Expected::Argument)),
+            _ => Err(ReadError::expected(alloc, EXPECTED_ARGUMENT)),
         }
     }
 }

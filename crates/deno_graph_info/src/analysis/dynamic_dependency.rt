@@ -12,7 +12,7 @@ use deno_graph_base::text::PositionRange;
 use deno_graph_base::values::TryClone;
 use deno_graph_json::read::read_str;
 use deno_graph_json::{
-    Expected, FromJson, MemberWriter, ObjectReader, ReadError, TextWriter, ToJson, ToObject,
+    Expected, Form, FromJson, MemberWriter, ObjectReader, ReadError, TextWriter, ToJson, ToObject,
     object_value, write_object,
 };
 use serde_json::Value;
@@ -84,6 +84,17 @@ impl FromJson for DynamicDependencyKind {
     }
 }
 
+/// What is expected of the name of a kind.
+const EXPECTED_KIND: Expected = Expected::OneOf(
+    "the kind of a dynamic dependency",
+    &[
+        Form::Name("import"),
+        Form::Name("importDefer"),
+        Form::Name("importSource"),
+        Form::Name("require"),
+    ],
+);
+
 /// The kind that has this name.
 #[tactic(auto, unfolding(crate::specs::Json::DynamicDependency::dynamic_kind_named, crate::specs::Json::DynamicDependency::reads_dynamic_kind))]
 fn kind_named(alloc: Global, name: &str) -> Result<DynamicDependencyKind, ReadError>
@@ -94,7 +105,7 @@ fn kind_named(alloc: Global, name: &str) -> Result<DynamicDependencyKind, ReadEr
         "importDefer" => Ok(DynamicDependencyKind::ImportDefer),
         "importSource" => Ok(DynamicDependencyKind::ImportSource),
         "require" => Ok(DynamicDependencyKind::Require),
-        _ => Err(ReadError::expected(alloc, Expected::DynamicKind)),
+        _ => Err(ReadError::expected(alloc, EXPECTED_KIND)),
     }
 }
 

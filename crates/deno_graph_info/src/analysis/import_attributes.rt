@@ -7,7 +7,8 @@ ghost use Rattle.deno_graph_json.specs.Read.Answer.{Answers};
 
 use deno_graph_base::values::{Text, TextMap, TryClone};
 use deno_graph_json::{
-    Expected, FromJson, MemberWriter, ObjectReader, ObjectWriter, ReadError, TextWriter, ToJson,
+    Expected, Form, FromJson, MemberWriter, ObjectReader, ObjectWriter, ReadError, TextWriter,
+    ToJson,
 };
 use serde_json::{Map, Value};
 use std::alloc::{AllocError, Global};
@@ -48,6 +49,12 @@ impl ToJson for ImportAttribute {
     }
 }
 
+/// What is expected of the value of an attribute.
+const EXPECTED_ATTRIBUTE: Expected = Expected::OneOf(
+    "a string or null",
+    &[Form::String, Form::Null],
+);
+
 impl FromJson for ImportAttribute {
     ghost reads = { reads_attribute };
 
@@ -56,7 +63,7 @@ impl FromJson for ImportAttribute {
         match value {
             Value::Null => Ok(ImportAttribute::Unknown),
             Value::String(text) => Ok(ImportAttribute::Known(Text::from_str(alloc, text)?)),
-            _ => Err(ReadError::expected(alloc, Expected::Attribute)),
+            _ => Err(ReadError::expected(alloc, EXPECTED_ATTRIBUTE)),
         }
     }
 }
@@ -156,6 +163,12 @@ impl ToJson for ImportAttributes {
     }
 }
 
+/// What is expected of import attributes.
+const EXPECTED_ATTRIBUTES: Expected = Expected::OneOf(
+    "none, unknown, or an object with the one member known",
+    &[Form::Name("none"), Form::Name("unknown"), Form::ObjectOfOne],
+);
+
 impl FromJson for ImportAttributes {
     ghost reads = { reads_attributes };
 
@@ -164,7 +177,7 @@ impl FromJson for ImportAttributes {
         match value {
             Value::String(text) => read_name(alloc, text),
             Value::Object(members) => read_known(alloc, &ObjectReader::of_members(alloc, members)),
-            _ => Err(ReadError::expected(alloc, Expected::Attributes)),
+            _ => Err(ReadError::expected(alloc, EXPECTED_ATTRIBUTES)),
         }
     }
 }
@@ -177,7 +190,7 @@ fn read_name(alloc: Global, name: &str) -> Result<ImportAttributes, ReadError>
     match name {
         "none" => Ok(ImportAttributes::None),
         "unknown" => Ok(ImportAttributes::Unknown),
-        _ => Err(ReadError::expected(alloc, Expected::Attributes)),
+        _ => Err(ReadError::expected(alloc, EXPECTED_ATTRIBUTES)),
     }
 }
 
@@ -190,6 +203,6 @@ fn read_known(alloc: Global, object: &ObjectReader) -> Result<ImportAttributes, 
         let known = object.read("known")?;
         Ok(ImportAttributes::Known(known))
     } else {
-        Err(ReadError::expected(alloc, Expected::Attributes))
+        Err(ReadError::expected(alloc, EXPECTED_ATTRIBUTES))
     }
 }

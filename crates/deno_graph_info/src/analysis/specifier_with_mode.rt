@@ -7,7 +7,7 @@ ghost use Rattle.deno_graph_json.specs.ObjectReader.{readable, value_of};
 ghost use Rattle.deno_graph_json.specs.Read.Answer.{Answers};
 ghost use Rattle.deno_graph_info.specs.Json.SpecifierWithMode.{specifier_with_mode, specifier_with_mode_entries};
 
-use crate::analysis::{SpecifierWithRange, read_specifier};
+use crate::analysis::specifier_with_range::{SpecifierWithRange, read_specifier};
 use deno_graph_base::values::TypeScriptTypesResolutionMode;
 use deno_graph_json::{MemberWriter, ObjectReader, ReadError};
 use std::alloc::AllocError;

@@ -10,7 +10,7 @@ use deno_graph_base::text::PositionRange;
 use deno_graph_base::values::{Text, TryClone};
 use deno_graph_json::read::read_str;
 use deno_graph_json::{
-    Expected, FromJson, MemberWriter, ObjectReader, ReadError, TextWriter, ToJson, ToObject,
+    Expected, Form, FromJson, MemberWriter, ObjectReader, ReadError, TextWriter, ToJson, ToObject,
     object_value, write_object,
 };
 use serde_json::Value;
@@ -80,6 +80,22 @@ impl FromJson for StaticDependencyKind {
     }
 }
 
+/// What is expected of the name of a kind.
+const EXPECTED_KIND: Expected = Expected::OneOf(
+    "the kind of a static dependency",
+    &[
+        Form::Name("import"),
+        Form::Name("importDefer"),
+        Form::Name("importSource"),
+        Form::Name("importType"),
+        Form::Name("importEquals"),
+        Form::Name("export"),
+        Form::Name("exportType"),
+        Form::Name("exportEquals"),
+        Form::Name("maybeTsModuleAugmentation"),
+    ],
+);
+
 /// The kind that has this name.
 #[tactic(auto, unfolding(crate::specs::Json::StaticDependency::static_kind_named, crate::specs::Json::StaticDependency::reads_static_kind))]
 fn kind_named(alloc: Global, name: &str) -> Result<StaticDependencyKind, ReadError>
@@ -95,7 +111,7 @@ fn kind_named(alloc: Global, name: &str) -> Result<StaticDependencyKind, ReadErr
         "exportType" => Ok(StaticDependencyKind::ExportType),
         "exportEquals" => Ok(StaticDependencyKind::ExportEquals),
         "maybeTsModuleAugmentation" => Ok(StaticDependencyKind::MaybeTsModuleAugmentation),
-        _ => Err(ReadError::expected(alloc, Expected::StaticKind)),
+        _ => Err(ReadError::expected(alloc, EXPECTED_KIND)),
     }
 }
 

@@ -7,7 +7,7 @@ ghost use Rattle.deno_graph_json.specs.Read.Answer.{Answers};
 ghost use Rattle.deno_graph_info.specs.Json.TypeScriptReference.{json_of_reference, reads_reference, reference_entries, reference_of_type, reference_to_types, IsHeldReference};
 
 use crate::analysis::specifier_with_mode::{put_specifier_with_mode, read_specifier_with_mode};
-use crate::analysis::{SpecifierWithRange, read_specifier};
+use crate::analysis::specifier_with_range::{SpecifierWithRange, read_specifier};
 use deno_graph_base::values::{TryClone, TypeScriptTypesResolutionMode};
 use deno_graph_json::{
     Expected, FromJson, MemberWriter, ObjectReader, ReadError, TextWriter, ToJson, ToObject,

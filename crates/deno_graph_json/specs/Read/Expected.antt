@@ -1,19 +1,66 @@
 -- What is expected of a value, and when a value isn't that.
-use Rattle.std.specs.Prelude.{◌≡◌, ℕ, List, ◌++◌, codes, false, true, bytes_eq, Some, None, IsSomeAnd}
-use Rattle.serde_json.specs.Data.{Data}
+use Rattle.std.specs.Prelude.{
+  ◌≡◌,
+  ℕ,
+  List,
+  ◌++◌,
+  ◌==◌,
+  codes,
+  Bool,
+  false,
+  true,
+  bytes_eq,
+  Some,
+  None,
+  IsSomeAnd,
+}
+use Rattle.std.specs.List.{AllByRecursion}
+use Rattle.serde_json.specs.Data.{Data, null, boolean, number, string, array, object}
+use Rattle.serde_json.specs.Events.{members_len}
 use Rattle.serde_json.specs.Find.{as_array, as_bool, as_number, as_object, as_str, get, is_float}
-use Rattle.deno_graph_info.specs.Json.DynamicArgument.{reads_argument}
-use Rattle.deno_graph_info.specs.Json.DynamicDependency.{reads_dynamic_kind}
-use Rattle.deno_graph_info.specs.Json.ImportAttributes.{reads_attribute, reads_attributes}
-use Rattle.deno_graph_info.specs.Json.StaticDependency.{reads_static_kind}
 use Rattle.deno_graph_json.specs.Read.Partial.{as_usize, pair_in}
 use Rattle.deno_graph_json.specs.declared.expected.Expected.{Expected}
 use Rattle.deno_graph_json.specs.declared.expected.Expected.TheVariants as expected
+use Rattle.deno_graph_json.specs.declared.expected.Form.{Form}
+use Rattle.deno_graph_json.specs.declared.expected.Form.TheVariants as form
 
 -- neither of two strings
 abbrev pub IsNeither : List ℕ → List ℕ → Data → Type 0
 IsNeither first second value = (text : List ℕ) → as_str value ≡ Some text
     → (bytes_eq text first ≡ false) × (bytes_eq text second ≡ false)
+
+-- whether the value has the form
+abbrev pub has_form : Form → Data → Bool
+has_form form.Null null = true
+has_form form.Null (boolean _) = false
+has_form form.Null (number _) = false
+has_form form.Null (string _) = false
+has_form form.Null (array _) = false
+has_form form.Null (object _) = false
+has_form form.String null = false
+has_form form.String (boolean _) = false
+has_form form.String (number _) = false
+has_form form.String (string _) = true
+has_form form.String (array _) = false
+has_form form.String (object _) = false
+has_form (form.Name name) null = false
+has_form (form.Name name) (boolean _) = false
+has_form (form.Name name) (number _) = false
+has_form (form.Name name) (string text) = bytes_eq text name.now
+has_form (form.Name name) (array _) = false
+has_form (form.Name name) (object _) = false
+has_form form.Array null = false
+has_form form.Array (boolean _) = false
+has_form form.Array (number _) = false
+has_form form.Array (string _) = false
+has_form form.Array (array _) = true
+has_form form.Array (object _) = false
+has_form form.ObjectOfOne null = false
+has_form form.ObjectOfOne (boolean _) = false
+has_form form.ObjectOfOne (number _) = false
+has_form form.ObjectOfOne (string _) = false
+has_form form.ObjectOfOne (array _) = false
+has_form form.ObjectOfOne (object members) = members_len members == 1
 
 -- the value isn't what is expected
 abbrev pub IsNot : Expected → Data → Type 0
@@ -26,11 +73,7 @@ IsNot expected.Object value = as_object value ≡ None
 IsNot (expected.Pair _) value = pair_in value ≡ None
 IsNot (expected.Member name) value = get name.now value ≡ None
 IsNot (expected.Either first second) value = IsNeither first.now second.now value
-IsNot expected.StaticKind value = reads_static_kind value ≡ None
-IsNot expected.DynamicKind value = reads_dynamic_kind value ≡ None
-IsNot expected.Argument value = reads_argument value ≡ None
-IsNot expected.Attributes value = reads_attributes value ≡ None
-IsNot expected.Attribute value = reads_attribute value ≡ None
+IsNot (expected.OneOf _ forms) value = AllByRecursion (λ f. has_form f value ≡ false) forms.now
 
 -- what is expected, in words
 abbrev pub words : Expected → List ℕ
@@ -43,8 +86,4 @@ words expected.Object = codes "an object"
 words (expected.Pair items) = items.now
 words (expected.Member name) = codes "a member `" ++ name.now ++ codes "`"
 words (expected.Either first second) = first.now ++ codes " or " ++ second.now
-words expected.StaticKind = codes "the kind of a static dependency"
-words expected.DynamicKind = codes "the kind of a dynamic dependency"
-words expected.Argument = codes "a string, an array of parts or null"
-words expected.Attributes = codes "none, unknown, or an object with the one member known"
-words expected.Attribute = codes "a string or null"
+words (expected.OneOf text _) = text.now

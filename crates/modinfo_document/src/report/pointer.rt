@@ -1,16 +1,16 @@
-//! The JSON Pointers of paths.
+//! Paths as JSON Pointers.
 
 ghost use Rattle.std.specs.Prelude.{◌≡◌, ◌++◌, IfOk, OnOk};
 ghost use Rattle.std.specs.String.{string_bytes};
-ghost use Rattle.deno_graph_json.specs.Pointer.{part_of_step};
+ghost use Rattle.deno_graph_json.specs.Pointer.{part_of_token};
 ghost use Rattle.modinfo_document.specs.Pointer.{part_of, pointer_text};
 
 use deno_graph_json::{ReferenceToken, Step, push_token};
 use deno_graph_source::values::Items;
 use std::alloc::{AllocError, Global};
 
-/// The JSON Pointer (RFC 6901) of the value to which a path leads. The last step of the path is the
-/// first to take.
+/// The JSON Pointer (RFC 6901) of a path, whose first step is the innermost. The only error is a
+/// failed allocation.
 pub fn pointer_of(alloc: Global, path: &Items<Step>) -> Result<String, AllocError>
     ensures { IfOk result (λ pointer. string_bytes pointer ≡ pointer_text path.now) }
 {
@@ -19,6 +19,7 @@ pub fn pointer_of(alloc: Global, path: &Items<Step>) -> Result<String, AllocErro
     Ok(pointer)
 }
 
+/// Appends the pointer of a path.
 fn push_path(pointer: &mut String, path: &[Step]) -> Result<(), AllocError>
     ensures { OnOk result (string_bytes pointer.new ≡ string_bytes pointer.old ++ pointer_text path.now) }
 {
@@ -31,9 +32,9 @@ fn push_path(pointer: &mut String, path: &[Step]) -> Result<(), AllocError>
     }
 }
 
-/// The step as one of a JSON Pointer.
+/// A step as a reference token.
 fn pointer_step(step: &Step) -> ReferenceToken<'_>
-    ensures { part_of_step result ≡ part_of step.now }
+    ensures { part_of_token result ≡ part_of step.now }
 {
     match step {
         Step::Item(number) => ReferenceToken::Index(*number),

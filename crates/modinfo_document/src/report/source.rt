@@ -1,23 +1,23 @@
-//! Faults of a source: which value of its document they are in, and what was expected there.
+//! Reports on faults of a source.
 
-use crate::report::Wrong;
-use crate::report::place::{element_of, element_of_comment, member};
+use crate::report::FaultReport;
+use crate::report::element::{element_of, element_of_comment, member};
 use deno_graph_json::{Element, Tape};
 use deno_graph_source::text::SourceRange;
 use deno_graph_source::tree::{FaultPlace, NodePart, ShapeRule, SourceFault, SourceFaultPlace};
 use std::alloc::{AllocError, Global};
 
-/// The fault of a source, of which the document has so many bytes. The only error is that memory was
-/// refused.
-pub fn wrong_source(
+/// The report on a fault of the source, whose length is given in bytes. The only error is a failed
+/// allocation.
+pub fn source_report(
     alloc: Global,
     tape: &Tape<'_>,
     length: usize,
     found: &SourceFaultPlace,
-) -> Result<Wrong, AllocError> {
+) -> Result<FaultReport, AllocError> {
     let root = tape.root();
     let value = element_of(root, found);
-    Ok(Wrong {
+    Ok(FaultReport {
         fault: format!(in alloc; "{}", found.fault)?,
         pointer: pointer_of_element(alloc, tape, value)?,
         other: pointer_of_element(alloc, tape, other_element(root, &found.place))?,
@@ -27,7 +27,7 @@ pub fn wrong_source(
     })
 }
 
-/// The comment with which another shares a byte.
+/// Finds the other of two comments that share a byte.
 fn other_element<'a>(root: Element<'a>, place: &FaultPlace) -> Option<Element<'a>> {
     match place {
         FaultPlace::Comments(first, _) => element_of_comment(root, *first),
@@ -35,6 +35,7 @@ fn other_element<'a>(root: Element<'a>, place: &FaultPlace) -> Option<Element<'a
     }
 }
 
+/// The JSON Pointer of an element, if there is one.
 fn pointer_of_element(
     alloc: Global,
     tape: &Tape<'_>,
@@ -46,7 +47,7 @@ fn pointer_of_element(
     }
 }
 
-/// The range that a value is, or that it has.
+/// The range at a value: the value is one, or has one as its member `range`.
 fn range_of(value: Option<Element<'_>>) -> Option<SourceRange> {
     let value = value?;
     let (start, end) = member(value, "range").unwrap_or(value).as_pair()?;
@@ -56,6 +57,7 @@ fn range_of(value: Option<Element<'_>>) -> Option<SourceRange> {
     })
 }
 
+/// What is expected in place of the faulty value, in words.
 fn expected(alloc: Global, found: &SourceFaultPlace, length: usize) -> Result<String, AllocError> {
     match &found.fault {
         SourceFault::RangeOutside => {
@@ -66,6 +68,7 @@ fn expected(alloc: Global, found: &SourceFaultPlace, length: usize) -> Result<St
     }
 }
 
+/// What is expected of the range of a node or of a comment.
 fn expected_range(fault: &SourceFault) -> &'static str {
     match fault {
         SourceFault::RangeReversed => "a start of at most the end",
@@ -75,6 +78,7 @@ fn expected_range(fault: &SourceFault) -> &'static str {
     }
 }
 
+/// What is expected of the children of a node.
 fn expected_children(place: &FaultPlace) -> &'static str {
     let FaultPlace::Node {
         part: NodePart::Children(rule),

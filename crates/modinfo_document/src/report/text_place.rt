@@ -1,16 +1,18 @@
-/// A place in the text of a document.
+/// A place in the text of a document, from zero. Unlike the `Position` of a source, counts a column for
+/// each character and not for each UTF-16 code unit, and has the offset.
 #[derive(Debug, Clone, Copy, PartialEq, Eq)]
 pub struct TextPlace {
-    /// The number of line feeds before it.
+    /// The number of line feeds before the place.
     pub line: usize,
-    /// The number of characters since the last of them.
+    /// The number of characters after the last of these line feeds.
     pub column: usize,
-    /// The number of bytes before it.
+    /// The number of bytes before the place.
     pub offset: usize,
 }
 
 impl TextPlace {
-    /// The place behind so many bytes of the text, or its end where it has fewer.
+    /// The place at an offset, in bytes; the end of the text if the offset is beyond the end or inside
+    /// a character.
     pub fn new(text: &str, offset: usize) -> TextPlace {
         let before = text.get(..offset).unwrap_or(text);
         let mut line = 0usize;

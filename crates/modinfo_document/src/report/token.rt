@@ -1,7 +1,7 @@
-//! Where a token of JSON (RFC 8259) goes wrong.
+//! Finding the first invalid byte of a token of JSON (RFC 8259).
 
-/// The offset of the first invalid byte of a text whose token at `start` is refused: in the token, or
-/// after a name that lacks its colon. Returns `start` where the token can't be there or isn't taken.
+/// The offset of the first invalid byte of a text whose token at `start` is invalid: a byte in the
+/// token, or after a name without a colon; `start` if the whole token is misplaced.
 pub fn invalid_byte(text: &str, start: usize) -> usize {
     let bytes = text.as_bytes();
     let end = match bytes.get(start) {
@@ -19,7 +19,8 @@ pub fn invalid_byte(text: &str, start: usize) -> usize {
     }
 }
 
-/// Where a string that ends at `end` is refused: at its start, or after it where it is a name.
+/// The offset of the invalid byte, for a string that ends at `end`: after the string if that is a name,
+/// else the start of the string.
 fn after_string(bytes: &[u8], start: usize, end: usize) -> usize {
     let before = bytes.get(..start).unwrap_or(&[]);
     let string = bytes.get(start..end).unwrap_or(&[]);
@@ -33,8 +34,8 @@ fn after_string(bytes: &[u8], start: usize, end: usize) -> usize {
     }
 }
 
-/// Where a number or a word that ends at `end` is refused: at its start, or at a byte that goes on with
-/// it.
+/// The offset of the invalid byte, for a number or a word that ends at `end`: `end` if the byte there
+/// continues the token, else the start of the token.
 fn after_word(bytes: &[u8], start: usize, end: usize) -> usize {
     match bytes.get(end) {
         Some(b'0'..=b'9' | b'a'..=b'z' | b'A'..=b'Z' | b'.' | b'+' | b'-' | b'_') => end,
@@ -46,23 +47,23 @@ fn is_space(byte: u8) -> bool {
     matches!(byte, b' ' | b'\t' | b'\n' | b'\r')
 }
 
-/// Where a string is.
+/// The state of reading a string.
 #[derive(Clone, Copy)]
 enum InString {
     Plain,
     /// After a backslash.
     Escape,
-    /// In an escape `\\u` with this number of hexadecimal digits left.
+    /// In an escape `\u` with this number of hexadecimal digits left.
     Digits(u8),
 }
 
 /// The end of the string that starts with the quote at `start`, or the offset of the first invalid byte.
 fn string_end(bytes: &[u8], start: usize) -> Result<usize, usize> {
-    let mut place = InString::Plain;
+    let mut state = InString::Plain;
     let inside = start.saturating_add(1);
     for (passed, byte) in bytes.get(inside..).unwrap_or(&[]).iter().enumerate() {
         let at = inside.saturating_add(passed);
-        place = match (place, *byte) {
+        state = match (state, *byte) {
             (InString::Plain, b'"') => return Ok(at.saturating_add(1)),
             (InString::Plain, b'\\') => InString::Escape,
             (InString::Plain, b' '..) => InString::Plain,
@@ -100,7 +101,7 @@ fn number_end(bytes: &[u8], start: usize) -> Result<usize, usize> {
     }
 }
 
-/// The end of the digits at `start`, of which there has to be one.
+/// The end of the digits at `start`, or `start` as the offset of the invalid byte if there are none.
 fn digits_end(bytes: &[u8], start: usize) -> Result<usize, usize> {
     let rest = bytes.get(start..).unwrap_or(&[]);
     let digits = rest
@@ -113,7 +114,7 @@ fn digits_end(bytes: &[u8], start: usize) -> Result<usize, usize> {
     Ok(start.saturating_add(digits))
 }
 
-/// The offset after the byte at `at` where that is one of `these`, else `at`.
+/// The offset after the byte at `at` if that is one of `these`, else `at`.
 fn after_one_of(bytes: &[u8], at: usize, these: &[u8]) -> usize {
     match bytes.get(at) {
         Some(byte) if these.contains(byte) => at.saturating_add(1),

@@ -4,29 +4,29 @@ ghost use Rattle.modinfo_document.specs.Report.{HasNone};
 use deno_graph_json::{Element, Tape};
 use std::alloc::{AllocError, Global};
 
-/// How many warnings are kept for a document.
+/// The number of warnings that are kept for a document.
 const MAX_KEPT: usize = 100;
 
-/// What may not be what the document's author meant: it is no fault, but something may be lost.
+/// A warning about a value that the author of the document may not have meant.
 #[derive(Debug, PartialEq, Eq, Drop)]
 pub struct Warning {
     /// The JSON Pointer of the value.
     pub pointer: String,
-    /// What is strange about it.
+    /// The warning, in words.
     pub says: &'static str,
 }
 
-/// The warnings about a document, in the order in which it is read.
+/// The warnings about a document, in the order of reading.
 #[derive(Debug, PartialEq, Eq, Drop)]
 pub struct Warnings {
-    /// The first 100.
+    /// The first 100 warnings.
     pub kept: Vec<Warning>,
-    /// How many more there are.
+    /// The number of other warnings.
     pub more: usize,
 }
 
 impl Warnings {
-    /// None. Takes no memory.
+    /// No warnings. Allocates nothing.
     pub fn new(alloc: Global) -> Warnings {
         Warnings {
             kept: Vec::new(alloc),
@@ -34,14 +34,14 @@ impl Warnings {
         }
     }
 
-    /// Whether there are none.
+    /// Whether there are no warnings.
     pub fn is_empty(&self) -> bool
         ensures { IsTrue result ↔ HasNone self.now }
     {
         self.kept.is_empty() && self.more == 0
     }
 
-    /// Adds a warning about a value of the document.
+    /// Adds a warning about a value of the document. The only error is a failed allocation.
     pub fn add(
         &mut self,
         alloc: Global,

@@ -1,8 +1,8 @@
-//! What in a valid document may not be what its author meant.
+//! Finding values of a valid document that its author may not have meant.
 
-use crate::report::place::{elements, literal_of, member};
+use crate::report::element::{elements, literal_of, member};
 use crate::report::warning::Warnings;
-use crate::{Document, Role, known_members};
+use crate::{Document, Role, member_names};
 use deno_graph_json::{Element, Elements, Tape};
 use deno_graph_source::tree::MediaType;
 use std::alloc::{AllocError, Global};
@@ -19,17 +19,17 @@ const OUTSIDE: &str = "the range isn't inside that of the node above";
 
 const EARLIER: &str = "the range starts before that of the child in front of it";
 
-/// What is searched, and what was found.
+/// A search for warnings.
 #[derive(Drop)]
 struct Survey<'a> {
     alloc: Global,
     tape: &'a Tape<'a>,
     source: &'a str,
     is_code: bool,
-    found: Warnings,
+    warnings: Warnings,
 }
 
-/// The warnings about a valid document. The only error is that memory was refused.
+/// Finds the warnings about a valid document. The only error is a failed allocation.
 pub fn find_warnings(
     alloc: Global,
     tape: &Tape<'_>,
@@ -40,10 +40,10 @@ pub fn find_warnings(
         tape,
         source: document.source.as_str(),
         is_code: document.media_type != MediaType::Json && document.media_type != MediaType::Other,
-        found: Warnings::new(alloc),
+        warnings: Warnings::new(alloc),
     };
     survey.document(tape.root())?;
-    Ok(survey.found)
+    Ok(survey.warnings)
 }
 
 impl Survey<'_> {
@@ -66,23 +66,23 @@ impl Survey<'_> {
     }
 
     fn warn(&mut self, value: Element<'_>, says: &'static str) -> Result<(), AllocError> {
-        self.found.add(self.alloc, self.tape, value, says)
+        self.warnings.add(self.alloc, self.tape, value, says)
     }
 
-    /// Looks for members of an object that nothing reads.
+    /// Warns about the members of an object that nothing reads.
     fn members(&mut self, value: Element<'_>, role: Role<'_>) -> Result<(), AllocError> {
         let Some(members) = value.members() else {
             return Ok(());
         };
         for (name, value) in members.entries() {
-            if !is_known(role, name) {
+            if !is_read(role, name) {
                 self.warn(value, UNREAD)?;
             }
         }
         Ok(())
     }
 
-    /// Looks at comments and at where they are filed.
+    /// Warns about comments and their positions.
     fn entries(&mut self, entries: Option<Elements<'_>>) -> Result<(), AllocError> {
         let Some(entries) = entries else {
             return Ok(());
@@ -97,7 +97,7 @@ impl Survey<'_> {
         Ok(())
     }
 
-    /// Looks for members that nothing reads in each object of an array.
+    /// Warns about the members of each object in an array that nothing reads.
     fn each(&mut self, values: Option<Elements<'_>>, role: Role<'_>) -> Result<(), AllocError> {
         let Some(values) = values else {
             return Ok(());
@@ -108,6 +108,7 @@ impl Survey<'_> {
         Ok(())
     }
 
+    /// Warns about a position at which no comment is looked for.
     fn position(&mut self, pos: Element<'_>) -> Result<(), AllocError> {
         match pos.as_u64() {
             Some(at) if at as usize > self.source.len() => self.warn(pos, BEYOND),
@@ -116,7 +117,7 @@ impl Survey<'_> {
         }
     }
 
-    /// Looks at the nodes of an array, which are the children of what has this range.
+    /// Warns about the nodes of an array, whose parent has this range.
     #[cycle(walk)]
     fn nodes(&mut self, array: Element<'_>, range: (u64, u64)) -> Result<(), AllocError> {
         let Some(nodes) = array.elements() else {
@@ -138,6 +139,7 @@ impl Survey<'_> {
         Ok(())
     }
 
+    /// Warns about a node, and all nodes below.
     #[cycle(walk)]
     fn node(&mut self, node: Element<'_>) -> Result<(), AllocError> {
         let kind = member(node, "kind").and_then(|kind| kind.as_str());
@@ -149,7 +151,7 @@ impl Survey<'_> {
         }
     }
 
-    /// Looks at a node's literal, arguments and key.
+    /// Warns about the literal, the arguments and the key of a node.
     fn parts(&mut self, node: Element<'_>) -> Result<(), AllocError> {
         if let Some(literal) = literal_of(node) {
             self.literal(literal)?;
@@ -161,6 +163,7 @@ impl Survey<'_> {
         Ok(())
     }
 
+    /// Warns about a literal without quotes in the source.
     fn literal(&mut self, literal: Element<'_>) -> Result<(), AllocError> {
         self.members(literal, Role::Literal)?;
         let (start, end) = offsets_of(literal);
@@ -172,12 +175,12 @@ impl Survey<'_> {
     }
 }
 
-/// Whether a member of this name is read.
-fn is_known(role: Role<'_>, name: &str) -> bool {
-    known_members(role).iter().any(|known| *known == name)
+/// Whether an object may have a member of this name.
+fn is_read(role: Role<'_>, name: &str) -> bool {
+    member_names(role).iter().any(|member| *member == name)
 }
 
-/// Whether the text has the same quote at both ends.
+/// Whether the text starts and ends with the same quote.
 fn is_quoted(text: &str) -> bool {
     match text.as_bytes() {
         [first, .., last] => first == last && (*first == b'"' || *first == b'\''),
@@ -185,7 +188,7 @@ fn is_quoted(text: &str) -> bool {
     }
 }
 
-/// The member `range` of a value: two offsets in bytes.
+/// The offsets of the last member `range`, in bytes; `(0, 0)` if there is none.
 fn offsets_of(value: Element<'_>) -> (u64, u64) {
     member(value, "range")
         .and_then(|range| range.as_pair())

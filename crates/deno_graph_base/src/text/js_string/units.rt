@@ -1,4 +1,5 @@
-// Code points from units of UTF-16, and into a text with its lone surrogates.
+//! Reads code points from UTF-16 units, and adds code points to a text with lone surrogates.
+
 ghost use Rattle.std.specs.Prelude.{◌≡◌, [], ◌∷◌, ◌++◌, ◌<◌, OnOk, IfSome, MatchOption, length, encode_utf8, if◌then◌else◌};
 ghost use Rattle.std.specs.Char.Utf16.{is_high_surrogate, is_low_surrogate};
 ghost use Rattle.std.specs.String.{string_bytes};
@@ -18,7 +19,7 @@ fn is_low_surrogate(unit: u32) -> bool
     0xDC00 <= unit && unit < 0xE000
 }
 
-// The first code point of `units`, and the units after it.
+/// Returns the first code point of `units` and the units after it, or `None` if there are no units.
 pub(super) fn first_point(units: &[u16]) -> Option<(u32, &[u16])>
     ensures point { MatchOption result (units.now ≡ [])
         (λ r. points_of_units units.now ≡ r.0 ∷ points_of_units r.1.now) }
@@ -37,7 +38,7 @@ pub(super) fn first_point(units: &[u16]) -> Option<(u32, &[u16])>
     Some((high, rest))
 }
 
-// Adds a code point to a text and its lone surrogates.
+/// Adds a code point at the end of a text with lone surrogates. Fails only if an allocation fails.
 pub(super) fn push_point(
     text: &mut String,
     lone: &mut Vec<(usize, u16)>,

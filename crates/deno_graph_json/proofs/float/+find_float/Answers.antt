@@ -4,7 +4,7 @@ use Rattle.serde_json.specs.View.{view, items_view, members_view}
 use Rattle.serde_json.specs.Written.{has_float, items_have_float}
 use Rattle.serde_json.specs.declared.value.Value.{Value}
 use Rattle.deno_graph_json.proofs.Floats.{float_later, float_refusal, item_hit, member_hit}
-use Rattle.deno_graph_json.proofs.Members.{rest_begin, rest_here}
+use Rattle.deno_graph_json.proofs.ObjectMembers.{rest_begin, rest_here}
 use Rattle.deno_graph_json.proofs.Reading.{item_here, refused_around}
 use Rattle.deno_graph_json.specs.Read.Answer.{IsRefusal}
 use Rattle.deno_graph_json.specs.Read.Partial.{unless_float}

@@ -2,7 +2,7 @@ use Rattle.std.proofs.Common.{String, Global, ◌∙◌}
 use Rattle.serde_json.specs.Data.{object}
 use Rattle.serde_json.specs.View.{members_view}
 use Rattle.serde_json.specs.declared.value.Value.{Value}
-use Rattle.deno_graph_json.proofs.Members.{rest_here}
+use Rattle.deno_graph_json.proofs.ObjectMembers.{rest_here}
 use Rattle.deno_graph_json.proofs.ReadMaps.{
   member_more,
   members_begin,

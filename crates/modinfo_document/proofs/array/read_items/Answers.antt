@@ -5,9 +5,9 @@ use Rattle.modinfo_document.proofs.Reading.{
   before,
   before_nil,
   items_more,
-  items_refused,
+  items_failed,
   items_done,
-  refuses,
+  fails,
 }
 use Rattle.modinfo_document.proofs.array.read_items.Goals as goal
 
@@ -45,8 +45,8 @@ returns-in_err-from_element-clause-read g c =
     let all = reads_items reads (items_left c.args.values) in
     let here = ap (λ vs. before c.loop-value.items (reads_items reads vs))
     (sym c.in-Some.ensures.steps.2) ∙ kept.3 in
-    refuses _ _ _ c.from_residual-in_err-from_element.ensures.1
-    (items_refused reads c.loop-value.items (value_of c.in-Some.value)
+    fails _ _ _ c.from_residual-in_err-from_element.ensures.1
+    (items_failed reads c.loop-value.items (value_of c.in-Some.value)
     (items_left c.next.new.self) all c.in_err-from_element.field-0.0 here c.in_err-from_element.ensures.read)
 
 pub returns-clause-read : goal.returns-clause-read

@@ -1,6 +1,6 @@
 use Rattle.std.proofs.Common.{[], ◌∷◌, ◌++◌, rules, sym, ap, subst, ◌∙◌}
 use Rattle.deno_graph_json.specs.View.{items_left, value_of}
-use Rattle.modinfo_document.specs.Answer.{IsRefusal}
+use Rattle.modinfo_document.specs.Returned.{IsReadError}
 use Rattle.modinfo_document.specs.Comments.{reads_comment}
 use Rattle.modinfo_document.specs.Partial.{reads_items}
 use Rattle.modinfo_document.proofs.Filed.{empty_on, more_on}
@@ -8,9 +8,9 @@ use Rattle.modinfo_document.proofs.Reading.{
   before,
   before_nil,
   items_more,
-  items_refused,
+  items_failed,
   items_done,
-  refuses_by,
+  fails_by,
   some_and,
 }
 use Rattle.modinfo_document.proofs.comments.file_comments.Goals as goal
@@ -48,8 +48,8 @@ returns-in_err-comment-clause-read c =
     let kept = c.loop-value.invariant in
     let here = ap (λ vs. before kept.3.0 (reads_items reads_comment vs)) (sym c.in-Some.ensures.steps.2)
     ∙ kept.3.2 in
-    refuses_by _ _ _ _ c.from_residual.ensures.1
-    (items_refused reads_comment kept.3.0 (value_of c.in-Some.value)
+    fails_by _ _ _ _ c.from_residual.ensures.1
+    (items_failed reads_comment kept.3.0 (value_of c.in-Some.value)
     (items_left c.next.new.self) _ c.in_err-comment.field-0.0 here c.in_err-comment.ensures.read)
 
 pub returns-clause-read : goal.returns-clause-read

@@ -2,7 +2,8 @@ use Rattle.std.specs.Prelude.{◌≡◌, [], ◌∷◌, List}
 use Rattle.deno_graph_json.specs.Tape.{TakesSame, array_of_elements}
 use Rattle.deno_graph_json.specs.View.{items_left}
 use Rattle.deno_graph_source.specs.declared.tree.comments.DependencyComment.{DependencyComment}
-use Rattle.modinfo_document.specs.Comments.{AreAppendedOn, entry_with, reads_comment}
+use Rattle.modinfo_document.specs.Comments.{entry_with, reads_comment}
+use Rattle.modinfo_document.specs.internal.Comments.{AreAppendedOn}
 use Rattle.modinfo_document.specs.Partial.{reads_items}
 use Rattle.modinfo_document.proofs.Reading.{before}
 use Rattle.modinfo_document.proofs.comments.file_comments.Given as goal

@@ -1,7 +1,8 @@
 use Rattle.std.proofs.Common.{◌≡◌, arith, Some}
 use Rattle.deno_graph_json.specs.View.{members_of}
-use Rattle.deno_graph_source.specs.declared.tree.fault_place.CommentSide.TheVariants.{Leading, Trailing}
-use Rattle.modinfo_document.specs.Comments.{AreAppendedOn, Sides, reads_side, reads_sides}
+use Rattle.deno_graph_source.specs.declared.tree.comments.CommentSide.TheVariants.{Leading, Trailing}
+use Rattle.modinfo_document.specs.Comments.{Sides, reads_side, reads_sides}
+use Rattle.modinfo_document.specs.internal.Comments.{AreAppendedOn}
 use Rattle.modinfo_document.proofs.Filed.{both_sides}
 use Rattle.modinfo_document.proofs.Reading.{goes_on, reading_by, some_and, some_with}
 use Rattle.modinfo_document.proofs.comments.read_comments.Goals as goal

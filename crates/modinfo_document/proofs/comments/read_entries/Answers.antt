@@ -1,6 +1,6 @@
 use Rattle.std.proofs.Common.{[], ◌∷◌, ◌++◌, arith, rules, sym, ap, subst, ◌∙◌}
 use Rattle.deno_graph_json.specs.View.{items_left, value_of}
-use Rattle.modinfo_document.specs.Answer.{IsRefusal}
+use Rattle.modinfo_document.specs.Returned.{IsReadError}
 use Rattle.modinfo_document.specs.Comments.{reads_entry}
 use Rattle.modinfo_document.specs.Partial.{reads_items, reads_array}
 use Rattle.modinfo_document.proofs.Filed.{none_on, both_on}
@@ -8,11 +8,11 @@ use Rattle.modinfo_document.proofs.Reading.{
   before,
   before_nil,
   items_more,
-  items_refused,
+  items_failed,
   items_done,
   array_items,
   reading_by,
-  refuses_by,
+  fails_by,
   some_and,
   some_with,
 }
@@ -48,14 +48,14 @@ returns-in_err-read_entry-clause-read c =
     let kept = c.loop-entry.invariant in
     let here = ap (λ vs. before kept.3.0 (reads_items reads_entry vs)) (sym c.in-Some.ensures.steps.2)
     ∙ kept.3.2 in
-    let none = items_refused reads_entry kept.3.0 (value_of c.in-Some.entry)
+    let none = items_failed reads_entry kept.3.0 (value_of c.in-Some.entry)
     (items_left c.next.new.self) _ c.in_err-read_entry.field-0.0 here c.in_err-read_entry.ensures.read in
     let all = array_items reads_entry (value_of c.args.entries)
     (items_left c.in_ok-entry-items.entry-items) c.in_ok-entry-items.ensures.read in
     let left = ap (λ es. reads_items reads_entry
     (items_left es)) c.into_iter-entry-iterator.ensures.into_iter_gives in
-    let refusal = subst (λ o. IsRefusal o c.in_err-read_entry.field-0.0) (left ∙ sym all) none in
-    refuses_by _ _ _ _ c.from_residual-in_err-read_entry.ensures.1 refusal
+    let refusal = subst (λ o. IsReadError o c.in_err-read_entry.field-0.0) (left ∙ sym all) none in
+    fails_by _ _ _ _ c.from_residual-in_err-read_entry.ensures.1 refusal
 
 pub returns-clause-read : goal.returns-clause-read
 returns-clause-read c =

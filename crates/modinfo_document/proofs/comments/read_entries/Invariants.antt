@@ -1,7 +1,8 @@
 use Rattle.std.specs.Prelude.{◌≡◌, List}
 use Rattle.deno_graph_json.specs.Tape.{TakesSame, array_of_elements}
 use Rattle.deno_graph_json.specs.View.{items_left}
-use Rattle.modinfo_document.specs.Comments.{AreAppendedOn, FiledEntry, reads_entry}
+use Rattle.modinfo_document.specs.Comments.{FiledEntry, reads_entry}
+use Rattle.modinfo_document.specs.internal.Comments.{AreAppendedOn}
 use Rattle.modinfo_document.specs.Partial.{reads_items}
 use Rattle.modinfo_document.proofs.Reading.{before}
 use Rattle.modinfo_document.proofs.comments.read_entries.Given as goal

@@ -1,7 +1,8 @@
 use Rattle.std.proofs.Common.{◌≡◌, [], ◌∷◌, arith, Some, sym, subst}
 use Rattle.deno_graph_json.specs.View.{items_left, value_of}
-use Rattle.modinfo_document.specs.Answer.{AnswersBy}
-use Rattle.modinfo_document.specs.Comments.{AreAppendedOn, FiledEntry, entry_with, reads_comment, reads_entry}
+use Rattle.modinfo_document.specs.Returned.{ReturnsBy}
+use Rattle.modinfo_document.specs.Comments.{FiledEntry, entry_with, reads_comment, reads_entry}
+use Rattle.modinfo_document.specs.internal.Comments.{AreAppendedOn}
 use Rattle.modinfo_document.specs.Partial.{◌>>=◌, reads_items, reads_array, required}
 use Rattle.modinfo_document.proofs.Reading.{array_items, goes_on, made_of, reading_by}
 use Rattle.modinfo_document.proofs.comments.read_entry.Goals as goal

@@ -1,6 +1,7 @@
 use Rattle.std.proofs.Common.{◌≡◌, arith, Some, refl, ap, ◌∙◌}
 use Rattle.deno_graph_json.specs.View.{members_of, value_of}
-use Rattle.modinfo_document.specs.Document.{Has, HasTree, reads_document, reads_tree}
+use Rattle.modinfo_document.specs.Document.{Has, reads_document}
+use Rattle.modinfo_document.specs.internal.Document.{HasTree, reads_tree}
 use Rattle.modinfo_document.specs.Partial.{◌>>=◌, required}
 use Rattle.modinfo_document.proofs.Documents.{document_read, stated_with}
 use Rattle.modinfo_document.proofs.Reading.{exits_by, goes_on, reading_by, some_and, some_with}
@@ -47,9 +48,9 @@ returns-clause-read c =
     c.in_ok-text-2.ensures.read in
     let tree = some_with (λ tree. HasTree tree (c.in_ok-comments.comments, c.in_ok-comments.program))
     (reads_tree (members_of c.in_ok-members.members)) c.in_ok-comments.ensures.read in
-    let stated = stated_with c.in_ok-text.field-0.now c.in_ok-media_type.media_type
+    let contents = stated_with c.in_ok-text.field-0.now c.in_ok-media_type.media_type
     c.in_ok-text-2.field-0.now in
-    some_and _ _ (stated tree.0) (is ∙ ap (λ o. o >>= (λ t. Some (stated t))) tree.1)
+    some_and _ _ (contents tree.0) (is ∙ ap (λ o. o >>= (λ t. Some (contents t))) tree.1)
     (record {
       specifier = c.in_ok-specifier.ensures;
       media_type = refl;

@@ -1,7 +1,7 @@
 use Rattle.std.proofs.Common.{◌≡◌, arith, Some, refl}
 use Rattle.deno_graph_json.specs.View.{members_of}
 use Rattle.modinfo_document.specs.Comments.{AreThoseOf, reads_sides}
-use Rattle.modinfo_document.specs.Document.{reads_tree}
+use Rattle.modinfo_document.specs.internal.Document.{reads_tree}
 use Rattle.modinfo_document.specs.Partial.{required}
 use Rattle.modinfo_document.proofs.Reading.{goes_on, reading_by, some_and, some_with}
 use Rattle.modinfo_document.proofs.document.read_tree.Goals as goal

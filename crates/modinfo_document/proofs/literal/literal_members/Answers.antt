@@ -1,4 +1,4 @@
--- What holds when the loop has ended. Written out: the search that is tried before `grind` takes long here.
+-- The facts after the loop, written out, since the search before `grind` takes long here.
 use Rattle.std.proofs.Common.{arith}
 use Rattle.modinfo_document.proofs.literal.literal_members.Goals as goal
 

@@ -7,10 +7,10 @@ use Rattle.modinfo_document.proofs.Reading.{
   before,
   before_nil,
   items_more,
-  items_refused,
+  items_failed,
   items_done,
   reading,
-  refuses,
+  fails,
 }
 use Rattle.modinfo_document.proofs.node.+read.Goals as goal
 
@@ -86,8 +86,8 @@ read_nodes-returns-in_err-read_node-clause-read t c =
     let all = reads_nodes (value_of c.args.value) in
     let here = ap (λ vs. before c.loop-value.nodes.items (reads_items reads_node vs))
     (sym c.in-Some.ensures.steps.2) ∙ kept.3 in
-    refuses _ _ _ c.from_residual-in_err-read_node.ensures.1
-    (items_refused reads_node c.loop-value.nodes.items (value_of c.in-Some.value)
+    fails _ _ _ c.from_residual-in_err-read_node.ensures.1
+    (items_failed reads_node c.loop-value.nodes.items (value_of c.in-Some.value)
     (items_left c.next.new.self) all c.in_err-read_node.field-0.0 here c.in_err-read_node.ensures.read)
 
 pub read_nodes-returns-clause-read : goal.read_nodes-returns-clause-read

@@ -47,10 +47,10 @@ loop-i-preserved c =
             let here : c.max-end.result ≡ c.loop-i.end = omega (arith, w.max-is, larger) in
             ap (λ n. slice_index bytes (n - 1)) here ∙ inv.last (omega arith)
       ];
-      behind = λ k from below. elim c.if-bytes-i-eq10-2.branch [
+      after = λ k from below. elim c.if-bytes-i-eq10-2.branch [
         | then-bytes-i-eq10-2 w ↦ absurd (omega (arith, w.max-is, larger))
         | else-bytes-i-eq10-2 w ↦ elim (cases_lt k i) [
-          | inl before ↦ inv.behind k (omega (arith, w.max-is, larger)) before
+          | inl before ↦ inv.after k (omega (arith, w.max-is, larger)) before
           | inr here ↦
               let same : k ≡ i = omega arith in
               λ is. w.if-bytes-i-eq10-2.false (ap (slice_index bytes) (sym same) ∙ is)

@@ -1,16 +1,16 @@
--- The place is the last checkpoint or the start, and what is less than a reach behind it is near.
+-- The cursor is at the last checkpoint or the start, and each offset less than a reach after it is near.
 use Rattle.std.proofs.Common.{ℕ, ◌+◌, ◌-◌, ◌*◌, ◌<◌, ◌≤◌, All, vec_len, length}
-use Rattle.deno_graph_base.specs.Place.{IsPlace, ArePlaces, IsNear, reach}
+use Rattle.deno_graph_base.specs.internal.Cursor.{IsCursor, AreCursors, IsNear, reach}
 use Rattle.deno_graph_base.proofs.text.checkpoints.checkpoints.Given as goal
 
-abbrev pub invariant-loop-place : goal.invariant-loop-place
-invariant-loop-place l = record {
-  place : IsPlace l.text l.place;
-  places : ArePlaces l.text l.places.items;
-  near : (pos : ℕ) → pos < l.place.pos + reach → IsNear l.places.items pos;
-  few : 93 * vec_len l.places ≤ l.place.pos;
-  before : All (λ place. place.pos ≤ l.place.pos) l.places.items;
+abbrev pub invariant-loop-cursor : goal.invariant-loop-cursor
+invariant-loop-cursor l = record {
+  cursor : IsCursor l.text l.cursor;
+  cursors : AreCursors l.text l.cursors.items;
+  near : (offset : ℕ) → offset < l.cursor.offset + reach → IsNear l.cursors.items offset;
+  few : 93 * vec_len l.cursors ≤ l.cursor.offset;
+  before : All (λ cursor. cursor.offset ≤ l.cursor.offset) l.cursors.items;
 }
 
-abbrev pub decreases-loop-place : goal.decreases-loop-place
-decreases-loop-place l = length l.text - l.place.pos
+abbrev pub decreases-loop-cursor : goal.decreases-loop-cursor
+decreases-loop-cursor l = length l.text - l.cursor.offset

@@ -1,4 +1,4 @@
-use Rattle.deno_graph_base.proofs.PlaceLemmas.{same_boundary}
+use Rattle.deno_graph_base.proofs.CursorLemmas.{same_boundary}
 use Rattle.deno_graph_base.proofs.text.laws.positions_are_unique.Goals as goal
 
 pub returns : goal.returns

@@ -1,4 +1,4 @@
-use Rattle.deno_graph_base.proofs.PlaceLemmas.{position_cmp-position_at}
+use Rattle.deno_graph_base.proofs.CursorLemmas.{position_cmp-position_at}
 use Rattle.deno_graph_base.proofs.text.laws.positions_keep_order.Goals as goal
 
 pub returns : goal.returns

@@ -1,5 +1,5 @@
--- How `Items` stores the values of a type that may hold it in turn, as a node holds its children:
--- its value is the list of them, and nothing else.
+-- How `Items` holds values of a type that may contain `Items` of the same type, as a node holds its
+-- children: the value of `Items` is the list of the items.
 use mathlib.Core.Path.{◌≡◌, refl, sym}
 use mathlib.Core.List.{List, []}
 use mathlib.Core.Former.{Former, this, list, via, children}
@@ -36,7 +36,7 @@ pub the_items_listed : (X : Type 0) (items : List X)
     → listed _ (children (the_former this) X items) ≡ the_items X items
 the_items_listed X items = list-listed X items
 
--- the fields hold the same items, in the `Vec`
+-- the fields of `Items`: a `Vec` with the items
 abbrev fields : Former {0}
 fields = via (vec.the_former this Global) Inside (λ X a. a.vec) (λ X v. record { vec = v }) (λ X a. refl)
     (λ X v. refl)

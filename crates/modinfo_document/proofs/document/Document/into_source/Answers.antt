@@ -10,7 +10,7 @@ returns-in_err-specifier c =
     rw (is.1, is.2) (no_source c.args.self c.in_err-specifier.field-0.0
     (rw c.as_str.ensures at c.in_err-specifier.ensures))
 
--- Written out: the search that is tried before `grind` takes long here.
+-- Written out, since the search before `grind` takes long here.
 pub returns : goal.returns
 returns c = grind (arith, common_steps)
 

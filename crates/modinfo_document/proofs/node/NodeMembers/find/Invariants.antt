@@ -2,7 +2,7 @@ use Rattle.std.specs.Prelude.{◌≡◌, IfSome, option_map, codes}
 use Rattle.deno_graph_json.specs.Value.{last_named, later_or}
 use Rattle.deno_graph_json.specs.View.{value_of, members_of, members_left}
 use Rattle.deno_graph_json.specs.Tape.{TakesSame, object_of_members, object_of_entries}
-use Rattle.modinfo_document.specs.Misfit.{IsMemberOf}
+use Rattle.modinfo_document.specs.internal.Mismatch.{IsMemberOf}
 use Rattle.modinfo_document.proofs.node.NodeMembers.find.Given as goal
 
 abbrev pub invariant-loop-name : goal.invariant-loop-name

@@ -1,4 +1,4 @@
--- The text is the string's characters exactly where no surrogate is stored.
+-- The text has exactly the string's characters if no surrogate is stored.
 use Rattle.std.proofs.Common.{◌≡◌, [], refl, sym, ap, ◌∙◌, subst, arith, length, encode_utf8_all, Some}
 use Rattle.std.proofs.lemmas.Bool.{eqb-true, eq-eqb, false≢true}
 use Rattle.std.proofs.lemmas.List.{nil_from_length}

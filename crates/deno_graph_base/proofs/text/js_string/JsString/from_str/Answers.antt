@@ -1,4 +1,4 @@
--- The characters of a text are a string with no surrogate.
+-- The characters of a text are a string without surrogates.
 use Rattle.std.proofs.Common.{ap, ◌∙◌}
 use Rattle.std.specs.Str.{chars}
 use Rattle.std.proofs.lemmas.Str.{IsUtf8-string_bytes}

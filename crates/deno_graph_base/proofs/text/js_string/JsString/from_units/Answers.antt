@@ -1,11 +1,11 @@
--- At the end the text and the surrogates are those of the code points of all units.
+-- At the end, the text and the surrogates are those of the code points of all units.
 use Rattle.std.proofs.Common.{◌≡◌, ◌++◌, ◌∙◌, sym, ap, length, true, map, arith, ℕ, ◌<◌, get_or}
 use Rattle.std.specs.Char.Escape.{encode_utf16}
 use Rattle.std.specs.List.{flat_map}
 use Rattle.std.specs.Str.{all_scalars}
 use Rattle.std.specs.String.{string_bytes}
 use Rattle.deno_graph_base.specs.JsString.{lossy_char, lossy_text, points_of_units}
-use Rattle.deno_graph_base.specs.StoredString.{lone_from, points_of}
+use Rattle.deno_graph_base.specs.internal.StoredString.{lone_from, points_of}
 use Rattle.deno_graph_base.proofs.LossyText.{IsStored-lossy_text, points_of-lossy_text}
 use Rattle.deno_graph_base.proofs.Units.{
   text_pushed,

@@ -1,8 +1,8 @@
--- What is made, with what is left of the units, is what all of them give.
+-- The code points so far, with those of the units that are left, are the code points of all units.
 use Rattle.std.proofs.Common.{◌≡◌, ◌++◌, length, ℕ, List}
 use Rattle.std.specs.String.{string_bytes}
 use Rattle.deno_graph_base.specs.JsString.{lossy_text, points_of_units}
-use Rattle.deno_graph_base.specs.StoredString.{lone_from}
+use Rattle.deno_graph_base.specs.internal.StoredString.{lone_from}
 use Rattle.deno_graph_base.proofs.text.js_string.JsString.from_units.Given as goal
 
 pub record IsSoFar (units rest text : List ℕ) (lone : List (ℕ × ℕ)) : Type 0 where

@@ -1,4 +1,4 @@
--- The text is the lossy text of what is stored.
+-- The field `text` is the lossy text of the string.
 use Rattle.std.proofs.Common.{ap, ◌∙◌}
 use Rattle.std.proofs.lemmas.Str.{IsUtf8-string_bytes}
 use Rattle.deno_graph_base.specs.JsString.{lossy_text}

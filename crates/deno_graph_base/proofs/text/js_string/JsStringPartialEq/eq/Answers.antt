@@ -1,4 +1,4 @@
--- Strings are equal exactly where what is stored is.
+-- Two strings are equal exactly if their fields are.
 use Rattle.std.proofs.Common.{◌≡◌, sym, ap, ◌∙◌, nat_eq}
 use Rattle.std.specs.Cmp.Lexicographic.{pointwise}
 use Rattle.std.proofs.lemmas.Slice.Eq.{bytes_eq-Decides}

@@ -1,4 +1,4 @@
--- A high unit before a low one joins with it, and any other stays.
+-- A high surrogate before a low one forms one code point with it, and every other unit is one.
 use Rattle.std.proofs.Common.{◌≡◌, ◌&&◌, false, sym, ◌∙◌}
 use Rattle.std.specs.Char.Utf16.{is_high_surrogate, is_low_surrogate}
 use Rattle.std.proofs.lemmas.Bool.{and_left, and_right}

@@ -44,7 +44,7 @@ returns c = λ front is.
     ∙ ap (count_by is_char_start) (take_all (length c.as_bytes-bytes.result.now - start)
     (drop start c.as_bytes-bytes.result.now) (omega (arith, length-drop start c.as_bytes-bytes.result.now)))
     ∙ ap (λ bs. count_by is_char_start (drop start bs)) bytes in
-    let some : 0 < end = some_feed c.as_bytes-bytes.result.now end feeds.behind
+    let some : 0 < end = some_feed c.as_bytes-bytes.result.now end feeds.after
     (omega (arith, feeds.count, c.if-feeds-eq0.false)) in
     let feed : slice_index c.args.text.now (start - 1) ≡ 10 =
     ap (λ n. slice_index c.args.text.now (n - 1)) c.from-2.ensures
@@ -52,5 +52,5 @@ returns c = λ front is.
     last_line front c.args.text.now c.args.self _ start c.utf8.text is (omega (arith, c.from-2.ensures))
     (omega (arith, ap length bytes, c.from-2.ensures, feeds.bound)) feed
     (λ k from within. subst (λ bs. slice_index bs k ≡ 10 → ⊥) bytes
-    (feeds.behind k (omega (arith, c.from-2.ensures)) (omega (arith, within, ap length bytes))))
+    (feeds.after k (omega (arith, c.from-2.ensures)) (omega (arith, within, ap length bytes))))
     (ap (λ n. c.args.self.line + n) lines) count

@@ -20,49 +20,51 @@ use Rattle.std.proofs.Common.{
 use Rattle.std.proofs.lemmas.Bool.{false≢true}
 use Rattle.std.specs.Bool.{then_some}
 use Rattle.std.specs.Str.{IsUtf8}
-use Rattle.deno_graph_base.specs.Place.{IsPlace}
+use Rattle.deno_graph_base.specs.internal.Cursor.{IsCursor}
 use Rattle.deno_graph_base.specs.Position.{HasPosition, IsAt}
-use Rattle.deno_graph_base.specs.declared.text.place.Place.{Place}
+use Rattle.deno_graph_base.specs.declared.text.cursor.Cursor.{Cursor}
 use Rattle.deno_graph_base.specs.declared.text.position.Position.{Position}
-use Rattle.deno_graph_base.proofs.PlaceLemmas.{same_boundary, not_found}
+use Rattle.deno_graph_base.proofs.CursorLemmas.{same_boundary, not_found}
 use Rattle.deno_graph_base.proofs.PositionLemmas.{same_from_test, differs_from_test}
 use Rattle.deno_graph_base.proofs.text.position.Position.as_source_pos.Goals as goal
 
--- the place where a search stops is the answer exactly where it has the position
+-- the result is the offset where the search stopped exactly if the cursor has the position
 abbrev IsExact : List ℕ → Position → Option ℕ → Type 0
-IsExact text wanted answer =
-    (IsNone answer ↔ ¬ (HasPosition text wanted)) × ((pos : ℕ) → IsAt text wanted pos → answer ≡ Some pos)
+IsExact text wanted found =
+    (IsNone found ↔ ¬ (HasPosition text wanted)) × ((offset : ℕ) → IsAt text wanted offset → found
+    ≡ Some offset)
 
-exact : (text : List ℕ) (place : Place) (wanted : Position) (here : Bool) → IsUtf8 text → IsPlace text place
-    → (¬ (place.position ≡ wanted) → ¬ (HasPosition text wanted))
-    → here ≡ ((place.position.line == wanted.line) && (place.position.character == wanted.character))
-    → IsExact text wanted (then_some here place.pos)
-exact text place wanted true utf8 is missed test =
-    let same = same_from_test place.position wanted test in (
+exact : (text : List ℕ) (cursor : Cursor) (wanted : Position) (here : Bool) → IsUtf8 text
+    → IsCursor text cursor
+    → (¬ (cursor.position ≡ wanted) → ¬ (HasPosition text wanted))
+    → here ≡ ((cursor.position.line == wanted.line) && (cursor.position.character == wanted.character))
+    → IsExact text wanted (then_some here cursor.offset)
+exact text cursor wanted true utf8 is missed test =
+    let same = same_from_test cursor.position wanted test in (
       (
         λ none. absurd (false≢true (sym none)),
-        λ no. absurd (no (place.pos, (is.boundary, sym is.position ∙ same))),
+        λ no. absurd (no (cursor.offset, (is.boundary, sym is.position ∙ same))),
       ),
-      λ pos at. ap Some
-          (same_boundary text place.pos pos utf8 is.boundary at.0 (sym is.position ∙ same ∙ sym at.1)),
+      λ offset at. ap Some
+          (same_boundary text cursor.offset offset utf8 is.boundary at.0 (sym is.position ∙ same ∙ sym at.1)),
     )
-exact text place wanted false utf8 is missed test =
-    let no = missed (differs_from_test place.position wanted test) in
-    ((λ _. no, λ _. refl), λ pos at. absurd (no (pos, at)))
+exact text cursor wanted false utf8 is missed test =
+    let no = missed (differs_from_test cursor.position wanted test) in
+    ((λ _. no, λ _. refl), λ offset at. absurd (no (offset, at)))
 
 answer : (c : goal.After-then_some) → IsExact c.args.text_info.now c.args.self.now c.then_some.result
 answer c =
     let text = c.text.result.now in
-    let from = c.place_up_to_position.result in
-    let place = c.first_not_before-place.result in
-    let stop = c.first_not_before-place.ensures in
-    let first : IsPlace text from =
-    subst (λ t. IsPlace t from) (sym c.text.ensures) c.place_up_to_position.ensures.place in
-    let missed = not_found text from place c.args.self.now c.text.utf8 first stop.place
-    c.place_up_to_position.ensures.before stop.before stop.end in
+    let from = c.cursor_up_to_position.result in
+    let cursor = c.first_not_before-cursor.result in
+    let stop = c.first_not_before-cursor.ensures in
+    let first : IsCursor text from =
+    subst (λ t. IsCursor t from) (sym c.text.ensures) c.cursor_up_to_position.ensures.cursor in
+    let missed = not_found text from cursor c.args.self.now c.text.utf8 first stop.cursor
+    c.cursor_up_to_position.ensures.before stop.before stop.end in
     subst (IsExact c.args.text_info.now c.args.self.now) (sym c.then_some.ensures)
-    (subst (λ t. IsExact t c.args.self.now (then_some c.eq.result place.pos)) c.text.ensures
-    (exact text place c.args.self.now c.eq.result c.text.utf8 stop.place missed c.eq.ensures))
+    (subst (λ t. IsExact t c.args.self.now (then_some c.eq.result cursor.offset)) c.text.ensures
+    (exact text cursor c.args.self.now c.eq.result c.text.utf8 stop.cursor missed c.eq.ensures))
 
 pub returns-clause-none : goal.returns-clause-none
 returns-clause-none c = (answer c).0

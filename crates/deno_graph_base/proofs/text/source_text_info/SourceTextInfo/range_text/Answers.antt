@@ -4,7 +4,7 @@ use Rattle.std.proofs.lemmas.List.{drop-take, get_or-take, length-take-le}
 use Rattle.std.specs.Str.{IsCharBoundary}
 use Rattle.deno_graph_base.proofs.text.source_text_info.SourceTextInfo.range_text.Goals as goal
 
--- a boundary of the front of a text is one of the text
+-- a boundary of a prefix of a text is a boundary of the text
 from_front : (text : List ℕ) (i j : ℕ) → i ≤ j → IsCharBoundary text j → IsCharBoundary (take j text) i
     → IsCharBoundary text i
 from_front text i j le end front = elim (cases_lt i j) [
@@ -14,7 +14,7 @@ from_front text i j le end front = elim (cases_lt i j) [
   | inr ge ↦ let is : j ≡ i = omega arith in rw is at end
 ]
 
--- and a boundary of the text before the front's end is one of the front
+-- a boundary of a text before a prefix's end is a boundary of the prefix
 to_front : (text : List ℕ) (i j : ℕ) → i ≤ j → j ≤ length text → IsCharBoundary text i
     → IsCharBoundary (take j text) i
 to_front text i j le within boundary =
@@ -24,7 +24,7 @@ to_front text i j le within boundary =
           (boundary.1 (omega (arith, lt, size))),
     )
 
--- what is left of the front behind i
+-- the bytes of a prefix after `i`
 drop_front : (text : List ℕ) (i j : ℕ) → i ≤ j → drop i (take j text) ≡ take (j - i) (drop i text)
 drop_front text i j le =
     let whole : j ≡ i + (j - i) = omega arith in

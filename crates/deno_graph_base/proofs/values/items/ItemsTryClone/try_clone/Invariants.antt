@@ -1,4 +1,4 @@
--- The copies so far are the items so far.
+-- The copies so far are equal to the items so far.
 use Rattle.std.proofs.Common.{◌≡◌, take}
 use Rattle.deno_graph_base.proofs.values.items.ItemsTryClone.try_clone.Given as goal
 

@@ -1,4 +1,4 @@
--- A look-up among the strings is one among their bytes.
+-- A look-up by strings finds the same value as one by their bytes.
 use Rattle.std.proofs.Common.{◌∙◌, ap}
 use Rattle.deno_graph_base.specs.TextMap.{value_at}
 use Rattle.deno_graph_base.proofs.TextEntries.{lookup-entries}

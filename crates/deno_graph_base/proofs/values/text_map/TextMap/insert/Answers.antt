@@ -1,4 +1,4 @@
--- An insertion among the strings is one among their bytes.
+-- An insertion by strings makes the same entries as one by their bytes.
 use Rattle.std.proofs.Common.{◌∙◌, ap, map, sym, Some, cond}
 use Rattle.std.specs.Str.{bytes_eq}
 use Rattle.std.proofs.lemmas.Map.Text.{btree_map_updates_text}

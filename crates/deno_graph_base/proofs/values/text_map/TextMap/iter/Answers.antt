@@ -1,4 +1,4 @@
--- The iterator takes the entries from the front of what is left.
+-- The iterator takes the first of the remaining entries.
 use Rattle.std.proofs.Common.{ap, subst, length}
 use Rattle.std.specs.Map.Iter.{TakesFirst, deref_pair}
 use Rattle.std.proofs.iter.runs.Sources.{from_front}

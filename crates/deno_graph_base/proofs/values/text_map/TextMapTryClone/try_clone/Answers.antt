@@ -1,4 +1,4 @@
--- Each entry that is copied has a key above all copied before.
+-- The key of each entry is above the keys that were copied before.
 use Rattle.deno_graph_base.proofs.TextEntries.{copied_more}
 use Rattle.deno_graph_base.proofs.values.text_map.TextMapTryClone.try_clone.Goals as goal
 

@@ -1,4 +1,4 @@
--- The copies so far, with the entries that are left, are all the entries.
+-- The copies so far and the remaining entries are all entries.
 use Rattle.std.proofs.Common.{◌≡◌, ◌++◌}
 use Rattle.deno_graph_base.proofs.values.text_map.TextMapTryClone.try_clone.Given as goal
 
