@@ -23,7 +23,7 @@ use Rattle.std.proofs.Common.{
 }
 use Rattle.std.proofs.lemmas.List.Elements.{All-nil, All-cons}
 use Rattle.deno_graph_source.specs.ByOffset.{value_at}
-use Rattle.deno_graph_source.specs.Comments.{FiledComments, comments_of}
+use Rattle.deno_graph_source.specs.Comments.{FiledComments, comments_of, leading_at}
 use Rattle.deno_graph_source.specs.Node.{kind_of, range_of}
 use Rattle.deno_graph_source.specs.Source.{IsSpelled, IsValid}
 use Rattle.deno_graph_source.specs.declared.tree.comments.DependencyComment.{DependencyComment}
