@@ -32,7 +32,7 @@ use Rattle.std.proofs.Common.{
   inr,
 }
 use Rattle.std.specs.Prelude.{is_some}
-use Rattle.std.proofs.lemmas.Option.{slice_get_within, get_or_from_slice_get}
+use Rattle.std.proofs.lemmas.Option.{same_Some, slice_get_within, get_or_from_slice_get}
 use Rattle.deno_graph_source.specs.Node.{
   kind_of,
   children_of,
@@ -101,7 +101,11 @@ argument_parts callee args children index arg argument at =
         → (a ≡ Some arg) × (n ≡ Some argument)
     parts None n is = cc
     parts (Some x) None is = cc
-    parts (Some x) (Some node) is = (cc, cc)
+    parts (Some x) (Some node) is =
+        let a : Arg × Node = (x, node) in
+        let b : Arg × Node = (arg, argument) in
+        let same : a ≡ b = same_Some a b is in
+        (ap (λ (p : Arg × Node). Some p.0) same, ap (λ (p : Arg × Node). Some p.1) same)
 
 no_kind : (callee : Callee) (children : List Node) → call_kind callee children ≡ None
     → is_module_call callee children ≡ false
