@@ -128,7 +128,8 @@ IsLastBelow xs bound (Some object) = LastBelow xs bound object
 pub record LookedAtBelow (xs : List Node) (bound : ℕ) (after_with : Bool) (last : Option Node) : Type 0 where
   pub with_below : after_with ≡ true → (index : ℕ) × (index < bound) × (key_at xs index ≡ Some (codes "with"))
   pub no_with : after_with ≡ false → (index : ℕ) → index < bound → key_at xs index ≢ Some (codes "with")
-  pub known : (index : ℕ) → index < bound → IsClause xs index → AreAttributesAt xs index attributes.Unknown → ⊥
+  pub known : (index : ℕ) → index < bound → IsClause xs index → AreAttributesAt xs index attributes.Unknown
+      → ⊥
   pub last_is : IsLastBelow xs bound last
 
 -- whether a property is a clause, by whether a `with` came before
@@ -248,14 +249,16 @@ AreClauseAttributes-none xs bound after_with last end none all index clause =
     (λ past. past_the_end xs index (omega arith) clause) (cases_lt index bound)
 
 -- the attributes are those of the last clause's object
-pub AreClauseAttributes-last : (xs : List Node) (bound : ℕ) (after_with : Bool) (last : Option Node) (object : Node)
+pub AreClauseAttributes-last : (xs : List Node) (bound : ℕ) (after_with : Bool) (last : Option Node)
+    (object : Node)
     (result : ImportAttributes)
     → length xs ≤ bound → last ≡ Some object → LookedAtBelow xs bound after_with last
     → AreObjectAttributes object result → AreClauseAttributes xs result
 AreClauseAttributes-last xs bound after_with last object result end is all gives =
     by_result result (subst (IsLastBelow xs bound) is all.last_is) gives
   where
-    by_result : (r : ImportAttributes) → LastBelow xs bound object → AreObjectAttributes object r → AreClauseAttributes xs r
+    by_result : (r : ImportAttributes) → LastBelow xs bound object → AreObjectAttributes object r
+        → AreClauseAttributes xs r
     by_result attributes.None found g = let keys = found.keys in absurd (rw keys at g)
     by_result attributes.Unknown found g = let keys = found.keys in absurd (rw keys at g)
     by_result (attributes.Known entries) found g = record {

@@ -54,7 +54,8 @@ returns-in_default c =
 
 pub returns-in-Some-last : goal.returns-in-Some-last
 returns-in-Some-last c =
-    IfOk-weaker c.parse_import_attributes_from_object_lit.result (AreObjectAttributes c.in-Some-last.object.now)
+    IfOk-weaker c.parse_import_attributes_from_object_lit.result
+    (AreObjectAttributes c.in-Some-last.object.now)
     (AreClauseAttributes c.args.properties.now)
     (λ result gives. AreClauseAttributes-last c.args.properties.now c.loop-property.property-index
     c.loop-property.after_with
