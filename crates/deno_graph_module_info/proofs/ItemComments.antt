@@ -118,7 +118,7 @@ pub all_before_dependencies : (P : DependencyComment → Type 0) (program : Prog
     (items : List Descriptor) → All P (comments_of comments) → AreDependencies comments program.body items
     → All (λ item. All P (comments_before item)) items
 all_before_dependencies P program comments items all are =
-    all_before P comments are.nodes items all are.stated
+    all_before P comments are.nodes items all are.described
 
 -- the dependencies of a valid source fit its text
 pub dependencies_fit : (text : List ℕ) (program : Program) (comments : FiledComments)
