@@ -44,7 +44,7 @@ use Rattle.deno_graph_info.specs.Conversion.{
 use Rattle.deno_graph_info.specs.Types.{end_column, types_in, AreTypes, HasNoColumn, LastNames, NamesTypesAt}
 use Rattle.deno_graph_info.specs.declared.conversion.comment.Comment.{Comment}
 
--- what a text names as types, if it names any
+-- the types that a text names, if any
 named_at : (text : List ℕ)
     → ((part : TextPart) × NamesTypesAt text part) ⊎ ((part : TextPart) → NamesTypesAt text part → ⊥)
 named_at text = by_quotes (some_part deno_types_pattern text)

@@ -1,4 +1,4 @@
--- What is written is read back, a file for each type.
+-- What is written is read back: one file per type.
 pub mod Dependency
 pub mod DynamicArgument
 pub mod DynamicDependency

@@ -1,4 +1,4 @@
--- What a dynamic dependency is.
+-- Dynamic dependencies and their arguments.
 use Rattle.std.specs.Prelude.{Bool, true, false}
 use Rattle.deno_graph_info.specs.declared.analysis.dynamic_dependency.DynamicDependencyKind.{
   DynamicDependencyKind,
@@ -16,14 +16,14 @@ use Rattle.deno_graph_info.specs.declared.analysis.dynamic_argument.DynamicArgum
   Expr,
 }
 
--- it is a plain `import(..)`
+-- whether the call is `import(..)`
 abbrev pub is_plain_import : DynamicDependencyKind → Bool
 is_plain_import Import = true
 is_plain_import ImportDefer = false
 is_plain_import ImportSource = false
 is_plain_import Require = false
 
--- nothing is known of the argument
+-- whether the argument is unknown
 abbrev pub is_expr : DynamicArgument → Bool
 is_expr (String text) = false
 is_expr (Template parts) = false

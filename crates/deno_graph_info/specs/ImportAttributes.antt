@@ -1,4 +1,4 @@
--- What is known of import attributes.
+-- Import attributes, as far as they are known.
 use Rattle.std.specs.Prelude.{
   ◌≡◌,
   ◌⊎◌,
@@ -26,24 +26,24 @@ use Rattle.deno_graph_info.specs.declared.analysis.import_attributes.ImportAttri
   Known,
 }
 
--- the dependency states none
+-- whether the dependency has none
 abbrev pub is_none : ImportAttributes → Bool
 is_none NoAttributes = true
 is_none Unknown = false
 is_none (Known entries) = false
 
--- the string that the value is, if that is known
+-- the value, if it is known
 abbrev pub known_value : ImportAttribute → Option (List ℕ)
 known_value UnknownValue = None
 known_value (KnownValue text) = Some text
 
--- the value at a key, where the keys and that value are known
+-- the value at a key, if the keys and the value are known
 abbrev pub attribute_at : ImportAttributes → List ℕ → Option (List ℕ)
 attribute_at NoAttributes key = None
 attribute_at Unknown key = None
 attribute_at (Known entries) key = option_and_then known_value (value_at entries key)
 
--- a type of module that isn't code: `text`, `bytes` or `css`
+-- the type of an asset: `text`, `bytes` or `css`
 abbrev pub IsAssetType : Option (List ℕ) → Type 0
 IsAssetType type =
     (type ≡ Some (codes "text")) ⊎ (type ≡ Some (codes "bytes")) ⊎ (type ≡ Some (codes "css"))

@@ -1,4 +1,4 @@
--- The JSON of a type, a file for each type.
+-- The JSON of a type: one file per type.
 pub mod Dependency
 pub mod DynamicArgument
 pub mod DynamicDependency

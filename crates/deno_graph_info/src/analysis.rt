@@ -1,4 +1,4 @@
-//! What the analysis of one module finds, and its JSON form.
+//! The result of analyzing a module, and its JSON.
 
 pub mod dependency;
 pub mod dynamic_argument;
@@ -12,7 +12,7 @@ pub mod specifier_with_range;
 pub mod static_dependency;
 pub mod type_script_reference;
 
-pub use crate::conversion::{ConvertFault, laws, module_graph_1_into_2, module_graph_1_to_2};
+pub use crate::conversion::{ConvertFault, laws, module_graph_1_to_2, module_graph_1_to_2_owned};
 pub use deno_graph_base::values::TypeScriptTypesResolutionMode;
 pub use deno_graph_pragmas::finders::{
     DenoTypesPragmaMatch, Match, find_deno_types, find_jsx_import_source,

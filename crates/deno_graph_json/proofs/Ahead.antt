@@ -1,4 +1,4 @@
--- What is at the front of the tokens, and behind a value that was passed.
+-- The value at the front of the tokens, and the tokens after it.
 use Rattle.std.proofs.Common.{◌≡◌, ℕ, ◌+◌, ◌≤◌, max, map, Bool, true, false, ◌&&◌, List, [], ◌∷◌, ◌++◌}
 use Rattle.std.proofs.Common.{Option, Some, None, arith, refl, sym, ap, ◌∙◌, append_assoc, append-nil}
 use Rattle.std.specs.Prelude.{IsTrue}
@@ -12,8 +12,9 @@ use Rattle.json.specs.Token.{Token}
 use Rattle.json.specs.Tree.{json_tokens, items_tokens, members_tokens, depth, items_depth, members_depth}
 use Rattle.json.proofs.Printed.Trees.{value-json_tokens}
 use Rattle.deno_graph_json.specs.Flat.{PlainNode, key, plain, number_node, number_fits, flat_list, items_list}
-use Rattle.deno_graph_json.specs.Flat.{members_list, element_count, token_fits, IsAhead, NoneAhead, IsPut}
-use Rattle.deno_graph_json.specs.Flat.{IsFlatText, IsRefused}
+use Rattle.deno_graph_json.specs.Flat.{members_list, element_count, token_fits}
+use Rattle.deno_graph_json.specs.internal.Parsing.{IsAhead, NoneAhead, IsPut}
+use Rattle.deno_graph_json.specs.Flat.{IsFlatText, IsUnreadable}
 use Rattle.deno_graph_json.specs.declared.flat.Node.{Node}
 
 -- ---- each number fits
@@ -90,7 +91,7 @@ none_deep_object ts (string s) r is = absurd (cc (is.0))
 none_deep_object ts (array js) r is = absurd (cc (is.0))
 none_deep_object ts (object ms) r is = absurd (omega (arith, is.1))
 
--- a value may begin with the token
+-- whether a value may begin with the token
 abbrev pub opens_value : Token → Bool
 opens_value Token.end_array = false
 opens_value Token.end_object = false
@@ -155,14 +156,15 @@ item_back d j (item k js) ts us r is all =
     let same = same_ahead j k us (items_tokens js ++ r) (sym is.0 ∙ (item_front d k js ts r all).0) in
     (js, (same.1, omega (arith, all.1), (Fit-parts (json_tokens k) (items_tokens js) all.2).1))
 
--- Once the items from `start` to `now` are passed, what is still ahead makes a whole with them.
+-- The items from `start` to `now` were read: followed by items that begin at `now`, they are items that
+-- begin at `start`.
 abbrev pub ItemsPassed : ℕ → List Token → List Token → List PlainNode → ℕ → Type 0
 ItemsPassed d start now nodes count =
     (js : Items) → (r : List Token) → ItemsAhead d js now r
     → (all : Items) × ItemsAhead d all start r × (items_list all ≡ nodes ++ items_list js)
     × (element_count all ≡ count + element_count js)
 
--- Items from `start` on go on from `now`.
+-- Any items that begin at `start` have a rest that begins at `now`.
 abbrev pub ItemsLeft : ℕ → List Token → List Token → Type 0
 ItemsLeft d start now = (all : Items) → (r : List Token) → ItemsAhead d all start r
     → (js : Items) × ItemsAhead d js now r
@@ -255,7 +257,7 @@ member_back d k j (member name i ms) ts us r is all =
     (sym is.0 ∙ (member_front d name k i ms ts r all).0) in
     (ms, (same.1, omega (arith, all.1), (Fit-parts (json_tokens i) (members_tokens ms) all.2).1))
 
--- as ItemsPassed and ItemsLeft
+-- like ItemsPassed and ItemsLeft, for members
 abbrev pub MembersPassed : ℕ → List Token → List Token → List PlainNode → Type 0
 MembersPassed d start now nodes =
     (ms : Members) → (r : List Token) → MembersAhead d ms now r
@@ -327,11 +329,12 @@ pub whole_text : (text : List ℕ) (ts : List Token) (nodes : List Node) → tok
 whole_text text ts nodes is put =
     (put.0, (is ∙ put.1.0 ∙ append-nil (json_tokens put.0), put.1.1, put.1.2), put.2)
 
-pub refused_text : (text : List ℕ) (ts : List Token) → tokens text ≡ ts → NoneAhead 127 ts → IsRefused text
-refused_text text ts is none j whole =
+pub unreadable_text : (text : List ℕ) (ts : List Token) → tokens text ≡ ts → NoneAhead 127 ts
+    → IsUnreadable text
+unreadable_text text ts is none j whole =
     none j [] (sym is ∙ whole.0 ∙ sym (append-nil (json_tokens j)), whole.1, whole.2)
 
 pub text_and_more : (text : List ℕ) (ts rest : List Token) (old new : List Node) → tokens text ≡ ts
-    → (rest ≡ [] → ⊥) → IsPut 127 ts rest old new → IsRefused text
+    → (rest ≡ [] → ⊥) → IsPut 127 ts rest old new → IsUnreadable text
 text_and_more text ts rest old new is more put j whole =
     more (same_ahead put.0 j rest [] (sym put.1.0 ∙ sym is ∙ whole.0 ∙ sym (append-nil (json_tokens j)))).1

@@ -1,4 +1,4 @@
--- Tables whose keys ascend: their objects have the members in that order.
+-- Entries whose keys ascend: their object has the members in the same order.
 use Rattle.std.proofs.Common.{
   ◌≡◌,
   ℕ,
@@ -31,7 +31,7 @@ use Rattle.deno_graph_base.specs.TextMap.{IsAscending}
 use Rattle.deno_graph_json.specs.Ascending.{is_below, has_ascending_keys}
 use Rattle.deno_graph_json.specs.Object.{Entry, put_present, put_entries}
 
--- ---- the test of a table
+-- ---- the test of entries
 
 and_left : (a b : Bool) → a && b ≡ true → a ≡ true
 and_left true b h = refl
@@ -51,7 +51,7 @@ below_all : (k : List ℕ) (es : List Entry) → is_below k es ≡ true
 below_all k [] h = tt
 below_all k (e ∷ es) h = (less _ (and_left _ _ h), below_all k es (and_right _ _ h))
 
--- a table that meets it is in order
+-- entries that pass the test are in order
 pub ascending : (es : List Entry) → has_ascending_keys es ≡ true → IsAscending es
 unfolding IsStrictlySortedBy
 ascending [] h = tt
@@ -59,12 +59,12 @@ ascending (e ∷ es) h = (below_all e.0 es (and_left _ _ h), ascending es (and_r
 
 -- ---- the members
 
--- a member that comes first, if there is a value
+-- a member before the others, if there is a value
 abbrev pub first_present : List ℕ → Option Data → Members → Members
 first_present k None ms = ms
 first_present k (Some d) ms = member k d ms
 
--- the entries that have a value, in their order
+-- the members of the entries that have a value, in the order of the entries
 abbrev pub present : List Entry → Members
 present [] = no_members
 present (e ∷ es) = first_present e.0 e.1 (present es)
@@ -92,7 +92,7 @@ put_first : (k : List ℕ) (o : Option Data) (es : List Entry)
 put_first k None es below = refl
 put_first k (Some d) es below = put_entries-above k d es no_members below
 
--- of keys that ascend the members are in the order of the table
+-- if the keys ascend, the members are in the order of the entries
 pub put_entries-present : (es : List Entry) → IsAscending es → put_entries es no_members ≡ present es
 unfolding IsStrictlySortedBy
 put_entries-present [] h = refl

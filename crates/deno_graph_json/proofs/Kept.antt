@@ -12,21 +12,43 @@ use Rattle.deno_graph_json.specs.Flat.{PlainNode, plain}
 use Rattle.deno_graph_json.specs.Flat as flat
 use Rattle.deno_graph_json.specs.Value.{Value, null, boolean, whole, number, string, array, object, Items}
 use Rattle.deno_graph_json.specs.Value.{no_items, item, Members, no_members, member, item_count, flat_value}
-use Rattle.deno_graph_json.specs.Value.{flat_items, flat_members, plain_inside, value_in, items_in, members_in}
-use Rattle.deno_graph_json.specs.Value.{AreOfValue, AreOfItems, AreOfMembers, BeginsValue}
-use Rattle.deno_graph_json.specs.Tape.{HasValueAt, HasMemberAt, inside_of, node_of, array_of_elements, place_of}
+use Rattle.deno_graph_json.specs.Value.{
+  flat_items,
+  flat_members,
+  plain_inside,
+  value_in,
+  items_in,
+  members_in,
+}
+use Rattle.deno_graph_json.specs.Value.{AreOfValue, AreOfItems, AreOfMembers}
+use Rattle.deno_graph_json.specs.internal.Nodes.{BeginsValue}
+use Rattle.deno_graph_json.specs.Tape.{
+  HasValueAt,
+  HasMemberAt,
+  inside_of,
+  node_of,
+  array_of_elements,
+  place_of,
+}
 use Rattle.deno_graph_json.specs.Tape.{object_of_entries, place_of_entries}
 use Rattle.deno_graph_json.specs.View.{items_left, items_with, members_left, members_with}
 use Rattle.deno_graph_json.specs.declared.flat.Element.{Element}
 use Rattle.deno_graph_json.specs.declared.flat.Elements.{Elements}
 use Rattle.deno_graph_json.specs.declared.flat.Entries.{Entries}
 use Rattle.deno_graph_json.specs.declared.flat.Node.{Node}
-use Rattle.deno_graph_json.specs.declared.flat.Node.TheVariants.{Null, Bool as TheBool, Whole, Number, String, Key}
+use Rattle.deno_graph_json.specs.declared.flat.Node.TheVariants.{
+  Null,
+  Bool as TheBool,
+  Whole,
+  Number,
+  String,
+  Key,
+}
 use Rattle.deno_graph_json.specs.declared.flat.Node.TheVariants.{Array, Object}
 use Rattle.deno_graph_json.proofs.Values.{some_value, same_front, is_items, is_members, of_value, of_items}
 use Rattle.deno_graph_json.proofs.Values.{of_members}
 
--- ---- nodes at a place
+-- ---- the node at an index
 
 pub found_at : (nodes : List Node) (at : ℕ) (node : Node) → slice_get nodes at ≡ Some node
     → drop at nodes ≡ node ∷ drop (suc at) nodes
@@ -47,11 +69,11 @@ node_at (x ∷ xs) zero node inside is = ap Some (sym is)
 node_at (x ∷ xs) (suc at) node inside is = node_at xs at node (omega arith) is
 
 none_at : (nodes : List Node) (at : ℕ) → length nodes ≤ at → None ≡ slice_get nodes at
-none_at [] at behind = refl
-none_at (x ∷ xs) zero behind = absurd (omega arith)
-none_at (x ∷ xs) (suc at) behind = none_at xs at (omega arith)
+none_at [] at past = refl
+none_at (x ∷ xs) zero past = absurd (omega arith)
+none_at (x ∷ xs) (suc at) past = none_at xs at (omega arith)
 
--- what `get` finds
+-- the result of `get`
 pub got_at : (nodes : List Node) (at : ℕ) (r : Option (Bor Node)) → is_some r ≡ ltb at (length nodes)
     → IfSome r (λ x. x.now ≡ get_or nodes at x.now) → option_copied r ≡ slice_get nodes at
 got_at nodes at None some is = none_at nodes at (ltb-false at (length nodes) (sym some))
@@ -66,7 +88,7 @@ pub plain_at : (nodes : List Node) (at : ℕ) (node : Node) → slice_get nodes 
     → map plain (drop at nodes) ≡ plain node ∷ map plain (drop (suc at) nodes)
 plain_at nodes at node e = ap (map plain) (found_at nodes at node e)
 
--- own is the n nodes from `at` on
+-- `own` are the n nodes from index `at`
 pub parts : (nodes own : List Node) (at n : ℕ) → own ≡ take n (drop at nodes)
     → map plain (drop at nodes) ≡ map plain own ++ map plain (drop (at + n) nodes)
 parts nodes own at n is =
@@ -100,7 +122,7 @@ front_length (object ms) r n ns e = let same : n ≡ flat.object (length (flat_m
     (arith, ap plain_inside same)
 
 module _ (nodes : List Node) (at : ℕ) where
-  -- a value that begins at a place takes the nodes that its own one says
+  -- a value has as many nodes as its first node counts
   size_here : (v : Value) (r : List PlainNode) (node : Node) → slice_get nodes at ≡ Some node
       → map plain (drop at nodes) ≡ flat_value v ++ r
       → length (flat_value v) ≡ inside_of node + 1
@@ -167,7 +189,7 @@ unfolding flat_value
 begins_member no_members name ns is = absurd (cc)
 begins_member (member k v ms) name ns is = λ some. (v, flat_members ms, cc)
 
--- ---- one item or member is passed
+-- ---- passing an item or member
 
 module _ (w : Value) (ns rest : List PlainNode) where
   item_passed : (vs : Items) → flat_items vs ≡ ns → ns ≡ flat_value w ++ rest
@@ -203,8 +225,8 @@ module _ (nodes own : List Node) (at n : ℕ) (is : own ≡ take n (drop at node
   passed_one all = item_passed (value_in (map plain own)) (map plain (drop at nodes)) rest
       (items_in (map plain (drop at nodes))) all listed
 
-  pub items_behind : AreOfItems (map plain (drop at nodes)) → AreOfItems rest
-  items_behind all = let one = passed_one all in of_items rest one.0 one.2
+  pub items_after : AreOfItems (map plain (drop at nodes)) → AreOfItems rest
+  items_after all = let one = passed_one all in of_items rest one.0 one.2
 
   pub item_first : AreOfItems (map plain (drop at nodes))
       → items_in (map plain (drop at nodes)) ≡ item (value_in (map plain own)) (items_in rest)
@@ -218,9 +240,9 @@ module _ (nodes : List Node) (at : ℕ) (name : Bor (List ℕ))
       let next : suc at ≡ at + 1 = omega arith in
       plain_at nodes at (Key name) named ∙ ap (λ k. flat.key name.now ∷ map plain (drop k nodes)) next
 
-  pub value_behind_name : AreOfMembers (map plain (drop at nodes))
+  pub value_after_name : AreOfMembers (map plain (drop at nodes))
       → BeginsValue (map plain (drop (at + 1) nodes))
-  value_behind_name all = begins_member (members_in (map plain (drop at nodes))) name.now
+  value_after_name all = begins_member (members_in (map plain (drop at nodes))) name.now
       (map plain (drop (at + 1) nodes)) (all ∙ name_here)
 
   module _ (own : List Node) (n : ℕ) (is : own ≡ take n (drop (at + 1) nodes))
@@ -233,9 +255,9 @@ module _ (nodes : List Node) (at : ℕ) (name : Bor (List ℕ))
         (map plain (drop (at + 1 + n) nodes)) name.now
         (members_in (map plain (drop at nodes))) (all ∙ name_here) (listed nodes own (at + 1) n is of)
 
-    pub members_behind : AreOfMembers (map plain (drop at nodes))
+    pub members_after : AreOfMembers (map plain (drop at nodes))
         → AreOfMembers (map plain (drop (at + 1 + n) nodes))
-    members_behind all = let one = passed_member all in of_members
+    members_after all = let one = passed_member all in of_members
         (map plain (drop (at + 1 + n) nodes)) one.0 one.2
 
     pub member_first : AreOfMembers (map plain (drop at nodes))
@@ -246,7 +268,7 @@ module _ (nodes : List Node) (at : ℕ) (name : Bor (List ℕ))
         one.1 ∙ ap (member name.now (value_in (map plain own)))
         (sym (is_members (map plain (drop (at + 1 + n) nodes)) one.0 one.2))
 
--- ---- no member
+-- ---- no member is left
 
 is_name : (node : Node) (k : List ℕ) → plain node ≡ flat.key k → (name : Bor (List ℕ)) × (node ≡ Key name)
 is_name Null k e = absurd (cc)

@@ -1,4 +1,4 @@
--- Looking for an item by its number, and for a member by its name, one at a time.
+-- Search for an item by its index, and for a member by its name.
 use Rattle.std.proofs.Common.{
   ◌≡◌,
   ◌≢◌,

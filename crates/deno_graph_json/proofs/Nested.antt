@@ -1,4 +1,4 @@
--- The nodes of an array or an object, once all that is in it is passed.
+-- The nodes of an array or object, after all its items or members were read.
 use Rattle.std.proofs.Common.{◌≡◌, ℕ, ◌+◌, ◌<◌, List, [], ◌∷◌, ◌++◌, length, map, slice_set, arith, refl}
 use Rattle.std.proofs.Common.{sym, ap, ◌∙◌, append_assoc}
 use Rattle.std.proofs.lemmas.List.{map-set, length-map, length-append, map-append}
@@ -13,7 +13,8 @@ use Rattle.json.specs.Token.{Token}
 use Rattle.json.specs.declared.token.Token.{Token as Read}
 use Rattle.json.specs.declared.token.Token.TheVariants.{BeginObject, EndObject, BeginArray, EndArray, Key}
 use Rattle.json.specs.declared.token.Token.TheVariants.{String, Number, Bool, Null, Bad}
-use Rattle.deno_graph_json.specs.Flat.{PlainNode, plain, flat_list, IsPut}
+use Rattle.deno_graph_json.specs.Flat.{PlainNode, plain, flat_list}
+use Rattle.deno_graph_json.specs.internal.Parsing.{IsPut}
 use Rattle.deno_graph_json.specs.declared.flat.Node.{Node}
 
 module _ (old now : List Node) (hole : PlainNode) (inside : List PlainNode)
@@ -48,7 +49,7 @@ pub with_ok : {T E : Type 0} (r : Result T E) (A B C : Type 0) → (A → B → 
 with_ok (Ok x) A B C f a b = f a b
 with_ok (Err e) A B C f a b = tt
 
--- a value takes at least one node
+-- a value has at least one node
 pub some_node : (j : Json) → 0 < length (flat_list j)
 some_node null = omega arith
 some_node (boolean b) = omega arith
@@ -57,7 +58,7 @@ some_node (string text) = omega arith
 some_node (array js) = omega arith
 some_node (object ms) = omega arith
 
--- what a value puts behind the nodes
+-- reading a value appends at least one node
 pub put_some : (d : ℕ) (ts us : List Token) (old new : List Node) → IsPut d ts us old new
     → length old < length new
 put_some d ts us old new put =

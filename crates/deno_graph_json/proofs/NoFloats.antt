@@ -1,4 +1,4 @@
--- The JSON forms have no float.
+-- What is written has no float.
 use Rattle.std.proofs.Common.{
   ◌≡◌,
   ℕ,
@@ -35,12 +35,12 @@ use Rattle.deno_graph_json.specs.Object.{
   if_true,
 }
 
--- a value that is there has a float
+-- a value is present, and has a float
 abbrev pub option_has_float : Option Data → Bool
 option_has_float None = false
 option_has_float (Some d) = has_float d
 
--- the value of some entry has one
+-- the value of some entry has a float
 abbrev pub entries_have_float : List Entry → Bool
 entries_have_float [] = false
 entries_have_float (e ∷ es) = option_has_float e.1 || entries_have_float es
@@ -85,7 +85,7 @@ no_float-put_entries (e ∷ es) ms none h =
     (others_none (option_has_float e.1) (entries_have_float es) none)
     (no_float-put_present e.0 e.1 ms (first_none (option_has_float e.1) (entries_have_float es) none) h)
 
--- the object of a table
+-- the object of a list of entries
 pub no_float-object_of : (es : List Entry) → entries_have_float es ≡ false → has_float (object_of es) ≡ false
 no_float-object_of es none = no_float-put_entries es no_members none refl
 
@@ -103,12 +103,12 @@ module _ {A : Type 0} (f : A → Data) (none : (x : A) → has_float (f x) ≡ f
   pub no_float-array_of : (xs : List A) → has_float (array_of f xs) ≡ false
   no_float-array_of xs = no_float-items xs
 
-  -- an array that is left out where it is empty
+  -- an array that is left out if it is empty
   pub no_float-if_any : (xs : List A) → option_has_float (option_map (array_of f) (if_any xs)) ≡ false
   no_float-if_any [] = refl
   no_float-if_any (x ∷ xs) = no_float-items (x ∷ xs)
 
-  -- a value that is left out where there is none
+  -- a value that is left out if there is none
   pub no_float-option : (o : Option A) → option_has_float (option_map f o) ≡ false
   no_float-option None = refl
   no_float-option (Some x) = none x

@@ -1,4 +1,4 @@
--- The text of a number, and the node that it gets.
+-- The text of a number, and its node.
 use Rattle.std.proofs.Common.{◌≡◌, ℕ, ◌^◌, ◌<◌, Bool, true, false, cond, List, [], ◌∷◌, length, drop}
 use Rattle.std.proofs.Common.{Some, None, if◌then◌else◌, ◌==◌, ◌||◌, arith, refl, sym, ap, subst, ◌∙◌}
 use Rattle.std.proofs.lemmas.Bool.Decides.{nat_tests}
@@ -24,7 +24,7 @@ first_is true c text e is =
     let plus : c ≡ 43 = grind (arith, nat_tests) in
     absurd (cc (sym (number_of_plus text) ∙ subst (λ n. after_number (n ∷ text) ≡ Some []) plus is))
 
--- a number of JSON begins with no plus
+-- a JSON number doesn't begin with a plus
 pub without_plus : (text : List ℕ) → IsNumber text → without_leading_plus text ≡ text
 without_plus [] is = refl
 without_plus (c ∷ text) is = first_is (c == 43) c text refl is

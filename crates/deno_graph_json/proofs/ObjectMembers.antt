@@ -1,4 +1,4 @@
--- The members of an object, one after another, and how each is found by its key.
+-- The members of an object, one after another, and the look-up of each by its key.
 use Rattle.std.proofs.Common.{
   ◌≡◌,
   List,
@@ -44,7 +44,7 @@ less_than_itself s is =
     let other : Less ≡ Greater = sym is ∙ nat_list_cmp_total.antisymm s s ∙ ap ordering_reverse is in
     absurd (omega (arith, ap ordering_index other))
 
--- a key that is after others is none of them
+-- a property of all keys holds of this one
 entry_among : (P : List ℕ → Type 0) (front : List (String Global × Value)) (e : String Global × Value)
     (rest : List (String Global × Value))
     → AllByRecursion P (keys_of (map entry_of (front ++ e ∷ rest))) → P (string_bytes e.0)
@@ -63,7 +63,7 @@ found_after (f ∷ front) e rest sorted =
     (subst (λ k. slice_cmp nat_cmp (string_bytes f.0) k ≡ Less) same below) in
     member_later (string_bytes e.0) f (front ++ e ∷ rest) other ∙ found_after front e rest sorted.1
 
--- the members that are left, of members whose keys ascend
+-- `left` are the last of all members, whose keys ascend
 pub record IsRest (all left : List (String Global × Value)) : Type 0 where
   pub front : List (String Global × Value)
   pub whole : all ≡ front ++ left

@@ -1,4 +1,4 @@
--- A look-up in the object of a table gives what the table has.
+-- A look-up in the object of a list of entries finds the value of the entry.
 use Rattle.std.proofs.Common.{
   ◌≡◌,
   ℕ,
@@ -29,14 +29,14 @@ use Rattle.serde_json.specs.Find.{get, get_member}
 use Rattle.serde_json.proofs.Views.{get_member-put, get_member-put_other}
 use Rattle.deno_graph_json.specs.Object.{Entry, put_present, put_entries, object_of}
 
--- ---- tables
+-- ---- entries
 
 -- some entry has the key
 abbrev pub has_key : List ℕ → List Entry → Bool
 has_key k [] = false
 has_key k (e ∷ es) = bytes_eq k e.0 || has_key k es
 
--- no two entries have one key
+-- no two entries have the same key
 abbrev pub has_distinct_keys : List Entry → Bool
 has_distinct_keys [] = true
 has_distinct_keys (e ∷ es) = not (has_key e.0 es) && has_distinct_keys es
@@ -67,7 +67,7 @@ and_right : (a b : Bool) → a && b ≡ true → b ≡ true
 and_right true b h = h
 and_right false b h = absurd (true≢false (sym h))
 
--- another key's value stays
+-- the value of another key stays
 other_stays : (k l : List ℕ) (o : Option Data) (ms : Members) → bytes_eq k l ≡ false
     → get_member k (put_present l o ms) ≡ get_member k ms
 other_stays k l None ms differ = refl
@@ -81,7 +81,7 @@ absent_stays k (e ∷ es) ms absent =
     absent_stays k es (put_present e.0 e.1 ms) (or_right _ _ absent)
     ∙ other_stays k e.0 e.1 ms (or_left _ _ absent)
 
--- a key that had no value has the one that was put there, if one was
+-- a key that had no value has the value that was put there, if there was one
 present_found : (k : List ℕ) (o : Option Data) (ms : Members) → get_member k ms ≡ None
     → get_member k (put_present k o ms) ≡ o
 present_found k None ms none = none
@@ -100,7 +100,7 @@ at_entry k e es ms none distinct later true is =
 at_entry k e es ms none distinct later false is =
     later (put_present e.0 e.1 ms) (other_stays k e.0 e.1 ms is ∙ none)
 
--- of distinct keys each has its entry's value
+-- if the keys are distinct, each has the value of its entry
 pub get_member-put_entries : (k : List ℕ) (es : List Entry) (ms : Members) → get_member k ms ≡ None
     → has_distinct_keys es ≡ true
     → get_member k (put_entries es ms) ≡ entry_at k es
@@ -109,7 +109,7 @@ get_member-put_entries k (e ∷ es) ms none distinct =
     at_entry k e es ms none distinct (λ ns free. get_member-put_entries k es ns free (and_right _ _ distinct))
     (bytes_eq k e.0) refl
 
--- a look-up in the object of a table with distinct keys gives what the table has
+-- a look-up in the object of entries with distinct keys finds the value of the entry
 pub get-object_of : (k : List ℕ) (es : List Entry) → has_distinct_keys es ≡ true
     → get k (object_of es) ≡ entry_at k es
 get-object_of k es distinct = get_member-put_entries k es _ refl distinct

@@ -1,4 +1,4 @@
--- Values and members, passed one at a time.
+-- Values and members, read one at a time.
 use Rattle.std.proofs.Common.{◌≡◌, ◌≢◌, ℕ, zero, suc, ◌+◌, ◌-◌, ◌<◌, ◌⊎◌, inl, inr, Option, Some, None}
 use Rattle.std.proofs.Common.{IfSome, IfNone, List, arith, refl, sym, ap, subst, ◌∙◌}
 use Rattle.deno_graph_json.specs.Tape.{HasValueAt, IsValueAt, ArePassed, HasMemberAt, HasMember, HasNameAt}
@@ -6,9 +6,9 @@ use Rattle.deno_graph_json.specs.Tape.{IsMember, IsLastNamed, IsNameless, size_o
 use Rattle.deno_graph_json.specs.declared.flat.Element.{Element}
 
 module _ (holder value : Element) (from next : ℕ) (is : IsValueAt holder from value)
-    (behind : next ≡ from + size_of value) where
+    (next_is : next ≡ from + size_of value) where
   begins : (first : HasValueAt holder from) → next ≡ from + (inside_of first.0 + 1)
-  begins first = behind ∙ ap (λ n. from + n) (is.2 first.0 first.1)
+  begins first = next_is ∙ ap (λ n. from + n) (is.2 first.0 first.1)
 
   pub before_all : (count place : ℕ) → HasValueAt holder from → ArePassed holder next count place
       → ArePassed holder from (suc count) place
@@ -29,14 +29,14 @@ module _ (holder value : Element) (from next : ℕ) (is : IsValueAt holder from 
       subst (λ n. ArePassed holder next n place) fewer rest in
       (first, subst (λ n. ArePassed holder n count place) (begins first) before)
 
-  pub one_behind : (count place : ℕ) → count ≢ 0 → ArePassed holder from count place
+  pub one_after : (count place : ℕ) → count ≢ 0 → ArePassed holder from count place
       → ArePassed holder next (count - 1) place
-  one_behind zero place some all = absurd (some refl)
-  one_behind (suc count) place some all =
+  one_after zero place some all = absurd (some refl)
+  one_after (suc count) place some all =
       let fewer : count ≡ suc count - 1 = omega arith in
-      let behind_first : ArePassed holder next count place =
+      let after_first : ArePassed holder next count place =
       subst (λ n. ArePassed holder n count place) (sym (begins all.0)) all.1 in
-      subst (λ n. ArePassed holder next n place) fewer behind_first
+      subst (λ n. ArePassed holder next n place) fewer after_first
 
 pub none_here : (holder : Element) (from : ℕ) → (HasValueAt holder from → ⊥) → (count place : ℕ)
     → ArePassed holder from count place → HasValueAt holder place → ⊥
@@ -48,7 +48,7 @@ pub no_member_here : (object : Element) (from : ℕ) → (HasMemberAt object fro
 no_member_here object from none place (zero, has) = none (subst (HasMemberAt object) has.1 has.0)
 no_member_here object from none place (suc count, has) = none has.0
 
--- The value is that of the last member of this name that was passed, and the others of this name are to come.
+-- The value is that of the last member with this name so far; members with this name after it are left.
 abbrev pub LastPassed : Element → List ℕ → ℕ → Option Element → Type 0
 LastPassed object name from None = (later : ℕ) → IsMember object 1 later → HasNameAt object name later
     → IsMember object from later
@@ -59,18 +59,18 @@ LastPassed object name from (Some value) =
     → IsMember object from later)
 
 module _ (object value : Element) (from next : ℕ) (is : IsValueAt object (from + 1) value)
-    (behind : next ≡ from + 1 + size_of value) where
+    (next_is : next ≡ from + 1 + size_of value) where
   begins_member : (first : HasMemberAt object from) → next ≡ from + 1 + (inside_of first.1.0 + 1)
-  begins_member first = behind ∙ ap (λ n. from + 1 + n) (is.2 first.1.0 first.1.1)
+  begins_member first = next_is ∙ ap (λ n. from + 1 + n) (is.2 first.1.0 first.1.1)
 
   pub member_before : (later : ℕ) → HasMemberAt object from → IsMember object next later
       → IsMember object from later
   member_before later first rest =
       (suc rest.0, (first, subst (λ n. HasMember object n rest.0 later) (begins_member first) rest.1))
 
-  pub here_or_behind : (later : ℕ) → IsMember object from later → (later ≡ from) ⊎ IsMember object next later
-  here_or_behind later (zero, has) = inl has.1
-  here_or_behind later (suc count, has) =
+  pub here_or_after : (later : ℕ) → IsMember object from later → (later ≡ from) ⊎ IsMember object next later
+  here_or_after later (zero, has) = inl has.1
+  here_or_after later (suc count, has) =
       inr (count, subst (λ n. HasMember object n count later) (sym (begins_member has.0)) has.1)
 
   module _ (name : List ℕ) where
@@ -80,25 +80,25 @@ module _ (object value : Element) (from next : ℕ) (is : IsValueAt object (from
     to_come (Some found) last later more is_member named =
         last.5 later (omega (arith, last.1)) is_member named
 
-    behind_here : (later : ℕ) → from < later → IsMember object from later → IsMember object next later
-    behind_here later more is_member =
-        elim (here_or_behind later is_member) [ inl same ↦ absurd (omega arith) | inr rest ↦ rest ]
+    after_here : (later : ℕ) → from < later → IsMember object from later → IsMember object next later
+    after_here later more is_member =
+        elim (here_or_after later is_member) [ inl same ↦ absurd (omega arith) | inr rest ↦ rest ]
 
     pub named_here : (found : Option Element) → LastPassed object name from found → IsMember object 1 from
         → HasNameAt object name from → LastPassed object name next (Some value)
     named_here found last here named = (
       from,
-      omega (arith, behind),
+      omega (arith, next_is),
       here,
       named,
       is,
-      λ later more is_member same. behind_here later more (to_come found last later more is_member same),
+      λ later more is_member same. after_here later more (to_come found last later more is_member same),
     )
 
     passes_other : (HasNameAt object name from → ⊥) → (later : ℕ) → HasNameAt object name later
         → IsMember object from later → IsMember object next later
     passes_other other later named is_member =
-        elim (here_or_behind later is_member)
+        elim (here_or_after later is_member)
         [ inl same ↦ absurd (other (subst (HasNameAt object name) same named)) | inr rest ↦ rest ]
 
     pub other_here : (found : Option Element) → LastPassed object name from found
@@ -107,7 +107,7 @@ module _ (object value : Element) (from next : ℕ) (is : IsValueAt object (from
         λ later is_member named. passes_other other later named (last later is_member named)
     other_here (Some found) last other = (
       last.0,
-      omega (arith, last.1, behind),
+      omega (arith, last.1, next_is),
       last.2,
       last.3,
       last.4,

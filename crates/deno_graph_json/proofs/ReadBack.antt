@@ -1,4 +1,4 @@
--- What is written is read back: members of tables, lists, maps, flags, positions and modes.
+-- What is written is read back: entries, lists, maps, flags, positions and modes.
 use Rattle.std.proofs.Common.{◌≡◌, ℕ, ◌<◌, ◌^◌, List, [], ◌∷◌, map, Bool, true, false, Option, Some, None}
 use Rattle.std.proofs.Common.{option_map, nat_lt, All, refl, ap, ◌∙◌, lt-ltb}
 use Rattle.std.proofs.lemmas.List.Elements.{All-head, All-tail}
@@ -18,7 +18,7 @@ use Rattle.deno_graph_base.specs.declared.text.position.PositionRange.{PositionR
 use Rattle.deno_graph_json.proofs.Ascending.{ascending, present, put_entries-present}
 use Rattle.deno_graph_json.proofs.Objects.{get_member-put_entries, has_distinct_keys, entry_at}
 use Rattle.deno_graph_json.proofs.Reading.{goes_on}
-use Rattle.deno_graph_json.specs.Ascending.{ascending-map}
+use Rattle.deno_graph_json.specs.internal.MapEntries.{ascending-map}
 use Rattle.deno_graph_json.specs.Json.Position.{
   IsHeldPosition,
   IsHeldRange,
@@ -51,10 +51,10 @@ use Rattle.deno_graph_json.specs.Read.Partial.{
 }
 use Rattle.deno_graph_json.specs.Json.ResolutionMode.{reads_mode, json_of_mode}
 
--- ---- what any reader does
+-- ---- any reader
 
 module _ {A : Type 0} (reads : Data → Option A) where
-  -- a member of the object of a table is read of the table
+  -- a member of the object of a list of entries is read from the entry
   pub member_at-table : (key : List ℕ) (es : List Entry) (r : Option A) → has_distinct_keys es ≡ true
       → (entry_at key es >>= reads) ≡ r → member_at reads key (put_entries es no_members) ≡ r
   unfolding member_at
@@ -68,7 +68,7 @@ module _ {A : Type 0} (reads : Data → Option A) where
   member_or-table key default es r distinct is =
       ap (read_or reads default) (get_member-put_entries key es no_members refl distinct) ∙ is
 
-  -- a step that reads such a member goes on with what it reads
+  -- after such a member is read, reading goes on with its value
   pub reads_at : {B : Type 0} (key : List ℕ) (f : A → Option B) (r : Option B) (es : List Entry) (x : A)
       → has_distinct_keys es ≡ true → (entry_at key es >>= reads) ≡ Some x → f x ≡ r
       → (member_at reads key (put_entries es no_members) >>= f) ≡ r
@@ -81,7 +81,7 @@ module _ {A : Type 0} (reads : Data → Option A) where
   reads_or key default f r es x distinct is later =
       goes_on _ f x r (member_or-table key default es (Some x) distinct is) later
 
-  -- items that are each read back are all read back
+  -- if each item is read back, the list is
   pub reads_items-map : (f : A → Data) (P : A → Type 0) → ((x : A) → P x → reads (f x) ≡ Some x)
       → (xs : List A) → All P xs → reads_items reads (items_of (map f xs)) ≡ Some xs
   unfolding reads_items
@@ -111,7 +111,7 @@ module _ {A : Type 0} (reads : Data → Option A) (f : A → Data) (P : A → Ty
       (put_entries-present (map_entries f es) (ascending (map_entries f es) (ascending-map f es h)))
       ∙ reads_members-map es all
 
-  -- a list that is left out where it is empty
+  -- a list that is left out if it is empty
   pub list_back : (xs : List A) → All P xs
       → read_or (reads_array reads) [] (option_map (array_of f) (if_any xs)) ≡ Some xs
   unfolding reads_array
@@ -134,12 +134,12 @@ range_back r h = rw (position_back r.start h.0, position_back r.end h.1)
 
 -- ---- flags and modes
 
--- a flag that is left out where it is false
+-- a flag that is left out if it is false
 pub flag_back : (b : Bool) → read_or as_bool false (if_true b) ≡ Some b
 flag_back true = refl
 flag_back false = refl
 
--- a mode that is left out where there is none
+-- a mode that is left out if there is none
 pub mode_back : (o : Option TypeScriptTypesResolutionMode)
     → read_or (reads_optional reads_mode) None (option_map json_of_mode o) ≡ Some o
 unfolding reads_optional reads_mode

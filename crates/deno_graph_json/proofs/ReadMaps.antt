@@ -33,8 +33,8 @@ use Rattle.std.specs.String.{string_cmp}
 use Rattle.deno_graph_base.proofs.TextEntries.{IsAscending-entries}
 use Rattle.deno_graph_base.specs.TextMap.{entry_of, insert_entry}
 use Rattle.deno_graph_json.proofs.ObjectMembers.{AreAscending, IsRest, rest_begin, rest_next}
-use Rattle.deno_graph_json.proofs.Reading.{refused, before, before_more, before_nil}
-use Rattle.deno_graph_json.specs.Read.Answer.{IsRefusal}
+use Rattle.deno_graph_json.proofs.Reading.{step_error, before, before_more, before_nil}
+use Rattle.deno_graph_json.specs.Read.Result.{IsReadError}
 use Rattle.deno_graph_json.specs.Read.Partial.{reads_members}
 use Rattle.deno_graph_json.specs.declared.error.ReadError.{ReadError}
 
@@ -60,7 +60,7 @@ module _ {A : Type 0} where
   keys_of-more [] key value rest = refl
   keys_of-more (e ∷ front) key value rest = ap (λ ks. e.0 ∷ ks) (keys_of-more front key value rest)
 
-  -- the entries that were read, with the members that are left
+  -- the entries that were read, followed by the members that are left
   pub record IsSoFar (reads : Data → Option A) (all : List (String Global × Value)) (read : List (List ℕ × A))
       (left : List (String Global × Value)) : Type 0 where
     pub values : reads_members reads (members_view all) ≡ before read
@@ -68,7 +68,7 @@ module _ {A : Type 0} where
     pub ordered : AreAscending (keys_of read ++ keys_of (map entry_of left))
     pub passed : IsRest all left
 
-  -- one entry more is read
+  -- after one more entry
   pub member_more : (reads : Data → Option A) (all : List (String Global × Value))
       (read new : List (List ℕ × A)) (left rest : List (String Global × Value)) (e : String Global × Value)
       (key : List ℕ) (x : A)
@@ -93,7 +93,7 @@ module _ {A : Type 0} where
         passed = rest_next all left rest e so_far.passed first;
       }
 
-  -- before the first
+  -- before the first entry
   pub members_begin : (reads : Data → Option A) (all left : List (String Global × Value))
       (read : List (List ℕ × A)) → IsStrictlySortedBy string_cmp (keys_of all) → left ≡ all → read ≡ []
       → IsSoFar reads all read left
@@ -103,19 +103,19 @@ module _ {A : Type 0} where
     passed = rest_begin all all ordered refl;
   })
 
-  -- a member that is refused refuses all
-  pub members_refused : (value : Data) (reads : Data → Option A)
+  -- if a member can't be read, the map can't
+  pub members_error : (value : Data) (reads : Data → Option A)
       (all left rest : List (String Global × Value))
       (read : List (List ℕ × A)) (e : String Global × Value) (error : ReadError)
-      → IsSoFar reads all read left → left ≡ e ∷ rest → IsRefusal value (reads (view e.1)) error
-      → IsRefusal value (reads_members reads (members_view all)) error
+      → IsSoFar reads all read left → left ≡ e ∷ rest → IsReadError value (reads (view e.1)) error
+      → IsReadError value (reads_members reads (members_view all)) error
   unfolding reads_members
-  members_refused value reads all left rest read e error so_far first h =
+  members_error value reads all left rest read e error so_far first h =
       let step : reads_members reads (members_view all) ≡ before read
       (reads_members reads (members_view (e ∷ rest))) =
       so_far.values ∙ ap (λ es. before read (reads_members reads (members_view es))) first in
-      subst (λ o. IsRefusal value o error) (sym step)
-      (refused value _ _ error (refused value (reads (view e.1)) _ error h))
+      subst (λ o. IsReadError value o error) (sym step)
+      (step_error value _ _ error (step_error value (reads (view e.1)) _ error h))
 
   -- no member is left
   pub members_done : (reads : Data → Option A) (all left : List (String Global × Value))

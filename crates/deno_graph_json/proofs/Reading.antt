@@ -1,4 +1,4 @@
--- How a reader ends: each step of a partial function, and the fault that a `?` returns.
+-- Results of a reader: each step of a partial function, and the error that a `?` returns.
 use Rattle.std.proofs.Common.{
   ◌≡◌,
   ℕ,
@@ -49,7 +49,7 @@ use Rattle.serde_json.specs.Find.{as_array, as_object, as_str, at, get_member}
 use Rattle.serde_json.specs.View.{view, items_of, items_view}
 use Rattle.serde_json.specs.declared.value.Value.{Value}
 use Rattle.serde_json.proofs.Views.{get_item_within}
-use Rattle.deno_graph_json.specs.Read.Answer.{IsRefusal, Answers}
+use Rattle.deno_graph_json.specs.Read.Result.{IsReadError, IsReadResult}
 use Rattle.deno_graph_json.specs.Read.Error.{IsIn, IsMismatch, mismatch, step_into, value_at}
 use Rattle.deno_graph_json.specs.Read.Expected.{IsNot}
 use Rattle.deno_graph_json.specs.Read.Partial.{◌>>=◌, member_at, reads_items, two_items}
@@ -63,66 +63,68 @@ pub goes_on : {A B : Type 0} (o : Option A) (f : A → Option B) (x : A) (r : Op
     → (o >>= f) ≡ r
 goes_on o f x r is later = ap (λ v. v >>= f) is ∙ later
 
--- the exit of a `?` that refuses the whole
-pub refuses : {A : Type 0} (value : Data) (wanted : Option A) (error : ReadError)
+-- the exit of a `?` whose error is that of the whole value
+pub whole_error : {A : Type 0} (value : Data) (wanted : Option A) (error : ReadError)
     (answer : Result A ReadError)
-    → IsErrAnd answer (λ other. other ≡ error) → IsRefusal value wanted error → Answers value wanted answer
-refuses value wanted error answer is h = let p = err_from_is_err_and answer is in rw (p.1, p.2) h
+    → IsErrAnd answer (λ other. other ≡ error) → IsReadError value wanted error
+    → IsReadResult value wanted answer
+whole_error value wanted error answer is h = let p = err_from_is_err_and answer is in rw (p.1, p.2) h
 
--- a step more around a path
+-- a path with one more step around it
 value_at_more : (path : List Step) (step : Step) (outer inner : Data) → step_into step outer ≡ Some inner
     → value_at (path ++ step ∷ []) outer ≡ value_at path inner
 value_at_more [] step outer inner is = is
 value_at_more (first ∷ path) step outer inner is =
     ap (λ o. o >>= step_into first) (value_at_more path step outer inner is)
 
--- an error in a value is one in the value around it
+-- an error in a value is an error in the value around it
 pub place_around : (path : List Step) (step : Step) (expected : Expected) (outer inner : Data)
     → step_into step outer ≡ Some inner → IsIn inner (mismatch path expected)
     → IsIn outer (mismatch (path ++ step ∷ []) expected)
 place_around path step expected outer inner is h =
     subst (λ o. IsSomeAnd o (IsNot expected)) (sym (value_at_more path step outer inner is)) h
 
--- an error in the value, of which nothing can be read
-pub refusal : {A : Type 0} (value : Data) (wanted : Option A) (error : ReadError) → wanted ≡ None
+-- a value that can't be read, with an error in it
+pub read_error : {A : Type 0} (value : Data) (wanted : Option A) (error : ReadError) → wanted ≡ None
     → IsIn value error
-    → IsRefusal value wanted error
-refusal value wanted (Mismatch found) none place = (none, place)
-refusal value wanted OutOfMemory none place = tt
+    → IsReadError value wanted error
+read_error value wanted (Mismatch found) none place = (none, place)
+read_error value wanted OutOfMemory none place = tt
 
--- a refusal of a value is one of the value around it
-pub refused_around : {A : Type 0} (outer inner : Data) (wanted : Option A) (old new : ReadError)
-    → (IsIn inner old → IsIn outer new) → (IsMismatch new → IsMismatch old) → IsRefusal inner wanted old
-    → IsRefusal outer wanted new
-refused_around outer inner wanted (Mismatch found) (Mismatch other) place mismatch h = (h.0, place h.1)
-refused_around outer inner wanted OutOfMemory (Mismatch other) place mismatch h = absurd (mismatch tt)
-refused_around outer inner wanted old OutOfMemory place mismatch h = tt
+-- the result of an inner value that can't be read, around that value
+pub error_around : {A : Type 0} (outer inner : Data) (wanted : Option A) (old new : ReadError)
+    → (IsIn inner old → IsIn outer new) → (IsMismatch new → IsMismatch old) → IsReadError inner wanted old
+    → IsReadError outer wanted new
+error_around outer inner wanted (Mismatch found) (Mismatch other) place mismatch h = (h.0, place h.1)
+error_around outer inner wanted OutOfMemory (Mismatch other) place mismatch h = absurd (mismatch tt)
+error_around outer inner wanted old OutOfMemory place mismatch h = tt
 
 module _ {A B : Type 0} (value : Data) (wanted : Option A) (f : A → Option B) where
-  -- a step that is refused refuses the whole
-  pub refused : (error : ReadError) → IsRefusal value wanted error → IsRefusal value (wanted >>= f) error
-  refused (Mismatch found) h = (ap (λ o. o >>= f) h.0, h.1)
-  refused OutOfMemory h = h
+  -- if a step fails, the whole fails with the same error
+  pub step_error : (error : ReadError) → IsReadError value wanted error
+      → IsReadError value (wanted >>= f) error
+  step_error (Mismatch found) h = (ap (λ o. o >>= f) h.0, h.1)
+  step_error OutOfMemory h = h
 
   -- the exit of a `?`
   pub exits : (error : ReadError) (answer : Result B ReadError) → IsErrAnd answer (λ other. other ≡ error)
-      → IsRefusal value wanted error → Answers value (wanted >>= f) answer
-  exits error answer is h = let p = err_from_is_err_and answer is in rw (p.1, p.2) (refused error h)
+      → IsReadError value wanted error → IsReadResult value (wanted >>= f) answer
+  exits error answer is h = let p = err_from_is_err_and answer is in rw (p.1, p.2) (step_error error h)
 
   -- the exit of a `?` after a reader that allocates nothing
   pub exits_mismatch : (error : ReadError) (answer : Result B ReadError)
       → IsErrAnd answer (λ other. other ≡ error)
       → IsMismatch error × (wanted ≡ None) × IsIn value error
-      → Answers value (wanted >>= f) answer
-  exits_mismatch error answer is h = exits error answer is (refusal value wanted error h.1 h.2)
+      → IsReadResult value (wanted >>= f) answer
+  exits_mismatch error answer is h = exits error answer is (read_error value wanted error h.1 h.2)
 
   -- a step that has a value goes on with it
-  pub answers_on : (x : A) (answer : Result B ReadError) → wanted ≡ Some x → Answers value (f x) answer
-      → Answers value (wanted >>= f) answer
-  answers_on x answer is h =
-      let Goal : Option A → Type 0 = λ o. Answers value (o >>= f) answer in subst Goal (sym is) h
+  pub result_on : (x : A) (answer : Result B ReadError) → wanted ≡ Some x → IsReadResult value (f x) answer
+      → IsReadResult value (wanted >>= f) answer
+  result_on x answer is h =
+      let Goal : Option A → Type 0 = λ o. IsReadResult value (o >>= f) answer in subst Goal (sym is) h
 
--- the data of a string, of an array and of an object
+-- data with a string, an array or an object
 is_string : (d : Data) (s : List ℕ) → as_str d ≡ Some s → d ≡ string s
 is_string (string t) s is = ap (λ o. string (unwrap_or o [])) is
 is_string null s is = absurd (none-some _ is)
@@ -148,34 +150,36 @@ is_object (string t) ms is = absurd (none-some _ is)
 is_object (array t) ms is = absurd (none-some _ is)
 
 module _ {B : Type 0} where
-  -- a string is read on as its text, an array as its items, an object as its members
+  -- reading goes on with the text of a string, the items of an array, the members of an object
   pub string_on : (d : Data) (f : List ℕ → Option B) (s : List ℕ) (answer : Result B ReadError)
       → as_str d ≡ Some s
-      → Answers (string s) (f s) answer → Answers d (as_str d >>= f) answer
+      → IsReadResult (string s) (f s) answer → IsReadResult d (as_str d >>= f) answer
   string_on d f s answer is h = rw (is_string d s is) h
 
   pub array_on : (d : Data) (f : Items → Option B) (ds : Items) (answer : Result B ReadError)
-      → as_array d ≡ Some ds → Answers (array ds) (f ds) answer → Answers d (as_array d >>= f) answer
+      → as_array d ≡ Some ds → IsReadResult (array ds) (f ds) answer
+      → IsReadResult d (as_array d >>= f) answer
   array_on d f ds answer is h = rw (is_array d ds is) h
 
   pub object_on : (d : Data) (f : Members → Option B) (ms : Members) (answer : Result B ReadError)
-      → as_object d ≡ Some ms → Answers (object ms) (f ms) answer → Answers d (as_object d >>= f) answer
+      → as_object d ≡ Some ms → IsReadResult (object ms) (f ms) answer
+      → IsReadResult d (as_object d >>= f) answer
   object_on d f ms answer is h = rw (is_object d ms is) h
 
-  -- a member that is a string is read on as its text
+  -- reading goes on with the text of a member that is a string
   pub member_on : (d : Data) (key : List ℕ) (ms : Members) (f : List ℕ → Option B) (s : List ℕ)
-      (answer : Result B ReadError) → get_member key ms ≡ Some (string s) → Answers d (f s) answer
-      → Answers d (member_at as_str key ms >>= f) answer
+      (answer : Result B ReadError) → get_member key ms ≡ Some (string s) → IsReadResult d (f s) answer
+      → IsReadResult d (member_at as_str key ms >>= f) answer
   unfolding member_at
   member_on d key ms f s answer is h = rw is h
 
--- how a reader that reads step by step ends
-pub ruleset reading = (goes_on, exits, exits_mismatch, string_on, array_on, object_on, member_on, answers_on)
+-- the lemmas for a reader that reads step by step
+pub ruleset reading = (goes_on, exits, exits_mismatch, string_on, array_on, object_on, member_on, result_on)
 
 -- ---- lists
 
 module _ {A : Type 0} where
-  -- the items that were read, before those that are still to be read
+  -- the items that were read, followed by those that are left
   abbrev pub before : List A → Option (List A) → Option (List A)
   before xs rest = rest >>= (λ ys. Some (xs ++ ys))
 
@@ -184,7 +188,7 @@ module _ {A : Type 0} where
   before_more xs x None = refl
   before_more xs x (Some ys) = ap Some (sym (append_assoc xs (x ∷ []) ys))
 
-  -- one item more is read
+  -- after one more item
   pub items_more : (reads : Data → Option A) (xs : List A) (d : Data) (ds : Items) (x : A) → reads d ≡ Some x
       → before xs (reads_items reads (item d ds)) ≡ before (xs ++ x ∷ []) (reads_items reads ds)
   unfolding reads_items
@@ -194,13 +198,13 @@ module _ {A : Type 0} where
   before_nil None = refl
   before_nil (Some ys) = refl
 
-  -- an item that is refused refuses all
-  pub items_refused : (value : Data) (reads : Data → Option A) (all : Option (List A)) (xs : List A)
+  -- if an item can't be read, the list can't
+  pub items_error : (value : Data) (reads : Data → Option A) (all : Option (List A)) (xs : List A)
       (d : Data) (ds : Items) (error : ReadError) → all ≡ before xs (reads_items reads (item d ds))
-      → IsRefusal value (reads d) error → IsRefusal value all error
+      → IsReadError value (reads d) error → IsReadError value all error
   unfolding reads_items
-  items_refused value reads all xs d ds error is h =
-      rw is (refused value _ _ error (refused value (reads d) _ error h))
+  items_error value reads all xs d ds error is h =
+      rw is (step_error value _ _ error (step_error value (reads d) _ error h))
 
   -- no item is left
   pub items_done : (reads : Data → Option A) (all : Option (List A)) (xs : List A)
@@ -210,18 +214,18 @@ module _ {A : Type 0} where
 
 -- ---- an array, item by item
 
--- the item after so many is the one of this number
+-- the item after i items is the one with index i
 pub item_here : (all : List Value) (i place : ℕ) (v : Value) → i < length all → v ≡ get_or all i v → place ≡ i
     → at place (array (items_view all)) ≡ Some (view v)
 item_here all i place v below is same =
     rw same (sym (get_item_within all i v below) ∙ ap (λ w. Some (view w)) (sym is))
 
 module _ {A : Type 0} (reads : Data → Option A) (all : List Value) where
-  -- what is read of the items from a number on
+  -- the items from index i, as they are read
   abbrev pub from : ℕ → Option (List A)
   from i = reads_items reads (items_of (map view (drop i all)))
 
-  -- the item with a number, and those behind it
+  -- the item with index i, and those after it
   from_here : (i : ℕ) (v : Value) → i < length all → v ≡ get_or all i v
       → from i ≡ reads_items reads (item (view v) (items_of (map view (drop (i + 1) all))))
   from_here i v below is =
@@ -236,12 +240,12 @@ module _ {A : Type 0} (reads : Data → Option A) (all : List Value) where
       ∙ items_more reads xs (view v) (items_of (map view (drop (i + 1) all))) x read
       ∙ ap (λ ys. before ys (from (i + 1))) (sym pushed)
 
-  pub list_refused : (value : Data) (i : ℕ) (v : Value) (xs : List A) (error : ReadError) → i < length all
+  pub list_error : (value : Data) (i : ℕ) (v : Value) (xs : List A) (error : ReadError) → i < length all
       → v ≡ get_or all i v → reads_items reads (items_view all) ≡ before xs (from i)
-      → IsRefusal value (reads (view v)) error
-      → IsRefusal value (reads_items reads (items_view all)) error
-  list_refused value i v xs error below is so_far h =
-      items_refused value reads _ xs (view v) (items_of (map view (drop (i + 1) all))) error
+      → IsReadError value (reads (view v)) error
+      → IsReadError value (reads_items reads (items_view all)) error
+  list_error value i v xs error below is so_far h =
+      items_error value reads _ xs (view v) (items_of (map view (drop (i + 1) all))) error
       (so_far ∙ ap (before xs) (from_here i v below is)) h
 
   pub list_done : (i : ℕ) (xs : List A) → length all ≤ i

@@ -1,4 +1,4 @@
--- What a value is, as its first node says.
+-- The kind of a value, by its first node.
 use Rattle.std.proofs.Common.{◌≡◌, ℕ, Bool, true, false, List, [], ◌∷◌, length, map, drop, Option, Some}
 use Rattle.std.proofs.Common.{None, is_some, get_or, arith, refl, sym, ap, ◌∙◌}
 use Rattle.std.specs.List.{slice_get}
@@ -14,7 +14,14 @@ use Rattle.deno_graph_json.specs.Tape.{node_of, IsArray, IsObject, HoldsPair}
 use Rattle.deno_graph_json.specs.View.{value_of, IsValueOf}
 use Rattle.deno_graph_json.specs.declared.flat.Element.{Element}
 use Rattle.deno_graph_json.specs.declared.flat.Node.{Node}
-use Rattle.deno_graph_json.specs.declared.flat.Node.TheVariants.{Null, Bool as TheBool, Whole, Number, String, Key}
+use Rattle.deno_graph_json.specs.declared.flat.Node.TheVariants.{
+  Null,
+  Bool as TheBool,
+  Whole,
+  Number,
+  String,
+  Key,
+}
 use Rattle.deno_graph_json.specs.declared.flat.Node.TheVariants.{Array, Object}
 use Rattle.deno_graph_json.proofs.Values.{plain_listed, is_value, is_items, is_members, of_value, of_items}
 use Rattle.deno_graph_json.proofs.Values.{of_members}
@@ -85,7 +92,7 @@ pub string_said : (e : Element) (node : Node) → node_of e ≡ Some node
     → as_str (value_of e) ≡ string_node (plain node)
 string_said = said as_str string_node string_first
 
--- ---- and what it isn't
+-- ---- kinds that a value doesn't have
 
 own_node : (e : Element) → (node : Node) × (node_of e ≡ Some node)
 own_node e = has_at e.nodes.now 0 e.has_node

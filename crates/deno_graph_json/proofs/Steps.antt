@@ -1,13 +1,19 @@
--- The steps from a value to those right in it.
+-- The steps from a value to its items or members.
 use Rattle.std.proofs.Common.{◌≡◌, ℕ, suc, ◌+◌, inl, inr, arith, refl, sym, subst, ◌∙◌}
 use Rattle.deno_graph_json.specs.Tape.{HasNode, HasValueAt, IsValueAt, ArePassed, HasMemberAt, IsMember}
 use Rattle.deno_graph_json.specs.Tape.{IsArray, IsObject, size_of}
 use Rattle.deno_graph_json.specs.Pointer.{index, name, Selects, HasInner}
 use Rattle.deno_graph_json.specs.declared.flat.Element.{Element}
-use Rattle.deno_graph_json.proofs.Places.{before_all, here_or_passed, none_here, member_before, here_or_behind}
+use Rattle.deno_graph_json.proofs.Places.{
+  before_all,
+  here_or_passed,
+  none_here,
+  member_before,
+  here_or_after,
+}
 use Rattle.deno_graph_json.proofs.Places.{no_member_here}
 
--- two values at one place have the same nodes
+-- two values at the same index have the same nodes
 same_node : (holder a b : Element) (at number : ℕ) → HasValueAt holder at → IsValueAt holder at a
     → IsValueAt holder at b → HasNode a number → HasNode b number
 same_node holder a b at number there is_a is_b has =
@@ -15,7 +21,7 @@ same_node holder a b at number there is_a is_b has =
     let other = is_b.2 there.0 there.1 in
     (omega (arith, is_a.0, is_b.0, has.0), omega (arith, is_a.0, is_b.0, one, other, has.1))
 
--- So many elements were passed, and none of them has the node.
+-- `count` elements were passed, and none of them has the node.
 abbrev pub ElementsMissed : Element → ℕ → ℕ → ℕ → Type 0
 ElementsMissed array number from count =
     ((more : ℕ) → (place : ℕ) → ArePassed array from more place → ArePassed array 1 (count + more) place)
@@ -30,17 +36,17 @@ elements_missed_none array number = (
 )
 
 module _ (array value : Element) (number from next : ℕ) (is : IsValueAt array from value)
-    (behind : next ≡ from + size_of value) (there : HasValueAt array from) where
+    (next_is : next ≡ from + size_of value) (there : HasValueAt array from) where
   pub element_missed : (count : ℕ) → (HasNode value number → ⊥) → ElementsMissed array number from count
       → ElementsMissed array number next (count + 1)
   element_missed count other missed = (
     λ more place passed.
         let sum : count + suc more ≡ count + 1 + more = omega arith in
         subst (λ n. ArePassed array 1 n place) sum
-        (missed.0 (suc more) place (before_all array value from next is behind more place there passed)),
+        (missed.0 (suc more) place (before_all array value from next is next_is more place there passed)),
     λ more place inner passed has_value is_inner has.
         let left = missed.1 more place inner passed has_value is_inner has in
-        elim (here_or_passed array value from next is behind left.0 place left.1) [
+        elim (here_or_passed array value from next is next_is left.0 place left.1) [
           | inl here ↦
               absurd (other
               (same_node array inner value from number there
@@ -75,13 +81,13 @@ pub members_missed_none : (object : Element) (number : ℕ) → MembersMissed ob
 members_missed_none object number = (λ later is. is, λ later inner is at has. is)
 
 module _ (object value : Element) (number from next : ℕ) (is : IsValueAt object (from + 1) value)
-    (behind : next ≡ from + 1 + size_of value) (there : HasMemberAt object from) where
+    (next_is : next ≡ from + 1 + size_of value) (there : HasMemberAt object from) where
   pub member_missed : (HasNode value number → ⊥) → MembersMissed object number from
       → MembersMissed object number next
   member_missed other missed = (
-    λ later rest. missed.0 later (member_before object value from next is behind later there rest),
+    λ later rest. missed.0 later (member_before object value from next is next_is later there rest),
     λ later inner is_member is_inner has.
-        elim (here_or_behind object value from next is behind later
+        elim (here_or_after object value from next is next_is later
         (missed.1 later inner is_member is_inner has)) [
           | inl here ↦
               absurd (other

@@ -1,4 +1,4 @@
--- What the tokens of a form print, and the tokens of an object by its table.
+-- The text of a value's tokens, and the tokens of an object by its entries.
 use Rattle.std.proofs.Common.{◌≡◌, ℕ, List, [], ◌∷◌, ◌++◌, true, Option, Some, None, refl, sym, ap, ◌∙◌}
 use Rattle.std.proofs.Common.{append_assoc}
 use Rattle.json.specs.Token.{Token, key, begin_object, end_object}
@@ -12,11 +12,11 @@ use Rattle.deno_graph_json.specs.Object.{Entry, object_of, with_present, with_en
 use Rattle.deno_graph_json.specs.Text.{text_tokens, with_member_text}
 use Rattle.deno_graph_json.proofs.Ascending.{ascending, first_present, present, put_entries-present}
 
--- the text of a form's tokens
+-- the text of a value's tokens
 pub print-text_tokens : (d : Data) (ts : List Token) → ts ≡ text_tokens d → print ts ≡ compact_text d
 print-text_tokens d ts is = ap print is ∙ print-outline d
 
--- the tokens of members, with the brace that closes the object
+-- the tokens of members, followed by the brace that closes the object
 abbrev members_text : Members → List Token
 members_text ms = members_tokens (members_outline ms)
 
@@ -25,14 +25,14 @@ entry_text : (k : List ℕ) (o : Option Data) (ms : Members) (ts : List Token)
 entry_text k None ms ts = refl
 entry_text k (Some d) ms ts = append_assoc ts (key k ∷ text_tokens d) (members_text ms)
 
--- the entries of a table, and the brace behind them
+-- the entries, followed by the brace that closes the object
 entries_text : (es : List Entry) (ts : List Token)
     → with_entries with_member_text es ts ++ end_object ∷ [] ≡ ts ++ members_text (present es)
 entries_text [] ts = refl
 entries_text (e ∷ es) ts =
     entries_text es (with_present with_member_text e.0 e.1 ts) ∙ entry_text e.0 e.1 (present es) ts
 
--- a table whose keys ascend, in braces, is its object
+-- entries whose keys ascend, in braces, are their object
 pub object_text : (es : List Entry) (ts : List Token) → has_ascending_keys es ≡ true
     → with_entries with_member_text es (ts ++ begin_object ∷ []) ++ end_object ∷ []
     ≡ ts ++ text_tokens (object_of es)

@@ -1,4 +1,4 @@
--- A list of nodes is that of one value at most, and the values in a list.
+-- A list of nodes is the flat list of at most one value, and the values in a list.
 use Rattle.std.proofs.Common.{
   ◌≡◌,
   ℕ,
@@ -29,7 +29,15 @@ use Rattle.std.proofs.lemmas.List.{take_at, drop_at}
 use Rattle.std.specs.Str.Parse.{digits_value}
 use Rattle.json.specs.Json.{Json}
 use Rattle.json.specs.Json as json
-use Rattle.deno_graph_json.specs.Flat.{PlainNode, plain, number_node, is_whole, flat_list, items_list, members_list}
+use Rattle.deno_graph_json.specs.Flat.{
+  PlainNode,
+  plain,
+  number_node,
+  is_whole,
+  flat_list,
+  items_list,
+  members_list,
+}
 use Rattle.deno_graph_json.specs.Flat as flat
 use Rattle.deno_graph_json.specs.Value.{
   Value,
@@ -53,7 +61,7 @@ use Rattle.deno_graph_json.specs.Value.{
   flat_value,
   flat_items,
   flat_members,
-  behind,
+  after_value,
   value_within,
   items_within,
   members_within,
@@ -72,19 +80,19 @@ some_value (string s) = omega arith
 some_value (array vs) = omega arith
 some_value (object ms) = omega arith
 
-pub behind_front : (v : Value) (r : List PlainNode) → behind (flat_value v ++ r) ≡ r
+pub after_value_front : (v : Value) (r : List PlainNode) → after_value (flat_value v ++ r) ≡ r
 unfolding flat_value
-behind_front null r = refl
-behind_front (boolean b) r = refl
-behind_front (whole n) r = refl
-behind_front number r = refl
-behind_front (string s) r = refl
-behind_front (array vs) r = drop_at (flat_items vs) r (length (flat_items vs)) refl
-behind_front (object ms) r = drop_at (flat_members ms) r (length (flat_members ms)) refl
+after_value_front null r = refl
+after_value_front (boolean b) r = refl
+after_value_front (whole n) r = refl
+after_value_front number r = refl
+after_value_front (string s) r = refl
+after_value_front (array vs) r = drop_at (flat_items vs) r (length (flat_items vs)) refl
+after_value_front (object ms) r = drop_at (flat_members ms) r (length (flat_members ms)) refl
 
 first_item : (v : Value) (r : List PlainNode) (n : ℕ)
     → items_within (suc n) (flat_value v ++ r) ≡ item (value_within n (flat_value v ++ r))
-    (items_within n (behind (flat_value v ++ r)))
+    (items_within n (after_value (flat_value v ++ r)))
 unfolding flat_value items_within
 first_item null r n = refl
 first_item (boolean b) r n = refl
@@ -126,9 +134,9 @@ mutual
   in_items (item v vs) (suc n) enough =
       let all = length-append (flat_value v) (flat_items vs) in
       first_item v (flat_items vs) n
-      ∙ ap (λ w. item w (items_within n (behind (flat_value v ++ flat_items vs))))
+      ∙ ap (λ w. item w (items_within n (after_value (flat_value v ++ flat_items vs))))
       (in_value v n (flat_items vs) (omega (arith, all)))
-      ∙ ap (λ l. item v (items_within n l)) (behind_front v (flat_items vs))
+      ∙ ap (λ l. item v (items_within n l)) (after_value_front v (flat_items vs))
       ∙ ap (item v) (in_items vs n (omega (arith, all, some_value v)))
 
   pub in_members : (ms : Members) (n : ℕ) → 2 * length (flat_members ms) ≤ n
@@ -138,9 +146,9 @@ mutual
   in_members (member k v ms) zero enough = absurd (omega arith)
   in_members (member k v ms) (suc n) enough =
       let all = length-append (flat_value v) (flat_members ms) in
-      ap (λ w. member k w (members_within n (behind (flat_value v ++ flat_members ms))))
+      ap (λ w. member k w (members_within n (after_value (flat_value v ++ flat_members ms))))
       (in_value v n (flat_members ms) (omega (arith, all)))
-      ∙ ap (λ l. member k v (members_within n l)) (behind_front v (flat_members ms))
+      ∙ ap (λ l. member k v (members_within n l)) (after_value_front v (flat_members ms))
       ∙ ap (member k v) (in_members ms n (omega (arith, all, some_value v)))
 
 pub same_front : (v w : Value) (r s : List PlainNode) → flat_value v ++ r ≡ flat_value w ++ s
@@ -148,10 +156,10 @@ pub same_front : (v w : Value) (r s : List PlainNode) → flat_value v ++ r ≡ 
 same_front v w r s e =
     let n = 2 * length (flat_value v) + 2 * length (flat_value w) in (
       sym (in_value v n r (omega arith)) ∙ ap (value_within n) e ∙ in_value w n s (omega arith),
-      sym (behind_front v r) ∙ ap behind e ∙ behind_front w s,
+      sym (after_value_front v r) ∙ ap after_value e ∙ after_value_front w s,
     )
 
--- ---- what a list is of
+-- ---- the value of a list
 
 pub is_value : (nodes : List PlainNode) (v : Value) → nodes ≡ flat_value v → value_in nodes ≡ v
 unfolding value_in
@@ -183,7 +191,7 @@ pub of_members : (nodes : List PlainNode) (ms : Members) → nodes ≡ flat_memb
     → flat_members (members_in nodes) ≡ nodes
 of_members nodes ms e = ap flat_members (is_members nodes ms e) ∙ sym e
 
--- ---- what is kept of a value of JSON
+-- ---- the part of a JSON value that is kept
 
 same_count : (js : json.Items) → item_count (plain_items js) ≡ flat.element_count js
 unfolding plain_value

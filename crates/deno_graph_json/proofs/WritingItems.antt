@@ -33,21 +33,21 @@ use Rattle.deno_graph_json.specs.Object.{with_entries, map_entries}
 use Rattle.deno_graph_json.specs.Text.{text_tokens}
 
 module _ {A : Type 0} (P : A → Type 0) (xs : List A) (i : ℕ) where
-  -- what holds of the items so far holds with one item more
+  -- a property of the items so far holds with one more item
   pub held_more : (x : A) → i < length xs → x ≡ get_or xs i x → All P (take i xs) → P x
       → All P (take (i + 1) xs)
   held_more x below is so_far here = All-more P xs i x below so_far (subst P is here)
 
-  -- and at the end of all items
+  -- at the end it holds of all items
   pub held_all : length xs ≤ i → All P (take i xs) → All P xs
   held_all past so_far = subst (All P) (take_all i xs past) so_far
 
--- the tokens of items, with the bracket that closes the array
+-- the tokens of items, followed by the bracket that closes the array
 abbrev pub items_text : {A : Type 0} → (A → Data) → List A → List Token
 items_text json xs = items_tokens (items_outline (items_of (map json xs)))
 
 module _ {A : Type 0} (json : A → Data) (xs : List A) (i : ℕ) where
-  -- the values so far are the forms of the items so far, also with one item more
+  -- the values so far are the JSON of the items so far, also after one more item
   pub forms_more : (x : A) (vs new : List Value) (v : Value) → i < length xs → x ≡ get_or xs i x
       → map view vs ≡ map json (take i xs) → view v ≡ json x → new ≡ vs ++ v ∷ []
       → map view new ≡ map json (take (i + 1) xs)
@@ -58,13 +58,13 @@ module _ {A : Type 0} (json : A → Data) (xs : List A) (i : ℕ) where
       ∙ sym (map-append json (take i xs) (get_or xs i x ∷ []))
       ∙ ap (map json) (sym (take_more xs i x below))
 
-  -- and at the end of all items
+  -- at the end it holds of all items
   pub forms_all : (ds : List Data) → length xs ≤ i → ds ≡ map json (take i xs)
       → array (items_of ds) ≡ array (items_of (map json xs))
   forms_all ds past so_far =
       ap (λ es. array (items_of es)) (so_far ∙ ap (map json) (take_all i xs past))
 
-  -- with the tokens of the items that are left, the text stays the same as an item is written
+  -- the text so far, with the tokens of the items that are left, is the same after an item is written
   pub text_more : (x : A) (out new whole : List Token) → i < length xs → x ≡ get_or xs i x
       → out ++ items_text json (drop i xs) ≡ whole → new ≡ out ++ text_tokens (json x)
       → new ++ items_text json (drop (i + 1) xs) ≡ whole
@@ -75,7 +75,7 @@ module _ {A : Type 0} (json : A → Data) (xs : List A) (i : ℕ) where
       ∙ ap (λ ts. out ++ ts) (sym (at_drop_more (items_text json) xs i x below))
       ∙ so_far
 
-  -- and no item is left at the end
+  -- at the end no item is left
   pub text_all : (before out new begun : List Token) → length xs ≤ i → begun ≡ before ++ begin_array ∷ []
       → out ++ items_text json (drop i xs) ≡ begun ++ items_text json xs → new ≡ out ++ end_array ∷ []
       → new ≡ before ++ begin_array ∷ items_text json xs
@@ -89,12 +89,12 @@ module _ {A S : Type 0} (with_member : List ℕ → Data → S → S) (json : A 
   abbrev pub with_map : List (List ℕ × A) → S → S
   with_map es s = with_entries with_member (map_entries json es) s
 
-  -- with the members of the entries that are left, the state stays the same as an entry is put
+  -- the state so far, with the members of the entries that are left, is the same after an entry is put
   pub map_more : (es rest : List (List ℕ × A)) (k : List ℕ) (x : A) (old new whole : S) → es ≡ (k, x) ∷ rest
       → with_map es old ≡ whole → new ≡ with_member k (json x) old → with_map rest new ≡ whole
   map_more es rest k x old new whole is so_far put =
       ap (with_map rest) put ∙ ap (λ all. with_map all old) (sym is) ∙ so_far
 
-  -- and no entry is left at the end
+  -- at the end no entry is left
   pub map_all : (es : List (List ℕ × A)) (s whole : S) → es ≡ [] → with_map es s ≡ whole → s ≡ whole
   map_all es s whole none so_far = ap (λ all. with_map all s) (sym none) ∙ so_far

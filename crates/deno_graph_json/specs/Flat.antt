@@ -1,4 +1,4 @@
--- The flat list of a JSON value (RFC 8259), and the texts that are read.
+-- The flat list of a JSON value (RFC 8259), and the texts that can be read.
 use Rattle.std.specs.Prelude.{◌≡◌, ℕ, ◌+◌, ◌^◌, ◌≤◌, Bool, true, false, ◌&&◌, ◌||◌, nat_lt, if◌then◌else◌}
 use Rattle.std.specs.Prelude.{List, [], ◌∷◌, ◌++◌, length, map, IsTrue}
 use Rattle.std.specs.List.{list_all}
@@ -15,7 +15,7 @@ use Rattle.json.specs.Tree.{json_tokens, depth}
 use Rattle.deno_graph_json.specs.declared.flat.Node.{Node}
 use Rattle.deno_graph_json.specs.declared.flat.Node.TheVariants as node
 
--- what a node says, with a text in place of the reference to it
+-- a node with its text in place of a reference to the text
 pub data PlainNode : Type 0 where
   null : PlainNode
   boolean : Bool → PlainNode
@@ -36,7 +36,7 @@ plain (node.Key s) = key s.now
 plain (node.Array elements nodes) = array elements nodes
 plain (node.Object nodes) = object nodes
 
--- the text is digits alone, and writes a number below 2^64
+-- whether the text is only digits, of a number below 2^64
 abbrev pub is_whole : List ℕ → Bool
 is_whole text = nat_lt 0 (length text) && all_ascii_digits text && nat_lt (digits_value 10 text) (2 ^ 64)
 
@@ -47,7 +47,7 @@ abbrev pub element_count : Items → ℕ
 element_count no_items = 0
 element_count (item j js) = element_count js + 1
 
--- A value's node, and behind it those of what is in it.
+-- The node of a value, followed by the nodes of its items or members.
 abbrev mutual
   pub flat_list : Json → List PlainNode
   flat_list json.null = null ∷ []
@@ -65,7 +65,7 @@ abbrev mutual
   members_list no_members = []
   members_list (member k j ms) = key k ∷ (flat_list j ++ members_list ms)
 
--- The number is a plain whole one below 2^64, or the float nearest to it is finite.
+-- whether the number is a whole number below 2^64, or the nearest float is finite
 abbrev pub number_fits : List ℕ → Bool
 number_fits text = is_whole text || option_map_or float_is_finite (parse_float binary64 text) false
 
@@ -73,29 +73,15 @@ abbrev pub token_fits : Token → Bool
 token_fits (Token.number text) = number_fits text
 token_fits _ = true
 
--- The tokens begin with those of the value, which nests so deep at most, and the rest comes behind.
-abbrev pub IsAhead : ℕ → Json → List Token → List Token → Type 0
-IsAhead most j ahead rest = (ahead ≡ json_tokens j ++ rest) × (depth j ≤ most)
-    × IsTrue (list_all token_fits (json_tokens j))
-
--- the tokens begin with no such value
-abbrev pub NoneAhead : ℕ → List Token → Type 0
-NoneAhead most ahead = (j : Json) → (rest : List Token) → IsAhead most j ahead rest → ⊥
-
--- such a value was passed, and its flat list was put behind the nodes
-abbrev pub IsPut : ℕ → List Token → List Token → List Node → List Node → Type 0
-IsPut most ahead rest old new =
-    (j : Json) × IsAhead most j ahead rest × (map plain new ≡ map plain old ++ flat_list j)
-
--- The text is this value, arrays and objects nest to 127 at most, and each number fits.
+-- The text is this value, arrays and objects nest at most 127 deep, and each number fits.
 abbrev pub IsTextOf : List ℕ → Json → Type 0
 IsTextOf text j = (tokens text ≡ json_tokens j) × (depth j ≤ 127)
     × IsTrue (list_all token_fits (json_tokens j))
 
--- the nodes are the flat list of the value that the text is
+-- the text is a value, and the nodes are the value's flat list
 abbrev pub IsFlatText : List ℕ → List Node → Type 0
 IsFlatText text nodes = (j : Json) × IsTextOf text j × (map plain nodes ≡ flat_list j)
 
--- the text is no value that is read
-abbrev pub IsRefused : List ℕ → Type 0
-IsRefused text = (j : Json) → IsTextOf text j → ⊥
+-- the text isn't a value that can be read
+abbrev pub IsUnreadable : List ℕ → Type 0
+IsUnreadable text = (j : Json) → IsTextOf text j → ⊥

@@ -1,3 +1,3 @@
--- The JSON of a type, a file for each type.
+-- The JSON of a type: one file per type.
 pub mod Position
 pub mod ResolutionMode

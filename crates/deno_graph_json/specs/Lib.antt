@@ -10,3 +10,4 @@ pub mod Tape
 pub mod Text
 pub mod Value
 pub mod View
+pub mod internal

@@ -1,4 +1,4 @@
--- What a writer of an object has written.
+-- The members that an `ObjectWriter` has written.
 use Rattle.serde_json.specs.Data.{Members}
 use Rattle.serde_json.specs.View.{members_view}
 use Rattle.deno_graph_json.specs.declared.object_writer.ObjectWriter.{ObjectWriter}

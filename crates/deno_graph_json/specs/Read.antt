@@ -1,5 +1,5 @@
--- What every reader does.
-pub mod Answer
+-- The contract of every reader.
 pub mod Error
 pub mod Expected
 pub mod Partial
+pub mod Result

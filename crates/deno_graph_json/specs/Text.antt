@@ -1,4 +1,4 @@
--- JSON text, as its tokens.
+-- JSON text as a list of tokens.
 use Rattle.std.specs.Prelude.{ℕ, List, ◌∷◌, ◌++◌}
 use Rattle.json.specs.Token.{Token, key}
 use Rattle.json.specs.Tree.{json_tokens}
@@ -9,6 +9,6 @@ use Rattle.serde_json.specs.Written.{outline}
 abbrev pub text_tokens : Data → List Token
 text_tokens d = json_tokens (outline d)
 
--- the tokens, and those of a member behind them
+-- the tokens, followed by those of a member
 abbrev pub with_member_text : List ℕ → Data → List Token → List Token
 with_member_text k d ts = ts ++ key k ∷ text_tokens d

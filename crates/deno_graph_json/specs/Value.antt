@@ -1,5 +1,5 @@
--- What a flat list keeps of a JSON value (RFC 8259), and how to look into it.
-use Rattle.std.specs.Prelude.{◌≡◌, ℕ, zero, suc, ◌+◌, ◌*◌, ◌<◌, Bool, true, false, if◌then◌else◌}
+-- A JSON value (RFC 8259) as a flat list keeps it, and how to look into the value.
+use Rattle.std.specs.Prelude.{◌≡◌, ℕ, zero, suc, ◌+◌, ◌*◌, Bool, true, false, if◌then◌else◌}
 use Rattle.std.specs.Prelude.{List, [], ◌∷◌, ◌++◌, length, take, drop, Option, Some, None}
 use Rattle.std.specs.Str.{bytes_eq}
 use Rattle.std.specs.Str.Parse.{digits_value}
@@ -9,7 +9,7 @@ use Rattle.deno_graph_json.specs.Flat.{PlainNode, is_whole}
 use Rattle.deno_graph_json.specs.Flat as flat
 
 mutual
-  -- A whole number is one that is written as one, below 2^64. Of any other number nothing is kept.
+  -- `whole` is a number below 2^64 that is written with digits only. Of any other number nothing is kept.
   pub data Value : Type 0 where
     null : Value
     boolean : Bool → Value
@@ -34,7 +34,7 @@ item_count (item v vs) = item_count vs + 1
 abbrev pub number_value : List ℕ → Value
 number_value text = if is_whole text then whole (digits_value 10 text) else number
 
--- what is kept of the value
+-- the part of a JSON value that a flat list keeps
 unfoldable mutual
   pub plain_value : Json → Value
   plain_value json.null = null
@@ -52,7 +52,7 @@ unfoldable mutual
   plain_members json.no_members = no_members
   plain_members (json.member k j ms) = member k (plain_value j) (plain_members ms)
 
--- A value's node, and behind it those of what is in it.
+-- The node of a value, followed by the nodes of its items or members.
 unfoldable mutual
   pub flat_value : Value → List PlainNode
   flat_value null = flat.null ∷ []
@@ -71,9 +71,9 @@ unfoldable mutual
   flat_members no_members = []
   flat_members (member k v ms) = flat.key k ∷ (flat_value v ++ flat_members ms)
 
--- ---- from the list back to the value
+-- ---- the value of a flat list
 
--- how many nodes are in the value of this node
+-- the number of nodes in the value, after this node
 abbrev pub plain_inside : PlainNode → ℕ
 plain_inside flat.null = 0
 plain_inside (flat.boolean _) = 0
@@ -84,12 +84,12 @@ plain_inside (flat.key _) = 0
 plain_inside (flat.array _ nodes) = nodes
 plain_inside (flat.object nodes) = nodes
 
--- what is behind the first value
-abbrev pub behind : List PlainNode → List PlainNode
-behind [] = []
-behind (n ∷ ns) = drop (plain_inside n) ns
+-- the nodes after the first value
+abbrev pub after_value : List PlainNode → List PlainNode
+after_value [] = []
+after_value (n ∷ ns) = drop (plain_inside n) ns
 
--- The number bounds the turns. Twice the count of the nodes is always enough.
+-- The first argument bounds the recursion: twice the number of the nodes is always enough.
 unfoldable mutual
   pub value_within : ℕ → List PlainNode → Value
   value_within zero ns = null
@@ -107,7 +107,7 @@ unfoldable mutual
   items_within zero ns = no_items
   items_within (suc turns) [] = no_items
   items_within (suc turns) (n ∷ ns) =
-      item (value_within turns (n ∷ ns)) (items_within turns (behind (n ∷ ns)))
+      item (value_within turns (n ∷ ns)) (items_within turns (after_value (n ∷ ns)))
 
   pub members_within : ℕ → List PlainNode → Members
   members_within zero ns = no_members
@@ -118,11 +118,11 @@ unfoldable mutual
   members_within (suc turns) (flat.number ∷ ns) = no_members
   members_within (suc turns) (flat.string s ∷ ns) = no_members
   members_within (suc turns) (flat.key k ∷ ns) =
-      member k (value_within turns ns) (members_within turns (behind ns))
+      member k (value_within turns ns) (members_within turns (after_value ns))
   members_within (suc turns) (flat.array _ nodes ∷ ns) = no_members
   members_within (suc turns) (flat.object nodes ∷ ns) = no_members
 
--- the value, the items and the members that have these nodes
+-- the value, the items and the members with these nodes
 unfoldable pub value_in : List PlainNode → Value
 value_in nodes = value_within (2 * length nodes) nodes
 
@@ -141,10 +141,6 @@ AreOfItems nodes = flat_items (items_in nodes) ≡ nodes
 
 abbrev pub AreOfMembers : List PlainNode → Type 0
 AreOfMembers nodes = flat_members (members_in nodes) ≡ nodes
-
--- where there is a node, the list begins with that of a value
-abbrev pub BeginsValue : List PlainNode → Type 0
-BeginsValue nodes = 0 < length nodes → (v : Value) × (rest : List PlainNode) × (nodes ≡ flat_value v ++ rest)
 
 -- ---- looking into a value
 

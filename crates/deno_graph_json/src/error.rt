@@ -16,25 +16,25 @@ pub enum ReadError {
     OutOfMemory,
 }
 
-/// A value that isn't what was expected, and where it is in the value that is read.
+/// A value that isn't what was expected, and the path to it from the value that is read.
 #[derive(Drop)]
 pub struct Mismatch {
-    /// The steps to the value, from the inside out: the last one is the first to take.
+    /// The steps to the value, from the inside out: the last step is the first to take.
     pub path: Items<Step>,
     pub expected: Expected,
 }
 
-/// A step from a JSON value to a value right in it.
+/// A step from a JSON array or object to one of its values.
 #[derive(Drop)]
 pub enum Step {
-    /// To the item of this number, from zero.
+    /// To the item with this index, counted from zero.
     Item(usize),
-    /// To the member of this name.
+    /// To the member with this name.
     Member(Text),
 }
 
 impl ReadError {
-    /// The error of the whole value. Takes no memory.
+    /// Returns the error of the whole value. Allocates nothing.
     pub fn expected(alloc: Global, expected: Expected) -> ReadError
         ensures { result ≡ mismatch [] expected }
     {
@@ -44,7 +44,8 @@ impl ReadError {
         })
     }
 
-    /// The error of an object, from the error of its member `name`.
+    /// Turns the error of a member into the error of the object: adds the step to the member `name`.
+    /// Returns `OutOfMemory` if an allocation fails.
     pub fn in_member(self, alloc: Global, name: &str) -> ReadError
         ensures place { (object member : Data) → get name.now object ≡ Some member
             → IsIn member self → IsIn object result }
@@ -56,7 +57,8 @@ impl ReadError {
         }
     }
 
-    /// The error of an array, from the error of its item of this number.
+    /// Turns the error of an item into the error of the array: adds the step to the item with this
+    /// index. Returns `OutOfMemory` if an allocation fails.
     pub fn in_item(self, number: usize) -> ReadError
         ensures place { (array item : Data) → at number array ≡ Some item
             → IsIn item self → IsIn array result }
@@ -65,6 +67,7 @@ impl ReadError {
         self.in_step(Step::Item(number))
     }
 
+    /// Adds a step around the path.
     fn in_step(self, step: Step) -> ReadError
         ensures place { (outer inner : Data) → step_into step outer ≡ Some inner
             → IsIn inner self → IsIn outer result }

@@ -10,28 +10,28 @@ pub enum Expected {
     Bool,
     /// A whole number from 0 to 2^64 - 1.
     Whole,
-    /// Any number but one with a point or an exponent.
+    /// A number without a point and an exponent.
     Integer,
     String,
     Array,
     Object,
-    /// An array of two. The text says of which.
+    /// An array of two, which the text describes in words.
     Pair(&'static str),
-    /// An object with a member of this name.
+    /// An object with a member that has this name.
     Member(&'static str),
     /// One of two strings.
     Either(&'static str, &'static str),
-    /// A value of one of these forms, which the text describes in words.
+    /// A value that has one of these forms, which the text describes in words.
     OneOf(&'static str, &'static [Form]),
 }
 
-/// A form of JSON values.
+/// A form that a JSON value can have.
 #[derive(Clone, Copy, Debug, PartialEq, Eq)]
 pub enum Form {
     Null,
     /// Any string.
     String,
-    /// This very string.
+    /// The string with this text.
     Name(&'static str),
     Array,
     /// An object with exactly one member.
@@ -39,7 +39,7 @@ pub enum Form {
 }
 
 impl Expected {
-    /// What is expected, in words.
+    /// Returns what is expected, in words. The only error is that an allocation fails.
     pub fn to_words(self, alloc: Global) -> Result<String, AllocError>
         ensures { IfOk result (λ text. string_bytes text ≡ words self) }
     {

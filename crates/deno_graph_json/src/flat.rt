@@ -1,8 +1,8 @@
-//! A JSON text as a flat list: the items of an array and the members of an object come right after
-//! it.
+//! A JSON text as a flat list of nodes: the items of an array and the members of an object come right
+//! after its node.
 //!
-//! It accepts the texts that `serde_json` accepts. Only strings with escapes are copied, into the
-//! scratch. Each node takes 24 bytes.
+//! Accepts the texts that `serde_json` accepts. Copies only strings with escapes, into the scratch.
+//! Each node takes 24 bytes.
 
 ghost use Rattle.std.specs.Prelude.{◌≡◌, ◌<◌, ◌≤◌, ◌+◌, ◌-◌, ◌^◌, ◌↔◌, length, vec_len, IfSome, IsTrue};
 ghost use Rattle.std.specs.Prelude.{map, drop};
@@ -22,20 +22,20 @@ use std::alloc::Global;
 pub enum Node<'a> {
     Null,
     Bool(bool),
-    /// A number without a sign, a point and an exponent, up to 2^64 - 1.
+    /// A number without a sign, a point and an exponent, at most 2^64 - 1.
     Whole(u64),
     /// Any other number.
     Number,
     String(&'a str),
-    /// The name of a member. Its value comes after it.
+    /// The name of a member. The nodes of its value follow.
     Key(&'a str),
-    /// An array: how many elements it has, and how many nodes after it they take.
+    /// An array: the number of its elements, and the number of nodes that they take after this node.
     Array { elements: usize, nodes: usize },
-    /// An object, and how many nodes after it its members take.
+    /// An object, and the number of nodes that its members take after this node.
     Object { nodes: usize },
 }
 
-/// A JSON text that was read. Its strings are borrowed from the text, strings with escapes from the
+/// The nodes of a JSON text. Strings are borrowed from the text, strings with escapes from the
 /// scratch.
 #[derive(Drop)]
 pub struct Tape<'a> {
@@ -46,13 +46,13 @@ pub struct Tape<'a> {
 
 impl<'a> Tape<'a> {
     ghost use Rattle.std.specs.Prelude.{ℕ, IfOk, Err};
-    ghost use Rattle.deno_graph_json.specs.Flat.{IsFlatText, IsRefused};
+    ghost use Rattle.deno_graph_json.specs.Flat.{IsFlatText, IsUnreadable};
     ghost use Rattle.deno_graph_json.specs.Tape.{node_count, size_of, number_of, tape_nodes, all_nodes};
     ghost use Rattle.deno_graph_json.specs.View.{tape_value, value_of, IsValueOf};
     ghost use Rattle.deno_graph_json.specs.declared.flat.fault.TapeFault.TheVariants.{Json};
 
     /// Reads a text to its end. Returns `Json` if the text isn't one JSON value, nests deeper than
-    /// 127 or has a number too large for a float, and `OutOfMemory` if memory ran out.
+    /// 127 or has a number too large for a float, and `OutOfMemory` if an allocation fails.
     pub fn read(
         alloc: Global,
         text: &'a str,
@@ -60,13 +60,13 @@ impl<'a> Tape<'a> {
     ) -> Result<Tape<'a>, TapeFault>
         ensures flat { IfOk result (λ tape. IsFlatText text.now (tape_nodes tape)) }
         ensures value { IfOk result (λ tape. IsValueOf text.now (tape_value tape)) }
-        ensures refused { (offset : ℕ) → result ≡ Err (Json offset) → IsRefused text.now }
+        ensures unreadable { (offset : ℕ) → result ≡ Err (Json offset) → IsUnreadable text.now }
     {
         let nodes = parse::read(alloc, text, scratch)?;
         Ok(Tape { nodes })
     }
 
-    /// The value of the whole text.
+    /// Returns the value of the whole text.
     pub fn root(&self) -> Element<'_>
         ensures number { number_of result ≡ 0 }
         ensures nodes { size_of result ≡ node_count self.now }
@@ -80,11 +80,12 @@ impl<'a> Tape<'a> {
     }
 }
 
-/// A value of a tape.
+/// A value in a tape.
 #[derive(Clone, Copy)]
 pub struct Element<'a> {
-    /// The value's node, and the nodes of its items or members.
+    /// The node of the value, and the nodes of its items or members.
     nodes: &'a [Node<'a>],
+    /// Index of the value's node in the tape.
     number: usize,
     ghost has_node: { 0 < length nodes.now },
     ghost number_fits: { number + length nodes.now < 2 ^ 64 },
@@ -97,24 +98,25 @@ impl<'a> Element<'a> {
     ghost use Rattle.deno_graph_json.specs.Tape.{IsArray, IsObject, IsString, HasCount, HasValueAt, HoldsPair};
     ghost use Rattle.deno_graph_json.specs.Tape.{IsValueAt, array_of_elements, left_of, object_of_members, place_of};
     ghost use Rattle.deno_graph_json.specs.Value.{is_null, as_bool, as_whole, as_pair, as_str, as_array};
-    ghost use Rattle.deno_graph_json.specs.Value.{as_object, item_count, BeginsValue};
+    ghost use Rattle.deno_graph_json.specs.Value.{as_object, item_count};
+    ghost use Rattle.deno_graph_json.specs.internal.Nodes.{BeginsValue};
     ghost use Rattle.deno_graph_json.specs.View.{value_of, items_left, members_of};
 
-    /// The number of its node in the tape: 0 for the value of the whole text.
+    /// Returns the index of the value's node in the tape: 0 for the value of the whole text.
     pub fn number(self) -> usize
         ensures { result ≡ number_of self.entry }
     {
         self.number
     }
 
-    /// Whether this is the number of one of its nodes.
+    /// Returns whether the node with this index is one of the value's nodes.
     pub(crate) fn has_node(self, number: usize) -> bool
         ensures { IsTrue result ↔ HasNode self.entry number }
     {
         number >= self.number && number - self.number < self.nodes.len()
     }
 
-    /// Whether it is null.
+    /// Returns whether the value is null.
     pub fn is_null(self) -> bool
         ensures node { IsTrue result ↔ (node_of self.entry ≡ Some Node.Null) }
         ensures value { result ≡ is_null (value_of self.entry) }
@@ -122,7 +124,7 @@ impl<'a> Element<'a> {
         matches!(self.nodes.first(), Some(Node::Null))
     }
 
-    /// The truth value, where it is one.
+    /// Returns the value if it is `true` or `false`.
     pub fn as_bool(self) -> Option<bool>
         ensures node { (value : Bool) → (result ≡ Some value)
             ↔ (node_of self.entry ≡ Some (Node.Bool value)) }
@@ -134,7 +136,7 @@ impl<'a> Element<'a> {
         }
     }
 
-    /// The whole number, where it is one from 0 to 2^64 - 1.
+    /// Returns the number if it is whole, without a sign, a point and an exponent, at most 2^64 - 1.
     pub fn as_u64(self) -> Option<u64>
         ensures node { (number : ℕ) → (result ≡ Some number)
             ↔ (node_of self.entry ≡ Some (Node.Whole number)) }
@@ -146,7 +148,7 @@ impl<'a> Element<'a> {
         }
     }
 
-    /// The two whole numbers of an array, where it holds just them.
+    /// Returns the two numbers of an array of exactly two whole numbers.
     pub fn as_pair(self) -> Option<(u64, u64)>
         ensures array { IsSome result → IsArray self.entry }
         ensures pair { IfSome result (λ pair. HoldsPair self.entry pair.0 pair.1) }
@@ -162,7 +164,7 @@ impl<'a> Element<'a> {
         }
     }
 
-    /// The text, where it is a string.
+    /// Returns the text if the value is a string.
     pub fn as_str(self) -> Option<&'a str>
         ensures text { IfSome result (λ text. node_of self.entry ≡ Some (Node.String text)) }
         ensures some { IsString self.entry → IsSome result }
@@ -174,7 +176,7 @@ impl<'a> Element<'a> {
         }
     }
 
-    /// The elements, where it is an array.
+    /// Returns the elements if the value is an array.
     pub fn elements(self) -> Option<Elements<'a>>
         ensures some { IsSome result ↔ IsArray self.entry }
         ensures array { IfSome result (λ found. TakesSame (array_of_elements found) self.entry) }
@@ -195,7 +197,7 @@ impl<'a> Element<'a> {
         }
     }
 
-    /// The members, where it is an object.
+    /// Returns the members if the value is an object.
     pub fn members(self) -> Option<Members<'a>>
         ensures some { IsSome result ↔ IsObject self.entry }
         ensures object { IfSome result (λ found. TakesSame (object_of_members found) self.entry) }
@@ -208,7 +210,7 @@ impl<'a> Element<'a> {
         }
     }
 
-    /// The value that begins at a place of its nodes, and the place behind it.
+    /// Returns the value that begins at index `at` of the nodes, and the index after that value.
     #[inline(always)]
     fn value_at(self, at: usize) -> Option<(Element<'a>, usize)>
         requires { BeginsValue (map plain (drop at self.nodes.now)) }
@@ -232,14 +234,14 @@ impl<'a> Element<'a> {
     }
 }
 
-/// The elements of an array from one of them on.
+/// An iterator over the elements of an array, or over those that are left.
 #[derive(Drop)]
 pub struct Elements<'a> {
     array: Element<'a>,
     count: usize,
-    /// The place of the next element among the array's nodes.
+    /// Index of the next element among the array's nodes.
     at: usize,
-    ghost behind_bracket: { 0 < at },
+    ghost after_bracket: { 0 < at },
     ghost of_items: { AreOfItems (map plain (drop at array.nodes.now)) },
 }
 
@@ -249,15 +251,15 @@ impl<'a> Elements<'a> {
     ghost use Rattle.deno_graph_json.specs.Value.{nth_item};
     ghost use Rattle.deno_graph_json.specs.View.{value_of, items_left};
 
-    /// How many elements the array has.
+    /// Returns the number of elements of the array, also of those that were passed.
     pub fn array_len(&self) -> usize
         ensures { result ≡ count_of self.now }
     {
         self.count
     }
 
-    /// The element of this number, from 0 on, of those that are still to come. It passes those
-    /// before it.
+    /// Returns the element with this index among the elements that are left, counted from zero. Takes
+    /// time for each element before it.
     pub fn get(self, number: usize) -> Option<Element<'a>>
         ensures inside { IfSome result (λ element. IsInside element (array_of_elements self.entry)) }
         ensures element { IfSome result (λ element. IsElement self.entry number element) }
@@ -316,14 +318,14 @@ impl<'a> Members<'a> {
     ghost use Rattle.deno_graph_json.specs.Value.{last_named};
     ghost use Rattle.deno_graph_json.specs.View.{value_of, members_of, members_left};
 
-    /// The number of the object's node in the tape.
+    /// Returns the index of the object's node in the tape.
     pub fn number(self) -> usize
         ensures { result ≡ number_of (object_of_members self.entry) }
     {
         self.object.number
     }
 
-    /// The value of the last member of this name. It looks at the name of each member.
+    /// Returns the value of the last member with this name. Compares the name of each member.
     pub fn get(self, name: &str) -> Option<Element<'a>>
         ensures inside { IfSome result (λ value. IsInside value (object_of_members self.entry)) }
         ensures named { IfSome result (IsNamed (object_of_members self.entry) name.now) }
@@ -340,7 +342,7 @@ impl<'a> Members<'a> {
         found
     }
 
-    /// Each member's name and value, in the order of the text.
+    /// Iterates over the names and values of the members, in the order of the text.
     pub fn entries(self) -> Entries<'a>
         ensures object { object_of_entries result ≡ object_of_members self.entry }
         ensures first { place_of_entries result ≡ 1 }
@@ -353,11 +355,11 @@ impl<'a> Members<'a> {
     }
 }
 
-/// The members of an object from one of them on.
+/// An iterator over the members of an object, or over those that are left.
 #[derive(Drop)]
 pub struct Entries<'a> {
     object: Element<'a>,
-    /// The place of the next member among the object's nodes.
+    /// Index of the next member's name among the object's nodes.
     at: usize,
     ghost of_members: { AreOfMembers (map plain (drop at object.nodes.now)) },
 }

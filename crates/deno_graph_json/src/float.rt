@@ -1,10 +1,10 @@
-//! Floats in JSON values.
+//! Search for floats in JSON values: numbers that aren't held as whole numbers.
 
 ghost use Rattle.std.specs.Prelude.{◌≡◌};
 ghost use Rattle.serde_json.specs.Data.{array, object};
 ghost use Rattle.serde_json.specs.View.{view, items_view, members_view};
 ghost use Rattle.serde_json.specs.Written.{has_float as holds_float, items_have_float as float_in_items, members_have_float as float_in_members};
-ghost use Rattle.deno_graph_json.specs.Read.Answer.{Answers};
+ghost use Rattle.deno_graph_json.specs.Read.Result.{IsReadResult};
 ghost use Rattle.deno_graph_json.specs.Read.Partial.{unless_float};
 
 use crate::error::ReadError;
@@ -12,7 +12,7 @@ use crate::expected::Expected;
 use serde_json::{Map, Value};
 use std::alloc::Global;
 
-/// Whether a number that isn't held as a whole number is anywhere in the value.
+/// Returns whether a number that isn't held as a whole number is anywhere in the value.
 #[cycle(float)]
 pub fn has_float(value: &Value) -> bool
     ensures { result ≡ holds_float (view value.now) }
@@ -49,11 +49,11 @@ fn members_have_float(members: &Map<String, Value>) -> bool
     false
 }
 
-/// Finds the first number that isn't held as a whole number. The error says where it is, or that
-/// an allocation failed.
+/// Returns `Mismatch` with the path to the first number that isn't held as a whole number, if there
+/// is one, and `OutOfMemory` if an allocation fails.
 #[cycle(find_float)]
 pub fn find_float(alloc: Global, value: &Value) -> Result<(), ReadError>
-    ensures { Answers (view value.now) (unless_float (holds_float (view value.now))) result }
+    ensures { IsReadResult (view value.now) (unless_float (holds_float (view value.now))) result }
 {
     match value {
         Value::Number(number) if number.is_f64() => {
@@ -67,7 +67,7 @@ pub fn find_float(alloc: Global, value: &Value) -> Result<(), ReadError>
 
 #[cycle(find_float)]
 fn find_float_in_items(alloc: Global, items: &Vec<Value>) -> Result<(), ReadError>
-    ensures { Answers (array (items_view items.now.items))
+    ensures { IsReadResult (array (items_view items.now.items))
         (unless_float (float_in_items (items_view items.now.items))) result }
 {
     let mut number = 0usize;
@@ -82,7 +82,7 @@ fn find_float_in_items(alloc: Global, items: &Vec<Value>) -> Result<(), ReadErro
 
 #[cycle(find_float)]
 fn find_float_in_members(alloc: Global, members: &Map<String, Value>) -> Result<(), ReadError>
-    ensures { Answers (object (members_view members.now.entries))
+    ensures { IsReadResult (object (members_view members.now.entries))
         (unless_float (float_in_members (members_view members.now.entries))) result }
 {
     for (name, value) in members.iter() {

@@ -1,4 +1,4 @@
-//! JSON: texts as flat lists, pointers, and what values are read and written with.
+//! JSON: texts read into flat lists, JSON Pointers, and traits to read and write typed values.
 #![tactic(auto)]
 
 pub mod error;

@@ -1,10 +1,11 @@
-//! Objects, member by member: what gives the members, and what takes them.
+//! Types that are written as objects, member by member.
 
 ghost use Rattle.std.specs.Prelude.{◌≡◌, ◌++◌, false, All, IfOk, IfSome, OnOk, option_map, Some, true};
 ghost use Rattle.serde_json.specs.Data.{string};
 ghost use Rattle.serde_json.specs.View.{view};
 ghost use Rattle.deno_graph_base.specs.TextMap.{IsAscending};
-ghost use Rattle.deno_graph_json.specs.Ascending.{ascending-map, has_ascending_keys};
+ghost use Rattle.deno_graph_json.specs.Ascending.{has_ascending_keys};
+ghost use Rattle.deno_graph_json.specs.internal.MapEntries.{ascending-map};
 ghost use Rattle.deno_graph_json.specs.Object.{Entry, array_of, if_any, if_true, map_entries, object_of, unless, with_entries, with_present};
 ghost use Rattle.deno_graph_json.specs.Text.{text_tokens};
 
@@ -15,31 +16,31 @@ use deno_graph_base::values::{Items, TextMap};
 use serde_json::Value;
 use std::alloc::{AllocError, Global};
 
-/// What takes the members of an object, one after another.
+/// Takes the members of an object, one after another.
 pub trait MemberWriter {
     ghost use Rattle.std.specs.Prelude.{ℕ, List};
     ghost use Rattle.serde_json.specs.Data.{Data};
 
-    /// What its clauses see of it.
+    /// What the clauses see of the writer.
     ghost State: { Type 0 };
 
     ghost state: { Self → State };
 
-    /// The state with a member more.
+    /// The state after one more member.
     ghost with_member: { List ℕ → Data → State → State };
 
-    /// Puts the form of `value` at `key`.
+    /// Writes `value` as the member `key`. The only error is that an allocation fails.
     fn put<T: ToJson>(&mut self, key: &str, value: &T) -> Result<(), AllocError>
         ensures ok { OnOk result
             (state self.new ≡ with_member key.now (T.json value.now) (state self.old)) }
         ensures held { OnOk result (T.is_held value.now) };
 
-    /// Puts the text at `key`.
+    /// Writes a string as the member `key`. The only error is that an allocation fails.
     fn put_str(&mut self, key: &str, text: &str) -> Result<(), AllocError>
         ensures { OnOk result
             (state self.new ≡ with_member key.now (string text.now) (state self.old)) };
 
-    /// Puts the form of the value at `key` if there is a value, and else leaves the member out.
+    /// Writes the member `key` if there is a value.
     fn put_some<T: ToJson>(&mut self, key: &str, value: &Option<T>) -> Result<(), AllocError>
         ensures ok { OnOk result (state self.new
             ≡ with_present with_member key.now (option_map T.json value.now) (state self.old)) }
@@ -51,7 +52,7 @@ pub trait MemberWriter {
         }
     }
 
-    /// Puts the form of `value` at `key`, but leaves the member out where `is_default` holds.
+    /// Writes `value` as the member `key`, unless `is_default` holds.
     fn put_unless<T: ToJson>(
         &mut self,
         is_default: bool,
@@ -69,7 +70,7 @@ pub trait MemberWriter {
         }
     }
 
-    /// Puts true at `key`, but leaves the member out where the flag is false.
+    /// Writes `true` as the member `key` if the flag is set.
     fn put_flag(&mut self, key: &str, flag: bool) -> Result<(), AllocError>
         ensures ok { OnOk result (state self.new
             ≡ with_present with_member key.now (if_true flag) (state self.old)) }
@@ -77,7 +78,7 @@ pub trait MemberWriter {
         self.put_unless(!flag, key, &flag)
     }
 
-    /// Puts the array of the items' forms at `key`, but leaves the member out where there are none.
+    /// Writes the items as the member `key`, an array, if there are any.
     fn put_list<T: ToJson>(&mut self, key: &str, items: &Items<T>) -> Result<(), AllocError>
         ensures ok { OnOk result (state self.new ≡ with_present with_member key.now
             (option_map (array_of T.json) (if_any items.now)) (state self.old)) }
@@ -87,17 +88,17 @@ pub trait MemberWriter {
     }
 }
 
-/// What has an object as its JSON form.
+/// A type whose JSON is an object.
 pub trait ToObject {
     ghost use Rattle.std.specs.Prelude.{List};
 
-    /// Its table. The keys ascend.
+    /// The members: each key with its value, or with none if the member is left out. The keys ascend.
     ghost entries: { Self → List Entry };
 
-    /// What holds of each value of the type that a program has.
+    /// What holds of each value that exists at run time.
     ghost is_held: { Self → Type 0 } = { λ _. Unit {0} };
 
-    /// Puts the members, in the order of the table.
+    /// Writes the members, in the order of `entries`. The only error is that an allocation fails.
     fn put_members<W: MemberWriter>(&self, out: &mut W) -> Result<(), AllocError>
         ensures ok { OnOk result
             (W.state out.new ≡ with_entries W.with_member (entries self.now) (W.state out.old)) }
@@ -106,7 +107,7 @@ pub trait ToObject {
     ghost ascends: { (x : Self) → is_held x → has_ascending_keys (entries x) ≡ true };
 }
 
-/// The object as a value, or an error where memory was refused.
+/// Returns the object as a `Value`. The only error is that an allocation fails.
 pub fn object_value<T: ToObject>(alloc: Global, value: &T) -> Result<Value, AllocError>
     ensures form { IfOk result (λ object. view object ≡ object_of (T.entries value.now)) }
     ensures held { OnOk result (T.is_held value.now) }
@@ -116,7 +117,7 @@ pub fn object_value<T: ToObject>(alloc: Global, value: &T) -> Result<Value, Allo
     Ok(object.into_value())
 }
 
-/// Writes the object as text, or gives an error where memory was refused.
+/// Appends the object to a text. The only error is that an allocation fails.
 pub fn write_object<T: ToObject>(value: &T, out: &mut TextWriter) -> Result<(), AllocError>
     ensures text { OnOk result
         (out.new ≡ out.old ++ text_tokens (object_of (T.entries value.now))) }

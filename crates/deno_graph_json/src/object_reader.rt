@@ -6,7 +6,7 @@ ghost use Rattle.serde_json.specs.Events.{members_len};
 ghost use Rattle.serde_json.specs.Find.{as_str, as_object, get_member};
 ghost use Rattle.serde_json.specs.View.{view, members_view};
 ghost use Rattle.deno_graph_json.specs.ObjectReader.{readable, value_of};
-ghost use Rattle.deno_graph_json.specs.Read.Answer.{Answers, AnswersSeen, IsRefusal};
+ghost use Rattle.deno_graph_json.specs.Read.Result.{IsReadResult, IsReadResultSeen, IsReadError};
 ghost use Rattle.deno_graph_json.specs.Read.Error.{IsIn};
 ghost use Rattle.deno_graph_json.specs.Read.Expected.{IsNot};
 ghost use Rattle.deno_graph_json.specs.Read.Partial.{reads_array, member_at, member_or};
@@ -18,7 +18,7 @@ use deno_graph_base::values::Items;
 use serde_json::{Map, Value};
 use std::alloc::Global;
 
-/// An object that is read member by member.
+/// Reads an object member by member.
 #[derive(Drop)]
 pub struct ObjectReader<'v> {
     alloc: Global,
@@ -26,22 +26,22 @@ pub struct ObjectReader<'v> {
 }
 
 impl<'v> ObjectReader<'v> {
-    /// Reads the members of an object. Allocates nothing.
+    /// Begins to read an object. Allocates nothing. Returns `Mismatch` if the value is no object.
     pub fn new(alloc: Global, value: &'v Value) -> Result<ObjectReader<'v>, ReadError>
-        ensures { AnswersSeen readable (view value.now) (as_object (view value.now)) result }
+        ensures { IsReadResultSeen readable (view value.now) (as_object (view value.now)) result }
     {
         let members = read_object(alloc, value)?;
         Ok(ObjectReader::of_members(alloc, members))
     }
 
-    /// The object that has these members. Allocates nothing.
+    /// Begins to read the object with these members. Allocates nothing.
     pub fn of_members(alloc: Global, members: &'v Map<String, Value>) -> ObjectReader<'v>
         ensures { readable result ≡ members_view members.now.entries }
     {
         ObjectReader { alloc, members }
     }
 
-    /// The number of its members.
+    /// Returns the number of members.
     pub fn member_count(&self) -> usize
         ensures { result ≡ members_len (readable self.now) }
     {
@@ -51,7 +51,7 @@ impl<'v> ObjectReader<'v> {
     /// Reads a required member.
     #[tactic(auto, unfolding(crate::specs::Read::Partial::member_at))]
     pub fn read<T: FromJson>(&self, key: &'static str) -> Result<T, ReadError>
-        ensures { Answers (value_of self.now) (member_at T.reads key.now (readable self.now)) result }
+        ensures { IsReadResult (value_of self.now) (member_at T.reads key.now (readable self.now)) result }
     {
         match find_member(self.members, key) {
             Some(value) => read_member(self.alloc, key, value),
@@ -64,7 +64,7 @@ impl<'v> ObjectReader<'v> {
     pub fn read_str(&self, key: &'static str) -> Result<&'v str, ReadError>
         ensures { MatchResult result
             (λ text. get_member key.now (readable self.now) ≡ Some (string text.now))
-            (IsRefusal (value_of self.now) (member_at as_str key.now (readable self.now))) }
+            (IsReadError (value_of self.now) (member_at as_str key.now (readable self.now))) }
     {
         match find_member(self.members, key) {
             Some(value) => match read_str(self.alloc, value) {
@@ -75,10 +75,10 @@ impl<'v> ObjectReader<'v> {
         }
     }
 
-    /// Reads a member, or returns `default` where the object has no such member.
+    /// Reads a member, or returns `default` if the object has no such member.
     #[tactic(auto, unfolding(crate::specs::Read::Partial::member_or))]
     pub fn read_or<T: FromJson + Drop>(&self, key: &'static str, default: T) -> Result<T, ReadError>
-        ensures { Answers (value_of self.now)
+        ensures { IsReadResult (value_of self.now)
             (member_or T.reads key.now default (readable self.now)) result }
     {
         match find_member(self.members, key) {
@@ -87,15 +87,15 @@ impl<'v> ObjectReader<'v> {
         }
     }
 
-    /// Reads the items of a member that is an array, none where the object has no such member.
+    /// Reads the items of a member that is an array, or returns none if the object has no such member.
     pub fn read_list<T: FromJson + Drop>(&self, key: &'static str) -> Result<Items<T>, ReadError>
-        ensures { Answers (value_of self.now)
+        ensures { IsReadResult (value_of self.now)
             (member_or (reads_array T.reads) key.now [] (readable self.now)) result }
     {
         self.read_or(key, Items::new(self.alloc))
     }
 
-    /// The error of a member that isn't what is expected.
+    /// Returns the error of a member that isn't what is expected.
     pub fn member_error(&self, key: &str, expected: Expected) -> ReadError
         ensures { (member : Data) → get_member key.now (readable self.now) ≡ Some member
             → IsNot expected member → IsIn (value_of self.now) result }
@@ -104,7 +104,7 @@ impl<'v> ObjectReader<'v> {
     }
 }
 
-/// The value of a member, if there is one.
+/// Returns the value of a member, if there is one.
 pub fn find_member<'v>(object: &'v Map<String, Value>, key: &str) -> Option<&'v Value>
     ensures { option_map (λ v. view v.now) result
         ≡ get_member key.now (members_view object.now.entries) }

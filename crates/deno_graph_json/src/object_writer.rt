@@ -1,4 +1,4 @@
-//! The members of an object, as a value and as text.
+//! Writing the members of an object, to a value and to text.
 
 ghost use Rattle.std.specs.Prelude.{◌≡◌, OnErr, OnOk};
 ghost use Rattle.serde_json.specs.Data.{object, no_members, put as put_at};
@@ -12,7 +12,7 @@ use crate::write::ToJson;
 use serde_json::{Map, Value, put};
 use std::alloc::{AllocError, Global};
 
-/// An object that is made member by member.
+/// Builds an object member by member.
 #[derive(Drop)]
 pub struct ObjectWriter {
     alloc: Global,
@@ -20,7 +20,7 @@ pub struct ObjectWriter {
 }
 
 impl ObjectWriter {
-    /// An object with no members. Takes no memory.
+    /// Begins an object with no members. Allocates nothing.
     pub fn new(alloc: Global) -> ObjectWriter
         ensures { written result ≡ no_members }
     {
@@ -30,7 +30,7 @@ impl ObjectWriter {
         }
     }
 
-    /// The object as a value. Takes no memory.
+    /// Returns the object. Allocates nothing.
     pub fn into_value(self) -> Value
         ensures { view result ≡ object (written self) }
     {
@@ -48,8 +48,8 @@ impl MemberWriter for ObjectWriter {
     ghost with_member = { put_at };
 
     fn put<T: ToJson>(&mut self, key: &str, value: &T) -> Result<(), AllocError> {
-        let form = value.to_value(self.alloc)?;
-        put(&mut self.members, self.alloc, key, form)
+        let json = value.to_value(self.alloc)?;
+        put(&mut self.members, self.alloc, key, json)
     }
 
     fn put_str(&mut self, key: &str, text: &str) -> Result<(), AllocError> {

@@ -1,4 +1,4 @@
-//! Where a value is, as a JSON Pointer (RFC 6901).
+//! JSON Pointers (RFC 6901): the path to a value, as text.
 
 ghost use Rattle.std.specs.Prelude.{◌≡◌, ◌++◌, ◌∷◌, [], IfOk, OnOk, IfSome, IfNone};
 ghost use Rattle.std.specs.String.{string_bytes};
@@ -9,11 +9,12 @@ use crate::{Element, Tape};
 use std::alloc::{AllocError, Global};
 
 impl<'a> Tape<'a> {
-    /// The JSON Pointer of the value whose node has this number, as `/program/body/0`: the empty
-    /// text for the value of the whole text. Where no value begins at that node, it is that of the
-    /// innermost value that the node is part of, and the empty text where the tape has no such
-    /// node. It takes time for each value on the way, and for those that are before one of them
-    /// in the same array or object.
+    /// Returns the JSON Pointer of the value whose node has index `number`, as `/program/body/0`, or
+    /// the empty text for the value of the whole text.
+    ///
+    /// If no value begins at that node, returns the pointer of the innermost value that the node is
+    /// part of, and the empty text if the tape has no such node. Takes time for each value on the path,
+    /// and for each value before one of them in the same array or object.
     pub fn pointer(&self, alloc: Global, number: usize) -> Result<String, AllocError>
         ensures spelled { IfOk result (λ pointer. IsPointer self.now number (string_bytes pointer)) }
         ensures root { number ≡ 0 → IfOk result (λ pointer. string_bytes pointer ≡ []) }
@@ -28,16 +29,16 @@ impl<'a> Tape<'a> {
     }
 }
 
-/// A step from a JSON value to a value right in it.
+/// A reference token of a JSON Pointer: a step from an array or object to one of its values.
 #[derive(Clone, Copy)]
 pub enum ReferenceToken<'a> {
-    /// To the item of this number, from zero.
+    /// To the item with this index, counted from zero.
     Index(usize),
-    /// To the member of this name.
+    /// To the member with this name.
     Name(&'a str),
 }
 
-/// The value right in `value` that has the node of this number.
+/// Returns the item or member of `value` that has the node with index `number`, and the step to it.
 fn token_to<'a>(value: Element<'a>, number: usize) -> Option<(ReferenceToken<'a>, Element<'a>)>
     ensures inside { IfSome result (λ found. IsInside found.1 value.entry) }
     ensures node { IfSome result (λ found. HasNode found.1 number) }
@@ -62,7 +63,7 @@ fn token_to<'a>(value: Element<'a>, number: usize) -> Option<(ReferenceToken<'a>
     None
 }
 
-/// Appends a step to a JSON Pointer: `/` and a number, or `/` and a name with `~` as `~0` and `/` as
+/// Appends a step to a JSON Pointer: `/` and an index, or `/` and a name with `~` as `~0` and `/` as
 /// `~1`.
 pub fn push_token(pointer: &mut String, step: ReferenceToken<'_>) -> Result<(), AllocError>
     ensures { OnOk result (string_bytes pointer.new
@@ -74,7 +75,7 @@ pub fn push_token(pointer: &mut String, step: ReferenceToken<'_>) -> Result<(), 
     }
 }
 
-/// Pushes a name with `~` as `~0` and `/` as `~1`.
+/// Pushes `/` and a name with `~` as `~0` and `/` as `~1`.
 fn push_name(pointer: &mut String, name: &str) -> Result<(), AllocError>
     ensures { OnOk result (string_bytes pointer.new ≡ string_bytes pointer.old
         ++ slash ∷ escaped name.now) }

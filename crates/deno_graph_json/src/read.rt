@@ -4,7 +4,7 @@ ghost use Rattle.std.specs.Prelude.{◌≡◌, IfOk, Some};
 ghost use Rattle.serde_json.specs.Data.{Data, array, object};
 ghost use Rattle.serde_json.specs.Find.{at, get, as_bool, as_str, as_array, as_object};
 ghost use Rattle.serde_json.specs.View.{view, items_view, members_view};
-ghost use Rattle.deno_graph_json.specs.Read.Answer.{Answers, AnswersSeen};
+ghost use Rattle.deno_graph_json.specs.Read.Result.{IsReadResult, IsReadResultSeen};
 ghost use Rattle.deno_graph_json.specs.Read.Partial.{as_usize, reads_optional, reads_array, reads_items, reads_map, reads_members, reads_pair, pair_in};
 
 use crate::error::ReadError;
@@ -13,18 +13,18 @@ use deno_graph_base::values::{Items, Text, TextMap};
 use serde_json::{Map, Value};
 use std::alloc::Global;
 
-/// A type that is read from JSON.
+/// A type that can be read from JSON.
 pub trait FromJson {
     ghost use Rattle.std.specs.Prelude.{Option};
     ghost use Rattle.serde_json.specs.Data.{Data};
 
-    /// The value whose JSON the data are, `None` where they are the JSON of none.
+    /// The value that is read from JSON data, or `None` if the data can't be read.
     ghost reads: { Data → Option Self };
 
-    /// Reads that value. The error says where in `value` something else was expected, or that an
-    /// allocation failed.
+    /// Reads the value. Returns `Mismatch` with the path to a part of `value` that isn't as expected,
+    /// or `OutOfMemory` if an allocation fails.
     fn from_json(alloc: Global, value: &Value) -> Result<Self, ReadError>
-        ensures { Answers (view value.now) (reads (view value.now)) result };
+        ensures { IsReadResult (view value.now) (reads (view value.now)) result };
 }
 
 impl FromJson for bool {
@@ -99,7 +99,7 @@ pub fn read_items<T: FromJson + Drop>(
     alloc: Global,
     values: &Vec<Value>,
 ) -> Result<Items<T>, ReadError>
-    ensures { Answers (array (items_view values.now.items))
+    ensures { IsReadResult (array (items_view values.now.items))
         (reads_items T.reads (items_view values.now.items)) result }
 {
     let mut items = Items::new(alloc);
@@ -116,7 +116,7 @@ fn read_map<T: FromJson + Drop>(
     alloc: Global,
     members: &Map<String, Value>,
 ) -> Result<TextMap<T>, ReadError>
-    ensures { Answers (object (members_view members.now.entries))
+    ensures { IsReadResult (object (members_view members.now.entries))
         (reads_members T.reads (members_view members.now.entries)) result }
 {
     let mut map = TextMap::new(alloc);
@@ -128,10 +128,10 @@ fn read_map<T: FromJson + Drop>(
     Ok(map)
 }
 
-/// Reads the item of this number, from zero, of an array.
+/// Reads the item of an array that has this index, counted from zero.
 fn read_item<T: FromJson>(alloc: Global, number: usize, value: &Value) -> Result<T, ReadError>
     ensures { (array : Data) → at number array ≡ Some (view value.now)
-        → Answers array (T.reads (view value.now)) result }
+        → IsReadResult array (T.reads (view value.now)) result }
 {
     match T::from_json(alloc, value) {
         Ok(item) => Ok(item),
@@ -139,14 +139,14 @@ fn read_item<T: FromJson>(alloc: Global, number: usize, value: &Value) -> Result
     }
 }
 
-/// Reads the member of this name of an object.
+/// Reads the member of an object that has this name.
 pub(crate) fn read_member<T: FromJson>(
     alloc: Global,
     name: &str,
     value: &Value,
 ) -> Result<T, ReadError>
     ensures { (object : Data) → get name.now object ≡ Some (view value.now)
-        → Answers object (T.reads (view value.now)) result }
+        → IsReadResult object (T.reads (view value.now)) result }
 {
     match T::from_json(alloc, value) {
         Ok(item) => Ok(item),
@@ -156,7 +156,7 @@ pub(crate) fn read_member<T: FromJson>(
 
 /// Returns the text of a string. Allocates nothing.
 pub fn read_str(alloc: Global, value: &Value) -> Result<&str, ReadError>
-    ensures { AnswersSeen (λ s. s.now) (view value.now) (as_str (view value.now)) result }
+    ensures { IsReadResultSeen (λ s. s.now) (view value.now) (as_str (view value.now)) result }
 {
     match value.as_str() {
         Some(text) => Ok(text),
@@ -166,7 +166,7 @@ pub fn read_str(alloc: Global, value: &Value) -> Result<&str, ReadError>
 
 /// Returns the items of an array. Allocates nothing.
 pub fn read_array(alloc: Global, value: &Value) -> Result<&Vec<Value>, ReadError>
-    ensures { AnswersSeen (λ v. items_view v.now.items) (view value.now) (as_array (view value.now)) result }
+    ensures { IsReadResultSeen (λ v. items_view v.now.items) (view value.now) (as_array (view value.now)) result }
 {
     match value.as_array() {
         Some(values) => Ok(values),
@@ -176,7 +176,7 @@ pub fn read_array(alloc: Global, value: &Value) -> Result<&Vec<Value>, ReadError
 
 /// Returns the members of an object. Allocates nothing.
 pub fn read_object(alloc: Global, value: &Value) -> Result<&Map<String, Value>, ReadError>
-    ensures { AnswersSeen (λ m. members_view m.now.entries) (view value.now) (as_object (view value.now)) result }
+    ensures { IsReadResultSeen (λ m. members_view m.now.entries) (view value.now) (as_object (view value.now)) result }
 {
     match value.as_object() {
         Some(members) => Ok(members),
@@ -184,13 +184,14 @@ pub fn read_object(alloc: Global, value: &Value) -> Result<&Map<String, Value>, 
     }
 }
 
-/// Returns the values of an array of two, which `items` describes in words. Allocates nothing.
+/// Returns the items of an array of two. `items` describes them in words, for the error. Allocates
+/// nothing.
 fn read_two<'v>(
     alloc: Global,
     value: &'v Value,
     items: &'static str,
 ) -> Result<(&'v Value, &'v Value), ReadError>
-    ensures pair { AnswersSeen (λ two. (view two.0.now, view two.1.now)) (view value.now)
+    ensures pair { IsReadResultSeen (λ two. (view two.0.now, view two.1.now)) (view value.now)
         (pair_in (view value.now)) result }
     ensures first { IfOk result (λ two. at 0 (view value.now) ≡ Some (view two.0.now)) }
     ensures second { IfOk result (λ two. at 1 (view value.now) ≡ Some (view two.1.now)) }
@@ -205,14 +206,14 @@ fn read_two<'v>(
     }
 }
 
-/// Reads both items of an array of two, which `items` describes in words.
+/// Reads both items of an array of two. `items` describes them in words, for the error.
 #[tactic(auto, using(crate::proofs::Reading::reading), unfolding(crate::specs::Read::Partial::reads_pair))]
 pub fn read_pair<T: FromJson + Drop>(
     alloc: Global,
     value: &Value,
     items: &'static str,
 ) -> Result<(T, T), ReadError>
-    ensures { Answers (view value.now) (reads_pair T.reads (view value.now)) result }
+    ensures { IsReadResult (view value.now) (reads_pair T.reads (view value.now)) result }
 {
     let (first, second) = read_two(alloc, value, items)?;
     let first = read_item(alloc, 0, first)?;

@@ -1,7 +1,7 @@
 ghost use Rattle.std.specs.Prelude.{◌≡◌};
 ghost use Rattle.serde_json.specs.Data.{string};
 ghost use Rattle.deno_graph_base.specs.ResolutionMode.{mode_named};
-ghost use Rattle.deno_graph_json.specs.Read.Answer.{Answers};
+ghost use Rattle.deno_graph_json.specs.Read.Result.{IsReadResult};
 ghost use Rattle.deno_graph_json.specs.Json.ResolutionMode.{json_of_mode, mode_name, reads_mode};
 
 use crate::read::read_str;
@@ -22,7 +22,7 @@ impl ToJson for TypeScriptTypesResolutionMode {
     }
 }
 
-/// The name that JSON has for the mode.
+/// Returns the name of the mode in JSON.
 fn name_of(mode: TypeScriptTypesResolutionMode) -> &'static str
     ensures { result.now ≡ mode_name mode }
 {
@@ -42,9 +42,9 @@ impl FromJson for TypeScriptTypesResolutionMode {
     }
 }
 
-/// The mode that has this name.
+/// Returns the mode with this name in JSON.
 fn mode_named(alloc: Global, name: &str) -> Result<TypeScriptTypesResolutionMode, ReadError>
-    ensures { Answers (string name.now) (mode_named name.now) result }
+    ensures { IsReadResult (string name.now) (mode_named name.now) result }
 {
     match TypeScriptTypesResolutionMode::from_str(name) {
         Some(mode) => Ok(mode),

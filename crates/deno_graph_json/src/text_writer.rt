@@ -8,8 +8,8 @@ use json::Writer;
 use std::alloc::{AllocError, Global};
 use std::marker::Model;
 
-/// A JSON text that is written from its front, without white space. Contracts see it as the list of
-/// the tokens so far.
+/// Writes a JSON text token by token, without white space. Contracts see the list of the tokens so
+/// far.
 #[derive(Drop)]
 pub struct TextWriter {
     out: Writer,
@@ -29,7 +29,7 @@ impl Model for TextWriter {
 }
 
 impl TextWriter {
-    /// The empty text, with some room.
+    /// Begins an empty text. The only error is that an allocation fails.
     pub fn new(alloc: Global) -> Result<TextWriter, AllocError>
         ensures { IfOk result (λ w. w ≡ []) }
     {
@@ -55,14 +55,14 @@ impl TextWriter {
         self.out.string(text)
     }
 
-    /// A whole number, in decimal.
+    /// Writes a whole number in decimal.
     pub fn number(&mut self, value: usize) -> Result<(), AllocError>
         ensures { OnOk result (self.new ≡ self.old ++ number (decimal value) ∷ []) }
     {
         self.out.u64(value as u64)
     }
 
-    /// The key of the member whose value comes next.
+    /// Writes the key of the member whose value comes next.
     pub fn key(&mut self, name: &str) -> Result<(), AllocError>
         ensures { OnOk result (self.new ≡ self.old ++ key name.now ∷ []) }
     {
@@ -93,7 +93,7 @@ impl TextWriter {
         self.out.end_object()
     }
 
-    /// The text. Takes no memory.
+    /// Returns the text. Allocates nothing.
     pub fn into_string(self) -> String
         ensures { string_bytes result ≡ print self }
     {

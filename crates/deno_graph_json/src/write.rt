@@ -14,31 +14,31 @@ use deno_graph_base::values::{Items, Text, TextMap};
 use serde_json::Value;
 use std::alloc::{AllocError, Global};
 
-/// What has a JSON form.
+/// A type that can be written as JSON.
 pub trait ToJson {
     ghost use Rattle.serde_json.specs.Data.{Data};
 
-    /// The form.
+    /// Its JSON.
     ghost json: { Self → Data };
 
-    /// What holds of each value of the type that a program has: a number fits its type, and the
-    /// keys of a map ascend.
+    /// What holds of each value that exists at run time: a number fits its type, and the keys of a
+    /// map ascend.
     ghost is_held: { Self → Type 0 } = { λ _. Unit {0} };
 
-    /// The form as a value, or an error where memory was refused.
+    /// Returns the JSON as a `Value`. The only error is that an allocation fails.
     fn to_value(&self, alloc: Global) -> Result<Value, AllocError>
         ensures form { IfOk result (λ value. view value ≡ json self.now) }
         ensures held { OnOk result (is_held self.now) };
 
-    /// Writes the form as text, or gives an error where memory was refused.
+    /// Appends the JSON to a text. The only error is that an allocation fails.
     fn write_text(&self, out: &mut TextWriter) -> Result<(), AllocError>
         ensures text { OnOk result
             (out.new ≡ out.old ++ text_tokens (json self.now)) }
         ensures held { OnOk result (is_held self.now) };
 }
 
-/// The form of `value` as text, compact and with the keys of each object ascending. The only error
-/// is that memory was refused.
+/// Returns the JSON of `value` as compact text, with the keys of each object ascending. The only
+/// error is that an allocation fails.
 pub fn text_of<T: ToJson>(alloc: Global, value: &T) -> Result<String, AllocError>
     ensures { IfOk result (λ text. string_bytes text ≡ compact_text (T.json value.now)) }
 {

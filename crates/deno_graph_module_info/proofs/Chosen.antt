@@ -1,4 +1,4 @@
--- The JSDoc comments among comments, one comment after another.
+-- The JSDoc comments of a list, chosen one after another.
 use Rattle.std.proofs.Common.{
   ◌≡◌,
   ◌+◌,
@@ -28,10 +28,10 @@ use Rattle.std.proofs.lemmas.List.Sorted.{Contains-permutation, IsPermutation-sy
 use Rattle.std.specs.List.{Contains}
 use Rattle.std.specs.List.Sorted.{IsPermutation}
 use Rattle.deno_graph_module_info.specs.CommentImports.{IsJsDoc}
-use Rattle.deno_graph_module_info.specs.CommentImportSteps.{AreJsDocOf}
+use Rattle.deno_graph_module_info.specs.internal.CommentImportSteps.{AreJsDocOf}
 use Rattle.deno_graph_source.specs.declared.tree.comments.DependencyComment.{DependencyComment}
 
--- what is behind the borrows
+-- the values of borrows
 abbrev pub all : List (Bor DependencyComment) → List DependencyComment
 all comments = map (λ (c : Bor DependencyComment). c.now) comments
 

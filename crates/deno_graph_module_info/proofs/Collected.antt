@@ -1,4 +1,4 @@
--- Comments have a list of all their imports, from one comment to the next.
+-- The list of all imports in comments, built one comment after another.
 use Rattle.std.proofs.Common.{
   ◌≡◌,
   ℕ,
@@ -34,7 +34,7 @@ use Rattle.deno_graph_jsdoc.specs.JsDocHits.{Ascend}
 use Rattle.deno_graph_jsdoc.specs.JsDocImport.{Import, moved}
 use Rattle.deno_graph_jsdoc.proofs.Collected.{gain, hits_of}
 use Rattle.deno_graph_module_info.specs.CommentImports.{AreApart, AreImports, IsJsDoc}
-use Rattle.deno_graph_module_info.specs.CommentImportSteps.{GainsImports, IsMovedHit}
+use Rattle.deno_graph_module_info.specs.internal.CommentImportSteps.{GainsImports, IsMovedHit}
 use Rattle.deno_graph_module_info.proofs.Gathered.{
   Gathered,
   Gathered-start,
@@ -52,7 +52,7 @@ use Rattle.deno_graph_source.specs.declared.tree.comments.CommentKind.{CommentKi
 use Rattle.deno_graph_source.specs.declared.tree.comments.CommentKind.TheVariants.{Line, Block}
 use Rattle.deno_graph_source.specs.declared.tree.comments.DependencyComment.{DependencyComment}
 
--- what one comment adds
+-- the list with the imports in one more comment
 gather : (by : ℕ) (hits old now done : List Import) → GainsImports old (Contains done) now
     → (new : List Import) × GainsImports old (Contains (done ++ map (moved by) hits)) new
 gather by [] old now done gains =
@@ -79,7 +79,7 @@ add comment old up =
           (moved_is_hit by hits.0 text hits.1) (hit_is_moved by hits.0 text hits.1) all.1,
     )
 
--- whether a comment is a JSDoc comment
+-- a comment is a JSDoc comment or isn't
 abbrev is_block : CommentKind → Bool
 is_block Line = false
 is_block Block = true

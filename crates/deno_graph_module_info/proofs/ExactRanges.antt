@@ -1,4 +1,4 @@
--- The ranges of what is said of a valid source cover what they are of.
+-- The ranges of the `ModuleInfo` of a valid source are exact.
 use Rattle.std.proofs.Common.{
   ◌≡◌,
   ℕ,
@@ -45,9 +45,7 @@ use Rattle.deno_graph_info.specs.declared.analysis.dependency.DependencyDescript
 use Rattle.deno_graph_info.specs.declared.analysis.specifier_with_range.SpecifierWithRange.{SpecifierWithRange}
 use Rattle.deno_graph_info.specs.declared.analysis.js_doc_import_info.JsDocImportInfo.{JsDocImportInfo}
 use Rattle.deno_graph_info.specs.declared.analysis.module_info.ModuleInfo.{ModuleInfo}
-use Rattle.deno_graph_info.specs.declared.analysis.type_script_reference.TypeScriptReference.{
-  TypeScriptReference,
-}
+use Rattle.deno_graph_info.specs.declared.analysis.type_script_reference.TypeScriptReference.{TypeScriptReference}
 use Rattle.deno_graph_info.specs.declared.analysis.type_script_reference.TypeScriptReference.TheVariants.{
   Path,
   Types,
@@ -65,7 +63,7 @@ use Rattle.deno_graph_source.specs.declared.tree.media_type.MediaType.{MediaType
 use Rattle.deno_graph_source.specs.declared.tree.node.Program.{Program}
 use Rattle.deno_graph_dep.specs.Descriptor.{Descriptor, static_descriptor, dynamic_descriptor}
 use Rattle.deno_graph_module_info.specs.CommentImports.{IsImportOf, quoted_range, reads_jsdoc}
-use Rattle.deno_graph_module_info.specs.FoundPragma.{Covers}
+use Rattle.deno_graph_module_info.specs.internal.HeadPragma.{Covers}
 use Rattle.deno_graph_module_info.specs.HeadTail.{head_comments, tail_comments}
 use Rattle.deno_graph_module_info.specs.JsDocInfo.{CoversInEqualQuotes, IsJsDocList, info_of}
 use Rattle.deno_graph_module_info.specs.ModuleInfo.{
@@ -104,11 +102,11 @@ use Rattle.deno_graph_module_info.specs.Spelled.{CoversAsWritten}
 use Rattle.deno_graph_module_info.proofs.InSource.{in_source}
 use Rattle.deno_graph_module_info.proofs.ItemComments.{all_head, all_tail, all_before_dependencies}
 use Rattle.deno_graph_module_info.proofs.Named.{covers_as_written}
-use Rattle.deno_graph_module_info.proofs.Places.{quoted_at}
+use Rattle.deno_graph_module_info.proofs.ImportRanges.{quoted_at}
 
 -- Lists
 
--- what is between two parts of a list is one of it
+-- an element between two parts of a list is an element of the list
 pub at_middle : {X : Type 0} (P : X → Type 0) (xs before after : List X) (x : X)
     → xs ≡ before ++ x ∷ after → All P xs → P x
 at_middle P xs before after x whole all = here before (subst (All P) whole all)
@@ -131,7 +129,7 @@ some_of_all P xs k all = by (slice_get xs k) refl
 
 -- A pragma
 
--- what the pragma captures is in quotes, unless the pragma is one without quotes
+-- the part that a pragma captures is in quotes, unless the pragma has no quotes
 abbrev Quotes : Pragma → Type 0
 Quotes pragma = (text : List ℕ) (part : TextPart) → IsUtf8 text → IsCaptured pragma.pattern text part
     → pragma.is_quoteless ≡ false → IsInQuotes text part
@@ -155,7 +153,7 @@ type_quotes = All-from_recursion Quotes dependency_types_pragmas (
 )
 
 module _ (source : List ℕ) where
-  -- the comment is written in the source, and its text is UTF-8
+  -- the source has the comment, and the comment's text is UTF-8
   abbrev pub Fits : DependencyComment → Type 0
   Fits comment = IsSpelled source comment × IsUtf8 comment.text
 
@@ -260,7 +258,7 @@ module _ (source : List ℕ) where
       → CoversInEqualQuotes source (info_of source import).specifier
   import_covers comment import fits is =
       let at = quoted_at source comment fits.0 is.jsdoc.0 fits.1 import is.hit
-      (hit_placed (chars comment.text) is.hit is.is_hit) is.place in
+      (hit_placed (chars comment.text) is.hit is.is_hit) is.is_moved in
       (quoted_range import, record { start = (at.start, refl); end = (at.end, refl) }, at.quoted)
 
   imports_cover : (reads : Bool) (comments : List DependencyComment) (infos : List JsDocImportInfo)
@@ -280,7 +278,7 @@ module _ (source : List ℕ) where
           let of = (are.exact import).0 there in
           import_covers of.0 import (All-contains Fits comments of.0 fit of.1) of.2
 
--- what is said of a valid source has exact ranges
+-- the `ModuleInfo` of a valid source has exact ranges
 pub exact_ranges : (source : List ℕ) (media_type : MediaType) (program : Program) (comments : FiledComments)
     (info : ModuleInfo) → IsValid source program comments
     → All (λ (comment : DependencyComment). IsUtf8 comment.text) (comments_of comments)

@@ -1,4 +1,4 @@
--- The imports of comments, one comment after another.
+-- The imports in comments, one comment after another.
 use Rattle.std.proofs.Common.{
   ◌≡◌,
   ℕ,
@@ -39,8 +39,8 @@ use Rattle.deno_graph_jsdoc.specs.JsDocImport.{Import, import_of, moved}
 use Rattle.deno_graph_jsdoc.specs.declared.import.JsDocImport.{JsDocImport}
 use Rattle.deno_graph_jsdoc.proofs.Hits.{hit_placed}
 use Rattle.deno_graph_module_info.specs.CommentImports.{AreApart, AreImports, IsImportOf, IsJsDoc, IsQuotedAt}
-use Rattle.deno_graph_module_info.specs.CommentImportSteps.{GainsImports, IsMovedHit}
-use Rattle.deno_graph_module_info.proofs.Places.{one_import, quoted_at}
+use Rattle.deno_graph_module_info.specs.internal.CommentImportSteps.{GainsImports, IsMovedHit}
+use Rattle.deno_graph_module_info.proofs.ImportRanges.{one_import, quoted_at}
 use Rattle.deno_graph_source.specs.Source.{IsSpelled}
 use Rattle.deno_graph_source.specs.declared.tree.comments.DependencyComment.{DependencyComment}
 
@@ -62,7 +62,7 @@ GainsImports-more old new more xs x gains gain = record {
   ascending = gain.ascending;
   only = λ import has. by_new import (gain.only import has);
   kept = λ import has. gain.kept import (gains.kept import has);
-  there = λ import has. by_place import (Contains-push_cases xs x import has);
+  there = λ import has. by_moved import (Contains-push_cases xs x import has);
 }
   where
     by_new : (import : Import) → Contains new import ⊎ (x ≡ import)
@@ -75,12 +75,12 @@ GainsImports-more old new more xs x gains gain = record {
         by_old (inl was) = inl was
         by_old (inr is) = inr (Contains-append_left xs (x ∷ []) import is)
 
-    by_place : (import : Import) → Contains xs import ⊎ (x ≡ import)
+    by_moved : (import : Import) → Contains xs import ⊎ (x ≡ import)
         → (other : Import) × Contains more other × (other.start ≡ import.start)
-    by_place import (inl has) =
+    by_moved import (inl has) =
         let there = gains.there import has in
         (there.0, gain.kept there.0 there.1, there.2)
-    by_place import (inr same) =
+    by_moved import (inr same) =
         let there = gain.there in
         (there.0, there.1, there.2 ∙ ap (λ (i : Import). i.start) same)
 
@@ -98,7 +98,7 @@ GainsImports-as old new P Q to from gains = record {
     by_new import (inl has) = inl has
     by_new import (inr is) = inr (to import is)
 
--- all imports of the first so many comments, and that their texts are texts
+-- the imports in the first `k` comments, whose texts are UTF-8
 pub record Gathered (comments : List DependencyComment) (done : List DependencyComment)
     (imports : List Import) : Type 0 where
   pub ascending : AllPairs (λ (import later : Import). import.start < later.start) imports
@@ -121,13 +121,13 @@ pub Gathered-skip : (comments done : List DependencyComment) (comment : Dependen
 Gathered-skip comments done comment imports none gathered = record {
   ascending = gathered.ascending;
   sound = gathered.sound;
-  complete = λ other has import is. by_place other (Contains-push_cases done comment other has) import is;
+  complete = λ other has import is. by_moved other (Contains-push_cases done comment other has) import is;
 }
   where
-    by_place : (other : DependencyComment) → Contains done other ⊎ (comment ≡ other) → (import : Import)
+    by_moved : (other : DependencyComment) → Contains done other ⊎ (comment ≡ other) → (import : Import)
         → IsImportOf other import → Contains imports import
-    by_place other (inl has) import is = gathered.complete other has import is
-    by_place other (inr same) import is = absurd (none (subst IsJsDoc (sym same) is.jsdoc))
+    by_moved other (inl has) import is = gathered.complete other has import is
+    by_moved other (inr same) import is = absurd (none (subst IsJsDoc (sym same) is.jsdoc))
 
 module _ (text : List ℕ) (comments : List DependencyComment) (spelled : All (IsSpelled text) comments)
     (apart : AreApart comments) where
@@ -138,12 +138,12 @@ module _ (text : List ℕ) (comments : List DependencyComment) (spelled : All (I
   Gathered-more done comment imports more inside jsdoc utf8 gathered gains = record {
     ascending = gains.ascending;
     sound = sound;
-    complete = λ other has import is. by_place other (Contains-push_cases done comment other has) import is;
+    complete = λ other has import is. by_moved other (Contains-push_cases done comment other has) import is;
   }
     where
       import_of_added : (import : Import) → IsMovedHit comment import → IsImportOf comment import
-      import_of_added import (hit, is_hit, place) =
-          record { jsdoc = jsdoc; hit = hit; is_hit = is_hit; place = place }
+      import_of_added import (hit, is_hit, is_moved) =
+          record { jsdoc = jsdoc; hit = hit; is_hit = is_hit; is_moved = is_moved }
 
       sound : (import : Import) → Contains more import
           → (comment : DependencyComment) × Contains comments comment × IsUtf8 comment.text
@@ -158,7 +158,7 @@ module _ (text : List ℕ) (comments : List DependencyComment) (spelled : All (I
 
       added : (import : Import) → IsImportOf comment import → Contains more import
       added import is =
-          let there = gains.there import (is.hit, is.is_hit, is.place) in
+          let there = gains.there import (is.hit, is.is_hit, is.is_moved) in
           let from = sound there.0 there.1 in
           subst (Contains more)
           (one_import text comments apart from.0 comment from.1 inside
@@ -167,10 +167,10 @@ module _ (text : List ℕ) (comments : List DependencyComment) (spelled : All (I
           from.2 utf8 there.0 import from.3 is there.2)
           there.1
 
-      by_place : (other : DependencyComment) → Contains done other ⊎ (comment ≡ other) → (import : Import)
+      by_moved : (other : DependencyComment) → Contains done other ⊎ (comment ≡ other) → (import : Import)
           → IsImportOf other import → Contains more import
-      by_place other (inl has) import is = gains.kept import (gathered.complete other has import is)
-      by_place other (inr same) import is =
+      by_moved other (inl has) import is = gains.kept import (gathered.complete other has import is)
+      by_moved other (inr same) import is =
           added import (subst (λ (c : DependencyComment). IsImportOf c import) (sym same) is)
 
 pub Gathered-imports : (comments : List DependencyComment) (imports : List Import)
@@ -185,7 +185,7 @@ Gathered-imports comments imports gathered = record {
   );
 }
 
--- the imports of all JSDoc comments are those of all comments
+-- the imports in all JSDoc comments are those in all comments
 pub Gathered-jsdoc : (comments chosen : List DependencyComment) (imports : List Import)
     → ((comment : DependencyComment) → Contains comments comment → IsJsDoc comment → Contains chosen comment)
     → Gathered comments chosen imports → Gathered comments comments imports
@@ -203,9 +203,9 @@ Gathered-quoted comments done imports gathered text spelled import has =
     let from = gathered.sound import has in
     quoted_at text from.0 (All-contains (IsSpelled text) comments from.0 spelled from.1)
     (from.3).jsdoc.0 from.2 import (from.3).hit
-    (hit_placed (chars (from.0).text) (from.3).hit (from.3).is_hit) (from.3).place
+    (hit_placed (chars (from.0).text) (from.3).hit (from.3).is_hit) (from.3).is_moved
 
--- all hits of a text, moved
+-- the hits in a text, with offsets from the start of the source
 module _ (by : ℕ) (hits : List Import) (text : List ℕ) (are : AreHits text hits) where
   pub moved_is_hit : (import : Import) → Contains (map (moved by) hits) import
       → (hit : Import) × IsHit text hit × (import ≡ moved by hit)
@@ -220,15 +220,15 @@ module _ (by : ℕ) (hits : List Import) (text : List ℕ) (are : AreHits text h
 
   pub hit_is_moved : (import : Import) → (hit : Import) × IsHit text hit × (import ≡ moved by hit)
       → Contains (map (moved by) hits) import
-  hit_is_moved import (hit, is_hit, place) =
+  hit_is_moved import (hit, is_hit, is_moved) =
       let has = (are.exact hit).1 is_hit in
       let inside = has.1 in (
         has.0,
         omega (arith, inside, length-map hits (moved by)),
-        get_or-map (moved by) hits has.0 hit import inside ∙ ap (moved by) has.2 ∙ sym place,
+        get_or-map (moved by) hits has.0 hit import inside ∙ ap (moved by) has.2 ∙ sym is_moved,
       )
 
--- one import after another
+-- the list with one more import
 module _ (by : ℕ) (items : List JsDocImport) where
   abbrev pub placed : List JsDocImport → List Import
   placed some = map (λ (x : JsDocImport). moved by (import_of x)) some

@@ -1,4 +1,4 @@
--- A part of a comment's text is a part of the source, two bytes behind the comment's start.
+-- A part of a comment's text is a part of the source, two bytes after the comment's start.
 use Rattle.std.proofs.Common.{
   ◌≡◌,
   ℕ,
@@ -52,10 +52,10 @@ use Rattle.deno_graph_source.specs.declared.tree.comments.DependencyComment.{Dep
 use Rattle.deno_graph_info.specs.declared.analysis.specifier_with_range.SpecifierWithRange.{SpecifierWithRange}
 use Rattle.deno_graph_pragmas.specs.Split.{TextPart, IsSliceOf, IsInQuotes, with_beside}
 use Rattle.deno_graph_module_info.specs.Pragma.{range_in_source, specifier_of_part, positions_of}
-use Rattle.deno_graph_module_info.specs.FoundPragma.{Covers}
+use Rattle.deno_graph_module_info.specs.internal.HeadPragma.{Covers}
 use Rattle.deno_graph_module_info.specs.Spelled.{HasBetween}
 
--- the text is in the source from here on, up to a place where the source may be cut
+-- the source has the text at an offset, up to a character boundary of the source
 pub record LiesIn (source text : List ℕ) (start limit : ℕ) : Type 0 where
   pub rest : List ℕ
   pub inside : start ≤ length source
@@ -63,7 +63,7 @@ pub record LiesIn (source text : List ℕ) (start limit : ℕ) : Type 0 where
   pub end : IsCharBoundary source (start + length text)
   pub within : start + length text ≤ limit
 
--- what is behind the two bytes that a slice begins with
+-- the part of a slice after its first two bytes
 behind_marker : (source text closing : List ℕ) (range : SourceRange) (m n : ℕ)
     → slice_of source range ≡ m ∷ n ∷ (text ++ closing)
     → drop (range.start + 2) source ≡ text
@@ -129,7 +129,7 @@ comment_lies source text Block range is slice =
       within = omega (arith, size);
     }
 
--- a place where the text may be cut is one where the source may be
+-- a character boundary of the text is a character boundary of the source
 cut_in_source : (source text : List ℕ) (start limit i : ℕ) → LiesIn source text start limit
     → IsCharBoundary text i → IsCharBoundary source (start + i)
 cut_in_source source text start limit i there cut = by_order (cases_order i (length text))
@@ -149,7 +149,7 @@ cut_in_source source text start limit i there cut = by_order (cases_order i (len
 range_from : (start : ℕ) (part : TextPart) → SourceRange
 range_from start part = record { start = start + part.start; end = start + part.end }
 
--- a slice of the text is one of the source
+-- a slice of the text is a slice of the source
 slice_in_source : (source text : List ℕ) (start limit : ℕ) (part : TextPart)
     → LiesIn source text start limit
     → IsSliceOf text part
@@ -175,7 +175,7 @@ slice_in_source source text start limit part there slice =
       omega (arith, there.within, inside),
     )
 
--- what is found in a comment is in the source
+-- a part of a comment's text is a part of the source
 pub record InSource (source : List ℕ) (comment : DependencyComment) (part : TextPart)
     (is_quoteless : Bool) : Type 0 where
   pub range : IsTextRange source (range_in_source comment.range.start part.start part.end is_quoteless)

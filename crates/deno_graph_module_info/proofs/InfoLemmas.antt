@@ -1,4 +1,4 @@
--- What is said of a list of imports.
+-- The infos of a list of imports.
 use Rattle.std.proofs.Common.{
   ◌≡◌,
   ℕ,
@@ -27,7 +27,7 @@ use Rattle.deno_graph_jsdoc.specs.declared.import.JsDocImport.{JsDocImport}
 use Rattle.deno_graph_module_info.specs.JsDocInfo.{info_of}
 use Rattle.deno_graph_info.specs.declared.analysis.js_doc_import_info.JsDocImportInfo.{JsDocImportInfo}
 
--- what holds of all imports holds of one
+-- a property of all imports, for one of them
 pub at_item : (P : Import → Type 0) (items : List JsDocImport) (k : ℕ) (d : JsDocImport) → k < length items
     → All P (map import_of items) → P (import_of (get_or items k d))
 at_item P items k d inside all =

@@ -1,5 +1,5 @@
--- The comments before the dependencies of a program, at its head and at its tail: what holds of all
--- comments holds of them.
+-- The comments before the dependencies of a program, at its head and at its tail are among all
+-- comments.
 use Rattle.std.proofs.Common.{
   ◌≡◌,
   ℕ,
@@ -53,7 +53,7 @@ use Rattle.deno_graph_module_info.specs.HeadTail.{
 }
 use Rattle.deno_graph_module_info.specs.ModuleInfo.{comments_before, FitsText}
 
--- what holds of all comments holds of those at a position, at the head and at the tail
+-- a property of all comments, for those at an offset, at the head and at the tail
 module _ (P : DependencyComment → Type 0) (comments : FiledComments)
     (all : All P (comments_of comments)) where
   all_found : (found : Option (List DependencyComment))
@@ -83,10 +83,9 @@ module _ (P : DependencyComment → Type 0) (comments : FiledComments)
   pub all_tail : (program : Program) → All P (tail_comments program comments)
   all_tail program = all_trailing program.range.end
 
--- the comments before what a node states are those that lead the node
+-- the comments before the dependency of a node are those that are filed as leading at the node
 stated_at : (comments : FiledComments) (node : Node) (kind : Kind) (item : Descriptor)
-    → IsDescriptorOfKind comments node kind item
-    → comments_before item ≡ leading_at comments (range_of node).start
+    → IsDescriptorOfKind comments node kind item → comments_before item ≡ leading_at comments (range_of node).start
 stated_at comments node (ImportDecl type_only phase src has_specifiers has_with) item states =
     ap comments_before states.2
 stated_at comments node (NamedExport type_only None has_with) item states = absurd states
@@ -101,7 +100,7 @@ stated_at comments node (ModuleDecl (Some name)) item states = ap comments_befor
 stated_at comments node (Call callee args) item states = ap comments_before states.says
 stated_at comments node _ item states = absurd states
 
--- and of those before what nodes state
+-- a property of all comments, for those before the dependencies of nodes
 all_before : (P : DependencyComment → Type 0) (comments : FiledComments) (nodes : List Node)
     (items : List Descriptor) → All P (comments_of comments) → AreDescriptorsOf comments nodes items
     → All (λ item. All P (comments_before item)) items

@@ -1,4 +1,4 @@
--- What is said of a list of comments by its members is so in any order, and however often each is there.
+-- Infos of JSDoc imports don't depend on the order and the repetitions of comments.
 use Rattle.std.proofs.Common.{◌≡◌, ◌↔◌, ◌∙◌, List, Bool, true, false, map, ap, sym}
 use Rattle.std.specs.List.{Contains}
 use Rattle.std.specs.List.Sorted.{IsPermutation}

@@ -8,7 +8,7 @@ pub mod ItemComments
 pub mod JsDocComments
 pub mod Named
 pub mod OneInfo
-pub mod Places
+pub mod ImportRanges
 pub mod Pushed
 pub mod ReadComments
 pub mod ReadTypes

@@ -1,4 +1,4 @@
--- The first and the last of a list with a property, and what their pragmas name.
+-- The first and the last element of a list with a property, and the specifiers of their pragmas.
 use Rattle.std.proofs.Common.{
   ◌≡◌,
   ℕ,
@@ -56,10 +56,10 @@ use Rattle.deno_graph_module_info.specs.Pragma.{
   quoteless,
   specifier_of_part,
 }
-use Rattle.deno_graph_module_info.specs.FoundPragma.{Covers, IsFound}
+use Rattle.deno_graph_module_info.specs.internal.HeadPragma.{Covers, IsMatch}
 use Rattle.deno_graph_module_info.specs.Spelled.{CoversAsWritten}
 
--- a list at one of its places
+-- a list as the elements before an index, the element there, and those after it
 cut_at : {X : Type 0} (xs : List X) (i : ℕ) (x : X) → i < length xs → x ≡ get_or xs i x
     → xs ≡ take i xs ++ x ∷ drop (i + 1) xs
 cut_at xs i x below is =
@@ -76,27 +76,27 @@ first_at P xs i x below is none has = record {
   has = has;
 }
 
-pub found_pragma : (pragma : Pragma) (comment : DependencyComment) (part : TextPart)
-    → IsFound pragma comment part
+pub match_has_pragma : (pragma : Pragma) (comment : DependencyComment) (part : TextPart)
+    → IsMatch pragma comment part
     → HasPragma pragma comment
-found_pragma pragma comment part found = record { kind = found.kind; split = found.is_captured.split }
+match_has_pragma pragma comment part found = record { kind = found.kind; split = found.is_captured.split }
 
-pub found_names : (source : List ℕ) (pragma : Pragma) (comment : DependencyComment) (part : TextPart)
-    (specifier : SpecifierWithRange) → IsFound pragma comment part
+pub match_names : (source : List ℕ) (pragma : Pragma) (comment : DependencyComment) (part : TextPart)
+    (specifier : SpecifierWithRange) → IsMatch pragma comment part
     → specifier ≡ specifier_of_part source comment part pragma.is_quoteless
     → Names source pragma comment specifier
-found_names source pragma comment part specifier found is =
+match_names source pragma comment part specifier found is =
     record { part = part; is_captured = found.is_captured; is_specifier = is }
 
--- what a finder of the pragma's pattern answers of the text of a comment that it may be read in
-pub found_in_comment : (pragma : Pragma) (comment : DependencyComment) (text : List ℕ)
+-- the result of a finder of the pragma's pattern in a comment in which the pragma counts
+pub match_in_comment : (pragma : Pragma) (comment : DependencyComment) (text : List ℕ)
     (answer : Option Match) → text ≡ comment.text
     → (IsTrue pragma.is_in_blocks_alone → comment.kind ≡ Block)
     → FindsFirst pragma.pattern text answer
     → (pragma.is_quoteless ≡ false → IfSome answer (IsQuotedIn text))
-    → IfSome answer (λ found. IsFound pragma comment (match_part_of found))
-found_in_comment pragma comment text None is kind finds quotes = tt
-found_in_comment pragma comment text (Some found) is kind finds quotes = record {
+    → IfSome answer (λ found. IsMatch pragma comment (match_part_of found))
+match_in_comment pragma comment text None is kind finds quotes = tt
+match_in_comment pragma comment text (Some found) is kind finds quotes = record {
   kind = kind;
   is_captured = subst (λ t. IsCapturedIn pragma.pattern t found) is finds.found;
   is_slice = subst (λ t. IsSliceIn t found) is finds.slice;
@@ -109,12 +109,12 @@ pub none_in_comment : (pragma : Pragma) (comment : DependencyComment) (text : Li
 none_in_comment pragma comment text answer is finds none has =
     subst (λ t. ¬ HasSplit pragma.pattern t) is (finds.none.0 none) has.split
 
--- a comment that isn't of one line is a block
+-- a comment that isn't a line comment is a block comment
 pub block_from_not_line : (kind : CommentKind) → sameb the_kind kind Line ≡ false → kind ≡ Block
 block_from_not_line Block apart = refl
 block_from_not_line Line apart = cc
 
--- ---- the types of a dependency
+-- The types of a dependency
 
 pub no_blocks : (comment : DependencyComment) → IsTrue false → comment.kind ≡ Block
 no_blocks comment is = cc
@@ -173,7 +173,7 @@ deno_types_named source comment part true specifier no_ts_types captured_quoted 
       record { part = part; is_captured = captured.1; is_specifier = is },
     )
 
--- the range covers the specifier, with its quotes if it has some
+-- the range covers the specifier, with its quotes if it is quoted
 pub covers_as_written : (source : List ℕ) (is_quoteless : Bool) (specifier : SpecifierWithRange)
     → Covers source is_quoteless specifier → CoversAsWritten source specifier
 covers_as_written source true specifier covers = inl covers
@@ -194,9 +194,9 @@ no_types_named comment no_ts_types no_deno_types =
     (All-cons none (quoteless finder.quoteless_deno_types_pattern) [] (λ has. no_deno_types.1 has.split)
     (All-nil none)))
 
--- ---- lists in parts
+-- Lists in parts
 
--- what the rest has as its last is between the others of the rest and what is behind the rest
+-- a list as the elements before the last element of a prefix, this element, and those after it
 pub whole_at_last : {X : Type 0} (xs rest front after : List X) (x : X) → xs ≡ rest ++ after
     → rest ≡ front ++ x ∷ [] → xs ≡ front ++ x ∷ after
 whole_at_last xs rest front after x whole last =

@@ -34,17 +34,13 @@ use Rattle.std.proofs.lemmas.List.Elements.{All-from_recursion, All-head, All-ta
 use Rattle.deno_graph_info.specs.declared.analysis.dependency.DependencyDescriptor.{DependencyDescriptor}
 use Rattle.deno_graph_info.specs.declared.analysis.specifier_with_range.SpecifierWithRange.{SpecifierWithRange}
 use Rattle.deno_graph_info.specs.declared.analysis.module_info.ModuleInfo.{ModuleInfo}
-use Rattle.deno_graph_info.specs.declared.analysis.type_script_reference.TypeScriptReference.{
-  TypeScriptReference,
-}
+use Rattle.deno_graph_info.specs.declared.analysis.type_script_reference.TypeScriptReference.{TypeScriptReference}
 use Rattle.deno_graph_info.specs.declared.analysis.type_script_reference.TypeScriptReference.TheVariants.{
   Path,
   Types,
 }
 use Rattle.deno_graph_base.specs.ResolutionMode.{mode_named}
-use Rattle.deno_graph_base.specs.declared.values.resolution_mode.TypeScriptTypesResolutionMode.{
-  TypeScriptTypesResolutionMode,
-}
+use Rattle.deno_graph_base.specs.declared.values.resolution_mode.TypeScriptTypesResolutionMode.{TypeScriptTypesResolutionMode}
 use Rattle.deno_graph_pragmas.specs.Finders as finder
 use Rattle.deno_graph_pragmas.specs.Split.{HasOnePart, TextPart}
 use Rattle.deno_graph_source.specs.Comments.{FiledComments, comments_of}
@@ -89,7 +85,7 @@ use Rattle.deno_graph_module_info.specs.References.{
 use Rattle.deno_graph_module_info.proofs.ExactRanges.{at_middle}
 use Rattle.deno_graph_module_info.proofs.JsDocComments.{one_info_list}
 
--- The first and the last of a list with a property
+-- The first and the last element of a list with a property
 
 one_first : {X : Type 0} (P : X → Type 0) (front other_front after other_after : List X) (x y : X)
     → front ++ x ∷ after ≡ other_front ++ y ∷ other_after → All (λ z. ¬ P z) front
@@ -208,7 +204,7 @@ module _ (parts : AllByRecursion HasOnePart finder.finder_patterns) (source : Li
       is.2 ∙ (ap (λ (part : TextPart). mode_named part.text) (parts.1.1.0 text is.0 also.0 is.1 also.1)
       ∙ sym also.2)
 
-  -- what a comment names by a pragma that counts in each comment, it has
+  -- a comment has the pragma by which it names a specifier, if the pragma counts in all comments
   has_named : (pragma : Pragma) (comment : DependencyComment) (specifier : SpecifierWithRange)
       → pragma.is_in_blocks_alone ≡ false → Names source pragma comment specifier → HasPragma pragma comment
   has_named pragma comment specifier everywhere names = record {
@@ -245,7 +241,7 @@ module _ (parts : AllByRecursion HasOnePart finder.finder_patterns) (source : Li
   one_reference comment a b (inr is) (inl also) = absurd (also.0 is.0)
   one_reference comment a b (inr is) (inr also) = one_referred comment a b is.1 also.1
 
--- lists of partners, of which each item has one
+-- lists of partners, if each element has at most one partner
 one_list : {X Y : Type 0} (R : X → Y → Type 0) → ((x : X) (a b : Y) → R x a → R x b → a ≡ b) → (xs : List X)
     (ys zs : List Y) → AllZip R xs ys → AllZip R xs zs → ys ≡ zs
 one_list R one [] [] [] is also = refl

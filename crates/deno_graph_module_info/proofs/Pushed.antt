@@ -1,4 +1,4 @@
--- Imports that are put at a list's end, since they are behind all that is there.
+-- Imports that are added at the end of a list, since they start after all imports of the list.
 use Rattle.std.proofs.Common.{
   ◌≡◌,
   ℕ,
@@ -41,9 +41,9 @@ use Rattle.deno_graph_jsdoc.proofs.Hits.{hit_placed}
 use Rattle.deno_graph_source.specs.Source.{IsSpelled}
 use Rattle.deno_graph_source.specs.declared.tree.comments.CommentKind.TheVariants.{Block}
 use Rattle.deno_graph_source.specs.declared.tree.comments.DependencyComment.{DependencyComment}
-use Rattle.deno_graph_module_info.specs.CommentImportSteps.{GainsImports, IsMovedHit}
+use Rattle.deno_graph_module_info.specs.internal.CommentImportSteps.{GainsImports, IsMovedHit}
 use Rattle.deno_graph_module_info.proofs.Gathered.{placed}
-use Rattle.deno_graph_module_info.proofs.Places.{comment_size, inside_comment}
+use Rattle.deno_graph_module_info.proofs.ImportRanges.{comment_size, inside_comment}
 
 pub GainsImport-push : (now : List Import) (import : Import) → Ascend now
     → ((other : Import) → Contains now other → other.start < import.start)
@@ -57,20 +57,20 @@ GainsImport-push now import up below = record {
   there = (import, Contains-push now import, refl);
 }
 
--- the next import of a comment is behind those of the comments before and of this one so far
+-- the next import in a comment starts after those so far, of this comment and of those before
 pub next_behind : (by : ℕ) (items : List JsDocImport) (k : ℕ) (d : JsDocImport) (old now : List Import)
     (text : List ℕ) → k < length items → AreHits text (map import_of items)
     → All (λ (i : Import). i.start < by) old
     → GainsImports old (Contains (placed by items (take k items))) now
     → (other : Import) → Contains now other
     → other.start < (moved by (import_of (get_or items k d))).start
-next_behind by items k d old now text inside hits before gains other has = by_place (gains.only other has)
+next_behind by items k d old now text inside hits before gains other has = by_moved (gains.only other has)
   where
-    by_place : Contains old other ⊎ Contains (placed by items (take k items)) other
+    by_moved : Contains old other ⊎ Contains (placed by items (take k items)) other
         → other.start < (moved by (import_of (get_or items k d))).start
-    by_place (inl was) =
+    by_moved (inl was) =
         let start = All-contains (λ (i : Import). i.start < by) old other before was in omega (arith, start)
-    by_place (inr (j, below, is)) =
+    by_moved (inr (j, below, is)) =
         let f : JsDocImport → Import = λ x. moved by (import_of x) in
         let count = length-map (take k items) f in
         let short = length-take-le k items in
@@ -87,7 +87,7 @@ next_behind by items k d old now text inside hits before gains other has = by_pl
         let second = ap (λ (i : Import). i.start) (get_or-map import_of items k d (import_of d) inside) in
         omega (arith, same, order, first, second)
 
--- what the imports of a block comment begin before
+-- an upper bound of the starts of the imports in a block comment
 pub inside_end : (text : List ℕ) (comment : DependencyComment) → IsSpelled text comment
     → comment.kind ≡ Block → IsUtf8 comment.text → (old new : List Import) (behind : ℕ)
     → behind ≤ comment.range.start
@@ -95,14 +95,14 @@ pub inside_end : (text : List ℕ) (comment : DependencyComment) → IsSpelled t
     → GainsImports old (IsMovedHit comment) new
     → (import : Import) → Contains new import → import.start < comment.range.end
 inside_end text comment spelled block utf8 old new behind order below gains import has =
-    by_place (gains.only import has)
+    by_moved (gains.only import has)
   where
-    by_place : Contains old import ⊎ IsMovedHit comment import → import.start < comment.range.end
-    by_place (inl was) =
+    by_moved : Contains old import ⊎ IsMovedHit comment import → import.start < comment.range.end
+    by_moved (inl was) =
         let size = comment_size text comment spelled block in
         let first = below import was in
         omega (arith, order, first, size.0)
-    by_place (inr (hit, is_hit, place)) =
+    by_moved (inr (hit, is_hit, is_moved)) =
         (inside_comment text comment spelled block utf8 import hit
         (hit_placed (chars comment.text) hit is_hit)
-        place).1
+        is_moved).1

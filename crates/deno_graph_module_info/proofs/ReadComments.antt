@@ -1,4 +1,5 @@
--- Comments by ascending start, each read once: the imports so far are behind no later comment's start.
+-- Comments in ascending order of their starts, each read once: the imports so far start before the next
+-- comment.
 use Rattle.std.proofs.Common.{
   ◌≡◌,
   ℕ,
@@ -37,13 +38,13 @@ use Rattle.deno_graph_jsdoc.specs.JsDocImport.{Import}
 use Rattle.deno_graph_source.specs.Source.{IsSpelled}
 use Rattle.deno_graph_source.specs.declared.tree.comments.DependencyComment.{DependencyComment}
 use Rattle.deno_graph_module_info.specs.CommentImports.{AreApart, IsImportOf, IsJsDoc}
-use Rattle.deno_graph_module_info.specs.CommentImportSteps.{AreJsDocOf, GainsImports, IsMovedHit}
+use Rattle.deno_graph_module_info.specs.internal.CommentImportSteps.{AreJsDocOf, GainsImports, IsMovedHit}
 use Rattle.deno_graph_module_info.proofs.Chosen.{all, item_in, item_next}
 use Rattle.deno_graph_module_info.proofs.Gathered.{Gathered, Gathered-more, Gathered-start}
-use Rattle.deno_graph_module_info.proofs.Places.{comment_size}
+use Rattle.deno_graph_module_info.proofs.ImportRanges.{comment_size}
 use Rattle.deno_graph_module_info.proofs.Pushed.{inside_end}
 
--- the imports of the first k comments begin before `end`, where the last of these that was read ends
+-- the imports in the first `k` comments start before `end`, the end of the last of these comments
 pub record AreRead (comments : List DependencyComment) (items : List (Bor DependencyComment)) (k : ℕ)
     (imports : List Import) (end : ℕ) : Type 0 where
   pub gathered : Gathered comments (all (take k items)) imports
@@ -59,7 +60,7 @@ AreRead-start comments items = record {
   last = inl refl;
 }
 
--- a comment that was read adds nothing
+-- a comment that was read before adds no import
 Gathered-again : (comments done : List DependencyComment) (comment : DependencyComment)
     (imports : List Import) → Contains done comment → Gathered comments done imports
     → Gathered comments (done ++ comment ∷ []) imports

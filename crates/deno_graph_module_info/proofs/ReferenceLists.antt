@@ -1,4 +1,4 @@
--- One more comment, and the reference that it is.
+-- The references of comments, with one more comment.
 use Rattle.std.proofs.Common.{
   ◌≡◌,
   ℕ,
@@ -23,9 +23,7 @@ use Rattle.std.proofs.lemmas.List.{append-nil}
 use Rattle.std.specs.List.{AllZip, flat_map}
 use Rattle.std.specs.Option.{option_to_list}
 use Rattle.deno_graph_source.specs.declared.tree.comments.DependencyComment.{DependencyComment}
-use Rattle.deno_graph_info.specs.declared.analysis.type_script_reference.TypeScriptReference.{
-  TypeScriptReference,
-}
+use Rattle.deno_graph_info.specs.declared.analysis.type_script_reference.TypeScriptReference.{TypeScriptReference}
 use Rattle.deno_graph_module_info.specs.References.{AreReferences, CoversReference, IsReferenceOf}
 
 pub AllZip-push : {X Y : Type 0} (R : X → Y → Type 0) (xs : List X) (ys : List Y) (x : X) (y : Y)
@@ -54,7 +52,7 @@ AreReferences-push source comments references comment own are is = record {
   those = ap (λ t. t ++ option_to_list own) are.those ∙ sym (those-push are.each own);
 }
 
--- the loop's step: what is kept of one more comment
+-- one step of the loop: the references with that of one more comment
 pub record AreKept (source : List ℕ) (comments : List DependencyComment)
     (references : List TypeScriptReference) : Type 0 where
   pub are : AreReferences source comments references

@@ -1,4 +1,4 @@
--- What makes a module, node by node.
+-- The nodes that make a program a module.
 use Rattle.std.proofs.Common.{
   ◌≡◌,
   ℕ,
@@ -37,7 +37,7 @@ use Rattle.deno_graph_module_info.specs.Script.{
   IsScript,
   is_module_item,
 }
-use Rattle.deno_graph_module_info.specs.ScriptSteps.{LeadsBelow, IsBareAwait, MakesModule}
+use Rattle.deno_graph_module_info.specs.internal.ScriptSteps.{LeadsBelow, IsBareAwait, MakesModule}
 
 -- a path below a child is a path below its parent
 below_child : (P : Node → Type 0) (node child : Node) (k : ℕ) (path : NodePath)
@@ -57,7 +57,7 @@ neither true b is = cc
 not_both : {b : Bool} → b ≡ false → IsTrue b → ⊥
 not_both is holds = cc
 
--- a bare await below a child that is in no function is bare below its parent
+-- a bare await below a child is bare below its parent, if the parent is no function
 bare_above : (node child : Node) (k : ℕ) (path : NodePath) → slice_get (children_of node) k ≡ Some child
     → is_function (kind_of node) ≡ false → IsBareAwait child path → IsBareAwait node (k ∷ path)
 bare_above node child k path at outside bare = record {
@@ -75,7 +75,7 @@ bare_above node child k path at outside bare = record {
         (subst (λ n. LeadsBelow IsFunction node (n ∷ front)) (sym same) leads) in
         bare.bare front (record { index = goes.index; rest = goes.rest; joined = rest }) below
 
--- what a child makes, its parent makes
+-- if a child makes a module, its parent does
 pub MakesModule-above : (inside : Bool) (node child : Node) (k : ℕ)
     → slice_get (children_of node) k ≡ Some child
     → MakesModule (inside || is_function (kind_of node)) child → MakesModule inside node
@@ -85,7 +85,7 @@ MakesModule-above inside node child k at (path, inr bare) =
     let out = neither inside (is_function (kind_of node)) bare.0 in
     (k ∷ path, inr (out.0, bare_above node child k path at out.1 bare.1))
 
--- a bare await below a node that is no function is bare below its child
+-- a bare await below a node that is no function is bare below the node's child
 bare_below : (node child : Node) (k : ℕ) (path : NodePath) → slice_get (children_of node) k ≡ Some child
     → IsBareAwait node (k ∷ path) → IsBareAwait child path
 bare_below node child k path at bare = record {
@@ -101,7 +101,7 @@ no_child : (P : Node → Type 0) (node : Node) (k : ℕ) (path : NodePath) (o : 
 no_child P node k path None at leads = absurd (subst (λ o. IsSomeAnd (node_below o path) P) at leads)
 no_child P node k path (Some child) at leads = (child, at)
 
--- a node that makes a module does so itself, or by a child
+-- a node that makes a module does so itself or by a child
 pub MakesModule-cases : (inside : Bool) (node : Node) → MakesModule inside node
     → (IsImportMeta node ⊎ ((inside ≡ false) × IsAwait node))
     ⊎ ((k : ℕ) × (child : Node) × (slice_get (children_of node) k ≡ Some child)
@@ -134,8 +134,8 @@ no_prefix_of_nothing : (front : NodePath) → IsStrictPrefix front [] → ⊥
 no_prefix_of_nothing [] goes = let e = goes.joined in cc
 no_prefix_of_nothing (j ∷ front) goes = let e = goes.joined in cc
 
--- an await below a node that makes no module is in a function: round the node, the node itself,
--- or one between
+-- an await below a node that makes no module is in a function: around the node, the node itself,
+-- or a node between
 await_in_function : (inside : Bool) (node : Node) (path : NodePath) → LeadsBelow IsAwait node path
     → ¬ MakesModule inside node
     → (inside ≡ true) ⊎ ((front : NodePath) × IsStrictPrefix front path × LeadsBelow IsFunction node front)
@@ -173,7 +173,7 @@ await_in_function inside node (k ∷ path) await not_made =
           below_child IsFunction node child k found.0 at found.2,
         )
 
--- what an item leads to, the body leads to
+-- a path from an item is a path from the body
 pub in_body : (P : Node → Type 0) (body : List Node) (k : ℕ) (item : Node) (path : NodePath)
     → slice_get body k ≡ Some item
     → LeadsBelow P item path → LeadsTo P body (k ∷ path)
@@ -185,7 +185,7 @@ of_item : (P : Node → Type 0) (body : List Node) (k : ℕ) (path : NodePath) (
 of_item P body k path None at leads = absurd (subst (λ o. IsSomeAnd (node_below o path) P) at leads)
 of_item P body k path (Some item) at leads = (item, at, subst (λ o. IsSomeAnd (node_below o path) P) at leads)
 
--- a body whose items are no module's and make none is a script
+-- a body is a script if no item is an import or an export and no item makes a module
 pub IsScript-made : (body : List Node) → All (λ item. is_module_item (kind_of item) ≡ false) body
     → ((k : ℕ) (item : Node) → slice_get body k ≡ Some item → ¬ MakesModule false item) → IsScript body
 IsScript-made body items none = record {

@@ -1,4 +1,4 @@
--- What comments name: each pragma's specifier, or none, and each reference.
+-- The specifiers and the references that comments name exist.
 use Rattle.std.proofs.Common.{
   ◌≡◌,
   ℕ,
@@ -31,17 +31,13 @@ use Rattle.deno_graph_source.specs.declared.tree.comments.CommentKind.{CommentKi
 use Rattle.deno_graph_source.specs.declared.tree.comments.CommentKind.TheVariants.{Line, Block}
 use Rattle.deno_graph_source.specs.declared.tree.comments.DependencyComment.{DependencyComment}
 use Rattle.deno_graph_info.specs.declared.analysis.specifier_with_range.SpecifierWithRange.{SpecifierWithRange}
-use Rattle.deno_graph_info.specs.declared.analysis.type_script_reference.TypeScriptReference.{
-  TypeScriptReference,
-}
+use Rattle.deno_graph_info.specs.declared.analysis.type_script_reference.TypeScriptReference.{TypeScriptReference}
 use Rattle.deno_graph_info.specs.declared.analysis.type_script_reference.TypeScriptReference.TheVariants.{
   Path,
   Types,
 }
 use Rattle.deno_graph_base.specs.ResolutionMode.{mode_named}
-use Rattle.deno_graph_base.specs.declared.values.resolution_mode.TypeScriptTypesResolutionMode.{
-  TypeScriptTypesResolutionMode,
-}
+use Rattle.deno_graph_base.specs.declared.values.resolution_mode.TypeScriptTypesResolutionMode.{TypeScriptTypesResolutionMode}
 use Rattle.deno_graph_pragmas.specs.Finders as finder
 use Rattle.deno_graph_pragmas.specs.Split.{HasSplit}
 use Rattle.deno_graph_module_info.specs.Pragma.{
@@ -69,7 +65,7 @@ use Rattle.deno_graph_module_info.specs.References.{
 }
 use Rattle.deno_graph_pragmas.proofs.SomeSplit.{Decided, decide_split, some_part}
 
--- The first and the last of a list
+-- The first and the last element of a list
 
 first_with : {X : Type 0} (P : X → Type 0) → ((x : X) → Decided (P x)) → (xs : List X)
     → ((x : X) × IsFirstWith P xs x) ⊎ All (λ y. ¬ P y) xs
@@ -233,7 +229,7 @@ reference_of source comment =
     ⊎_elim (λ is. let to = refers source comment in (to.0, inr (is, to.1)))
     (λ none. (None, inl (none, refl))) (decide_reference comment)
 
--- where each item has a partner, a list has a list of partners
+-- a list has a list of partners if each element has a partner
 pub partners : {X Y : Type 0} (R : X → Y → Type 0) → ((x : X) → (y : Y) × R x y) → (xs : List X)
     → (ys : List Y) × AllZip R xs ys
 partners R each [] = ([], tt)

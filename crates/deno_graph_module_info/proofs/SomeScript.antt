@@ -1,4 +1,4 @@
--- A body is a script, or it is none.
+-- A body is a script or isn't.
 use Rattle.std.proofs.Common.{
   ◌≡◌,
   ◌↔◌,
@@ -42,11 +42,11 @@ use Rattle.deno_graph_module_info.specs.Script.{
   IsImportMeta,
   IsScript,
 }
-use Rattle.deno_graph_module_info.specs.ScriptSteps.{MakesModule}
+use Rattle.deno_graph_module_info.specs.internal.ScriptSteps.{MakesModule}
 use Rattle.deno_graph_module_info.proofs.Scripts.{in_body, no_function_round, IsScript-made}
 use Rattle.deno_graph_pragmas.proofs.SomeSplit.{Decided}
 
--- every `import.meta`, and every await in no function, by its path
+-- the paths to each `import.meta` and to each await outside functions
 abbrev metas : Rules
 metas = record {
   is_closed = λ node. false;
@@ -73,7 +73,7 @@ none_in : (paths : List NodePath) (path : NodePath) → paths ≡ [] → Contain
 none_in paths path is has =
     let here = subst (λ ps. Contains ps path) is has in absurd (omega (arith, here.1))
 
--- an item that a script may have
+-- an item that a script may have: no import or export, and nothing in it makes a module
 abbrev IsPlain : Node → Type 0
 IsPlain item = is_module_item (kind_of item) ≡ false
 

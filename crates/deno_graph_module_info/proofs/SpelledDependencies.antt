@@ -1,4 +1,4 @@
--- The dependencies of a valid source spell what their arguments evaluate to.
+-- The arguments of the dependencies of a valid source spell the texts of their expressions.
 use Rattle.std.proofs.Common.{◌≡◌, ℕ, List, [], ◌∷◌, map, refl, sym, ap, subst}
 use Rattle.std.specs.List.{AllZip}
 use Rattle.deno_graph_source.specs.Comments.{FiledComments}
@@ -34,7 +34,7 @@ same_parts : (ps : List ArgumentPart) → map part_said (map template_part_of ps
 same_parts [] = refl
 same_parts (p ∷ ps) = λ i. same_part p i ∷ same_parts ps i
 
--- an argument says the form that it was made of
+-- the form of the argument made of a form is that form
 same_form : (form : Form) → form_said (argument_of_form form) ≡ form
 same_form (text known_text) = refl
 same_form (parts ps) = ap parts (same_parts ps)

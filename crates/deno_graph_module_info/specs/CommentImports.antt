@@ -1,4 +1,4 @@
--- The imports that the JSDoc comments of a source state, as one list.
+-- The list of the imports in the JSDoc comments of a source.
 use Rattle.std.specs.Prelude.{
   ◌≡◌,
   ◌<◌,
@@ -29,64 +29,46 @@ use Rattle.deno_graph_source.specs.declared.tree.media_type.MediaType.TheVariant
   Jsx,
   Mjs,
   Cjs,
-  TypeScript,
-  Mts,
-  Cts,
-  Dts,
-  Dmts,
-  Dcts,
-  Tsx,
-  Json,
-  Other,
 }
 use Rattle.deno_graph_base.specs.SourceRange.{slice_of}
 use Rattle.deno_graph_base.specs.declared.text.position.SourceRange.{SourceRange}
 
--- in files of these types JSDoc imports are read
+-- whether JSDoc imports are read in files of this type
 abbrev pub reads_jsdoc : MediaType → Bool
 reads_jsdoc JavaScript = true
 reads_jsdoc Jsx = true
 reads_jsdoc Mjs = true
 reads_jsdoc Cjs = true
-reads_jsdoc TypeScript = false
-reads_jsdoc Mts = false
-reads_jsdoc Cts = false
-reads_jsdoc Dts = false
-reads_jsdoc Dmts = false
-reads_jsdoc Dcts = false
-reads_jsdoc Tsx = false
-reads_jsdoc Json = false
-reads_jsdoc Other = false
+reads_jsdoc _ = false
 
 -- two comments that share a byte are equal
 abbrev pub AreApart : List DependencyComment → Type 0
 AreApart comments =
     (a b : DependencyComment) → Contains comments a → Contains comments b → SharesByte a.range b.range → a ≡ b
 
--- a JSDoc comment is a block whose text begins with `*`
+-- a JSDoc comment: a block comment whose text begins with `*`
 abbrev pub IsJsDoc : DependencyComment → Type 0
 IsJsDoc comment = (comment.kind ≡ Block) × ((rest : List ℕ) × (comment.text ≡ codes "*" ++ rest))
 
--- `import` is a hit of the text of such a comment, its place counted from the start of the source
+-- `import` is a hit in the text of a JSDoc comment, with offsets from the start of the source
 pub record IsImportOf (comment : DependencyComment) (import : Import) : Type 0 where
   pub jsdoc : IsJsDoc comment
   pub hit : Import
   pub is_hit : IsHit (chars comment.text) hit
-  pub place : import ≡ moved (comment.range.start + 2) hit
+  pub is_moved : import ≡ moved (comment.range.start + 2) hit
 
--- the list has all imports of the comments and nothing else, each start above those before it
+-- the list has exactly the imports in the comments, and their starts strictly ascend
 pub record AreImports (comments : List DependencyComment) (imports : List Import) : Type 0 where
   pub ascending : AllPairs (λ (import later : Import). import.start < later.start) imports
   pub exact : (import : Import)
       → Contains imports import
       ↔ ((comment : DependencyComment) × Contains comments comment × IsImportOf comment import)
 
--- the range of the specifier with a quote on both sides
+-- the range of the specifier of an import with its two quotes
 abbrev pub quoted_range : Import → SourceRange
 quoted_range import = record { start = import.start - 1; end = import.end + 1 }
 
--- the text has the specifier of `import` in quotes of one kind, one byte before its start up to one
--- behind its end
+-- the text has the specifier of `import` at its range, between two equal quotes
 pub record IsQuotedAt (text : List ℕ) (import : Import) : Type 0 where
   pub some : 0 < import.start
   pub ordered : import.start ≤ import.end

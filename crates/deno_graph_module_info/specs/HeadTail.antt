@@ -7,22 +7,23 @@ use Rattle.deno_graph_source.specs.declared.tree.comments.DependencyComment.{Dep
 use Rattle.deno_graph_source.specs.declared.tree.node.Node.{Node}
 use Rattle.deno_graph_source.specs.declared.tree.node.Program.{Program}
 
--- the comments that are filed as trailing at a position
+-- the comments that are filed as trailing at an offset
 abbrev pub trailing_at : FiledComments → ℕ → List DependencyComment
 trailing_at comments pos = unwrap_or (value_at comments.trailing pos) []
 
--- the comments at the tail: those that trail the program's end
+-- the comments at the tail: those that are filed as trailing at the program's end
 abbrev pub tail_comments : Program → FiledComments → List DependencyComment
 tail_comments program comments = trailing_at comments program.range.end
 
--- the comments before an item, or those of a program that has none
+-- the comments before the first item, or those at the head of a program without items
 abbrev pub comments_before_items : Option Node → Program → FiledComments → List DependencyComment
 comments_before_items (Some item) program comments = leading_at comments (range_of item).start
 comments_before_items None program comments =
     if program.has_shebang then tail_comments program comments
     else leading_at comments program.range.start
 
--- The comments at the head: those that lead the first item. Where there is no item, they are those
--- that trail the end of a program with a shebang, and those that lead the start of any other.
+-- The comments at the head: those that are filed as leading at the first item. Of a program without
+-- items, those that are filed as trailing at the end of a program with a shebang, and as leading at
+-- the start of any other program.
 abbrev pub head_comments : Program → FiledComments → List DependencyComment
 head_comments program comments = comments_before_items (slice_get program.body 0) program comments

@@ -1,4 +1,4 @@
--- The `ModuleInfo` of a module.
+-- The `ModuleInfo` of a source, with all its properties.
 use Rattle.std.specs.Prelude.{ℕ, List}
 use Rattle.deno_graph_source.specs.Comments.{FiledComments}
 use Rattle.deno_graph_source.specs.ParsedSource.{ParsedModule}
@@ -8,8 +8,8 @@ use Rattle.deno_graph_info.specs.declared.analysis.module_info.ModuleInfo.{Modul
 use Rattle.deno_graph_module_info.specs.ModuleInfo.{HasExactRanges, IsModuleInfo}
 use Rattle.deno_graph_module_info.specs.SpelledDependencies.{SpellDependencies}
 
--- the info is that of the source: it has what its definition says, the ranges of its specifiers are
--- exact, and its arguments spell the texts of their expressions
+-- the info is the `ModuleInfo` of the source, the ranges of its specifiers are exact, and its arguments
+-- spell the texts of their expressions
 pub record IsInfoOfSource (text : List ℕ) (media_type : MediaType) (program : Program)
     (comments : FiledComments) (info : ModuleInfo) : Type 0 where
   pub is : IsModuleInfo text media_type program comments info

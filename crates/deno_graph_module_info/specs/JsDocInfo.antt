@@ -1,4 +1,4 @@
--- What is said of the imports of JSDoc comments.
+-- The JSDoc imports of a `ModuleInfo`.
 use Rattle.std.specs.Prelude.{
   ◌≡◌,
   ◌+◌,
@@ -25,7 +25,7 @@ use Rattle.deno_graph_base.specs.PositionRange.{IsRangeAt}
 use Rattle.deno_graph_base.specs.SourceRange.{slice_of}
 use Rattle.deno_graph_base.specs.declared.text.position.SourceRange.{SourceRange}
 
--- what is said of an import: its specifier, the positions of the ends of that with its two quotes, its mode
+-- the info of an import: its specifier, the positions of the specifier with its two quotes, its mode
 abbrev pub info_of : List ℕ → Import → JsDocImportInfo
 info_of text import = record {
   specifier = record {
@@ -35,13 +35,13 @@ info_of text import = record {
   resolution_mode = import.mode;
 }
 
--- what is said of all imports of the comments, where the file's type has them
+-- the infos are those of all JSDoc imports in the comments, and there are none if the flag is false
 abbrev pub IsJsDocList : Bool → List ℕ → List DependencyComment → List JsDocImportInfo → Type 0
 IsJsDocList false text comments infos = infos ≡ []
 IsJsDocList true text comments infos =
     (imports : List Import) × AreImports comments imports × (infos ≡ map (info_of text) imports)
 
--- two boundaries of the text have the positions, and between them it has the specifier in quotes of one kind
+-- the range covers the specifier with its quotes, which are equal
 abbrev pub CoversInEqualQuotes : List ℕ → SpecifierWithRange → Type 0
 CoversInEqualQuotes text specifier =
     (range : SourceRange) × IsRangeAt text specifier.range range

@@ -1,14 +1,11 @@
-pub mod CommentImportSteps
 pub mod CommentImports
-pub mod FoundPragma
 pub mod HeadTail
 pub mod InfoOfModule
 pub mod JsDocInfo
 pub mod ModuleInfo
 pub mod Pragma
-pub mod ReadTypes
 pub mod References
 pub mod Script
-pub mod ScriptSteps
 pub mod Spelled
 pub mod SpelledDependencies
+pub mod internal

@@ -1,4 +1,4 @@
--- What the analysis of one module says.
+-- The `ModuleInfo` of a source.
 use Rattle.std.specs.Prelude.{◌≡◌, ◌↔◌, ℕ, List, map, All, IfSome, IsTrue, Option}
 use Rattle.std.specs.List.{AllZip}
 use Rattle.deno_graph_source.specs.Comments.{FiledComments, comments_of}
@@ -15,14 +15,10 @@ use Rattle.deno_graph_info.specs.declared.analysis.dynamic_argument.DynamicArgum
 use Rattle.deno_graph_info.specs.declared.analysis.dynamic_argument.DynamicArgument.TheVariants as argument
 use Rattle.deno_graph_info.specs.declared.analysis.dynamic_argument.DynamicTemplatePart.{DynamicTemplatePart}
 use Rattle.deno_graph_info.specs.declared.analysis.dynamic_argument.DynamicTemplatePart.TheVariants as part
-use Rattle.deno_graph_info.specs.declared.analysis.dynamic_dependency.DynamicDependencyDescriptor.{
-  DynamicDependencyDescriptor,
-}
+use Rattle.deno_graph_info.specs.declared.analysis.dynamic_dependency.DynamicDependencyDescriptor.{DynamicDependencyDescriptor}
 use Rattle.deno_graph_info.specs.declared.analysis.module_info.ModuleInfo.{ModuleInfo}
 use Rattle.deno_graph_info.specs.declared.analysis.specifier_with_range.SpecifierWithRange.{SpecifierWithRange}
-use Rattle.deno_graph_info.specs.declared.analysis.static_dependency.StaticDependencyDescriptor.{
-  StaticDependencyDescriptor,
-}
+use Rattle.deno_graph_info.specs.declared.analysis.static_dependency.StaticDependencyDescriptor.{StaticDependencyDescriptor}
 use Rattle.deno_graph_dep.specs.Argument.{Form, ArgumentPart, text, parts, expression, known, unknown}
 use Rattle.deno_graph_dep.specs.Dependencies.{AreDependencies}
 use Rattle.deno_graph_dep.specs.Descriptor.{
@@ -52,7 +48,7 @@ use Rattle.deno_graph_module_info.specs.References.{AreReferences, CoversReferen
 use Rattle.deno_graph_module_info.specs.Script.{IsScript}
 use Rattle.deno_graph_module_info.specs.Spelled.{CoversAsWritten, CoversBare, CoversQuoted}
 
--- a static dependency with the positions of its specifier, and these types
+-- the descriptor of a static dependency with these types
 abbrev pub static_dependency_of :
     List ℕ → StaticDescriptor → Option SpecifierWithRange → StaticDependencyDescriptor
 static_dependency_of source item types = record {
@@ -64,18 +60,18 @@ static_dependency_of source item types = record {
   import_attributes = item.import_attributes;
 }
 
--- a part of an argument as a value of its own
+-- a part of an argument as a part of a `DynamicArgument`
 abbrev pub template_part_of : ArgumentPart → DynamicTemplatePart
 template_part_of (known known_text) = part.String known_text
 template_part_of unknown = part.Expr
 
--- an argument as a value of its own
+-- an argument as a `DynamicArgument`
 abbrev pub argument_of_form : Form → DynamicArgument
 argument_of_form (text known_text) = argument.String known_text
 argument_of_form (parts ps) = argument.Template (map template_part_of ps)
 argument_of_form expression = argument.Expr
 
--- a dynamic dependency with the positions of its argument, and these types
+-- the descriptor of a dynamic dependency with these types
 abbrev pub dynamic_dependency_of :
     List ℕ → DynamicDescriptor → Option SpecifierWithRange → DynamicDependencyDescriptor
 dynamic_dependency_of source item types = record {
@@ -86,7 +82,7 @@ dynamic_dependency_of source item types = record {
   import_attributes = item.import_attributes;
 }
 
--- a dependency with its positions in the text, and these types
+-- the descriptor of a dependency with these types
 abbrev pub dependency_of : List ℕ → Descriptor → Option SpecifierWithRange → DependencyDescriptor
 dependency_of source (static_descriptor item) types = Static (static_dependency_of source item types)
 dependency_of source (dynamic_descriptor item) types = Dynamic (dynamic_dependency_of source item types)
@@ -96,39 +92,38 @@ abbrev pub comments_before : Descriptor → List DependencyComment
 comments_before (static_descriptor item) = item.leading_comments
 comments_before (dynamic_descriptor item) = item.leading_comments
 
--- the ranges of a dependency are ranges of the text, and the comments before it are in the text
--- as they say
+-- the ranges of a dependency are ranges of the text, and the text has the comments before the
+-- dependency
 pub record FitsText (source : List ℕ) (item : Descriptor) : Type 0 where
   pub ranges : HasTextRanges source item
   pub comments : All (IsSpelled source) (comments_before item)
 
--- the dependency is the item with its positions in the text, and the types that the comments before
--- it name
+-- the descriptor is that of the dependency, with the types that the comments before the dependency
+-- name
 pub record Describes (source : List ℕ) (item : Descriptor)
     (dependency : DependencyDescriptor) : Type 0 where
   pub types : Option SpecifierWithRange
   pub names_types : NamesDependencyTypes source (comments_before item) types
   pub is : dependency ≡ dependency_of source item types
 
--- what comments name as the types of a dependency
+-- the specifier of the types of a dependency, if there is one
 abbrev pub types_of : DependencyDescriptor → Option SpecifierWithRange
 types_of (Static dependency) = dependency.types_specifier
 types_of (Dynamic dependency) = dependency.types_specifier
 
--- the range of the specifier of its types covers it as it is written
+-- the range of the specifier of a dependency's types covers the specifier, as the source spells it
 abbrev pub CoversTypes : List ℕ → DependencyDescriptor → Type 0
 CoversTypes source dependency = IfSome (types_of dependency) (CoversAsWritten source)
 
--- The dependencies of a program: those of its listing, each once and in tree order, with their
--- positions in the text and the types that the comments before them name.
+-- The descriptors are those of the dependencies of a program, each once and in tree order.
 pub record AreDescribed (source : List ℕ) (program : Program) (comments : FiledComments)
     (dependencies : List DependencyDescriptor) : Type 0 where
   pub items : List Descriptor
   pub are_dependencies : AreDependencies comments program.body items
   pub describe : AllZip (Describes source) items dependencies
 
--- What is said of a module: its dependencies, whether it is a script, and what the pragmas in the
--- comments at its head and at its tail name.
+-- The `ModuleInfo` of a source: its dependencies, whether it is a script, and what the comments at
+-- its head, at its tail and before its dependencies name, and its JSDoc comments import.
 pub record IsModuleInfo (source : List ℕ) (media_type : MediaType)
     (program : Program) (comments : FiledComments) (info : ModuleInfo) : Type 0 where
   pub is_script : IsTrue info.is_script ↔ IsScript program.body
@@ -151,8 +146,8 @@ pub record IsModuleInfo (source : List ℕ) (media_type : MediaType)
   pub source_map_url :
       NamesLast source source_mapping_url_pragma (tail_comments program comments) info.source_map_url
 
--- each range of a specifier that a comment names covers that specifier in the source: with a quote
--- on each side where it is quoted, and else by itself
+-- each range of a specifier that a comment names covers exactly the specifier in the source, with its
+-- quotes if it is quoted
 pub record HasExactRanges (source : List ℕ) (info : ModuleInfo) : Type 0 where
   pub dependencies : All (CoversTypes source) info.dependencies
   pub ts_references : All (CoversReference source) info.ts_references

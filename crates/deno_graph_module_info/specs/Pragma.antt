@@ -1,4 +1,4 @@
--- Pragmas in comments, and the specifiers that they name.
+-- Pragmas in comments, and the specifiers that the pragmas name.
 use Rattle.std.specs.Prelude.{
   ◌≡◌,
   ℕ,
@@ -32,8 +32,8 @@ use Rattle.deno_graph_info.specs.declared.analysis.specifier_with_range.Specifie
 use Rattle.deno_graph_pragmas.specs.Finders as finder
 use Rattle.deno_graph_pragmas.specs.Split.{Pattern, TextPart, HasSplit, IsCaptured}
 
--- A pragma: the pattern of the texts that have it, whether it counts in block comments alone, and
--- whether its specifier has no quotes.
+-- A pragma: the pattern of the texts that have the pragma, whether the pragma counts only in block
+-- comments, and whether its specifier has no quotes.
 pub record Pragma : Type 0 where
   pub pattern : Pattern
   pub is_in_blocks_alone : Bool
@@ -61,35 +61,35 @@ jsx_import_source_types_pragma = quoteless_in_blocks finder.jsx_import_source_ty
 abbrev pub source_mapping_url_pragma : Pragma
 source_mapping_url_pragma = quoteless finder.source_mapping_url_pattern
 
--- those that name the types of a dependency: where a comment has several of them, the first counts
+-- the pragmas that name the types of a dependency: if a comment has several, the first counts
 abbrev pub dependency_types_pragmas : List Pragma
 dependency_types_pragmas =
     quoted finder.ts_types_pattern ∷ quoted finder.deno_types_pattern
     ∷ quoteless finder.quoteless_deno_types_pattern ∷ []
 
--- the comment has the pragma
+-- the comment has the pragma, and is of a kind in which the pragma counts
 pub record HasPragma (pragma : Pragma) (comment : DependencyComment) : Type 0 where
   pub kind : IsTrue pragma.is_in_blocks_alone → comment.kind ≡ Block
   pub split : HasSplit pragma.pattern comment.text
 
--- the quotes that a range takes in on each side
+-- the number of quotes that a range includes on each side
 abbrev pub quotes_beside : Bool → ℕ
 quotes_beside is_quoteless = if is_quoteless then 0 else 1
 
--- Where a part of a comment's text, from its start to its end, lies in the source, with its
--- quotes. The text begins two bytes behind the comment's start.
+-- The range in the source of a part of a comment's text, with its quotes. The text begins two bytes
+-- after the comment's start.
 abbrev pub range_in_source : ℕ → ℕ → ℕ → Bool → SourceRange
 range_in_source comment_start start end is_quoteless = record {
   start = comment_start + 2 + start - quotes_beside is_quoteless;
   end = comment_start + 2 + end + quotes_beside is_quoteless;
 }
 
--- the positions of the ends of a range of the text
+-- a range of the text by positions
 abbrev pub positions_of : List ℕ → SourceRange → PositionRange
 positions_of source range =
     record { start = position_at source range.start; end = position_at source range.end }
 
--- the specifier that a part of the comment's text is
+-- a part of a comment's text as a specifier
 abbrev pub specifier_of_part : List ℕ → DependencyComment → TextPart → Bool → SpecifierWithRange
 specifier_of_part source comment part is_quoteless = record {
   text = part.text;
@@ -97,14 +97,14 @@ specifier_of_part source comment part is_quoteless = record {
       positions_of source (range_in_source comment.range.start part.start part.end is_quoteless);
 }
 
--- the pragma of the comment names this specifier
+-- the pragma in the comment names this specifier
 pub record Names (source : List ℕ) (pragma : Pragma)
     (comment : DependencyComment) (specifier : SpecifierWithRange) : Type 0 where
   pub part : TextPart
   pub is_captured : IsCaptured pragma.pattern comment.text part
   pub is_specifier : specifier ≡ specifier_of_part source comment part pragma.is_quoteless
 
--- x is the first of the list that has the property
+-- `x` is the first element of the list that has the property
 pub record IsFirstWith {X : Type 0} (P : X → Type 0) (xs : List X) (x : X) : Type 0 where
   pub before : List X
   pub after : List X
@@ -112,7 +112,7 @@ pub record IsFirstWith {X : Type 0} (P : X → Type 0) (xs : List X) (x : X) : T
   pub none_before : All (λ y. ¬ P y) before
   pub has : P x
 
--- x is the last of the list that has the property
+-- `x` is the last element of the list that has the property
 pub record IsLastWith {X : Type 0} (P : X → Type 0) (xs : List X) (x : X) : Type 0 where
   pub before : List X
   pub after : List X
@@ -120,8 +120,8 @@ pub record IsLastWith {X : Type 0} (P : X → Type 0) (xs : List X) (x : X) : Ty
   pub none_after : All (λ y. ¬ P y) after
   pub has : P x
 
--- the specifier is that of the first comment that has the pragma; there is none exactly where no
--- comment has it
+-- the specifier is that of the first comment that has the pragma; there is none exactly if no comment
+-- has the pragma
 abbrev pub NamesFirst :
     List ℕ → Pragma → List DependencyComment → Option SpecifierWithRange → Type 0
 NamesFirst source pragma comments None = All (λ comment. ¬ HasPragma pragma comment) comments
@@ -129,16 +129,16 @@ NamesFirst source pragma comments (Some specifier) =
     (comment : DependencyComment) × IsFirstWith (HasPragma pragma) comments comment
     × Names source pragma comment specifier
 
--- the specifier is that of the last comment that has the pragma; there is none exactly where no
--- comment has it
+-- the specifier is that of the last comment that has the pragma; there is none exactly if no comment
+-- has the pragma
 abbrev pub NamesLast : List ℕ → Pragma → List DependencyComment → Option SpecifierWithRange → Type 0
 NamesLast source pragma comments None = All (λ comment. ¬ HasPragma pragma comment) comments
 NamesLast source pragma comments (Some specifier) =
     (comment : DependencyComment) × IsLastWith (HasPragma pragma) comments comment
     × Names source pragma comment specifier
 
--- the specifier is that of the first of the pragmas that the comment has; there is none exactly
--- where it has none of them
+-- the specifier is that of the first of the pragmas that the comment has; there is none exactly if the
+-- comment has none of the pragmas
 abbrev pub NamesByFirst :
     List ℕ → List Pragma → DependencyComment → Option SpecifierWithRange → Type 0
 NamesByFirst source pragmas comment None = All (λ pragma. ¬ HasPragma pragma comment) pragmas
@@ -146,26 +146,27 @@ NamesByFirst source pragmas comment (Some specifier) =
     (pragma : Pragma) × IsFirstWith (λ p. HasPragma p comment) pragmas pragma
     × Names source pragma comment specifier
 
--- what a comment names as the types of the dependency behind it
+-- the specifier is that of the types that a comment names for the dependency after the comment
 abbrev pub NamesDependencyTypesIn : List ℕ → Option DependencyComment → Option SpecifierWithRange → Type 0
 NamesDependencyTypesIn source None specifier = specifier ≡ None
 NamesDependencyTypesIn source (Some comment) specifier =
     NamesByFirst source dependency_types_pragmas comment specifier
 
--- what the comments before a dependency name as its types: only the last of them is read
+-- the specifier is that of the types that the last of the comments before a dependency names
 abbrev pub NamesDependencyTypes : List ℕ → List DependencyComment → Option SpecifierWithRange → Type 0
 NamesDependencyTypes source comments specifier =
     NamesDependencyTypesIn source (slice_get comments (length comments - 1)) specifier
 
--- the comments that may name the types of the module itself: none in a file that holds types
+-- the comments that may name the module's own types: none in a file that holds types
 abbrev pub comments_for_types : MediaType → List DependencyComment → List DependencyComment
 comments_for_types media_type comments = if is_typed media_type then [] else comments
 
+-- whether files of this type have JSX
 abbrev pub has_jsx : MediaType → Bool
 has_jsx Jsx = true
 has_jsx Tsx = true
 has_jsx _ = false
 
--- the comments that may name where JSX comes from: none in a file without JSX
+-- the comments that may name the import source of JSX: none in a file without JSX
 abbrev pub comments_for_jsx : MediaType → List DependencyComment → List DependencyComment
 comments_for_jsx media_type comments = if has_jsx media_type then comments else []

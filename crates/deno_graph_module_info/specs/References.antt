@@ -5,12 +5,8 @@ use Rattle.std.specs.Option.{option_to_list}
 use Rattle.deno_graph_source.specs.declared.tree.comments.CommentKind.TheVariants.{Line}
 use Rattle.deno_graph_source.specs.declared.tree.comments.DependencyComment.{DependencyComment}
 use Rattle.deno_graph_base.specs.ResolutionMode.{mode_named}
-use Rattle.deno_graph_base.specs.declared.values.resolution_mode.TypeScriptTypesResolutionMode.{
-  TypeScriptTypesResolutionMode,
-}
-use Rattle.deno_graph_info.specs.declared.analysis.type_script_reference.TypeScriptReference.{
-  TypeScriptReference,
-}
+use Rattle.deno_graph_base.specs.declared.values.resolution_mode.TypeScriptTypesResolutionMode.{TypeScriptTypesResolutionMode}
+use Rattle.deno_graph_info.specs.declared.analysis.type_script_reference.TypeScriptReference.{TypeScriptReference}
 use Rattle.deno_graph_info.specs.declared.analysis.type_script_reference.TypeScriptReference.TheVariants.{
   Path,
   Types,
@@ -26,19 +22,19 @@ path_reference_pragma = quoted finder.path_reference_pattern
 abbrev pub types_reference_pragma : Pragma
 types_reference_pragma = quoted finder.types_reference_pattern
 
--- a line comment with the text of a triple-slash reference
+-- the comment is a line comment with the text of a triple-slash reference
 pub record IsTripleSlashReference (comment : DependencyComment) : Type 0 where
   pub kind : comment.kind ≡ Line
   pub split : HasSplit finder.triple_slash_reference_pattern comment.text
 
--- the mode that a text states, if it is one that is known
+-- the mode is the value of `resolution-mode` in the text, if the text has one that is a known mode
 abbrev pub StatesMode : List ℕ → Option TypeScriptTypesResolutionMode → Type 0
 StatesMode text mode =
     (¬ HasSplit finder.resolution_mode_pattern text × (mode ≡ None))
     ⊎ ((part : TextPart) × IsCaptured finder.resolution_mode_pattern text part
     × (mode ≡ mode_named part.text))
 
--- what a triple-slash reference refers to: a path, or else types; or neither
+-- the reference is that of a triple-slash reference: a path, or else types, or else none
 abbrev pub RefersTo : List ℕ → DependencyComment → Option TypeScriptReference → Type 0
 RefersTo source comment None =
     ¬ HasPragma path_reference_pragma comment × ¬ HasPragma types_reference_pragma comment
@@ -48,20 +44,20 @@ RefersTo source comment (Some (Types specifier mode)) =
     × Names source types_reference_pragma comment specifier
     × StatesMode comment.text mode
 
--- the reference that a comment is, if it is one that refers to something
+-- the reference is that of the comment: none if the comment is no triple-slash reference
 abbrev pub IsReferenceOf : List ℕ → DependencyComment → Option TypeScriptReference → Type 0
 IsReferenceOf source comment reference =
     (¬ IsTripleSlashReference comment × (reference ≡ None))
     ⊎ (IsTripleSlashReference comment × RefersTo source comment reference)
 
--- the references are those that the comments are, in their order
+-- the references are those of the comments, in the order of the comments
 pub record AreReferences (source : List ℕ) (comments : List DependencyComment)
     (references : List TypeScriptReference) : Type 0 where
   pub each : List (Option TypeScriptReference)
   pub of_comments : AllZip (IsReferenceOf source) comments each
   pub those : references ≡ flat_map option_to_list each
 
--- the range of what is referred to covers it, with the quotes round it
+-- the range of the specifier of a reference covers the specifier with its quotes
 abbrev pub CoversReference : List ℕ → TypeScriptReference → Type 0
 CoversReference source (Path specifier) = CoversQuoted source specifier
 CoversReference source (Types specifier mode) = CoversQuoted source specifier

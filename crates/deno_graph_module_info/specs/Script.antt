@@ -1,4 +1,4 @@
--- What tells a script from a module.
+-- Scripts: programs that nothing makes a module.
 use Rattle.std.specs.Prelude.{◌≡◌, Bool, true, false, List, All, IsTrue}
 use Rattle.deno_graph_source.specs.declared.tree.node.Kind.{Kind}
 use Rattle.deno_graph_source.specs.declared.tree.node.Kind.TheVariants.{
@@ -14,7 +14,7 @@ use Rattle.deno_graph_source.specs.declared.tree.node.Node.{Node}
 use Rattle.deno_graph_source.specs.Node.{kind_of}
 use Rattle.deno_graph_source.specs.NodePath.{NodePath, LeadsTo, IsStrictPrefix}
 
--- the items that only a module has: imports and exports
+-- whether the kind is that of an import or an export, which only a module has
 abbrev pub is_module_item : Kind → Bool
 is_module_item (ImportDecl type_only phase src has_specifiers has_with) = true
 is_module_item (NamedExport type_only src has_with) = true
@@ -43,8 +43,8 @@ IsFunction node = IsTrue (is_function (kind_of node))
 abbrev pub IsImportMeta : Node → Type 0
 IsImportMeta node = IsTrue (is_import_meta (kind_of node))
 
--- Nothing in the body makes it a module: no item imports or exports, each await is inside a
--- function, and there is no `import.meta`, at any depth.
+-- A body that nothing makes a module: no item is an import or an export, each await is inside a
+-- function, and there is no `import.meta` at any depth.
 pub record IsScript (body : List Node) : Type 0 where
   pub no_module_item : All (λ item. is_module_item (kind_of item) ≡ false) body
   pub awaits_in_functions : (path : NodePath) → LeadsTo IsAwait body path

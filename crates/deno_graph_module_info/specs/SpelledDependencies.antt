@@ -1,4 +1,4 @@
--- That the dependencies of a module spell what their arguments evaluate to.
+-- Arguments of dependencies that spell the texts of their expressions.
 use Rattle.std.specs.Prelude.{List, map}
 use Rattle.std.specs.List.{AllZip}
 use Rattle.deno_graph_source.specs.declared.tree.node.Node.{Node}
@@ -15,23 +15,24 @@ use Rattle.deno_graph_dep.specs.Argument.{Form, ArgumentPart, text, parts, expre
 use Rattle.deno_graph_dep.specs.DependencyNodes.{AreDependencyNodes}
 use Rattle.deno_graph_dep.specs.SpelledArguments.{SpellsArgument}
 
--- the part that a part of an argument says
+-- a part of a `DynamicArgument` as a part of an argument
 abbrev pub part_said : DynamicTemplatePart → ArgumentPart
 part_said (part.String known_text) = known known_text
 part_said part.Expr = unknown
 
--- the form that an argument says
+-- a `DynamicArgument` as the form of an argument
 abbrev pub form_said : DynamicArgument → Form
 form_said (argument.String known_text) = text known_text
 form_said (argument.Template ps) = parts (map part_said ps)
 form_said argument.Expr = expression
 
--- what is said of a call spells the text of its argument
+-- the argument of a dynamic dependency spells the text of the call's argument
 abbrev pub SpellsDependency : Node → DependencyDescriptor → Type 0
 SpellsDependency node (Static dependency) = Unit {0}
 SpellsDependency node (Dynamic dependency) = SpellsArgument node (form_said dependency.argument)
 
--- each dependency does so for the node in its place in the listing
+-- the argument of each dynamic dependency spells the text of the argument of its call, the node with
+-- the same index in the listing
 pub record SpellDependencies (body : List Node) (dependencies : List DependencyDescriptor) : Type 0 where
   pub nodes : List Node
   pub are_nodes : AreDependencyNodes body nodes

@@ -3,7 +3,7 @@ ghost use Rattle.deno_graph_source.specs.Source.{IsValid};
 ghost use Rattle.deno_graph_dep.specs.Argument.{form_seen, part_seen};
 ghost use Rattle.deno_graph_dep.specs.Descriptor.{dynamic_descriptor, dynamic_descriptor_seen, descriptor_seen, static_descriptor, static_descriptor_seen};
 ghost use Rattle.deno_graph_module_info.specs.ModuleInfo.{argument_of_form, template_part_of, AreDescribed, CoversTypes, Describes, FitsText};
-ghost use Rattle.deno_graph_module_info.specs.ReadTypes.{AreRead};
+ghost use Rattle.deno_graph_module_info.specs.internal.ReadTypes.{AreRead};
 ghost use Rattle.deno_graph_info.specs.declared.analysis.dependency.DependencyDescriptor.TheVariants.{Static, Dynamic};
 
 use crate::read_types::{ReadTypes, types_before};

@@ -1,12 +1,13 @@
-//! Pragmas of which the first in the comments at the head of a module counts.
+//! The pragmas that are read in the comments at the head of a module. Of each pragma, the first
+//! comment that has it counts.
 
 ghost use Rattle.std.specs.Prelude.{◌≡◌, false, IfOk, IfSome, IsNone, None};
 ghost use Rattle.deno_graph_module_info.specs.Pragma.{comments_for_jsx, comments_for_types, has_jsx, jsx_import_source_pragma, jsx_import_source_types_pragma, self_types_pragma, HasPragma, NamesFirst};
-ghost use Rattle.deno_graph_module_info.specs.FoundPragma.{head_pragma, Covers, IsFound};
+ghost use Rattle.deno_graph_module_info.specs.internal.HeadPragma.{head_pragma, Covers, IsMatch};
 ghost use Rattle.deno_graph_module_info.specs.Spelled.{CoversBare, CoversQuoted};
 ghost use Rattle.deno_graph_pragmas.specs.Match.{match_part_of, FindsFirst, IsQuotedIn};
 
-use crate::specifier::found_specifier;
+use crate::specifier::specifier_of_match;
 use crate::spelled::SpelledComments;
 use deno_graph_info::analysis::SpecifierWithRange;
 use deno_graph_pragmas::finders::{
@@ -15,8 +16,8 @@ use deno_graph_pragmas::finders::{
 use deno_graph_source::tree::{CommentKind, DependencyComment, MediaType};
 use std::alloc::{AllocError, Global};
 
-/// The types of the module itself, by the first comment that names them. None for a file that holds
-/// types.
+/// Returns the specifier of the module's own types, from the first comment with `@ts-self-types`.
+/// Returns `None` for a file that holds types. Fails only if an allocation fails.
 pub(crate) fn analyze_ts_self_types(
     alloc: Global,
     media_type: MediaType,
@@ -33,7 +34,8 @@ pub(crate) fn analyze_ts_self_types(
     first_specifier(alloc, head, HeadPragma::TsSelfTypes)
 }
 
-/// What the first block comment with `@jsxImportSource` names. None for a file without JSX.
+/// Returns the specifier of the first block comment with `@jsxImportSource`. Returns `None` for a
+/// file without JSX. Fails only if an allocation fails.
 pub(crate) fn analyze_jsx_import_source(
     alloc: Global,
     media_type: MediaType,
@@ -50,7 +52,8 @@ pub(crate) fn analyze_jsx_import_source(
     first_specifier(alloc, head, HeadPragma::JsxImportSource)
 }
 
-/// What the first block comment with `@jsxImportSourceTypes` names. None for a file without JSX.
+/// Returns the specifier of the first block comment with `@jsxImportSourceTypes`. Returns `None` for
+/// a file without JSX. Fails only if an allocation fails.
 pub(crate) fn analyze_jsx_import_source_types(
     alloc: Global,
     media_type: MediaType,
@@ -67,14 +70,14 @@ pub(crate) fn analyze_jsx_import_source_types(
     first_specifier(alloc, head, HeadPragma::JsxImportSourceTypes)
 }
 
-/// Whether files of this type have JSX.
+/// Returns whether files of this type have JSX.
 fn has_jsx(media_type: MediaType) -> bool
     ensures { result ≡ has_jsx media_type }
 {
     matches!(media_type, MediaType::Jsx | MediaType::Tsx)
 }
 
-/// Which pragma is looked for.
+/// A pragma that is read in the comments at the head of a module.
 #[derive(Clone, Copy)]
 enum HeadPragma {
     TsSelfTypes,
@@ -83,7 +86,8 @@ enum HeadPragma {
 }
 
 impl HeadPragma {
-    /// Whether its specifier has no quotes. Such a pragma counts in block comments alone.
+    /// Returns whether the specifier of the pragma has no quotes. Such a pragma counts only in block
+    /// comments.
     fn is_quoteless(self) -> bool
         ensures quoteless { result ≡ (head_pragma self).is_quoteless }
         ensures blocks { result ≡ (head_pragma self).is_in_blocks_alone }
@@ -91,10 +95,11 @@ impl HeadPragma {
         !matches!(self, HeadPragma::TsSelfTypes)
     }
 
-    /// What the comment's pragma names, if it has the pragma.
+    /// Returns the specifier of the pragma in a comment, or `None` if the comment doesn't have the
+    /// pragma.
     fn find(self, comment: &DependencyComment) -> Option<Match<'_>>
         ensures found { IfSome result
-            (λ found. IsFound (head_pragma self) comment.now (match_part_of found)) }
+            (λ found. IsMatch (head_pragma self) comment.now (match_part_of found)) }
         ensures none { IsNone result → ¬ HasPragma (head_pragma self) comment.now }
     {
         if self.is_quoteless() && comment.kind == CommentKind::Line {
@@ -103,7 +108,8 @@ impl HeadPragma {
         self.find_in(comment.text.as_str())
     }
 
-    /// What the text names by the pragma, whatever the kind of the comment.
+    /// Returns the specifier of the pragma in the text of a comment of any kind, or `None` if the text
+    /// doesn't have the pragma.
     fn find_in(self, text: &str) -> Option<Match<'_>>
         ensures finds { FindsFirst (head_pragma self).pattern text.now result }
         ensures quotes { (head_pragma self).is_quoteless ≡ false
@@ -117,7 +123,7 @@ impl HeadPragma {
     }
 }
 
-/// The specifier of the first comment that has the pragma.
+/// Returns the specifier of the first comment that has the pragma. Fails only if an allocation fails.
 fn first_specifier(
     alloc: Global,
     head: SpelledComments<'_>,
@@ -131,7 +137,13 @@ fn first_specifier(
     for comment in head.comments {
         if let Some(found) = pragma.find(comment) {
             let is_quoteless = pragma.is_quoteless();
-            let specifier = found_specifier(alloc, head.text_info, comment, found, is_quoteless)?;
+            let specifier = specifier_of_match(
+                alloc,
+                head.text_info,
+                comment,
+                found,
+                is_quoteless,
+            )?;
             return Ok(Some(specifier));
         }
     }

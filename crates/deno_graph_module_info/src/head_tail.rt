@@ -3,8 +3,8 @@ ghost use Rattle.deno_graph_module_info.specs.HeadTail.{head_comments, tail_comm
 
 use deno_graph_source::tree::{Comments, DependencyComment, Program};
 
-/// The comments before the first item. Where there is no item, those behind a shebang, or else
-/// those at the program's start.
+/// Returns the comments before the first item. Of a program without items, returns the comments
+/// after a shebang, or else those at the program's start.
 pub(crate) fn head_comments<'a>(
     program: &Program,
     comments: &'a Comments,
@@ -23,7 +23,7 @@ pub(crate) fn head_comments<'a>(
     }
 }
 
-/// The comments behind the program's end.
+/// Returns the comments after the program's end.
 pub(crate) fn tail_comments<'a>(
     program: &Program,
     comments: &'a Comments,

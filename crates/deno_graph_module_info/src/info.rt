@@ -18,12 +18,12 @@ use deno_graph_info::analysis::ModuleInfo;
 use deno_graph_source::tree::{Comments, MediaType, ParsedSource, Program};
 use std::alloc::{AllocError, Global};
 
-/// Analyzes a parsed module. The only error is that memory was refused.
+/// Analyzes a parsed module. Fails only if an allocation fails.
 pub fn module_info(alloc: Global, source: &ParsedSource) -> Result<ModuleInfo, AllocError>
     ensures is { IfOk result (IsModuleInfo source.now.text source.now.media_type
         source.now.program source.now.comments) }
 
-    // Each range covers exactly the specifier that it is of, as the source spells it.
+    // The range of each specifier covers exactly the specifier, as the source spells it.
     ensures ranges { IfOk result (HasExactRanges source.now.text) }
 
     // Whatever texts the unknown parts have, each argument spells the text of its expression.
@@ -39,8 +39,8 @@ pub fn module_info(alloc: Global, source: &ParsedSource) -> Result<ModuleInfo, A
     )
 }
 
-/// Analyzes a module by its parts, which must fit one another as those of a `ParsedSource` do.
-/// The only error is that memory was refused.
+/// Analyzes a module from its parts, which must be those of a valid source, as the parts of a
+/// `ParsedSource` are. Fails only if an allocation fails.
 pub fn module_info_from_program(
     alloc: Global,
     media_type: MediaType,
@@ -52,7 +52,7 @@ pub fn module_info_from_program(
     ensures is { IfOk result
         (IsModuleInfo text_info.now media_type program.now comments.now) }
 
-    // Each range covers exactly the specifier that it is of, as the source spells it.
+    // The range of each specifier covers exactly the specifier, as the source spells it.
     ensures ranges { IfOk result (HasExactRanges text_info.now) }
 
     // Whatever texts the unknown parts have, each argument spells the text of its expression.

@@ -1,4 +1,4 @@
-//! The imports that the JSDoc comments of a module state.
+//! The imports in the JSDoc comments of a module.
 
 mod analyze;
 mod imports;

@@ -1,4 +1,5 @@
-//! Laws of the `ModuleInfo` of a module.
+//! Laws of the `ModuleInfo` of a module. These functions do nothing: a caller learns a law from the
+//! contract.
 
 ghost use Rattle.std.specs.Prelude.{◌≡◌, All, List, ℕ};
 ghost use Rattle.std.specs.Str.{IsUtf8};
@@ -12,9 +13,9 @@ ghost use Rattle.deno_graph_source.specs.declared.tree.node.Program.{Program};
 
 use deno_graph_pragmas::finders::laws::captures_are_unique;
 
-/// Each valid source has a `ModuleInfo`, whatever its media type: one that has what its definition
-/// says, with exact ranges, and with arguments that spell the texts of their expressions. The texts
-/// of the comments are UTF-8, as each `Text` is.
+/// Ensures that each valid source of each media type has a `ModuleInfo`, with exact ranges, and with
+/// arguments that spell the texts of their expressions. The texts of comments must be UTF-8, as each
+/// `Text` is.
 pub fn each_source_has_info()
     ensures { (text : List ℕ) (media_type : MediaType) (program : Program) (comments : FiledComments)
         → IsValid text program comments
@@ -22,7 +23,7 @@ pub fn each_source_has_info()
         → (info : ModuleInfo) × IsInfoOfSource text media_type program comments info }
 {}
 
-/// A source has at most one `ModuleInfo`.
+/// Ensures that a source has at most one `ModuleInfo`.
 pub fn a_source_has_one_info()
     ensures { (text : List ℕ) (media_type : MediaType) (program : Program) (comments : FiledComments)
         (info other : ModuleInfo) → IsModuleInfo text media_type program comments info

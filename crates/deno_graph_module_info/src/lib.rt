@@ -1,4 +1,5 @@
-//! The analysis of a parsed module: what it depends on, and what else its `ModuleInfo` says.
+//! Analyzes a parsed module: computes its `ModuleInfo`, which has the dependencies of the module and
+//! what its comments name.
 #![tactic(auto)]
 
 mod dependencies;

@@ -1,7 +1,7 @@
 ghost use Rattle.std.specs.Prelude.{All, IfOk, IfSome, OnOk};
 ghost use Rattle.deno_graph_source.specs.Source.{IsSpelled};
 ghost use Rattle.deno_graph_module_info.specs.Pragma.{NamesDependencyTypes};
-ghost use Rattle.deno_graph_module_info.specs.ReadTypes.{AreRead};
+ghost use Rattle.deno_graph_module_info.specs.internal.ReadTypes.{AreRead};
 ghost use Rattle.deno_graph_module_info.specs.Spelled.{CoversAsWritten};
 
 use crate::types::types_in;
@@ -12,13 +12,12 @@ use deno_graph_source::tree::DependencyComment;
 use std::alloc::{AllocError, Global};
 use std::collections::BTreeMap;
 
-/// What each comment that was read names as the types of a dependency, by where the comment starts
-/// and ends.
+/// A cache: the types that each comment read so far names, by the start and the end of the comment's
+/// range.
 pub(crate) type ReadTypes = BTreeMap<(usize, usize), Option<SpecifierWithRange>>;
 
-/// What `analyze_ts_or_deno_types` answers. Each comment is read once: dependencies that begin at
-/// one byte share their comments, and a tree that no parser made may have any number of them there,
-/// in any order.
+/// Like `analyze_ts_or_deno_types`, but reads each comment once. Dependencies that begin at one
+/// offset share their comments, and a tree may have any number of such dependencies.
 pub(crate) fn types_before(
     alloc: Global,
     text_info: &SourceTextInfo,
@@ -34,11 +33,11 @@ pub(crate) fn types_before(
     let Some(comment) = leading_comments.last() else {
         return Ok(None);
     };
-    let place = (comment.range.start, comment.range.end);
-    if let Some(types) = read.get(&place) {
+    let range = (comment.range.start, comment.range.end);
+    if let Some(types) = read.get(&range) {
         return types.try_clone(alloc);
     }
     let types = types_in(alloc, text_info, comment)?;
-    drop(read.insert(place, types.try_clone(alloc)?)?);
+    drop(read.insert(range, types.try_clone(alloc)?)?);
     Ok(types)
 }

@@ -2,7 +2,7 @@ ghost use Rattle.std.specs.Prelude.{◌≡◌, ◌↔◌, All, IfOk, IfSome, IsT
 ghost use Rattle.deno_graph_source.specs.Source.{IsSpelled};
 ghost use Rattle.deno_graph_module_info.specs.References.{AreReferences, CoversReference, IsReferenceOf, IsTripleSlashReference, RefersTo, StatesMode};
 
-use crate::specifier::found_specifier;
+use crate::specifier::specifier_of_match;
 use crate::spelled::SpelledComments;
 use deno_graph_base::text::SourceTextInfo;
 use deno_graph_base::values::{Items, TypeScriptTypesResolutionMode};
@@ -14,7 +14,8 @@ use deno_graph_pragmas::finders::{
 use deno_graph_source::tree::{CommentKind, DependencyComment};
 use std::alloc::{AllocError, Global};
 
-/// The triple-slash references among the comments, in their order.
+/// Returns the triple-slash references among the comments, in the order of the comments. Fails only
+/// if an allocation fails.
 pub(crate) fn analyze_ts_references(
     alloc: Global,
     head: SpelledComments<'_>,
@@ -32,7 +33,8 @@ pub(crate) fn analyze_ts_references(
     Ok(references)
 }
 
-/// The reference that a comment is, if it is one that refers to something.
+/// Returns the triple-slash reference of a comment, or `None` if the comment is no triple-slash
+/// reference or names neither a path nor types. Fails only if an allocation fails.
 fn reference_of(
     alloc: Global,
     text_info: &SourceTextInfo,
@@ -50,14 +52,15 @@ fn reference_of(
     }
 }
 
-/// Whether it is a line comment with the text of a triple-slash reference.
+/// Returns whether a comment is a line comment with the text of a triple-slash reference.
 fn is_triple_slash_reference(comment: &DependencyComment) -> bool
     ensures { IsTrue result ↔ IsTripleSlashReference comment.now }
 {
     comment.kind == CommentKind::Line && is_comment_triple_slash_reference(comment.text.as_str())
 }
 
-/// What a triple-slash reference refers to: a path, or else types.
+/// Returns the path of a triple-slash reference, or else its types, or else `None`. Fails only if an
+/// allocation fails.
 fn referred(
     alloc: Global,
     text_info: &SourceTextInfo,
@@ -70,13 +73,13 @@ fn referred(
 {
     let text = comment.text.as_str();
     if let Some(found) = find_path_reference(text) {
-        let specifier = found_specifier(alloc, text_info, comment, found, false)?;
+        let specifier = specifier_of_match(alloc, text_info, comment, found, false)?;
         return Ok(Some(TypeScriptReference::Path(specifier)));
     }
     match find_types_reference(text) {
         Some(found) => {
             let resolution_mode = resolution_mode(text);
-            let specifier = found_specifier(alloc, text_info, comment, found, false)?;
+            let specifier = specifier_of_match(alloc, text_info, comment, found, false)?;
             Ok(Some(TypeScriptReference::Types {
                 specifier,
                 resolution_mode,
@@ -86,7 +89,7 @@ fn referred(
     }
 }
 
-/// The mode that a text states, if it is one that is known.
+/// Returns the value of `resolution-mode` in a text, if the text has a value that is a known mode.
 fn resolution_mode(text: &str) -> Option<TypeScriptTypesResolutionMode>
     ensures { StatesMode text.now result }
 {

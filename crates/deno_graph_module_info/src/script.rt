@@ -3,11 +3,11 @@
 ghost use Rattle.std.specs.Prelude.{◌≡◌, ◌↔◌, IsTrue, All, false};
 ghost use Rattle.deno_graph_source.specs.Node.{kind_of, children_of};
 ghost use Rattle.deno_graph_module_info.specs.Script.{IsScript, is_function, is_module_item};
-ghost use Rattle.deno_graph_module_info.specs.ScriptSteps.{MakesModule, MakesModuleItself};
+ghost use Rattle.deno_graph_module_info.specs.internal.ScriptSteps.{MakesModule, MakesModuleItself};
 
 use deno_graph_source::tree::{Kind, Node, Program};
 
-/// Whether nothing in the program makes it a module.
+/// Returns whether a program is a script: nothing in the program makes the program a module.
 pub(crate) fn is_script(program: &Program) -> bool
     ensures { IsTrue result ↔ IsScript program.now.body }
 {
@@ -22,7 +22,7 @@ pub(crate) fn is_script(program: &Program) -> bool
     true
 }
 
-/// Whether only a module has such an item: an import or an export.
+/// Returns whether an item is an import or an export, which only a module has.
 fn is_module_item(item: &Node) -> bool
     ensures { result ≡ is_module_item (kind_of item.now) }
 {
@@ -35,8 +35,8 @@ fn is_module_item(item: &Node) -> bool
     )
 }
 
-/// Whether a node or one below it makes the source a module: an `import.meta`, or an await that
-/// is in no function.
+/// Returns whether a node or a node below it makes the program a module: an `import.meta`, or an
+/// await outside functions.
 fn makes_module(node: &Node, inside_function: bool) -> bool
     ensures { IsTrue result ↔ MakesModule inside_function node.now }
 {
@@ -52,7 +52,7 @@ fn makes_module(node: &Node, inside_function: bool) -> bool
     false
 }
 
-/// Whether the node is an `import.meta`, or an await outside every function.
+/// Returns whether a node is an `import.meta`, or an await outside functions.
 fn makes_module_itself(node: &Node, inside_function: bool) -> bool
     ensures { IsTrue result ↔ MakesModuleItself inside_function node.now }
 {
@@ -63,6 +63,7 @@ fn makes_module_itself(node: &Node, inside_function: bool) -> bool
     }
 }
 
+/// Returns whether a node is a function.
 fn is_function(node: &Node) -> bool
     ensures { result ≡ is_function (kind_of node.now) }
 {

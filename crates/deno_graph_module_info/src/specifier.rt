@@ -1,10 +1,10 @@
-//! Specifiers that comments name.
+//! Specifiers in comments, with their ranges in the source.
 
 ghost use Rattle.std.specs.Prelude.{◌≡◌, ◌≤◌, false, IfOk};
 ghost use Rattle.deno_graph_source.specs.Source.{IsSpelled};
 ghost use Rattle.deno_graph_base.specs.SourceRange.{IsTextRange};
 ghost use Rattle.deno_graph_module_info.specs.Pragma.{positions_of, range_in_source, specifier_of_part};
-ghost use Rattle.deno_graph_module_info.specs.FoundPragma.{Covers};
+ghost use Rattle.deno_graph_module_info.specs.internal.HeadPragma.{Covers};
 ghost use Rattle.deno_graph_pragmas.specs.Match.{match_part_of};
 ghost use Rattle.deno_graph_pragmas.specs.Split.{IsSliceOf, IsInQuotes};
 
@@ -16,7 +16,8 @@ use deno_graph_source::tree::DependencyComment;
 use std::alloc::{AllocError, Global};
 use std::ops::Range;
 
-/// The specifier at `range` of a comment's text, in bytes of that text.
+/// Returns the specifier `text` with its range in the source. `range` is its range in the text of the
+/// comment, in bytes. Fails only if an allocation fails.
 pub(crate) fn specifier_with_range(
     alloc: Global,
     text_info: &SourceTextInfo,
@@ -40,8 +41,9 @@ pub(crate) fn specifier_with_range(
     })
 }
 
-/// The specifier that a finder found in a comment's text.
-pub(crate) fn found_specifier(
+/// Returns the specifier that a finder found in the text of a comment. Fails only if an allocation
+/// fails.
+pub(crate) fn specifier_of_match(
     alloc: Global,
     text_info: &SourceTextInfo,
     comment: &DependencyComment,
@@ -59,9 +61,9 @@ pub(crate) fn found_specifier(
     specifier_with_range(alloc, text_info, comment, text, range, is_quoteless)
 }
 
-/// The place of a part of a comment's text in the source: `inner_range` counts in bytes from the
-/// start of that text, which begins two bytes behind the comment's start. The quotes of a specifier
-/// belong to the range.
+/// Returns the range in the source of a part of a comment's text. `inner_range` is the part's range
+/// in bytes of that text, which begins two bytes after the start of the comment. The returned range
+/// includes the quotes of a quoted specifier.
 fn comment_source_to_position_range(
     comment_range: SourceRange,
     inner_range: Range<usize>,

@@ -1,4 +1,4 @@
-//! Comments of a text.
+//! Comments together with the text that has them.
 
 ghost use Rattle.std.specs.Prelude.{All};
 ghost use Rattle.deno_graph_source.specs.Source.{IsSpelled};
@@ -6,7 +6,7 @@ ghost use Rattle.deno_graph_source.specs.Source.{IsSpelled};
 use deno_graph_base::text::SourceTextInfo;
 use deno_graph_source::tree::DependencyComment;
 
-/// Comments, each of which is written in the text at its range.
+/// Comments that the text has at their ranges.
 #[derive(Clone, Copy)]
 pub(crate) struct SpelledComments<'a> {
     pub(crate) text_info: &'a SourceTextInfo,

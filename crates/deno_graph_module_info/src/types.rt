@@ -3,16 +3,16 @@ ghost use Rattle.deno_graph_source.specs.Source.{IsSpelled};
 ghost use Rattle.deno_graph_module_info.specs.Pragma.{dependency_types_pragmas, NamesByFirst, NamesDependencyTypes};
 ghost use Rattle.deno_graph_module_info.specs.Spelled.{CoversAsWritten};
 
-use crate::specifier::{found_specifier, specifier_with_range};
+use crate::specifier::{specifier_of_match, specifier_with_range};
 use deno_graph_base::text::SourceTextInfo;
 use deno_graph_info::analysis::SpecifierWithRange;
 use deno_graph_pragmas::finders::{find_deno_types, find_ts_types};
 use deno_graph_source::tree::DependencyComment;
 use std::alloc::{AllocError, Global};
 
-/// What the last of the comments before a dependency names as its types, by `@ts-types` or else by
-/// `@deno-types`. Each comment must be written in the text at its range. The only error is that
-/// memory was refused.
+/// Returns the specifier of the types of a dependency, from `@ts-types` or else `@deno-types` in the
+/// last of the comments before the dependency. The text must have each comment at its range. Fails
+/// only if an allocation fails.
 pub fn analyze_ts_or_deno_types(
     alloc: Global,
     text_info: &SourceTextInfo,
@@ -28,7 +28,8 @@ pub fn analyze_ts_or_deno_types(
     }
 }
 
-/// What the comment names as the types of the dependency behind it.
+/// Returns the specifier of the types that a comment names for the dependency after the comment, or
+/// `None` if it names none. Fails only if an allocation fails.
 pub(crate) fn types_in(
     alloc: Global,
     text_info: &SourceTextInfo,
@@ -40,7 +41,7 @@ pub(crate) fn types_in(
 {
     let text = comment.text.as_str();
     if let Some(found) = find_ts_types(text) {
-        let specifier = found_specifier(alloc, text_info, comment, found, false)?;
+        let specifier = specifier_of_match(alloc, text_info, comment, found, false)?;
         return Ok(Some(specifier));
     }
     match find_deno_types(text) {

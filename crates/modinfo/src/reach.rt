@@ -9,7 +9,7 @@ ghost use Rattle.serde_json.specs.View.{members_view, view};
 ghost use Rattle.serde_json.specs.Written.{compact_text};
 ghost use Rattle.deno_graph_base.specs.TextMap.{entries_of};
 ghost use Rattle.deno_graph_json.specs.Object.{array_of};
-ghost use Rattle.deno_graph_json.specs.Read.Answer.{Answers};
+ghost use Rattle.deno_graph_json.specs.Read.Result.{IsReadResult};
 ghost use Rattle.deno_graph_json.specs.Read.Partial.{reads_members};
 ghost use Rattle.modinfo.specs.Answer.{IsNoReach};
 ghost use Rattle.modinfo.specs.Reach.{Asks, IsNoQuestion, IsReachText, modules_in, reads_stored, root_in};
@@ -66,7 +66,7 @@ pub fn read_modules(
     alloc: Global,
     document: &Value,
 ) -> Result<(TextMap<StoredInfo>, Text), ReadError>
-    ensures { Answers (view document.now) (reads_modules (view document.now)) result }
+    ensures { IsReadResult (view document.now) (reads_modules (view document.now)) result }
 {
     let object = ObjectReader::new(alloc, document)?;
     let root = object.read("root")?;

@@ -15,7 +15,7 @@ use crate::fault::Fault;
 use crate::input::{document_of, parse_json};
 use crate::reach::reach_text;
 use crate::subcommand::Subcommand;
-use deno_graph_info::analysis::{ModuleInfo, module_graph_1_into_2};
+use deno_graph_info::analysis::{ModuleInfo, module_graph_1_to_2_owned};
 use deno_graph_module_info::module_info;
 use deno_graph_source::tree::ParsedSource;
 use modinfo_document::Document;
@@ -104,5 +104,5 @@ fn converted(alloc: Global, before: Value) -> Result<Value, Fault>
         → MatchResult result (λ after. IsConversionOf document (view after))
         (IsNoConversion document) }
 {
-    Ok(module_graph_1_into_2(alloc, before)?)
+    Ok(module_graph_1_to_2_owned(alloc, before)?)
 }

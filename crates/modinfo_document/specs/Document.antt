@@ -1,7 +1,7 @@
 -- Module documents: reading one from a text, and making its source.
 use Rattle.std.specs.Prelude.{◌≡◌, ◌⊎◌, List, codes, ℕ, Option, Some, None, Ok, Err, false, IsSomeAnd}
 use Rattle.std.specs.Rc.{rc_str_bytes}
-use Rattle.deno_graph_json.specs.Flat.{IsRefused}
+use Rattle.deno_graph_json.specs.Flat.{IsUnreadable}
 use Rattle.deno_graph_json.specs.Value.{Value, Members, as_object, as_str}
 use Rattle.deno_graph_json.specs.View.{IsValueOf}
 use Rattle.deno_graph_source.specs.declared.tree.media_type.MediaType.{MediaType}
@@ -66,7 +66,7 @@ IsDocumentOf text document = (value : Value) × IsValueOf text value
 
 -- Why the text is no document: it isn't JSON, or JSON of another form; or an allocation failed.
 abbrev pub IsNoDocument : List ℕ → DocumentError → Type 0
-IsNoDocument text (Json _) = IsRefused text
+IsNoDocument text (Json _) = IsUnreadable text
 IsNoDocument text (Tree _) = (value : Value) × IsValueOf text value × (reads_document value ≡ None)
 IsNoDocument text OutOfMemory = Unit {0}
 IsNoDocument text Specifier = ⊥

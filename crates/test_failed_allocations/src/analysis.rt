@@ -141,8 +141,8 @@ fn analyzer(
     Ok(CapturingModuleAnalyzer::new(parser, store))
 }
 
-/// If the info is out of memory, the parsed source stays in the store. If the parse is out of memory, this
-/// returns no outcome: `stores::parse` tests that.
+/// If the info is out of memory, the parsed source stays in the store. If the parse is out of
+/// memory, this returns no outcome: `stores::parse` tests that.
 pub fn analyze(alloc: Global) -> Result<Outcome, Failure> {
     let mut tested = Tested::new(alloc)?;
     analyze_second(alloc, &mut tested)

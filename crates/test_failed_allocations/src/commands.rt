@@ -36,8 +36,8 @@ const PARSE_WITH_SCOPES: Action = Action::Parse {
 /// The data of a command: kind, specifier and text. `Remove` has no text.
 type Planned = (Action, &'static str, &'static str);
 
-/// The first two commands find a stored source, the third returns a diagnostic and stores nothing, and the
-/// others change the source of each specifier.
+/// The first two commands find a stored source, the third returns a diagnostic and stores nothing,
+/// and the others change the source of each specifier.
 const COMMANDS: [Planned; 7] = [
     (Action::Analyze, V, "b"),
     (Action::Analyze, U, "c"),
@@ -187,8 +187,8 @@ fn outcome_of(
     }
 }
 
-/// The commands before the failed command have run, the failed command in part, and none after it. A second
-/// run returns the same answers as the first run of a new analyzer.
+/// The commands before the failed command have run, the failed command in part, and none after it.
+/// A second run returns the same answers as the first run of a new analyzer.
 pub fn run_all(alloc: Global) -> Result<Outcome, Failure> {
     let commands = commands(alloc, &COMMANDS)?;
     run_each(alloc, &commands)

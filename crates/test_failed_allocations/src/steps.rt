@@ -21,8 +21,8 @@ const WIDTH: usize = 500_000;
 /// The node that a step returns, and the number of entered nodes after the step.
 type Returned<'a> = (Option<&'a Node>, u64);
 
-/// A failed step skips no dependency, although it passed other nodes: the steps after it return the same
-/// nodes as without the failure.
+/// A failed step skips no dependency, although it passed other nodes: the steps after it return the
+/// same nodes as without the failure.
 pub fn through_a_deep_tree(alloc: Global) -> Result<Outcome, Failure> {
     let program = program(deep(alloc)?);
     step_through(alloc, &program)
@@ -58,7 +58,8 @@ fn take_steps<'a>(walk: &mut Walk<'a>, expected: &[Returned<'a>]) -> Result<Outc
     Ok(outcome)
 }
 
-/// Takes a step after a failed step. The failed step entered at most the nodes up to the next dependency.
+/// Takes a step after a failed step. The failed step entered at most the nodes up to the next
+/// dependency.
 fn step_again<'a>(
     walk: &mut Walk<'a>,
     before: u64,
@@ -125,8 +126,8 @@ fn program(body: Items<Node>) -> Program {
     }
 }
 
-/// Returns an import type inside another, under many nodes that are no dependencies, and a third import type
-/// beside those nodes.
+/// Returns an import type inside another, under many nodes that are no dependencies, and a third
+/// import type beside those nodes.
 fn deep(alloc: Global) -> Result<Items<Node>, AllocError> {
     let node = under_many(alloc, import_types(alloc)?)?;
     let mut body = Items::from_item(alloc, node)?;

@@ -11,7 +11,8 @@ use example_table_parser::TableParser;
 use std::alloc::{AllocError, Global};
 use url::Url;
 
-/// A parser and a store. The store has the first source, that of `a`, under `U`, and no source under `V`.
+/// A parser and a store. The store has the first source, that of `a`, under `U`, and no source
+/// under `V`.
 #[derive(Drop)]
 struct Tested {
     v: Url,

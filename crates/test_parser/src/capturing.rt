@@ -14,8 +14,8 @@ fn store_of_a(rt: &(impl AllocGlobal + Abort)) -> DefaultParsedSourceStore {
     store
 }
 
-/// Parses a text with the scope option, over a store with the source of `a`. Asserts that this source is
-/// marked afterwards.
+/// Parses a text with the scope option, over a store with the source of `a`. Asserts that this
+/// source is marked afterwards.
 fn parse_with_scopes(
     rt: &(impl AllocGlobal + Abort),
     text: &str,

@@ -15,8 +15,8 @@ fn imported(info: &ModuleInfo) -> &str {
     import.specifier.as_str()
 }
 
-/// Returns one letter per answer: the imported specifier, `s` for a script, `d` for a diagnostic, `p` for
-/// a parsed source, `r` for a removed source, `n` if there was none to remove.
+/// Returns one letter per answer: the imported specifier, `s` for a script, `d` for a diagnostic,
+/// `p` for a parsed source, `r` for a removed source, `n` if there was none to remove.
 fn letters(rt: &(impl AllocGlobal + Abort), answers: &[Answer]) -> String {
     let mut letters = String::new(rt.alloc());
     for answer in answers {
@@ -105,8 +105,8 @@ const OF_ONE_TEXT: [Plan; 8] = [
     Plan::Remove(W),
 ];
 
-/// A text is parsed again under another specifier or media type. A diagnostic doesn't stop the run, and is
-/// not stored.
+/// A text is parsed again under another specifier or media type. A diagnostic doesn't stop the run,
+/// and is not stored.
 #[test]
 fn one_text_has_several_sources(rt: HostRuntime) {
     assert_letters(&rt, empty(&rt), &OF_ONE_TEXT, ("avtdtddn", 6));

@@ -1,6 +1,6 @@
-//! Tests of parsers, stores and capturing analyzers, and of the names in the facades. This crate uses only
-//! the facades of the library, as a caller does. In `out_of_memory` a parser or a store returns an
-//! error; in `crates/test_failed_allocations` allocations fail.
+//! Tests of parsers, stores and capturing analyzers, and of the names in the facades. This crate
+//! uses only the facades of the library, as a caller does. In `out_of_memory` a parser or a store
+//! returns an error; in `crates/test_failed_allocations` allocations fail.
 #![tactic(auto)]
 
 #[cfg(test)]

@@ -28,8 +28,8 @@ const CALLS: [Call; 4] = [
     Call::Run,
 ];
 
-/// A text that is parsed, whether the call is out of memory, and the text of the source that is stored after
-/// the call.
+/// A text that is parsed, whether the call is out of memory, and the text of the source that is
+/// stored after the call.
 type Step = (&'static str, bool, Option<&'static str>);
 
 /// The first call for `a` stores nothing, the second stores `a`.

@@ -3,7 +3,10 @@ use Rattle.std.proofs.Common.{◌≡◌, false, codes, Some, refl}
 use Rattle.serde_json.specs.Written.{has_float}
 use Rattle.serde_json.specs.Find.{as_str}
 use Rattle.deno_graph_info.specs.declared.analysis.dependency.DependencyDescriptor.{DependencyDescriptor}
-use Rattle.deno_graph_info.specs.declared.analysis.dependency.DependencyDescriptor.TheVariants.{Static, Dynamic}
+use Rattle.deno_graph_info.specs.declared.analysis.dependency.DependencyDescriptor.TheVariants.{
+  Static,
+  Dynamic,
+}
 use Rattle.deno_graph_info.specs.Json.Dependency.{
   json_of_dependency,
   IsHeldDependency,

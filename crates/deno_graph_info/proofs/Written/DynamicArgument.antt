@@ -34,7 +34,7 @@ part_back ExprPart = refl
 all_parts : (parts : List DynamicTemplatePart) → All (λ p. Unit {0}) parts
 all_parts parts = λ k p h. tt
 
--- `argument`, which is left out where nothing is known of it
+-- `argument`, which is left out if it is unknown
 pub argument_back : (a : DynamicArgument)
     → read_or reads_argument Expr (unless (is_expr a) (json_of_argument a)) ≡ Some a
 unfolding reads_argument

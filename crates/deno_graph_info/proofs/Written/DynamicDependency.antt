@@ -32,7 +32,7 @@ use Rattle.deno_graph_info.proofs.Written.SpecifierWithRange.{specifier_option_b
 use Rattle.deno_graph_info.proofs.Written.ImportAttributes.{attributes_back, attributes_no_float}
 use Rattle.deno_graph_info.proofs.Written.DynamicArgument.{argument_back, argument_no_float}
 
--- `kind` of a dynamic dependency, which is left out where it is `import`
+-- `kind` of a dynamic dependency, which is left out if it is `import`
 dynamic_kind_back : (k : DynamicDependencyKind)
     → read_or reads_dynamic_kind Import (unless (is_plain_import k) (string (dynamic_kind_name k))) ≡ Some k
 unfolding reads_dynamic_kind dynamic_kind_named

@@ -38,7 +38,7 @@ unfolding reads_attribute
 attribute_back UnknownValue = refl
 attribute_back (KnownValue text) = refl
 
--- `importAttributes`, which is left out where there are none
+-- `importAttributes`, which is left out if there are none
 pub attributes_back : (a : ImportAttributes) → AreHeldAttributes a
     → read_or reads_attributes NoAttributes (unless (is_none a) (json_of_attributes a)) ≡ Some a
 unfolding reads_attributes attributes_named known_attributes member_at

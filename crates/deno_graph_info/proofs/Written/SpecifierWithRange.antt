@@ -57,7 +57,7 @@ specifier_back : (s : SpecifierWithRange) → IsHeldSpecifier s → reads_specif
 unfolding reads_specifier
 specifier_back s h = specifier_members_back s (specifier_entries s) refl refl refl h
 
--- a specifier that is left out where there is none
+-- a specifier that is left out if there is none
 pub specifier_option_back : (o : Option SpecifierWithRange) → IfSome o IsHeldSpecifier
     → read_or (reads_optional reads_specifier) None (option_map json_of_specifier o) ≡ Some o
 unfolding reads_optional

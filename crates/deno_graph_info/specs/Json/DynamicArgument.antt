@@ -1,4 +1,4 @@
--- What is known of a dynamic dependency's argument, as JSON and from it.
+-- The argument of a dynamic dependency, written to and read from JSON.
 use Rattle.std.specs.Prelude.{[], ◌∷◌, codes, Some, ℕ, List, bytes_eq, Option, None, if◌then◌else◌}
 use Rattle.serde_json.specs.Data.{Data, null, string, boolean, number, array, object, Members}
 use Rattle.serde_json.specs.Find.{as_object, as_str}
@@ -16,7 +16,7 @@ use Rattle.deno_graph_info.specs.declared.analysis.dynamic_argument.DynamicTempl
 use Rattle.deno_graph_json.specs.Object.{Entry, object_of, array_of}
 use Rattle.deno_graph_json.specs.Read.Partial.{◌>>=◌, member_at, reads_items}
 
--- its table: of an expression there is the `type` alone
+-- the members of a part: an expression has only `type`
 abbrev pub part_entries : DynamicTemplatePart → List Entry
 part_entries (StringPart value) =
     (codes "type", Some (string (codes "string"))) ∷ (codes "value", Some (string value)) ∷ []
@@ -26,13 +26,13 @@ part_entries ExprPart = (codes "type", Some (string (codes "expr"))) ∷ []
 abbrev pub json_of_part : DynamicTemplatePart → Data
 json_of_part part = object_of (part_entries part)
 
--- a string as itself, a template as the array of its parts, and null where nothing is known
+-- a string as a string, a template as the array of its parts, an unknown argument as null
 abbrev pub json_of_argument : DynamicArgument → Data
 json_of_argument (String text) = string text
 json_of_argument (Template parts) = array_of json_of_part parts
 json_of_argument Expr = null
 
--- the part that has this `type`
+-- a part of this `type`
 unfoldable pub part_of_type : List ℕ → Members → Option DynamicTemplatePart
 part_of_type type ms =
     if bytes_eq type (codes "string")
@@ -49,7 +49,7 @@ reads_part d = do
   type ← member_at as_str (codes "type") ms
   part_of_type type ms
 
--- a string, the array of a template's parts, or null where nothing is known
+-- a string, the array of a template's parts, or null for an unknown argument
 unfoldable pub reads_argument : Data → Option DynamicArgument
 reads_argument null = Some Expr
 reads_argument (boolean b) = None

@@ -1,4 +1,4 @@
--- A dynamic dependency, as JSON and from it.
+-- A dynamic dependency, written to and read from JSON.
 use Rattle.std.specs.Prelude.{
   ℕ,
   List,
@@ -54,8 +54,8 @@ dynamic_kind_name ImportDefer = codes "importDefer"
 dynamic_kind_name ImportSource = codes "importSource"
 dynamic_kind_name Require = codes "require"
 
--- its table: `kind` is left out where it is `import`, `typesSpecifier` where there is none,
--- `argument` where nothing is known of it, and `importAttributes` where there are none
+-- the members: `kind` is left out if it is `import`, `typesSpecifier` if there is none, `argument` if it is
+-- unknown, and `importAttributes` if there are none
 abbrev pub dynamic_entries : DynamicDependencyDescriptor → List Entry
 dynamic_entries d =
     (codes "argument", unless (is_expr d.argument) (json_of_argument d.argument))
@@ -72,13 +72,13 @@ dynamic_entries d =
 abbrev pub json_of_dynamic : DynamicDependencyDescriptor → Data
 json_of_dynamic d = object_of (dynamic_entries d)
 
--- what holds of each that a program has: positions fit, and the keys of attributes ascend
+-- what holds of each dependency that exists at run time: positions fit, and the keys of attributes ascend
 pub record IsHeldDynamic (d : DynamicDependencyDescriptor) : Type 0 where
   pub types_specifier : IfSome d.types_specifier IsHeldSpecifier
   pub argument_range : IsHeldRange d.argument_range
   pub import_attributes : AreHeldAttributes d.import_attributes
 
--- the kind that has this name
+-- the kind with this name
 unfoldable pub dynamic_kind_named : List ℕ → Option DynamicDependencyKind
 dynamic_kind_named name =
     if bytes_eq name (codes "import") then Some Import
@@ -87,13 +87,13 @@ dynamic_kind_named name =
     else if bytes_eq name (codes "require") then Some Require
     else None
 
--- the name of a kind
+-- the kind whose name the data are
 unfoldable pub reads_dynamic_kind : Data → Option DynamicDependencyKind
 reads_dynamic_kind d = do
   name ← as_str d
   dynamic_kind_named name
 
--- the members but `type`, of which all but `argumentRange` may be missing
+-- the members except `type`. All but `argumentRange` may be missing.
 unfoldable pub reads_dynamic : Members → Option DynamicDependencyDescriptor
 reads_dynamic ms = do
   kind ← member_or reads_dynamic_kind (codes "kind") Import ms

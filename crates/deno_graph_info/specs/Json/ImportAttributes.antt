@@ -1,4 +1,4 @@
--- Import attributes, as JSON and from it.
+-- Import attributes, written to and read from JSON.
 use Rattle.std.specs.Prelude.{[], ◌∷◌, codes, Some, ℕ, List, ◌==◌, bytes_eq, Option, None, if◌then◌else◌}
 use Rattle.serde_json.specs.Data.{Data, null, string, boolean, number, array, object, Members}
 use Rattle.serde_json.specs.Events.{members_len}
@@ -17,7 +17,7 @@ use Rattle.deno_graph_info.specs.declared.analysis.import_attributes.ImportAttri
 use Rattle.deno_graph_json.specs.Object.{object_of, map_object_of}
 use Rattle.deno_graph_json.specs.Read.Partial.{◌>>=◌, member_at, reads_map}
 
--- a string as itself, and null where it isn't known
+-- a known value as a string, an unknown value as null
 abbrev pub json_of_attribute : ImportAttribute → Data
 json_of_attribute UnknownValue = null
 json_of_attribute (KnownValue value) = string value
@@ -29,13 +29,13 @@ json_of_attributes Unknown = string (codes "unknown")
 json_of_attributes (Known entries) =
     object_of ((codes "known", Some (map_object_of json_of_attribute entries)) ∷ [])
 
--- what holds of all that a program has: the keys of known attributes ascend, as a map's do
+-- what holds of all attributes that exist at run time: the keys of known attributes ascend
 abbrev pub AreHeldAttributes : ImportAttributes → Type 0
 AreHeldAttributes NoAttributes = Unit {0}
 AreHeldAttributes Unknown = Unit {0}
 AreHeldAttributes (Known entries) = IsAscending entries
 
--- a string, or null for a value that isn't known
+-- a string, or null for an unknown value
 unfoldable pub reads_attribute : Data → Option ImportAttribute
 reads_attribute null = Some UnknownValue
 reads_attribute (boolean b) = None

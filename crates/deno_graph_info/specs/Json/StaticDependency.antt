@@ -1,4 +1,4 @@
--- A static dependency, as JSON and from it.
+-- A static dependency, written to and read from JSON.
 use Rattle.std.specs.Prelude.{
   ℕ,
   List,
@@ -61,8 +61,8 @@ static_kind_name ExportType = codes "exportType"
 static_kind_name ExportEquals = codes "exportEquals"
 static_kind_name MaybeTsModuleAugmentation = codes "maybeTsModuleAugmentation"
 
--- its table: `typesSpecifier` is left out where there is none, `sideEffect` where it is false, and
--- `importAttributes` where there are none
+-- the members: `typesSpecifier` is left out if there is none, `sideEffect` if it is false, and
+-- `importAttributes` if there are none
 abbrev pub static_entries : StaticDependencyDescriptor → List Entry
 static_entries d = (
   codes "importAttributes",
@@ -79,13 +79,13 @@ static_entries d = (
 abbrev pub json_of_static : StaticDependencyDescriptor → Data
 json_of_static d = object_of (static_entries d)
 
--- what holds of each that a program has: positions fit, and the keys of attributes ascend
+-- what holds of each dependency that exists at run time: positions fit, and the keys of attributes ascend
 pub record IsHeldStatic (d : StaticDependencyDescriptor) : Type 0 where
   pub types_specifier : IfSome d.types_specifier IsHeldSpecifier
   pub specifier_range : IsHeldRange d.specifier_range
   pub import_attributes : AreHeldAttributes d.import_attributes
 
--- the kind that has this name
+-- the kind with this name
 unfoldable pub static_kind_named : List ℕ → Option StaticDependencyKind
 static_kind_named name =
     if bytes_eq name (codes "import") then Some Import
@@ -99,14 +99,13 @@ static_kind_named name =
     else if bytes_eq name (codes "maybeTsModuleAugmentation") then Some MaybeTsModuleAugmentation
     else None
 
--- the name of a kind
+-- the kind whose name the data are
 unfoldable pub reads_static_kind : Data → Option StaticDependencyKind
 reads_static_kind d = do
   name ← as_str d
   static_kind_named name
 
--- the members but `type`, of which `typesSpecifier`, `sideEffect` and `importAttributes` may be
--- missing
+-- the members except `type`. `typesSpecifier`, `sideEffect` and `importAttributes` may be missing.
 unfoldable pub reads_static : Members → Option StaticDependencyDescriptor
 reads_static ms = do
   kind ← member_at reads_static_kind (codes "kind") ms

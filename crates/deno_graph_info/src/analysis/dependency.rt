@@ -4,7 +4,7 @@ ghost use Rattle.serde_json.specs.Find.{get_member};
 ghost use Rattle.deno_graph_info.specs.Dependency.{static_of, dynamic_of, attributes_of};
 ghost use Rattle.deno_graph_info.specs.Json.Dependency.{json_of_dependency, reads_dependency, dependency_of_type, IsHeldDependency};
 ghost use Rattle.deno_graph_json.specs.ObjectReader.{readable, value_of};
-ghost use Rattle.deno_graph_json.specs.Read.Answer.{Answers};
+ghost use Rattle.deno_graph_json.specs.Read.Result.{IsReadResult};
 
 use crate::analysis::dynamic_dependency::{DynamicDependencyDescriptor, read_dynamic};
 use crate::analysis::import_attributes::ImportAttributes;
@@ -17,14 +17,14 @@ use std::alloc::{AllocError, Global};
 /// One dependency of a module.
 #[derive(Debug, PartialEq, Eq, Drop)]
 pub enum DependencyDescriptor {
-    /// A declaration, whose specifier is a string.
+    /// A declaration: the specifier is a string.
     Static(StaticDependencyDescriptor),
-    /// A call, whose specifier is any expression.
+    /// A call: the specifier is any expression.
     Dynamic(DynamicDependencyDescriptor),
 }
 
 impl DependencyDescriptor {
-    /// The static dependency, or None for a dynamic one.
+    /// Returns the static dependency, or None for a dynamic one.
     pub fn as_static(&self) -> Option<&StaticDependencyDescriptor>
         ensures { option_map (λ d. d.now) result ≡ static_of self.now }
     {
@@ -34,7 +34,7 @@ impl DependencyDescriptor {
         }
     }
 
-    /// The dynamic dependency, or None for a static one.
+    /// Returns the dynamic dependency, or None for a static one.
     pub fn as_dynamic(&self) -> Option<&DynamicDependencyDescriptor>
         ensures { option_map (λ d. d.now) result ≡ dynamic_of self.now }
     {
@@ -44,7 +44,7 @@ impl DependencyDescriptor {
         }
     }
 
-    /// The import attributes that the dependency states.
+    /// Returns the import attributes of the dependency.
     pub fn import_attributes(&self) -> &ImportAttributes
         ensures { result.now ≡ attributes_of self.now }
     {
@@ -121,14 +121,14 @@ impl FromJson for DependencyDescriptor {
     }
 }
 
-/// The dependency that has this `type`.
+/// Reads a dependency of the type `dependency_type`.
 #[tactic(auto, unfolding(crate::specs::Json::Dependency::dependency_of_type))]
 fn read_dependency(
     dependency_type: &str,
     object: &ObjectReader,
 ) -> Result<DependencyDescriptor, ReadError>
     ensures { get_member (codes "type") (readable object.now) ≡ Some (string dependency_type.now)
-        → Answers (value_of object.now)
+        → IsReadResult (value_of object.now)
         (dependency_of_type dependency_type.now (readable object.now)) result }
 {
     match dependency_type {

@@ -5,7 +5,7 @@ ghost use Rattle.deno_graph_json.specs.Ascending.{has_ascending_keys};
 ghost use Rattle.deno_graph_info.specs.DynamicDependency.{is_expr};
 ghost use Rattle.deno_graph_info.specs.Json.DynamicArgument.{json_of_argument, json_of_part, reads_argument, reads_part, part_entries, part_of_type};
 ghost use Rattle.deno_graph_json.specs.ObjectReader.{readable, value_of};
-ghost use Rattle.deno_graph_json.specs.Read.Answer.{Answers};
+ghost use Rattle.deno_graph_json.specs.Read.Result.{IsReadResult};
 
 use deno_graph_base::values::{Items, Text, TryClone};
 use deno_graph_json::read::read_items;
@@ -16,19 +16,19 @@ use deno_graph_json::{
 use serde_json::Value;
 use std::alloc::{AllocError, Global};
 
-/// What is known of the first argument of a dynamic dependency.
+/// The first argument of a dynamic dependency, as far as it is known.
 #[derive(Debug, PartialEq, Eq, Drop)]
 pub enum DynamicArgument {
     /// A string, with U+FFFD for each lone surrogate.
     String(Text),
-    /// A text of several parts, in order; of some nothing may be known.
+    /// A text in several parts, in order. Some parts may be unknown.
     Template(Items<DynamicTemplatePart>),
-    /// An expression of which nothing is known.
+    /// An unknown expression.
     Expr,
 }
 
 impl DynamicArgument {
-    /// Whether nothing is known of the argument.
+    /// Returns whether the argument is unknown.
     pub fn is_expr(&self) -> bool
         ensures { result ≡ is_expr self.now }
     {
@@ -102,12 +102,12 @@ impl FromJson for DynamicArgument {
     }
 }
 
-/// One part of a template.
+/// A part of a template.
 #[derive(Debug, PartialEq, Eq, Drop)]
 pub enum DynamicTemplatePart {
-    /// A text that is known.
+    /// A known text.
     String { value: Text },
-    /// An expression of which nothing is known.
+    /// An unknown expression.
     Expr,
 }
 
@@ -164,11 +164,11 @@ impl FromJson for DynamicTemplatePart {
     }
 }
 
-/// The part that has this `type`.
+/// Reads a part of the type `part_type`.
 #[tactic(auto, unfolding(crate::specs::Json::DynamicArgument::part_of_type))]
 fn read_part(part_type: &str, object: &ObjectReader) -> Result<DynamicTemplatePart, ReadError>
     ensures { get_member (codes "type") (readable object.now) ≡ Some (string part_type.now)
-        → Answers (value_of object.now) (part_of_type part_type.now (readable object.now)) result }
+        → IsReadResult (value_of object.now) (part_of_type part_type.now (readable object.now)) result }
 {
     match part_type {
         "string" => {

@@ -3,7 +3,7 @@ ghost use Rattle.serde_json.specs.Data.{string};
 ghost use Rattle.deno_graph_info.specs.DynamicDependency.{is_plain_import};
 ghost use Rattle.deno_graph_info.specs.Json.DynamicDependency.{dynamic_entries, dynamic_kind_name, dynamic_kind_named, json_of_dynamic, reads_dynamic, reads_dynamic_kind, IsHeldDynamic};
 ghost use Rattle.deno_graph_json.specs.ObjectReader.{readable, value_of};
-ghost use Rattle.deno_graph_json.specs.Read.Answer.{Answers};
+ghost use Rattle.deno_graph_json.specs.Read.Result.{IsReadResult};
 
 use crate::analysis::dynamic_argument::DynamicArgument;
 use crate::analysis::import_attributes::ImportAttributes;
@@ -18,7 +18,7 @@ use deno_graph_json::{
 use serde_json::Value;
 use std::alloc::{AllocError, Global};
 
-/// Which call states a dynamic dependency.
+/// The kind of a call that is a dynamic dependency.
 #[derive(Clone, Copy, Debug, PartialEq, Eq)]
 pub enum DynamicDependencyKind {
     /// `import(..)`.
@@ -32,13 +32,14 @@ pub enum DynamicDependencyKind {
 }
 
 impl DynamicDependencyKind {
+    /// Returns whether the call is `import(..)`.
     fn is_plain_import(self) -> bool
         ensures { result ≡ is_plain_import self }
     {
         matches!(self, DynamicDependencyKind::Import)
     }
 
-    /// The name that JSON has for it.
+    /// Returns the name of the kind in JSON.
     fn name(self) -> &'static str
         ensures { result.now ≡ dynamic_kind_name self }
     {
@@ -95,10 +96,10 @@ const EXPECTED_KIND: Expected = Expected::OneOf(
     ],
 );
 
-/// The kind that has this name.
+/// Returns the kind with this name in JSON.
 #[tactic(auto, unfolding(crate::specs::Json::DynamicDependency::dynamic_kind_named, crate::specs::Json::DynamicDependency::reads_dynamic_kind))]
 fn kind_named(alloc: Global, name: &str) -> Result<DynamicDependencyKind, ReadError>
-    ensures { Answers (string name.now) (dynamic_kind_named name.now) result }
+    ensures { IsReadResult (string name.now) (dynamic_kind_named name.now) result }
 {
     match name {
         "import" => Ok(DynamicDependencyKind::Import),
@@ -109,17 +110,17 @@ fn kind_named(alloc: Global, name: &str) -> Result<DynamicDependencyKind, ReadEr
     }
 }
 
-/// A dependency that a call states, whose specifier is its first argument.
+/// A dependency by a call. The first argument is the specifier.
 #[derive(Debug, PartialEq, Eq, Drop)]
 pub struct DynamicDependencyDescriptor {
     pub kind: DynamicDependencyKind,
-    /// What a comment before the dependency names as its types, if one does.
+    /// The types of the dependency, if a comment before it names them.
     pub types_specifier: Option<SpecifierWithRange>,
-    /// What is known of the first argument.
+    /// The first argument, as far as it is known.
     pub argument: DynamicArgument,
-    /// Where the first argument is: lines and characters from zero.
+    /// Range of the first argument: lines and characters from zero.
     pub argument_range: PositionRange,
-    /// The attributes that the second argument states.
+    /// The import attributes in the second argument.
     pub import_attributes: ImportAttributes,
 }
 
@@ -170,10 +171,10 @@ impl ToObject for DynamicDependencyDescriptor {
     }
 }
 
-/// The dynamic dependency that has these members.
+/// Reads the members of a dynamic dependency.
 #[tactic(auto, using(deno_graph_json::proofs::Reading::reading), unfolding(crate::specs::Json::DynamicDependency::reads_dynamic))]
 pub(crate) fn read_dynamic(object: &ObjectReader) -> Result<DynamicDependencyDescriptor, ReadError>
-    ensures { Answers (value_of object.now) (reads_dynamic (readable object.now)) result }
+    ensures { IsReadResult (value_of object.now) (reads_dynamic (readable object.now)) result }
 {
     let kind = object.read_or("kind", DynamicDependencyKind::Import)?;
     let types_specifier = object.read_or("typesSpecifier", None)?;

@@ -3,7 +3,7 @@ ghost use Rattle.serde_json.specs.Data.{string};
 ghost use Rattle.deno_graph_info.specs.ImportAttributes.{is_none, attribute_at, IsAssetType};
 ghost use Rattle.deno_graph_info.specs.Json.ImportAttributes.{json_of_attribute, json_of_attributes, reads_attribute, reads_attributes, attributes_named, known_attributes, AreHeldAttributes};
 ghost use Rattle.deno_graph_json.specs.ObjectReader.{readable, value_of};
-ghost use Rattle.deno_graph_json.specs.Read.Answer.{Answers};
+ghost use Rattle.deno_graph_json.specs.Read.Result.{IsReadResult};
 
 use deno_graph_base::values::{Text, TextMap, TryClone};
 use deno_graph_json::{
@@ -13,10 +13,10 @@ use deno_graph_json::{
 use serde_json::{Map, Value};
 use std::alloc::{AllocError, Global};
 
-/// The value of one import attribute.
+/// The value of an import attribute.
 #[derive(Debug, PartialEq, Eq, Drop)]
 pub enum ImportAttribute {
-    /// An expression of which nothing is known.
+    /// An unknown expression.
     Unknown,
     /// A string.
     Known(Text),
@@ -68,27 +68,27 @@ impl FromJson for ImportAttribute {
     }
 }
 
-/// The import attributes of one dependency.
+/// The import attributes of a dependency.
 #[derive(Debug, PartialEq, Eq, Drop)]
 pub enum ImportAttributes {
-    /// The dependency states none.
+    /// The dependency has none.
     None,
-    /// Not all keys are known.
+    /// Some keys are unknown.
     Unknown,
-    /// All keys are known, each with its value.
+    /// All keys are known. Each has its value.
     Known(TextMap<ImportAttribute>),
 }
 
 impl ImportAttributes {
-    /// Whether the dependency states none.
+    /// Returns whether the dependency has none.
     pub fn is_none(&self) -> bool
         ensures { result ≡ is_none self.now }
     {
         matches!(self, ImportAttributes::None)
     }
 
-    /// The value of the attribute `key`. None where the keys or that value aren't known, and where
-    /// no attribute has this key.
+    /// Returns the value of the attribute `key`, or None if the keys or the value are unknown or no
+    /// attribute has this key.
     pub fn get(&self, key: &str) -> Option<&str>
         ensures { option_map (λ value. value.now) result ≡ attribute_at self.now key.now }
     {
@@ -101,7 +101,7 @@ impl ImportAttributes {
         }
     }
 
-    /// Whether the attribute `type` says that the module is an asset: text, bytes or a style sheet.
+    /// Returns whether the attribute `type` is `text`, `bytes` or `css`, so that the module is an asset.
     pub fn has_asset(&self) -> bool
         ensures { IsTrue result ↔ IsAssetType (attribute_at self.now (codes "type")) }
     {
@@ -182,10 +182,10 @@ impl FromJson for ImportAttributes {
     }
 }
 
-/// The attributes that have a name alone.
+/// Reads attributes that are written as a string: `none` or `unknown`.
 #[tactic(auto, unfolding(crate::specs::Json::ImportAttributes::attributes_named, crate::specs::Json::ImportAttributes::reads_attributes))]
 fn read_name(alloc: Global, name: &str) -> Result<ImportAttributes, ReadError>
-    ensures { Answers (string name.now) (attributes_named name.now) result }
+    ensures { IsReadResult (string name.now) (attributes_named name.now) result }
 {
     match name {
         "none" => Ok(ImportAttributes::None),
@@ -194,10 +194,10 @@ fn read_name(alloc: Global, name: &str) -> Result<ImportAttributes, ReadError>
     }
 }
 
-/// The attributes of an object that has the one member `known`.
+/// Reads the attributes of an object with the one member `known`.
 #[tactic(auto, unfolding(crate::specs::Json::ImportAttributes::known_attributes, crate::specs::Json::ImportAttributes::reads_attributes))]
 fn read_known(alloc: Global, object: &ObjectReader) -> Result<ImportAttributes, ReadError>
-    ensures { Answers (value_of object.now) (known_attributes (readable object.now)) result }
+    ensures { IsReadResult (value_of object.now) (known_attributes (readable object.now)) result }
 {
     if object.member_count() == 1 {
         let known = object.read("known")?;

@@ -11,11 +11,11 @@ use deno_graph_json::{
 use serde_json::Value;
 use std::alloc::{AllocError, Global};
 
-/// An import that a JSDoc comment states.
+/// An import in a JSDoc comment.
 #[derive(Debug, PartialEq, Eq, Drop)]
 pub struct JsDocImportInfo {
     pub specifier: SpecifierWithRange,
-    /// The value of `resolution-mode`, if it is stated and is one that is known.
+    /// The value of the attribute `resolution-mode`, if it is a known mode.
     pub resolution_mode: Option<TypeScriptTypesResolutionMode>,
 }
 

@@ -1,7 +1,7 @@
 ghost use Rattle.std.specs.Prelude.{refl};
 ghost use Rattle.deno_graph_info.specs.Json.SpecifierWithRange.{json_of_specifier, reads_specifier, specifier_at, specifier_entries, specifier_of, IsHeldSpecifier};
 ghost use Rattle.deno_graph_json.specs.ObjectReader.{readable, value_of};
-ghost use Rattle.deno_graph_json.specs.Read.Answer.{Answers};
+ghost use Rattle.deno_graph_json.specs.Read.Result.{IsReadResult};
 
 use deno_graph_base::text::PositionRange;
 use deno_graph_base::values::{Text, TryClone};
@@ -12,11 +12,11 @@ use deno_graph_json::{
 use serde_json::Value;
 use std::alloc::{AllocError, Global};
 
-/// A specifier, and where it is in the source.
+/// A specifier, and its range in the source.
 #[derive(Debug, PartialEq, Eq, Drop)]
 pub struct SpecifierWithRange {
     pub text: Text,
-    /// Lines and characters from zero. It takes in the quotes of a specifier that is quoted.
+    /// Lines and characters from zero, with the quotes if the specifier has any.
     pub range: PositionRange,
 }
 
@@ -66,22 +66,22 @@ impl FromJson for SpecifierWithRange {
     }
 }
 
-/// The specifier that has these members.
+/// Reads the members of a specifier.
 #[tactic(auto, unfolding(crate::specs::Json::SpecifierWithRange::specifier_of))]
 pub fn read_specifier(object: &ObjectReader) -> Result<SpecifierWithRange, ReadError>
-    ensures { Answers (value_of object.now) (specifier_of (readable object.now)) result }
+    ensures { IsReadResult (value_of object.now) (specifier_of (readable object.now)) result }
 {
     read_specifier_at(object, "text", "range")
 }
 
-/// The specifier whose text and range are the members at these keys.
+/// Reads a specifier from a member with the text and a member with the range.
 #[tactic(auto, using(deno_graph_json::proofs::Reading::reading), unfolding(crate::specs::Json::SpecifierWithRange::specifier_at))]
 pub(crate) fn read_specifier_at(
     object: &ObjectReader,
     text_key: &'static str,
     range_key: &'static str,
 ) -> Result<SpecifierWithRange, ReadError>
-    ensures { Answers (value_of object.now)
+    ensures { IsReadResult (value_of object.now)
         (specifier_at text_key.now range_key.now (readable object.now)) result }
 {
     let text = object.read(text_key)?;

@@ -2,7 +2,7 @@ ghost use Rattle.std.specs.Prelude.{◌≡◌, refl};
 ghost use Rattle.serde_json.specs.Data.{string};
 ghost use Rattle.deno_graph_info.specs.Json.StaticDependency.{static_entries, static_kind_name, static_kind_named, json_of_static, reads_static, reads_static_kind, IsHeldStatic};
 ghost use Rattle.deno_graph_json.specs.ObjectReader.{readable, value_of};
-ghost use Rattle.deno_graph_json.specs.Read.Answer.{Answers};
+ghost use Rattle.deno_graph_json.specs.Read.Result.{IsReadResult};
 
 use crate::analysis::import_attributes::ImportAttributes;
 use crate::analysis::specifier_with_range::{SpecifierWithRange, read_specifier_at};
@@ -16,7 +16,7 @@ use deno_graph_json::{
 use serde_json::Value;
 use std::alloc::{AllocError, Global};
 
-/// Which syntax states a static dependency.
+/// The syntax of a static dependency.
 #[derive(Clone, Copy, Debug, PartialEq, Eq)]
 pub enum StaticDependencyKind {
     /// `import .. from ".."` or `import ".."`.
@@ -40,7 +40,7 @@ pub enum StaticDependencyKind {
 }
 
 impl StaticDependencyKind {
-    /// The name that JSON has for it.
+    /// Returns the name of the kind in JSON.
     fn name(self) -> &'static str
         ensures { result.now ≡ static_kind_name self }
     {
@@ -96,10 +96,10 @@ const EXPECTED_KIND: Expected = Expected::OneOf(
     ],
 );
 
-/// The kind that has this name.
+/// Returns the kind with this name in JSON.
 #[tactic(auto, unfolding(crate::specs::Json::StaticDependency::static_kind_named, crate::specs::Json::StaticDependency::reads_static_kind))]
 fn kind_named(alloc: Global, name: &str) -> Result<StaticDependencyKind, ReadError>
-    ensures { Answers (string name.now) (static_kind_named name.now) result }
+    ensures { IsReadResult (string name.now) (static_kind_named name.now) result }
 {
     match name {
         "import" => Ok(StaticDependencyKind::Import),
@@ -115,19 +115,19 @@ fn kind_named(alloc: Global, name: &str) -> Result<StaticDependencyKind, ReadErr
     }
 }
 
-/// A dependency whose specifier is written in the source as a string.
+/// A dependency whose specifier is a string in the source.
 #[derive(Debug, PartialEq, Eq, Drop)]
 pub struct StaticDependencyDescriptor {
     pub kind: StaticDependencyKind,
-    /// What a comment before the dependency names as its types, if one does.
+    /// The types of the dependency, if a comment before it names them.
     pub types_specifier: Option<SpecifierWithRange>,
     /// The value of the string, with U+FFFD for each lone surrogate.
     pub specifier: Text,
-    /// Where the string is, with its quotes: lines and characters from zero.
+    /// Range of the string with its quotes: lines and characters from zero.
     pub specifier_range: PositionRange,
-    /// Whether this is an import that binds no name, as `import "..";`.
+    /// Whether the dependency is an import without names, as `import "..";`.
     pub is_side_effect: bool,
-    /// The attributes of the `with` or `assert` clause.
+    /// The import attributes in the `with` or `assert` clause.
     pub import_attributes: ImportAttributes,
 }
 
@@ -180,10 +180,10 @@ impl ToObject for StaticDependencyDescriptor {
     }
 }
 
-/// The static dependency that has these members.
+/// Reads the members of a static dependency.
 #[tactic(auto, using(deno_graph_json::proofs::Reading::reading), unfolding(crate::specs::Json::StaticDependency::reads_static))]
 pub(crate) fn read_static(object: &ObjectReader) -> Result<StaticDependencyDescriptor, ReadError>
-    ensures { Answers (value_of object.now) (reads_static (readable object.now)) result }
+    ensures { IsReadResult (value_of object.now) (reads_static (readable object.now)) result }
 {
     let kind = object.read("kind")?;
     let types_specifier = object.read_or("typesSpecifier", None)?;

@@ -3,7 +3,7 @@ ghost use Rattle.serde_json.specs.Data.{string};
 ghost use Rattle.serde_json.specs.Find.{get_member};
 ghost use Rattle.deno_graph_json.specs.Ascending.{has_ascending_keys};
 ghost use Rattle.deno_graph_json.specs.ObjectReader.{readable, value_of};
-ghost use Rattle.deno_graph_json.specs.Read.Answer.{Answers};
+ghost use Rattle.deno_graph_json.specs.Read.Result.{IsReadResult};
 ghost use Rattle.deno_graph_info.specs.Json.TypeScriptReference.{json_of_reference, reads_reference, reference_entries, reference_of_type, reference_to_types, IsHeldReference};
 
 use crate::analysis::specifier_with_mode::{put_specifier_with_mode, read_specifier_with_mode};
@@ -16,7 +16,7 @@ use deno_graph_json::{
 use serde_json::Value;
 use std::alloc::{AllocError, Global};
 
-/// What a triple-slash reference refers to.
+/// A triple-slash reference.
 #[derive(Debug, PartialEq, Eq, Drop)]
 pub enum TypeScriptReference {
     /// `/// <reference path=".." />`.
@@ -24,7 +24,7 @@ pub enum TypeScriptReference {
     /// `/// <reference types=".." />`.
     Types {
         specifier: SpecifierWithRange,
-        /// The value of `resolution-mode`, if it is stated and is one that is known.
+        /// The value of `resolution-mode`, if it is a known mode.
         resolution_mode: Option<TypeScriptTypesResolutionMode>,
     },
 }
@@ -98,14 +98,14 @@ impl FromJson for TypeScriptReference {
     }
 }
 
-/// The reference that has this `type`.
+/// Reads a reference of the type `reference_type`.
 #[tactic(auto, unfolding(crate::specs::Json::TypeScriptReference::reference_of_type))]
 fn read_reference(
     reference_type: &str,
     object: &ObjectReader,
 ) -> Result<TypeScriptReference, ReadError>
     ensures { get_member (codes "type") (readable object.now) ≡ Some (string reference_type.now)
-        → Answers (value_of object.now)
+        → IsReadResult (value_of object.now)
         (reference_of_type reference_type.now (readable object.now)) result }
 {
     match reference_type {
@@ -118,10 +118,10 @@ fn read_reference(
     }
 }
 
-/// The reference to types that has these members.
+/// Reads the members of a reference to types.
 #[tactic(auto, using(deno_graph_json::proofs::Reading::reading), unfolding(crate::specs::Json::TypeScriptReference::reference_to_types))]
 fn read_types(object: &ObjectReader) -> Result<TypeScriptReference, ReadError>
-    ensures { Answers (value_of object.now) (reference_to_types (readable object.now)) result }
+    ensures { IsReadResult (value_of object.now) (reference_to_types (readable object.now)) result }
 {
     let (specifier, resolution_mode) = read_specifier_with_mode(object)?;
     Ok(TypeScriptReference::Types {

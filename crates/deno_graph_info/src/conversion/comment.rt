@@ -1,4 +1,4 @@
-//! The comments that version 1 keeps with a dependency.
+//! The comments that version 1 stores with a dependency.
 
 ghost use Rattle.deno_graph_info.specs.Comment.{reads_stored_comment};
 
@@ -11,9 +11,9 @@ use std::alloc::Global;
 /// A comment before a dependency.
 #[derive(Debug, PartialEq, Eq, Drop)]
 pub struct Comment {
-    /// What follows the two bytes that mark the comment.
+    /// The text after the two characters that begin the comment.
     pub text: Text,
-    /// Where the comment is: lines and characters from zero.
+    /// Range of the comment: lines and characters from zero.
     pub range: PositionRange,
 }
 

@@ -1,4 +1,4 @@
--- Positions and ranges, as JSON and from it: arrays of exactly two.
+-- Positions and ranges written to and read from JSON: arrays of exactly two.
 use Rattle.std.specs.Prelude.{Option, Some, ◌<◌, ◌^◌}
 use Rattle.serde_json.specs.Data.{Data, number, unsigned, array, item, no_items}
 use Rattle.deno_graph_base.specs.declared.text.position.Position.{Position}
@@ -16,7 +16,7 @@ json_of_position p = pair (number (unsigned p.line)) (number (unsigned p.charact
 abbrev pub json_of_range : PositionRange → Data
 json_of_range r = pair (json_of_position r.start) (json_of_position r.end)
 
--- what holds of each that a program has: its numbers fit a `usize`
+-- what holds of each position that exists at run time: its numbers fit a `usize`
 abbrev pub IsHeldPosition : Position → Type 0
 IsHeldPosition p = (p.line < 2 ^ 64) × (p.character < 2 ^ 64)
 

@@ -1,4 +1,4 @@
--- A resolution mode, as JSON and from it: its name.
+-- A resolution mode written to and read from JSON: its name.
 use Rattle.std.specs.Prelude.{ℕ, List, codes, Option}
 use Rattle.serde_json.specs.Data.{Data, string}
 use Rattle.serde_json.specs.Find.{as_str}
@@ -19,7 +19,7 @@ mode_name Import = codes "import"
 abbrev pub json_of_mode : TypeScriptTypesResolutionMode → Data
 json_of_mode m = string (mode_name m)
 
--- its name
+-- the mode whose name the data are
 unfoldable pub reads_mode : Data → Option TypeScriptTypesResolutionMode
 reads_mode d = do
   name ← as_str d

@@ -1,4 +1,4 @@
--- Why a value can't be read: a value in it isn't what was expected. And where that value is.
+-- Why a value can't be read: a part of the value isn't as expected, and the path to that part.
 use Rattle.std.specs.Prelude.{List, [], ◌∷◌, Option, Some, IsSomeAnd}
 use Rattle.serde_json.specs.Data.{Data}
 use Rattle.serde_json.specs.Find.{at, get}
@@ -10,21 +10,21 @@ use Rattle.deno_graph_json.specs.declared.error.ReadError.{ReadError}
 use Rattle.deno_graph_json.specs.declared.error.ReadError.TheVariants.{Mismatch, OutOfMemory}
 use Rattle.deno_graph_json.specs.declared.expected.Expected.{Expected}
 
--- the item or the member to which a step leads
+-- the item or member to which a step leads
 abbrev pub step_into : Step → Data → Option Data
 step_into (Item number) value = at number value
 step_into (Member name) value = get name value
 
--- the value to which a path leads: its steps from the inside out, so that the last one is the first to take
+-- the value to which a path leads. The steps are from the inside out: the last step is the first to take.
 abbrev pub value_at : List Step → Data → Option Data
 value_at [] value = Some value
 value_at (step ∷ around) value = value_at around value >>= step_into step
 
--- the error of the value to which a path leads
+-- the error of a value to which a path leads
 abbrev pub mismatch : List Step → Expected → ReadError
 mismatch path expected = Mismatch (record { path = path; expected = expected })
 
--- the path leads to a value, and it isn't what was expected
+-- the path of the error leads to a value that isn't as expected
 abbrev pub IsIn : Data → ReadError → Type 0
 IsIn value (Mismatch found) = IsSomeAnd (value_at found.path value) (IsNot found.expected)
 IsIn value OutOfMemory = Unit {0}

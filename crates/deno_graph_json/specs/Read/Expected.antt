@@ -1,4 +1,4 @@
--- What is expected of a value, and when a value isn't that.
+-- What is expected of a value, and which values aren't as expected.
 use Rattle.std.specs.Prelude.{
   ◌≡◌,
   ℕ,
@@ -24,7 +24,7 @@ use Rattle.deno_graph_json.specs.declared.expected.Expected.TheVariants as expec
 use Rattle.deno_graph_json.specs.declared.expected.Form.{Form}
 use Rattle.deno_graph_json.specs.declared.expected.Form.TheVariants as form
 
--- neither of two strings
+-- the value, if a string, is neither of two strings
 abbrev pub IsNeither : List ℕ → List ℕ → Data → Type 0
 IsNeither first second value = (text : List ℕ) → as_str value ≡ Some text
     → (bytes_eq text first ≡ false) × (bytes_eq text second ≡ false)
@@ -62,7 +62,7 @@ has_form form.ObjectOfOne (string _) = false
 has_form form.ObjectOfOne (array _) = false
 has_form form.ObjectOfOne (object members) = members_len members == 1
 
--- the value isn't what is expected
+-- the value isn't as expected
 abbrev pub IsNot : Expected → Data → Type 0
 IsNot expected.Bool value = as_bool value ≡ None
 IsNot expected.Whole value = as_usize value ≡ None

@@ -1,11 +1,11 @@
 ghost use Rattle.std.specs.Prelude.{◌≡◌, IfSome};
 ghost use Rattle.std.specs.Str.Parse.{digits_value, IsNumeral};
 
-/// How many digits are few.
+/// Digits that always fit into a `u64`.
 const FEW: usize = 9;
 
-/// The whole number that a few digits write. `None` where there is none, or anything else beside
-/// them, or more than a few.
+/// Parses up to nine decimal digits. Returns `None` for an empty or longer text and for any other
+/// character. Faster than `fast_float`, which handles the rest.
 #[inline(always)]
 pub fn short_whole(digits: &[u8]) -> Option<u64>
     ensures numeral { IfSome result (λ _. IsNumeral 10 digits.now) }

@@ -1,13 +1,13 @@
 use std::alloc::{AllocError, AllocFailed};
 
-/// Why a text wasn't read.
+/// Why a text can't be read.
 #[derive(Clone, Copy, Debug, PartialEq, Eq)]
 pub enum TapeFault {
     /// The text isn't one JSON value, nests deeper than 127, or has a number too large for a float.
-    /// `offset` is where the token starts that can't be there, in bytes from zero, or the text's
-    /// length if the text ends too early. Which offset it is, is tested and not proved.
+    /// `offset` is the byte offset of the token that can't be there, or the length of a text that ends
+    /// too early. The offset is tested, not proved.
     Json { offset: usize },
-    /// Memory ran out.
+    /// An allocation failed.
     OutOfMemory,
 }
 
@@ -17,7 +17,7 @@ impl From<AllocError> for TapeFault {
 
     ghost from_gives = { λ _ fault. fault ≡ OutOfMemory };
 
-    fn from(_refused: AllocError) -> TapeFault {
+    fn from(_error: AllocError) -> TapeFault {
         TapeFault::OutOfMemory
     }
 }
@@ -28,7 +28,7 @@ impl<T: Drop> From<AllocFailed<T>> for TapeFault {
 
     ghost from_gives = { λ _ fault. fault ≡ OutOfMemory };
 
-    fn from(_refused: AllocFailed<T>) -> TapeFault {
+    fn from(_error: AllocFailed<T>) -> TapeFault {
         TapeFault::OutOfMemory
     }
 }

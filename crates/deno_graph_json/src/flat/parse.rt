@@ -3,8 +3,9 @@ ghost use Rattle.std.specs.Prelude.{length, map, vec_len, IfOk, OnOk, OnErr, IsT
 ghost use Rattle.json.specs.Print.{IsNumber, IsPrintableOrBad};
 ghost use Rattle.json.specs.Reads.{token_of};
 ghost use Rattle.json.specs.Token.{begin_array, begin_object};
-ghost use Rattle.deno_graph_json.specs.Flat.{plain, number_node, number_fits, IsPut, NoneAhead};
-ghost use Rattle.deno_graph_json.specs.Flat.{IsFlatText, IsRefused};
+ghost use Rattle.deno_graph_json.specs.Flat.{plain, number_node, number_fits};
+ghost use Rattle.deno_graph_json.specs.internal.Parsing.{IsPut, NoneAhead};
+ghost use Rattle.deno_graph_json.specs.Flat.{IsFlatText, IsUnreadable};
 ghost use Rattle.deno_graph_json.specs.declared.flat.fault.TapeFault.TheVariants.{Json};
 
 use crate::Node;
@@ -13,10 +14,10 @@ use crate::flat::fault::TapeFault;
 use json::{Reader, Scratch, Token};
 use std::alloc::{AllocFailed, Global};
 
-/// How deep arrays and objects may nest.
+/// The deepest nesting of arrays and objects that is read.
 const MAX_DEPTH: usize = 127;
 
-/// The nodes of a text that is one JSON value.
+/// Reads the nodes of a text. Returns the errors of `Tape::read`.
 pub fn read<'a>(
     alloc: Global,
     text: &'a str,
@@ -24,7 +25,7 @@ pub fn read<'a>(
 ) -> Result<Vec<Node<'a>>, TapeFault>
     ensures some { IfOk result (λ nodes. 0 < vec_len nodes) }
     ensures flat { IfOk result (λ nodes. IsFlatText text.now nodes.items) }
-    ensures refused { (offset : ℕ) → result ≡ Err (Json offset) → IsRefused text.now }
+    ensures unreadable { (offset : ℕ) → result ≡ Err (Json offset) → IsUnreadable text.now }
 {
     let mut parser = Parser {
         reader: Reader::new(text, scratch)?,
@@ -40,9 +41,9 @@ pub fn read<'a>(
     }
 }
 
-/// Where more than the value of the text begins. The reader, which is at `offset` behind the
-/// value, passes a comma there.
-fn behind_value(text: &str, offset: usize) -> usize {
+/// Returns the byte offset of what follows the value of the text. The reader stops at `offset`, which
+/// may be after a comma that follows the value.
+fn offset_after_value(text: &str, offset: usize) -> usize {
     let passed = text.as_bytes().get(..offset).unwrap_or(&[]);
     match passed.iter().rposition(|byte| !byte.is_ascii_whitespace()) {
         Some(last) if passed[last] == b',' => last,
@@ -50,10 +51,10 @@ fn behind_value(text: &str, offset: usize) -> usize {
     }
 }
 
-/// Why a value wasn't read.
+/// Why a value can't be read.
 #[derive(Clone, Copy)]
 enum Stop {
-    /// The text is no JSON that is read, from the parser's offset on.
+    /// The token at the parser's offset can't follow the text before it, or a number is too large.
     Json,
     OutOfMemory,
 }
@@ -64,17 +65,17 @@ impl<T: Drop> From<AllocFailed<T>> for Stop {
 
     ghost from_gives = { λ _ stop. stop ≡ OutOfMemory };
 
-    fn from(_refused: AllocFailed<T>) -> Stop {
+    fn from(_error: AllocFailed<T>) -> Stop {
         Stop::OutOfMemory
     }
 }
 
-/// A text on its way into the nodes of a tape.
+/// Reads a text token by token and collects the nodes.
 #[derive(Drop)]
 struct Parser<'a> {
     reader: Reader<'a>,
     nodes: Vec<Node<'a>>,
-    /// Where the token that was read last begins, in bytes.
+    /// Byte offset of the last token.
     offset: usize,
 }
 
@@ -89,7 +90,7 @@ impl<'a> Parser<'a> {
         self.value(first, MAX_DEPTH)
     }
 
-    /// Reads the next token, and keeps its place.
+    /// Reads the next token, and keeps its offset.
     #[inline(always)]
     fn token(&mut self) -> Result<Token<'a>, Stop>
         ensures shorter { OnOk result (length self.new.reader < length self.old.reader) }
@@ -102,8 +103,8 @@ impl<'a> Parser<'a> {
         self.reader.next().ok_or(Stop::Json)
     }
 
-    /// Reads what is left of the value that begins with the token. Arrays and objects may nest so
-    /// deep in it.
+    /// Reads the rest of the value that begins with the token `first`. In the value, arrays and
+    /// objects may nest to `depth`.
     #[cycle(read)]
     #[inline(always)]
     fn value(&mut self, first: Token<'a>, depth: usize) -> Result<(), Stop>
@@ -126,6 +127,7 @@ impl<'a> Parser<'a> {
         }
     }
 
+    /// Pushes the node of a number.
     #[inline(always)]
     fn number(&mut self, digits: &str) -> Result<(), Stop>
         requires { IsNumber digits.now }
@@ -141,7 +143,7 @@ impl<'a> Parser<'a> {
         }
     }
 
-    /// What is behind the bracket that opens an array.
+    /// Reads the rest of an array, after the bracket that opens it.
     #[cycle(read)]
     #[inline(never)]
     fn array(&mut self, depth: usize) -> Result<(), Stop>
@@ -169,7 +171,7 @@ impl<'a> Parser<'a> {
         Ok(())
     }
 
-    /// What is behind the brace that opens an object.
+    /// Reads the rest of an object, after the brace that opens it.
     #[cycle(read)]
     #[inline(never)]
     fn object(&mut self, depth: usize) -> Result<(), Stop>
@@ -195,7 +197,7 @@ impl<'a> Parser<'a> {
         Ok(())
     }
 
-    /// The nodes, where nothing is behind the value of the text.
+    /// Returns the nodes. Returns `Json` if anything follows the value of the text.
     fn finish(self, text: &str) -> Result<Vec<Node<'a>>, TapeFault>
         ensures nodes { IfOk result (λ nodes. nodes ≡ self.entry.nodes) }
         ensures end { OnOk result (self.entry.reader ≡ []) }
@@ -210,13 +212,13 @@ impl<'a> Parser<'a> {
         match reader.next() {
             None => Ok(nodes),
             Some(_) => Err(TapeFault::Json {
-                offset: behind_value(text, offset),
+                offset: offset_after_value(text, offset),
             }),
         }
     }
 }
 
-/// The node of any number.
+/// Returns the node of a number. Returns `Json` if the number is too large for a float.
 #[inline(never)]
 fn any_number<'a>(digits: &str) -> Result<Node<'a>, Stop>
     requires { IsNumber digits.now }

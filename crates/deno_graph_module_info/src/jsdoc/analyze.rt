@@ -1,4 +1,4 @@
-//! The imports of a module's JSDoc comments.
+//! The JSDoc imports of a source.
 
 ghost use Rattle.std.specs.Prelude.{IfOk, All};
 ghost use Rattle.deno_graph_module_info.specs.JsDocInfo.{CoversInEqualQuotes, IsJsDocList};
@@ -14,7 +14,8 @@ use deno_graph_info::analysis::JsDocImportInfo;
 use deno_graph_source::tree::{Comments, MediaType};
 use std::alloc::{AllocError, Global};
 
-/// The imports that the JSDoc comments of a module state, by ascending start, each once.
+/// Returns the imports in the JSDoc comments of a source, each once, in ascending order of their
+/// starts. Fails only if an allocation fails.
 pub(crate) fn analyze_jsdoc_imports(
     alloc: Global,
     media_type: MediaType,
@@ -32,6 +33,6 @@ pub(crate) fn analyze_jsdoc_imports(
         return Ok(Items::new(alloc));
     }
     let all = comments.iter_unstable(alloc)?;
-    let found = infos_of(alloc, text_info, all.as_slice())?;
-    Ok(Items::from_vec(found))
+    let infos = infos_of(alloc, text_info, all.as_slice())?;
+    Ok(Items::from_vec(infos))
 }

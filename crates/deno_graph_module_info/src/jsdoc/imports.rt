@@ -1,4 +1,4 @@
-//! The imports of JSDoc comments, by their place in the source.
+//! The imports in JSDoc comments, with their ranges in the source.
 
 ghost use Rattle.std.specs.Prelude.{◌≡◌, ◌+◌, ◌<◌, ◌^◌, ◌↔◌, ℕ, List, map, length, IfOk, OnOk, IsTrue};
 ghost use Rattle.std.specs.List.{All};
@@ -7,18 +7,19 @@ ghost use Rattle.std.specs.Str.{IsUtf8, chars};
 ghost use Rattle.deno_graph_jsdoc.specs.JsDocHits.{Ascend};
 ghost use Rattle.deno_graph_jsdoc.specs.JsDocImport.{import_of};
 ghost use Rattle.deno_graph_module_info.specs.CommentImports.{AreApart, AreImports, IsJsDoc, IsQuotedAt, reads_jsdoc};
-ghost use Rattle.deno_graph_module_info.specs.CommentImportSteps.{AreJsDocOf, GainsImports, IsMovedHit};
+ghost use Rattle.deno_graph_module_info.specs.internal.CommentImportSteps.{AreJsDocOf, GainsImports, IsMovedHit};
 ghost use Rattle.deno_graph_source.specs.Source.{IsSpelled};
 
 use deno_graph_jsdoc::{JsDocImport, scan};
 use deno_graph_source::tree::{CommentKind, DependencyComment, MediaType};
 use std::alloc::{AllocError, Global};
 
-/// All imports of the JSDoc comments, their ranges counted from the start of the source.
+/// Returns all imports in the JSDoc comments among `comments`, in ascending order of their starts,
+/// with offsets that count from the start of the source.
 ///
-/// The comments are those of a valid source: each is written in the text at its range, and unequal
-/// ones share no byte. Their order, and how often each is there, makes no difference. The only
-/// error is that memory was refused.
+/// The comments must be those of a valid source: the text has each comment at its range, and unequal
+/// comments share no byte. They may be in any order, and each may occur several times. Fails only if
+/// an allocation fails.
 pub fn imports_of<'a>(
     alloc: Global,
     comments: &[&'a DependencyComment],
@@ -36,9 +37,9 @@ pub fn imports_of<'a>(
     let mut imports = Vec::new(alloc);
     let mut end = 0;
     for comment in &jsdoc_by_start(alloc, comments)? {
-        // What is counted from its start on is below its end.
+        // The sum of an offset in the comment and the comment's start is at most the comment's end.
         let own_end = comment.range.end;
-        // One that begins before the last one ends is that one again.
+        // A comment that starts before the end of the last one is the same comment again.
         if comment.range.start >= end {
             add_imports(alloc, &mut imports, comment)?;
             end = own_end;
@@ -47,8 +48,7 @@ pub fn imports_of<'a>(
     Ok(imports)
 }
 
-/// The JSDoc comments by ascending start, so that what is put into a list from one after another
-/// goes to the list's end.
+/// Returns the JSDoc comments in ascending order of their starts. Fails only if an allocation fails.
 fn jsdoc_by_start<'a>(
     alloc: Global,
     comments: &[&'a DependencyComment],
@@ -68,7 +68,8 @@ fn jsdoc_by_start<'a>(
     Ok(chosen)
 }
 
-/// Puts the imports of a comment at the end, counted from the start of the source.
+/// Adds the imports in a comment at the end of `imports`, with offsets that count from the start of
+/// the source. Fails only if an allocation fails.
 fn add_imports<'a>(
     alloc: Global,
     imports: &mut Vec<JsDocImport<'a>>,
@@ -90,7 +91,8 @@ fn add_imports<'a>(
     Ok(())
 }
 
-/// Whether JSDoc imports are read in files of this type.
+/// Returns whether JSDoc imports are read in files of this type: in JavaScript, which has no types
+/// of its own.
 pub fn reads_jsdoc(media_type: MediaType) -> bool
     ensures { result ≡ reads_jsdoc media_type }
 {
@@ -100,7 +102,7 @@ pub fn reads_jsdoc(media_type: MediaType) -> bool
     )
 }
 
-/// Whether a comment is a JSDoc comment: a block whose text begins with `*`.
+/// Returns whether a comment is a JSDoc comment: a block comment whose text begins with `*`.
 fn is_jsdoc(comment: &DependencyComment) -> bool
     ensures { IsTrue result ↔ IsJsDoc comment.now }
 {

@@ -1,4 +1,4 @@
-//! The list of JSDoc imports of a module.
+//! The JSDoc imports of a module as values of its `ModuleInfo`.
 
 ghost use Rattle.std.specs.Prelude.{◌≡◌, map, true, IfOk};
 ghost use Rattle.std.specs.List.{All};
@@ -15,12 +15,13 @@ use deno_graph_jsdoc::JsDocImport;
 use deno_graph_source::tree::{DependencyComment, MediaType};
 use std::alloc::{AllocError, Global};
 
-/// The imports that the JSDoc comments among `comments` state, by ascending start, each once. Their
-/// ranges take in the two quotes. None in files of other types than JavaScript, Jsx, Mjs and Cjs.
+/// Returns the imports in the JSDoc comments among `comments`, each once, in ascending order of their
+/// starts. The range of a specifier includes its two quotes. Returns no imports for files of other
+/// types than JavaScript, Jsx, Mjs and Cjs.
 ///
-/// The comments are those of a valid source: each is written in the text at its range, and unequal
-/// ones share no byte. Their order, and how often each is there, makes no difference. The only
-/// error is that memory was refused.
+/// The comments must be those of a valid source: the text has each comment at its range, and unequal
+/// comments share no byte. They may be in any order, and each may occur several times. Fails only if
+/// an allocation fails.
 pub fn jsdoc_imports(
     alloc: Global,
     media_type: MediaType,
@@ -40,8 +41,7 @@ pub fn jsdoc_imports(
     infos_of(alloc, text_info, comments)
 }
 
-/// What is said of the imports that the JSDoc comments among `comments` state, by ascending start,
-/// each once.
+/// Like `jsdoc_imports`, for a file of a type in which JSDoc imports are read.
 pub(crate) fn infos_of(
     alloc: Global,
     text_info: &SourceTextInfo,
@@ -62,7 +62,8 @@ pub(crate) fn infos_of(
     Ok(infos)
 }
 
-/// What is said of an import whose range is counted from the start of the source.
+/// Returns the info of an import whose offsets count from the start of the source. Fails only if an
+/// allocation fails.
 fn info_of(
     alloc: Global,
     text_info: &SourceTextInfo,

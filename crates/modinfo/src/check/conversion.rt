@@ -6,9 +6,10 @@ ghost use Rattle.deno_graph_info.specs.Conversion.{IsConverted, IsConvertFault};
 ghost use Rattle.modinfo.specs.Check.{CanBeConverted, PointsInto};
 
 use deno_graph_info::analysis::{ConvertFault, module_graph_1_to_2};
+use deno_graph_info::conversion::column_overflows;
 use deno_graph_json::{ReadError, find_float};
 use modinfo_document::report::FaultReport;
-use serde_json::{Map, Value};
+use serde_json::Value;
 use std::alloc::{AllocError, Global};
 
 /// Converts stored information in place. Returns the error if that fails; the value is then unchanged.
@@ -53,7 +54,7 @@ fn column_report(alloc: Global, name: String, value: &Value) -> Result<FaultRepo
         return Err(AllocError);
     };
     for (number, dependency) in dependencies.iter().enumerate() {
-        if overflows(alloc, dependency)? {
+        if column_overflows(alloc, dependency)? {
             let count = array_at(dependency, "leadingComments").map_or(
                 0,
                 |comments| comments.len(),
@@ -72,24 +73,4 @@ fn column_report(alloc: Global, name: String, value: &Value) -> Result<FaultRepo
 /// The member of this name, an array.
 fn array_at<'a>(value: &'a Value, name: &str) -> Option<&'a Vec<Value>> {
     value.get(name)?.as_array()
-}
-
-/// Whether a module with only this dependency can't be converted.
-fn overflows(alloc: Global, dependency: &Value) -> Result<bool, AllocError> {
-    let mut module = module_with(alloc, dependency)?;
-    match convert_in_place(alloc, &mut module) {
-        None => Ok(false),
-        Some(ConvertFault::OutOfMemory) => Err(AllocError),
-        Some(_) => Ok(true),
-    }
-}
-
-/// The stored information of a module with only this dependency.
-fn module_with(alloc: Global, dependency: &Value) -> Result<Value, AllocError> {
-    let mut dependencies = Vec::new(alloc);
-    dependencies.push(dependency.clone()?)?;
-    let name = String::from_str(alloc, "dependencies")?;
-    let mut module = Map::new(alloc);
-    drop(module.insert(name, Value::Array(dependencies))?);
-    Ok(Value::Object(module))
 }

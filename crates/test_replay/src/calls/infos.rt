@@ -3,7 +3,7 @@
 use crate::answer::{named, valued};
 use crate::case_error::CaseError;
 use deno_graph_info::analysis::{
-    ConvertFault, InfoFault, ModuleInfo, module_graph_1_into_2, module_graph_1_to_2,
+    ConvertFault, InfoFault, ModuleInfo, module_graph_1_to_2, module_graph_1_to_2_owned,
 };
 use deno_graph_info::reach::reach;
 use serde_json::{Map, Value};
@@ -25,7 +25,7 @@ fn convert(alloc: Global, value: &mut Value) -> Result<(), ConvertFault> {
 }
 
 fn convert_by_value(alloc: Global, value: Value) -> Result<Value, ConvertFault> {
-    module_graph_1_into_2(alloc, value)
+    module_graph_1_to_2_owned(alloc, value)
 }
 
 /// The JSON of the result of `from_value`.
@@ -42,7 +42,7 @@ fn written(alloc: Global, info: &ModuleInfo) -> Result<String, CaseError> {
 }
 
 /// The result of `module_graph_1_to_2`. Checks that the value is unchanged after an error, and that
-/// `module_graph_1_into_2` has the same result.
+/// `module_graph_1_to_2_owned` has the same result.
 pub fn converted(alloc: Global, value: &Value) -> Result<String, CaseError> {
     let by_value = match convert_by_value(alloc, value.clone()?) {
         Ok(after) => Some(after),

@@ -3,7 +3,7 @@ use Rattle.std.proofs.lemmas.List.{map-append}
 use Rattle.deno_graph_base.proofs.TextEntries.{lookup-entries}
 use Rattle.deno_graph_base.specs.TextMap.{entries_of, value_at}
 use Rattle.deno_graph_info.proofs.Reaching.{grows-by, grows-not, none_there, no_key}
-use Rattle.deno_graph_info.specs.ReachSteps.{infos_of}
+use Rattle.deno_graph_info.specs.internal.ReachSteps.{infos_of}
 use Rattle.deno_graph_info.proofs.reach.visit.Goals as goal
 
 pub returns-in_ok-insert-in-Some : goal.returns-in_ok-insert-in-Some

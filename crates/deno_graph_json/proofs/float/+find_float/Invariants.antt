@@ -1,4 +1,4 @@
--- No float was in what was passed.
+-- The items or members that were passed have no float.
 use Rattle.std.proofs.Common.{◌≡◌, map, drop}
 use Rattle.serde_json.specs.View.{view, items_of}
 use Rattle.serde_json.specs.Written.{items_have_float}

@@ -31,13 +31,13 @@ loop-name-preserved c =
     let there : HasMemberAt value from = subst (λ held. HasMemberAt held from) kept.3 (steps.0.0 refl) in
     let is : IsValueAt value (from + 1) inner =
     subst (λ held. IsValueAt held (from + 1) inner) kept.3 steps.1.3 in
-    let behind : next ≡ from + 1 + size_of inner = steps.1.4 in
+    let next_is : next ≡ from + 1 + size_of inner = steps.1.4 in
     let other : HasNode inner c.args.number → ⊥ = λ has. absurd (cc (c.if-has_node.ensures.1 has)) in (
       tt,
       tt,
       search rules,
       search rules,
-      member_missed value inner c.args.number from next is behind there other kept.4,
+      member_missed value inner c.args.number from next is next_is there other kept.4,
     )
 
 pub returns-in-Some-clause-none : goal.returns-in-Some-clause-none
@@ -62,8 +62,8 @@ returns-then-has_node-2-clause-step c =
     let is_array : IsArray value = c.in_ok-inner-items.ensures.some.0 refl in
     let there : HasValueAt value from = subst (λ held. HasValueAt held from) kept.3 (steps.0.0 refl) in
     let is : IsValueAt value from inner = subst (λ held. IsValueAt held from inner) kept.3 steps.1.2 in
-    let behind : next ≡ from + size_of inner = steps.1.3 in
-    element_step value inner c.args.number from next is behind there c.loop-inner.index is_array kept.6
+    let next_is : next ≡ from + size_of inner = steps.1.3 in
+    element_step value inner c.args.number from next is next_is there c.loop-inner.index is_array kept.6
 
 pub loop-inner-preserved : goal.loop-inner-preserved
 loop-inner-preserved c =
@@ -77,7 +77,7 @@ loop-inner-preserved c =
     let there : HasValueAt value from = subst (λ held. HasValueAt held from) kept.3 (steps.0.0 refl) in
     let is : IsValueAt value from inner = subst (λ held. IsValueAt held from inner) kept.3 steps.1.2 in
     let inside : IsInside inner value = subst (IsInside inner) kept.3 steps.1.0 in
-    let behind : next ≡ from + size_of inner = steps.1.3 in
+    let next_is : next ≡ from + size_of inner = steps.1.3 in
     let some : 0 < size_of inner = inner.has_node in
     let few : number_of value + size_of value < 2 ^ 64 = value.number_fits in
     let more : c.saturating_add-index.result ≡ index + 1 =
@@ -87,10 +87,10 @@ loop-inner-preserved c =
       tt,
       search rules,
       search rules,
-      omega (arith, more, kept.4, behind, some),
-      omega (arith, behind, is.0, inside.1),
+      omega (arith, more, kept.4, next_is, some),
+      omega (arith, next_is, is.0, inside.1),
       subst (ElementsMissed value c.args.number next) (sym more)
-          (element_missed value inner c.args.number from next is behind there index other kept.6),
+          (element_missed value inner c.args.number from next is next_is there index other kept.6),
     )
 
 pub returns-clause-none : goal.returns-clause-none

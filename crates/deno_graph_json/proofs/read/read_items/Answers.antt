@@ -4,13 +4,13 @@ use Rattle.serde_json.specs.View.{items_view}
 use Rattle.deno_graph_json.proofs.Reading.{
   before,
   before_nil,
-  refuses,
+  whole_error,
   list_more,
-  list_refused,
+  list_error,
   list_done,
   item_here,
 }
-use Rattle.deno_graph_json.specs.Read.Answer.{IsRefusal}
+use Rattle.deno_graph_json.specs.Read.Result.{IsReadError}
 use Rattle.deno_graph_json.specs.Read.Partial.{reads_items}
 use Rattle.deno_graph_json.proofs.read.read_items.Goals as goal
 
@@ -40,12 +40,12 @@ returns-in_err-item g c =
     let all = c.deref-value-items.result.now in
     let here = item_here all c.loop-value.value-index c.len-number.result c.value-item.result
     c.loop-value-test.true c.value-item.is (c.len-number.ensures ∙ c.loop-value.invariant.1) in
-    let h = list_refused g.T.FromJson.reads all (array (items_view all)) c.loop-value.value-index
+    let h = list_error g.T.FromJson.reads all (array (items_view all)) c.loop-value.value-index
     c.value-item.result c.loop-value.items c.in_err-item.field-0.0
     c.loop-value-test.true c.value-item.is c.loop-value.invariant.0 (c.in_err-item.ensures (array
     (items_view all)) here) in
-    refuses _ _ _ _ c.from_residual.ensures.1 (subst
-    (λ vs. IsRefusal (array (items_view vs)) (reads_items g.T.FromJson.reads (items_view vs))
+    whole_error _ _ _ _ c.from_residual.ensures.1 (subst
+    (λ vs. IsReadError (array (items_view vs)) (reads_items g.T.FromJson.reads (items_view vs))
     c.in_err-item.field-0.0)
     c.deref-value-items.ensures.value h)
 

@@ -1,4 +1,4 @@
--- All items are read where those that are left are, after the items so far, one for each that was passed.
+-- The whole list is the items so far, one for each value that was read, followed by those that are left.
 use Rattle.std.proofs.Common.{◌≡◌, length}
 use Rattle.serde_json.specs.View.{items_view}
 use Rattle.deno_graph_json.specs.Read.Partial.{reads_items}

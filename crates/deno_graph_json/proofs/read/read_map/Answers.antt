@@ -6,10 +6,10 @@ use Rattle.deno_graph_json.proofs.ObjectMembers.{rest_here}
 use Rattle.deno_graph_json.proofs.ReadMaps.{
   member_more,
   members_begin,
-  members_refused,
+  members_error,
   members_done,
 }
-use Rattle.deno_graph_json.proofs.Reading.{refuses}
+use Rattle.deno_graph_json.proofs.Reading.{whole_error}
 use Rattle.deno_graph_json.proofs.read.read_map.Goals as goal
 
 pub loop-key-init : goal.loop-key-init
@@ -35,8 +35,8 @@ returns-in_err-item g c =
     let e : String Global × Value = (c.in-Some.key.now, c.in-Some.value.now) in
     let here = rest_here c.args.members.now.entries c.loop-key.key-iterator c.next.new.self e
     c.as_str.result.now c.loop-key.invariant.passed c.in-Some.ensures.steps c.as_str.ensures.value in
-    refuses _ _ _ _ c.from_residual.ensures.1
-    (members_refused (object (members_view c.args.members.now.entries)) g.T.FromJson.reads
+    whole_error _ _ _ _ c.from_residual.ensures.1
+    (members_error (object (members_view c.args.members.now.entries)) g.T.FromJson.reads
     c.args.members.now.entries c.loop-key.key-iterator c.next.new.self
     c.loop-key.map e _ c.loop-key.invariant c.in-Some.ensures.steps (c.in_err-item.ensures (object
     (members_view c.args.members.now.entries)) here))

@@ -1,4 +1,4 @@
--- The entries so far are those that were read of the members so far.
+-- The entries so far are the members so far, each as it is read.
 use Rattle.deno_graph_json.proofs.ReadMaps.{IsSoFar}
 use Rattle.deno_graph_json.proofs.read.read_map.Given as goal
 

@@ -3,7 +3,7 @@ use Rattle.std.proofs.Common.{◌≡◌, ◌++◌, List, map, All}
 use Rattle.std.specs.List.{AllZip}
 use Rattle.deno_graph_dep.specs.Descriptor.{Descriptor, descriptor_seen}
 use Rattle.deno_graph_module_info.specs.ModuleInfo.{CoversTypes, Describes, FitsText}
-use Rattle.deno_graph_module_info.specs.ReadTypes.{AreRead}
+use Rattle.deno_graph_module_info.specs.internal.ReadTypes.{AreRead}
 use Rattle.deno_graph_module_info.proofs.dependencies.analyze_dependencies.Given as goal
 
 abbrev pub invariant-loop-descriptor : goal.invariant-loop-descriptor

@@ -3,8 +3,8 @@ use Rattle.std.proofs.lemmas.List.{take_all}
 use Rattle.std.proofs.lemmas.List.Elements.{All-more, All-same}
 use Rattle.deno_graph_pragmas.specs.Match.{match_part_of}
 use Rattle.deno_graph_module_info.specs.Pragma.{HasPragma, specifier_of_part}
-use Rattle.deno_graph_module_info.specs.FoundPragma.{head_pragma}
-use Rattle.deno_graph_module_info.proofs.Named.{first_at, found_names, found_pragma}
+use Rattle.deno_graph_module_info.specs.internal.HeadPragma.{head_pragma}
+use Rattle.deno_graph_module_info.proofs.Named.{first_at, match_names, match_has_pragma}
 use Rattle.deno_graph_module_info.proofs.head_pragmas.first_specifier.Goals as goal
 
 pub returns-in-Some-clause-is : goal.returns-in-Some-clause-is
@@ -17,8 +17,8 @@ returns-in-Some-clause-is c =
       comment,
       first_at (HasPragma pragma) c.args.head.comments.now c.loop-comment.comment-index comment
           c.loop-comment-test.true c.comment-item.is c.loop-comment.invariant
-          (found_pragma pragma comment part found),
-      found_names c.args.head.text_info.now pragma comment part _ found
+          (match_has_pragma pragma comment part found),
+      match_names c.args.head.text_info.now pragma comment part _ found
           (specifier ∙ ap (specifier_of_part c.args.head.text_info.now comment part)
           c.is_quoteless-is_quoteless.ensures.quoteless),
     )

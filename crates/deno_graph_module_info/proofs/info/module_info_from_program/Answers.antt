@@ -1,4 +1,4 @@
--- The comments at the head and at the tail are written in the text.
+-- The text has the comments at the head and at the tail.
 use Rattle.std.proofs.Common.{All, subst, sym}
 use Rattle.deno_graph_source.specs.Source.{IsSpelled}
 use Rattle.deno_graph_module_info.proofs.ItemComments.{head_spelled, tail_spelled}

@@ -3,7 +3,7 @@ use Rattle.std.proofs.lemmas.Result.{IfOk-weaker}
 use Rattle.std.specs.BTreeMap.{get, is_at}
 use Rattle.deno_graph_module_info.specs.Pragma.{dependency_types_pragmas, NamesByFirst, NamesDependencyTypes}
 use Rattle.deno_graph_module_info.specs.Pragma.{NamesDependencyTypesIn}
-use Rattle.deno_graph_module_info.specs.ReadTypes.{place_cmp}
+use Rattle.deno_graph_module_info.specs.internal.ReadTypes.{range_cmp}
 use Rattle.deno_graph_module_info.specs.Spelled.{CoversAsWritten}
 use Rattle.deno_graph_module_info.proofs.ReadTypes.{read_more, spelled_last}
 use Rattle.deno_graph_module_info.proofs.read_types.types_before.Goals as goal
@@ -51,7 +51,7 @@ returns-clause-read c =
     c.in-Some.ensures.value in
     read_more text c.args.read.now c.insert.new.self comment c.in_ok-types.types spelled
     c.in_ok-types.ensures.is c.in_ok-types.ensures.covers
-    (λ place. subst (λ types. get place_cmp c.insert.new.self place
-    ≡ cond (is_at (place_cmp (comment.range.start, comment.range.end)) place)
-    (Some types) (get place_cmp c.args.read.now place)) c.in_ok-try_clone.ensures
-    (c.in_ok-insert.ensures.updates.0 place)) c.requires.read
+    (λ range. subst (λ types. get range_cmp c.insert.new.self range
+    ≡ cond (is_at (range_cmp (comment.range.start, comment.range.end)) range)
+    (Some types) (get range_cmp c.args.read.now range)) c.in_ok-try_clone.ensures
+    (c.in_ok-insert.ensures.updates.0 range)) c.requires.read

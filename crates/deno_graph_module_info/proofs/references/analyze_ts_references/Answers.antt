@@ -1,9 +1,7 @@
 use Rattle.std.proofs.Common.{◌≡◌, ◌+◌, ◌++◌, [], ◌∷◌, Option, sym, ap, ◌∙◌, take}
 use Rattle.std.proofs.lemmas.List.{take_more, append-nil}
 use Rattle.std.specs.Option.{option_to_list}
-use Rattle.deno_graph_info.specs.declared.analysis.type_script_reference.TypeScriptReference.{
-  TypeScriptReference,
-}
+use Rattle.deno_graph_info.specs.declared.analysis.type_script_reference.TypeScriptReference.{TypeScriptReference}
 use Rattle.deno_graph_module_info.proofs.ReferenceLists.{kept-push}
 use Rattle.deno_graph_module_info.proofs.references.analyze_ts_references.Goals as goal
 use Rattle.deno_graph_module_info.proofs.references.analyze_ts_references.Goals.{

@@ -5,8 +5,8 @@ use Rattle.deno_graph_pragmas.specs.Split.{HasSplit}
 use Rattle.deno_graph_module_info.specs.References.{StatesMode}
 use Rattle.deno_graph_module_info.proofs.references.referred.Goals as goal
 
-pub found_specifier-requires : goal.found_specifier-requires
-found_specifier-requires c = record {
+pub specifier_of_match-requires : goal.specifier_of_match-requires
+specifier_of_match-requires c = record {
   spelled = c.requires;
   slice = subst (λ t. IsSliceIn t c.in-Some.found) c.as_str-text.ensures c.in-Some.ensures.slice;
   quoted = λ _. subst (λ t. IsQuotedIn t c.in-Some.found) c.as_str-text.ensures c.in-Some.ensures.quotes;
@@ -21,9 +21,9 @@ returns-in-Some-clause-is c = record {
   is_specifier = c.in_ok-specifier.ensures.is;
 }
 
-pub found_specifier-requires-in-Some-find_types_reference :
-    goal.found_specifier-requires-in-Some-find_types_reference
-found_specifier-requires-in-Some-find_types_reference c =
+pub specifier_of_match-requires-in-Some-find_types_reference :
+    goal.specifier_of_match-requires-in-Some-find_types_reference
+specifier_of_match-requires-in-Some-find_types_reference c =
     let found = c.in-Some-find_types_reference.found in
     record {
       spelled = c.requires;

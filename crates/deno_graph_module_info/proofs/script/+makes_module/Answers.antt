@@ -1,4 +1,4 @@
--- What a child makes, its parent makes; and a node none of whose children make a module makes none itself.
+-- A node makes a module exactly if it does so itself or by a child.
 use Rattle.std.proofs.Common.{
   ◌≡◌,
   ℕ,
@@ -25,7 +25,7 @@ use Rattle.std.proofs.lemmas.Option.{slice_get_read, slice_get_within}
 use Rattle.deno_graph_source.specs.Node.{kind_of, children_of}
 use Rattle.deno_graph_source.specs.declared.tree.node.Node.{Node}
 use Rattle.deno_graph_module_info.specs.Script.{is_function, IsImportMeta, IsAwait}
-use Rattle.deno_graph_module_info.specs.ScriptSteps.{MakesModule}
+use Rattle.deno_graph_module_info.specs.internal.ScriptSteps.{MakesModule}
 use Rattle.deno_graph_module_info.proofs.Scripts.{MakesModule-above, MakesModule-cases}
 use Rattle.deno_graph_module_info.proofs.script.+makes_module.Goals as goal
 

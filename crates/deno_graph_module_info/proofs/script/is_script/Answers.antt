@@ -1,4 +1,4 @@
--- A body that is gone through is a script, and an item that ends the loop is none of a script.
+-- A body is a script if the loop passes all items, and an item that ends the loop isn't one of a script.
 use Rattle.std.proofs.Common.{
   ◌≡◌,
   ℕ,
@@ -22,7 +22,7 @@ use Rattle.std.proofs.lemmas.Option.{slice_get_read, slice_get_within}
 use Rattle.deno_graph_source.specs.Node.{kind_of}
 use Rattle.deno_graph_source.specs.declared.tree.node.Node.{Node}
 use Rattle.deno_graph_module_info.specs.Script.{is_module_item}
-use Rattle.deno_graph_module_info.specs.ScriptSteps.{MakesModule}
+use Rattle.deno_graph_module_info.specs.internal.ScriptSteps.{MakesModule}
 use Rattle.deno_graph_module_info.proofs.Scripts.{IsScript-made, IsScript-makes_none}
 use Rattle.deno_graph_module_info.proofs.script.is_script.Goals as goal
 

@@ -3,7 +3,7 @@ use Rattle.std.proofs.Common.{◌≡◌, ℕ, ◌<◌, Some, false, slice_get, t
 use Rattle.deno_graph_source.specs.Node.{kind_of}
 use Rattle.deno_graph_source.specs.declared.tree.node.Node.{Node}
 use Rattle.deno_graph_module_info.specs.Script.{is_module_item}
-use Rattle.deno_graph_module_info.specs.ScriptSteps.{MakesModule}
+use Rattle.deno_graph_module_info.specs.internal.ScriptSteps.{MakesModule}
 use Rattle.deno_graph_module_info.proofs.script.is_script.Given as goal
 
 abbrev pub invariant-loop-item : goal.invariant-loop-item

@@ -10,8 +10,8 @@ use Rattle.deno_graph_module_info.specs.Pragma.{HasPragma, source_mapping_url_pr
 use Rattle.deno_graph_module_info.proofs.Named.{no_blocks, whole_at_last}
 use Rattle.deno_graph_module_info.proofs.source_map.analyze_source_map_url.Goals as goal
 
-pub found_specifier-requires : goal.found_specifier-requires
-found_specifier-requires c = record {
+pub specifier_of_match-requires : goal.specifier_of_match-requires
+specifier_of_match-requires c = record {
   spelled = (All-pop (IsSpelled c.args.tail.text_info.now) c.search.rest.now c.in-Some.front.now
       (Some c.in-Some.comment.now) c.in-Some.ensures.cases.0 c.search.invariant.spelled).1;
   slice = subst (λ text. IsSliceIn text c.in-Some-find_source_mapping_url.found) c.as_str.ensures

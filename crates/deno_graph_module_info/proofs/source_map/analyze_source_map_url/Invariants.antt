@@ -1,4 +1,4 @@
--- Behind the rest no comment has the pragma.
+-- No comment after the rest has the pragma.
 use Rattle.std.proofs.Common.{◌≡◌, ◌++◌, List, All, length}
 use Rattle.deno_graph_source.specs.Source.{IsSpelled}
 use Rattle.deno_graph_source.specs.declared.tree.comments.DependencyComment.{DependencyComment}

@@ -1,7 +1,7 @@
 use Rattle.std.proofs.Common.{◌≡◌, sym, subst}
 use Rattle.deno_graph_pragmas.specs.Split.{TextPart}
 use Rattle.deno_graph_module_info.specs.Pragma.{specifier_of_part}
-use Rattle.deno_graph_module_info.specs.FoundPragma.{Covers}
+use Rattle.deno_graph_module_info.specs.internal.HeadPragma.{Covers}
 use Rattle.deno_graph_module_info.proofs.InSource.{in_source, same_specifier}
 use Rattle.deno_graph_module_info.proofs.specifier.specifier_with_range.Goals as goal
 

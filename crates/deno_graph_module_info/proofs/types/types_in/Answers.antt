@@ -10,8 +10,8 @@ use Rattle.deno_graph_module_info.proofs.Named.{
 }
 use Rattle.deno_graph_module_info.proofs.types.types_in.Goals as goal
 
-pub found_specifier-requires : goal.found_specifier-requires
-found_specifier-requires c = record {
+pub specifier_of_match-requires : goal.specifier_of_match-requires
+specifier_of_match-requires c = record {
   spelled = c.requires;
   slice = subst (λ t. IsSliceIn t c.in-Some.found) c.as_str-text.ensures c.in-Some.ensures.slice;
   quoted = λ _. subst (λ t. IsQuotedIn t c.in-Some.found) c.as_str-text.ensures c.in-Some.ensures.quotes;

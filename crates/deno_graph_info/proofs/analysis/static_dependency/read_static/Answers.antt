@@ -1,4 +1,4 @@
--- A reading that is refused refuses the whole: the steps before it have given what they read.
+-- If a member can't be read, the whole can't: the members before it were read.
 use Rattle.deno_graph_json.proofs.Reading.{exits}
 use Rattle.deno_graph_info.specs.Json.StaticDependency.{reads_static}
 use Rattle.deno_graph_info.proofs.analysis.static_dependency.read_static.Goals as goal

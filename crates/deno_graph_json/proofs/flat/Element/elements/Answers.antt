@@ -13,7 +13,7 @@ invariant_of-result c =
     let is = node_found c.args.self c.first.result found.field-0 own c.first.ensures.value found.is
     found.field-0-is in
     record {
-      behind_bracket = omega arith;
+      after_bracket = omega arith;
       of_items = items_inside c.args.self found.elements found.field-0-1 is;
     }
 

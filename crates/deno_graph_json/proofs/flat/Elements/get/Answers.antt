@@ -3,7 +3,7 @@ use Rattle.deno_graph_json.specs.Tape.{HasValueAt, IsValueAt, array_of_elements,
 use Rattle.deno_graph_json.specs.Value.{nth_item}
 use Rattle.deno_graph_json.specs.View.{value_of, items_left}
 use Rattle.deno_graph_json.proofs.Looking.{item_next}
-use Rattle.deno_graph_json.proofs.Places.{one_before, one_behind, none_here}
+use Rattle.deno_graph_json.proofs.Places.{one_before, one_after, none_here}
 use Rattle.deno_graph_json.proofs.flat.Elements.get.Goals as goal
 
 pub loop-element-preserved : goal.loop-element-preserved
@@ -18,12 +18,12 @@ loop-element-preserved c =
     let steps = c.in-Some.ensures.steps in
     let there : HasValueAt holder from = subst (λ array. HasValueAt array from) kept.2 (steps.0.0 refl) in
     let is : IsValueAt holder from element = subst (λ array. IsValueAt array from element) kept.2 steps.1.2 in
-    let behind : next ≡ from + size_of element = steps.1.3 in (
+    let next_is : next ≡ from + size_of element = steps.1.3 in (
       tt,
       tt,
       search rules,
-      λ place rest. kept.3 place (one_before holder element from next is behind left place some there rest),
-      λ place all. one_behind holder element from next is behind left place some (kept.4 place all),
+      λ place rest. kept.3 place (one_before holder element from next is next_is left place some there rest),
+      λ place all. one_after holder element from next is next_is left place some (kept.4 place all),
       sym (item_next left (value_of element) (items_left c.next.new.self) some)
           ∙ ap (nth_item left) (sym steps.2) ∙ kept.5,
     )

@@ -3,7 +3,7 @@ use Rattle.deno_graph_json.specs.Flat.{plain}
 use Rattle.deno_graph_json.specs.Tape.{size_of}
 use Rattle.deno_graph_json.specs.Value.{AreOfItems, item, items_in}
 use Rattle.deno_graph_json.specs.View.{items_left, value_of}
-use Rattle.deno_graph_json.proofs.Kept.{begins_item, none_found, items_behind, item_first}
+use Rattle.deno_graph_json.proofs.Kept.{begins_item, none_found, items_after, item_first}
 use Rattle.deno_graph_json.proofs.flat.ElementsIterator.next.Goals as goal
 
 pub value_at-requires : goal.value_at-requires
@@ -23,11 +23,11 @@ invariant_of-self c =
     let nodes = old.array.nodes.now in
     let found = c.in_ok-element in
     let own = found.element in
-    let behind : old.at + size_of own ≡ found.end = omega (arith, found.ensures.end, found.ensures.nodes) in
+    let next_is : old.at + size_of own ≡ found.end = omega (arith, found.ensures.end, found.ensures.nodes) in
     record {
-      behind_bracket = omega (arith, found.ensures.end);
-      of_items = subst (λ k. AreOfItems (map plain (drop k nodes))) behind
-          (items_behind nodes own.nodes.now old.at
+      after_bracket = omega (arith, found.ensures.end);
+      of_items = subst (λ k. AreOfItems (map plain (drop k nodes))) next_is
+          (items_after nodes own.nodes.now old.at
           (size_of own) found.ensures.value.1 own.of_value old.of_items);
     }
 
@@ -38,21 +38,21 @@ returns-clause-steps c =
     let nodes = old.array.nodes.now in
     let found = c.in_ok-element in
     let own = found.element in
-    let behind : old.at + size_of own ≡ found.end = omega
+    let next_is : old.at + size_of own ≡ found.end = omega
     (arith, found.ensures.end, found.ensures.nodes) in (
       (λ some. found.ensures.some.0 some, λ has. refl),
       (
         (
-          omega (arith, found.ensures.end, found.ensures.nodes, found.ensures.number, old.behind_bracket),
+          omega (arith, found.ensures.end, found.ensures.nodes, found.ensures.number, old.after_bracket),
           omega (arith, found.ensures.end, found.ensures.nodes, found.ensures.number),
         ),
         found.ensures.number,
         found.ensures.value,
-        sym behind,
+        sym next_is,
         refl,
         (refl, refl),
         omega (arith, found.ensures.end),
       ),
       item_first nodes own.nodes.now old.at (size_of own) found.ensures.value.1 own.of_value old.of_items
-          ∙ ap (λ k. item (value_of own) (items_in (map plain (drop k nodes)))) behind,
+          ∙ ap (λ k. item (value_of own) (items_in (map plain (drop k nodes)))) next_is,
     )

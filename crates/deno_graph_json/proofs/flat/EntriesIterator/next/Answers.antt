@@ -6,8 +6,8 @@ use Rattle.deno_graph_json.specs.Tape.{HasMemberAt, number_of, size_of, object_o
 use Rattle.deno_graph_json.specs.Value.{AreOfMembers, member, members_in}
 use Rattle.deno_graph_json.specs.View.{members_left, value_of}
 use Rattle.deno_graph_json.specs.declared.flat.Node.TheVariants.{Key}
-use Rattle.deno_graph_json.proofs.Kept.{node_at, got_at, none_named, no_member_found, value_behind_name}
-use Rattle.deno_graph_json.proofs.Kept.{members_behind, member_first}
+use Rattle.deno_graph_json.proofs.Kept.{node_at, got_at, none_named, no_member_found, value_after_name}
+use Rattle.deno_graph_json.proofs.Kept.{members_after, member_first}
 use Rattle.deno_graph_json.proofs.flat.EntriesIterator.next.Goals as goal
 use Rattle.deno_graph_json.proofs.flat.EntriesIterator.next.Goals.{
   in_default-via-in-Some+in_default,
@@ -35,7 +35,7 @@ value_at-requires c =
     let named : slice_get nodes old.at ≡ Some (Key key.name) =
     node_at nodes old.at key.field-0.now (true-ltb _ _ key.ensures.lookup.0) key.ensures.lookup.1
     ∙ ap Some key.field-0-is in
-    value_behind_name nodes old.at key.name named old.of_members
+    value_after_name nodes old.at key.name named old.of_members
 
 pub returns-in_err-value-clause-steps : goal.returns-in_err-value-clause-steps
 returns-in_err-value-clause-steps c =
@@ -52,11 +52,11 @@ invariant_of-self c =
     ∙ ap Some key.field-0-is in
     let found = c.in_ok-value in
     let own = found.value in
-    let behind : old.at + 1 + size_of own ≡ found.end = omega
+    let next_is : old.at + 1 + size_of own ≡ found.end = omega
     (arith, found.ensures.end, found.ensures.nodes) in
     record {
-      of_members = subst (λ k. AreOfMembers (map plain (drop k nodes))) behind
-          (members_behind nodes old.at key.name named own.nodes.now
+      of_members = subst (λ k. AreOfMembers (map plain (drop k nodes))) next_is
+          (members_after nodes old.at key.name named own.nodes.now
           (size_of own) found.ensures.value.1 own.of_value old.of_members);
     }
 
@@ -71,7 +71,7 @@ returns-clause-steps c =
     ∙ ap Some key.field-0-is in
     let found = c.in_ok-value in
     let own = found.value in
-    let behind : old.at + 1 + size_of own ≡ found.end = omega
+    let next_is : old.at + 1 + size_of own ≡ found.end = omega
     (arith, found.ensures.end, found.ensures.nodes) in
     let before : number_of own - number_of old.object - 1 ≡ old.at = omega (arith, found.ensures.number) in (
       (λ some. ((key.name, named), found.ensures.some.0 some), λ has. refl),
@@ -84,12 +84,12 @@ returns-clause-steps c =
         (key.name, ap (slice_get nodes) before ∙ named, refl),
         (key.name, named, refl),
         found.ensures.value,
-        sym behind,
+        sym next_is,
         refl,
         (refl, refl),
         omega (arith, found.ensures.end),
       ),
       member_first nodes old.at key.name named own.nodes.now
           (size_of own) found.ensures.value.1 own.of_value old.of_members
-          ∙ ap (λ k. member key.name.now (value_of own) (members_in (map plain (drop k nodes)))) behind,
+          ∙ ap (λ k. member key.name.now (value_of own) (members_in (map plain (drop k nodes)))) next_is,
     )

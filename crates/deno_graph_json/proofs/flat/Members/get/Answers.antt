@@ -23,14 +23,14 @@ loop-key-preserved-then-eq c =
     let named : HasNameAt object c.args.name.now from =
     subst (λ text. HasNameAt object text from) same
     (subst (λ held. HasNameAt held c.in-Some.key.now from) kept.2 steps.1.2) in
-    let behind : next ≡ from + 1 + size_of value = steps.1.4 in (
+    let next_is : next ≡ from + 1 + size_of value = steps.1.4 in (
       tt,
       tt,
       search rules,
       search rules,
       search rules,
-      λ later rest. kept.5 later (member_before object value from next is behind later there rest),
-      named_here object value from next is behind c.args.name.now c.loop-key.found kept.6
+      λ later rest. kept.5 later (member_before object value from next is next_is later there rest),
+      named_here object value from next is next_is c.args.name.now c.loop-key.found kept.6
           (kept.5 from (0, (there, refl))) named,
       sym (named_next c.args.name.now c.in-Some.key.now (value_of value) (members_left c.next.new.self)
           (option_map value_of c.loop-key.found) same)
@@ -56,14 +56,14 @@ loop-key-preserved c =
     λ found. let one : Key named.0 ≡ Key found.0 = cc (named.1, found.1) in let same : named.0
     ≡ found.0 = cc in
     differ (sym named.2 ∙ ap (λ (b : Bor (List ℕ)). b.now) same ∙ found.2) in
-    let behind : next ≡ from + 1 + size_of value = steps.1.4 in (
+    let next_is : next ≡ from + 1 + size_of value = steps.1.4 in (
       tt,
       tt,
       search rules,
       kept.3,
       kept.4,
-      λ later rest. kept.5 later (member_before object value from next is behind later there rest),
-      other_here object value from next is behind c.args.name.now c.loop-key.found kept.6 other,
+      λ later rest. kept.5 later (member_before object value from next is next_is later there rest),
+      other_here object value from next is next_is c.args.name.now c.loop-key.found kept.6 other,
       sym (other_next c.args.name.now c.in-Some.key.now (value_of value) (members_left c.next.new.self)
           (option_map value_of c.loop-key.found) differ)
           ∙ ap (λ ms. later_or (last_named c.args.name.now ms) (option_map value_of c.loop-key.found))

@@ -4,7 +4,7 @@ use Rattle.deno_graph_json.specs.declared.flat.Node.{Node}
 use Rattle.deno_graph_json.specs.declared.flat.fault.TapeFault.{TapeFault}
 use Rattle.deno_graph_json.specs.declared.flat.parse.Stop.TheVariants.{Json}
 use Rattle.json.specs.Lex.{tokens}
-use Rattle.deno_graph_json.proofs.Ahead.{refused_text, text_and_more}
+use Rattle.deno_graph_json.proofs.Ahead.{unreadable_text, text_and_more}
 use Rattle.deno_graph_json.proofs.Nested.{put_some}
 use Rattle.deno_graph_json.proofs.flat.parse.read.Goals as goal
 
@@ -20,15 +20,15 @@ returns-in-Ok-clause-some c =
     c.in-Ok.ensures.put in
     kept_some c.finish.result nodes (omega (arith, put)) c.finish.ensures.nodes
 
-pub returns-in-Ok-clause-refused : goal.returns-in-Ok-clause-refused
-returns-in-Ok-clause-refused c offset e =
+pub returns-in-Ok-clause-unreadable : goal.returns-in-Ok-clause-unreadable
+returns-in-Ok-clause-unreadable c offset e =
     let begun : tokens c.args.text.now ≡ c.in_ok-new.field-0 = sym c.in_ok-new.ensures.ok in
     let more : c.root.new.self.reader ≡ [] → ⊥ = rw e at c.finish.ensures.more in
     text_and_more c.args.text.now c.in_ok-new.field-0 c.root.new.self.reader c.new-2.result.items
     c.root.new.self.nodes.items begun more c.in-Ok.ensures.put
 
-pub returns-in-Err-Json-clause-refused : goal.returns-in-Err-Json-clause-refused
-returns-in-Err-Json-clause-refused c offset e =
+pub returns-in-Err-Json-clause-unreadable : goal.returns-in-Err-Json-clause-unreadable
+returns-in-Err-Json-clause-unreadable c offset e =
     let begun : tokens c.args.text.now ≡ c.in_ok-new.field-0 = sym c.in_ok-new.ensures.ok in
     let json : c.root.result ≡ Err Json = search rules in
-    refused_text c.args.text.now c.in_ok-new.field-0 begun (c.root.ensures.none json)
+    unreadable_text c.args.text.now c.in_ok-new.field-0 begun (c.root.ensures.none json)

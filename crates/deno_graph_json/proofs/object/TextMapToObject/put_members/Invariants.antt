@@ -1,4 +1,4 @@
--- With the members of the entries that are left, the state is the one that is wanted.
+-- The state so far, with the members of the entries that are left, is the one at the end.
 use Rattle.std.proofs.Common.{◌≡◌, All}
 use Rattle.deno_graph_json.specs.Object.{with_entries, map_entries}
 use Rattle.deno_graph_json.proofs.object.TextMapToObject.put_members.Given as goal

@@ -1,4 +1,4 @@
--- The values so far are the forms of the items so far.
+-- The values so far are the JSON of the items so far.
 use Rattle.std.proofs.Common.{◌≡◌, All, map, take}
 use Rattle.serde_json.specs.View.{view}
 use Rattle.deno_graph_json.proofs.write.ItemsToJson.to_value.Given as goal

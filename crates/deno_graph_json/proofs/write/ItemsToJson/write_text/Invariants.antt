@@ -1,4 +1,4 @@
--- With the tokens of the items that are left, the text is the one that is wanted.
+-- The text so far, with the tokens of the items that are left, is the one at the end.
 use Rattle.std.proofs.Common.{◌≡◌, ◌++◌, All, map, take, drop}
 use Rattle.json.specs.Tree.{items_tokens}
 use Rattle.serde_json.specs.View.{items_of}

@@ -1,6 +1,6 @@
 use Rattle.std.proofs.Common.{sym, ◌∙◌}
-use Rattle.deno_graph_module_info.specs.FoundPragma.{head_pragma}
-use Rattle.deno_graph_module_info.proofs.Named.{block_from_not_line, found_in_comment, none_in_comment}
+use Rattle.deno_graph_module_info.specs.internal.HeadPragma.{head_pragma}
+use Rattle.deno_graph_module_info.proofs.Named.{block_from_not_line, match_in_comment, none_in_comment}
 use Rattle.deno_graph_module_info.proofs.head_pragmas.HeadPragma.find.Goals.{
   else-is_quoteless-via-then-is_quoteless+else-eq,
   else-is_quoteless-via-else-is_quoteless,
@@ -9,7 +9,7 @@ use Rattle.deno_graph_module_info.proofs.head_pragmas.HeadPragma.find.Goals as g
 
 pub returns-clause-found : goal.returns-clause-found
 returns-clause-found c =
-    found_in_comment (head_pragma c.args.self) c.args.comment.now c.as_str.result.now c.find_in.result
+    match_in_comment (head_pragma c.args.self) c.args.comment.now c.as_str.result.now c.find_in.result
     c.as_str.ensures
     (λ in_blocks. elim c.else-is_quoteless.branch [
       | else-is_quoteless-via-then-is_quoteless+else-eq w ↦

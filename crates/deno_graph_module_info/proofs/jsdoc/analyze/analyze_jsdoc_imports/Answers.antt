@@ -1,4 +1,4 @@
--- The comments in the order in which they are given are those that are filed.
+-- The list of comments has exactly the filed comments, in another order.
 use Rattle.std.proofs.Common.{◌≡◌, map, true}
 use Rattle.std.specs.List.Sorted.{IsPermutation}
 use Rattle.std.proofs.lemmas.List.Sorted.{All-permutation, IsPermutation-sym}
@@ -25,7 +25,7 @@ returns-clause-list c =
     let read : reads_jsdoc c.args.media_type ≡ true = cc in
     rw (read, c.from_vec.ensures)
     (list_in_any_order true c.args.text_info.now given filed _ (IsPermutation-sym filed given same)
-    c.in_ok-found.ensures.list)
+    c.in_ok-infos.ensures.list)
 
 pub returns-clause-covers : goal.returns-clause-covers
-returns-clause-covers c = rw c.from_vec.ensures c.in_ok-found.ensures.covers
+returns-clause-covers c = rw c.from_vec.ensures c.in_ok-infos.ensures.covers

@@ -1,4 +1,4 @@
--- Each import that the scan found is put in.
+-- Each step adds one import that the scan found.
 use Rattle.std.proofs.Common.{
   ◌≡◌,
   ◌+◌,
@@ -25,7 +25,7 @@ use Rattle.deno_graph_jsdoc.specs.JsDocPass.{GainsImport}
 use Rattle.deno_graph_jsdoc.specs.JsDocImport.{Import, import_of}
 use Rattle.deno_graph_jsdoc.specs.declared.import.JsDocImport.{JsDocImport}
 use Rattle.deno_graph_module_info.proofs.Gathered.{insert_next, insert_all, item_hit}
-use Rattle.deno_graph_module_info.proofs.Places.{hit_bounds}
+use Rattle.deno_graph_module_info.proofs.ImportRanges.{hit_bounds}
 use Rattle.deno_graph_module_info.proofs.Pushed.{GainsImport-push, next_behind}
 use Rattle.deno_graph_module_info.proofs.jsdoc.imports.add_imports.Goals as goal
 use Rattle.deno_graph_module_info.proofs.jsdoc.imports.add_imports.Goals.{After-deref-import-items}
@@ -41,7 +41,7 @@ hits c =
 utf8 : (c : After-deref-import-items) → IsUtf8 c.args.comment.now.text
 utf8 c = subst IsUtf8 c.as_str.ensures c.as_str.utf8
 
--- what a read past the end would give
+-- a default value of a list's element
 abbrev no_import : JsDocImport
 no_import = record {
   specifier = record { ref_ptr = (0, 0); now = [] };

@@ -1,8 +1,8 @@
--- The imports that were put in so far.
+-- The list has the imports so far.
 use Rattle.std.proofs.Common.{◌+◌, take, map}
 use Rattle.std.specs.List.{Contains}
 use Rattle.deno_graph_jsdoc.specs.JsDocImport.{import_of, moved}
-use Rattle.deno_graph_module_info.specs.CommentImportSteps.{GainsImports}
+use Rattle.deno_graph_module_info.specs.internal.CommentImportSteps.{GainsImports}
 use Rattle.deno_graph_module_info.proofs.jsdoc.imports.add_imports.Given as goal
 
 abbrev pub invariant-loop-import : goal.invariant-loop-import

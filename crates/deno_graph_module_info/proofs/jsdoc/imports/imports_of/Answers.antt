@@ -1,4 +1,4 @@
--- One JSDoc comment after another.
+-- Each step adds the imports in one JSDoc comment.
 use Rattle.std.proofs.Common.{
   ◌≡◌,
   ◌+◌,
@@ -25,7 +25,7 @@ use Rattle.std.specs.List.Sorted.{IsNonDecreasingBy}
 use Rattle.deno_graph_jsdoc.specs.JsDocImport.{import_of}
 use Rattle.deno_graph_jsdoc.specs.declared.import.JsDocImport.{JsDocImport}
 use Rattle.deno_graph_module_info.specs.CommentImports.{IsJsDoc}
-use Rattle.deno_graph_module_info.specs.CommentImportSteps.{AreJsDocOf}
+use Rattle.deno_graph_module_info.specs.internal.CommentImportSteps.{AreJsDocOf}
 use Rattle.deno_graph_module_info.proofs.Chosen.{all, item_in}
 use Rattle.deno_graph_module_info.proofs.Gathered.{
   Gathered,
@@ -33,7 +33,7 @@ use Rattle.deno_graph_module_info.proofs.Gathered.{
   Gathered-imports,
   Gathered-quoted,
 }
-use Rattle.deno_graph_module_info.proofs.Places.{comment_size}
+use Rattle.deno_graph_module_info.proofs.ImportRanges.{comment_size}
 use Rattle.deno_graph_module_info.proofs.ReadComments.{AreRead, AreRead-again, AreRead-more, AreRead-start}
 use Rattle.deno_graph_source.specs.Source.{IsSpelled}
 use Rattle.deno_graph_source.specs.declared.tree.comments.DependencyComment.{DependencyComment}
@@ -44,7 +44,7 @@ use Rattle.deno_graph_module_info.proofs.jsdoc.imports.imports_of.Goals.{
   else-comment-end,
 }
 
--- what was chosen
+-- the chosen comments
 are : (c : After-deref-comment-items)
     → AreJsDocOf (all c.args.comments.now) (all c.deref-comment-items.result.now)
 are c =

@@ -1,4 +1,4 @@
--- The imports of the comments so far, and where the last of these ends.
+-- The imports in the comments so far, and the end of the last of these comments.
 use Rattle.std.proofs.Common.{map}
 use Rattle.deno_graph_jsdoc.specs.JsDocImport.{import_of}
 use Rattle.deno_graph_module_info.proofs.ReadComments.{AreRead}

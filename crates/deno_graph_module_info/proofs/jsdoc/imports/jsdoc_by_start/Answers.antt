@@ -1,4 +1,4 @@
--- One comment after another, and then their order.
+-- Each step chooses or passes one comment; the sort orders the chosen comments.
 use Rattle.std.proofs.Common.{
   ◌<◌,
   ◌≤◌,
@@ -20,7 +20,7 @@ use Rattle.std.proofs.Common.{
 use Rattle.std.proofs.lemmas.Bool.{both_ways}
 use Rattle.std.proofs.lemmas.List.{map-append, take_all}
 use Rattle.std.proofs.lemmas.List.Sorted.{IsNonDecreasingBy-from_sort_by_key, IsPermutation-map}
-use Rattle.deno_graph_module_info.specs.CommentImportSteps.{AreJsDocOf}
+use Rattle.deno_graph_module_info.specs.internal.CommentImportSteps.{AreJsDocOf}
 use Rattle.deno_graph_source.specs.declared.tree.comments.DependencyComment.{DependencyComment}
 use Rattle.deno_graph_module_info.proofs.Chosen.{
   all,

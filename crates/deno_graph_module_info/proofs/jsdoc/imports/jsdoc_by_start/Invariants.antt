@@ -1,6 +1,6 @@
 -- The JSDoc comments so far.
 use Rattle.std.proofs.Common.{take, map}
-use Rattle.deno_graph_module_info.specs.CommentImportSteps.{AreJsDocOf}
+use Rattle.deno_graph_module_info.specs.internal.CommentImportSteps.{AreJsDocOf}
 use Rattle.deno_graph_module_info.proofs.jsdoc.imports.jsdoc_by_start.Given as goal
 
 abbrev pub invariant-loop-comment : goal.invariant-loop-comment

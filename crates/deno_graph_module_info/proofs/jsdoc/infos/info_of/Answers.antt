@@ -1,4 +1,4 @@
--- The ends of the range with the two quotes.
+-- The ends of the range that includes the two quotes are boundaries.
 use Rattle.std.proofs.Common.{◌≡◌, ◌++◌, inl, inr, ⊎_elim, codes, sym, ap, ◌∙◌, rules}
 use Rattle.std.proofs.lemmas.Str.{encodes-chars}
 use Rattle.std.specs.Str.{IsUtf8, chars}

@@ -1,4 +1,4 @@
--- What is said of one import after another.
+-- Each step adds the info of one import.
 use Rattle.std.proofs.Common.{◌<◌, ◌≤◌, List, length, map, sym, subst, rules}
 use Rattle.std.proofs.lemmas.List.Elements.{All-push}
 use Rattle.std.specs.List.{All}

@@ -1,4 +1,4 @@
--- What is said of the imports so far.
+-- The infos of the imports so far.
 use Rattle.std.proofs.Common.{◌≡◌, take, map}
 use Rattle.std.specs.List.{All}
 use Rattle.deno_graph_jsdoc.specs.JsDocImport.{import_of}

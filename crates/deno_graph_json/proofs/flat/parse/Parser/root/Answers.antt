@@ -1,5 +1,5 @@
 use Rattle.std.proofs.Common.{[], refl, sym, subst}
-use Rattle.deno_graph_json.specs.Flat.{NoneAhead}
+use Rattle.deno_graph_json.specs.internal.Parsing.{NoneAhead}
 use Rattle.deno_graph_json.proofs.Ahead.{none_begins}
 use Rattle.deno_graph_json.proofs.flat.parse.Parser.root.Goals as goal
 

@@ -1,4 +1,4 @@
--- How the search of `reach` goes on. No promise of a public call names it.
+-- The steps of the search of `reach`. No contract of a public function names them.
 use Rattle.std.specs.Prelude.{
   ◌≡◌,
   ◌⊎◌,
@@ -22,11 +22,11 @@ use Rattle.deno_graph_info.specs.declared.analysis.dependency.DependencyDescript
 use Rattle.deno_graph_info.specs.Reach.{IsModuleKey, named_specifier}
 use Rattle.deno_graph_info.specs.declared.analysis.module_info.ModuleInfo.{ModuleInfo}
 
--- the modules that are pending
+-- the pending modules
 abbrev pub infos_of : List (Bor ModuleInfo) → List ModuleInfo
 infos_of pending = map (λ info. info.now) pending
 
--- one of the dependencies has this specifier
+-- some dependency has this specifier
 abbrev pub NamesIn : List DependencyDescriptor → List ℕ → Type 0
 NamesIn dependencies specifier =
     (dependency : DependencyDescriptor) × Contains dependencies dependency
@@ -36,18 +36,18 @@ module _ {V : Type 0} where
   abbrev pub IsReached : List (List ℕ × V) → List ℕ → Type 0
   IsReached reached key = IsSome (value_at reached key)
 
-  -- one where there is no value
+  -- one if there is no value, else zero
   abbrev pub one_unless : Option V → ℕ
   one_unless None = 1
   one_unless (Some v) = 0
 
-  -- how many modules weren't reached
+  -- the number of modules that weren't reached
   abbrev pub unreached : List (List ℕ × ModuleInfo) → List (List ℕ × V) → ℕ
   unreached [] reached = 0
   unreached (m ∷ ms) reached = one_unless (value_at reached m.0) + unreached ms reached
 
-  -- The keys with these names are visited: what was reached is reached, and so is each of them.
-  -- What is reached newly is one of them, and its module is pending.
+  -- The step that visits the named keys: these are reached, and so is each key that was reached before. Each
+  -- key that is reached newly is a named one, and its module is pending.
   pub record Grows (modules : List (List ℕ × ModuleInfo)) (IsNamed : List ℕ → Type 0)
       (old new : List (List ℕ × V)) (before after : List ModuleInfo) : Type 0 where
     pub kept : (key : List ℕ) → IsReached old key → IsReached new key

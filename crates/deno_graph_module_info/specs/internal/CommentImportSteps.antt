@@ -1,4 +1,4 @@
--- How the imports of comments are collected, one comment after another.
+-- The steps by which the imports in comments are collected, one comment after another.
 use Rattle.std.specs.Prelude.{◌≡◌, ◌<◌, ◌+◌, ◌⊎◌, ◌↔◌, List}
 use Rattle.std.specs.List.{AllPairs, Contains}
 use Rattle.std.specs.Str.{chars}
@@ -7,19 +7,18 @@ use Rattle.deno_graph_jsdoc.specs.JsDocImport.{Import, moved}
 use Rattle.deno_graph_source.specs.declared.tree.comments.DependencyComment.{DependencyComment}
 use Rattle.deno_graph_module_info.specs.CommentImports.{IsJsDoc}
 
--- `chosen` has the JSDoc comments of `comments` and nothing else
+-- `chosen` has exactly the JSDoc comments of `comments`
 abbrev pub AreJsDocOf : List DependencyComment → List DependencyComment → Type 0
 AreJsDocOf comments chosen = (comment : DependencyComment)
     → Contains chosen comment ↔ (Contains comments comment × IsJsDoc comment)
 
--- `import` is a hit of the text of the comment, its place counted from the start of the source
+-- `import` is a hit in the text of the comment, with offsets from the start of the source
 abbrev pub IsMovedHit : DependencyComment → Import → Type 0
 IsMovedHit comment import =
     (hit : Import) × IsHit (chars comment.text) hit × (import ≡ moved (comment.range.start + 2) hit)
 
--- the new list ascends and has the imports of which `P` holds besides those of the old one; of
--- imports with one
--- start it may have only one
+-- the new list has the imports of the old list and those with the property `P`, in ascending order; of
+-- imports with the same start it may have only one
 pub record GainsImports (old : List Import) (P : Import → Type 0) (new : List Import) : Type 0 where
   pub ascending : AllPairs (λ (import later : Import). import.start < later.start) new
   pub only : (import : Import) → Contains new import → Contains old import ⊎ P import

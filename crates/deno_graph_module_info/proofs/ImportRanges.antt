@@ -1,4 +1,4 @@
--- Imports of comments, by their places in the source.
+-- The ranges in the source of the imports in comments.
 use Rattle.std.proofs.Common.{
   ◌≡◌,
   ℕ,
@@ -54,12 +54,12 @@ use Rattle.deno_graph_source.specs.declared.tree.comments.CommentKind.TheVariant
 use Rattle.deno_graph_source.specs.declared.tree.comments.DependencyComment.{DependencyComment}
 use Rattle.deno_graph_base.specs.SourceRange.{slice_of}
 
--- the end of a list of characters
+-- the bytes of a suffix of characters are the end of all bytes
 scalars_back : (xs ys : List ℕ) → scalars (xs ++ ys) ≡ true → scalars ys ≡ true
 scalars_back [] ys all = all
 scalars_back (x ∷ xs) ys all = scalars_back xs ys (and_parts (scalar x) (scalars (xs ++ ys)) all).1
 
--- where a hit lies in the bytes of its text
+-- the range of a hit in the bytes of its text
 pub hit_bounds : (bytes : List ℕ) (import : Import) → IsUtf8 bytes → IsHit (chars bytes) import
     → (import.start ≤ import.end) × (import.end ≤ length bytes)
 hit_bounds bytes import utf8 hit =
@@ -74,7 +74,7 @@ hit_bounds bytes import utf8 hit =
     ∙ ap (λ n. byte_count placed.before + n) (byte_count-append placed.quote placed.behind) in
     (omega (arith, last), omega (arith, own, last, quote, whole))
 
--- a specifier in quotes, by its bytes
+-- the bytes of a specifier in quotes
 quote_bytes : (inside quote : List ℕ) → IsQuote inside quote
     → (encodes quote ≡ codes "\"" ++ encodes inside ++ codes "\"")
     ⊎ (encodes quote ≡ codes "'" ++ encodes inside ++ codes "'")
@@ -89,7 +89,7 @@ quote_bytes inside quote (inr (_, is)) =
     let last : encodes (apostrophe ∷ []) ≡ apostrophe ∷ [] = refl in
     inr (ap encodes is ∙ encodes-append (apostrophe ∷ inside) (apostrophe ∷ []) ∙ (λ k. first k ++ last k))
 
--- before an ASCII byte, and before a text, a text may be cut
+-- a text has a boundary before an ASCII byte and before UTF-8
 ascii_first : (b : ℕ) (rest : List ℕ) → b < 128 → IsCharBoundary (b ∷ rest) 0
 ascii_first b rest small = (omega arith, λ inside large. absurd (omega (arith, large, small)))
 
@@ -148,9 +148,9 @@ module _ (text : List ℕ) (comment : DependencyComment) (spelled : IsSpelled te
       let size = comment_size in
       length-take-le comment.range.start text (omega (arith, size.0, size.1))
 
-  -- what is before an import's specifier with its quotes, and what is behind
+  -- the bytes before and after an import's specifier with its quotes
   module _ (utf8 : IsUtf8 comment.text) (import hit : Import) (placed : IsPlaced (chars comment.text) hit)
-      (place : import ≡ moved (comment.range.start + 2) hit) where
+      (is_moved : import ≡ moved (comment.range.start + 2) hit) where
     bytes : comment.text ≡ encodes placed.before ++ (encodes placed.quote ++ encodes placed.behind)
     bytes =
         sym (encodes-chars comment.text utf8) ∙ ap encodes placed.whole
@@ -183,7 +183,7 @@ module _ (text : List ℕ) (comment : DependencyComment) (spelled : IsSpelled te
     starts : import.start ≡ length front + 1
     starts =
         let own = placed.start in
-        let moves = ap (λ (i : Import). i.start) place in
+        let moves = ap (λ (i : Import). i.start) is_moved in
         omega (
           arith,
           own,
@@ -196,8 +196,8 @@ module _ (text : List ℕ) (comment : DependencyComment) (spelled : IsSpelled te
     ends : import.end + 1 ≡ length front + length (encodes placed.quote)
     ends =
         let own = placed.end in
-        let moves = ap (λ (i : Import). i.end) place in
-        let shifts = ap (λ (i : Import). i.start) place in
+        let moves = ap (λ (i : Import). i.end) is_moved in
+        let shifts = ap (λ (i : Import). i.start) is_moved in
         let quote = byte_count_quote hit.specifier placed.quote placed.quoted in
         omega (arith, own, moves, shifts, starts, quote)
 
@@ -255,8 +255,8 @@ module _ (text : List ℕ) (comment : DependencyComment) (spelled : IsSpelled te
     pub quoted_at : IsQuotedAt text import
     quoted_at = record {
       some = omega (arith, starts);
-      ordered = (let own = placed.end in let moves = ap (λ (i : Import). i.end) place in
-          let shifts = ap (λ (i : Import). i.start) place in omega (arith, own, moves, shifts));
+      ordered = (let own = placed.end in let moves = ap (λ (i : Import). i.end) is_moved in
+          let shifts = ap (λ (i : Import). i.start) is_moved in omega (arith, own, moves, shifts));
       start = subst (IsCharBoundary text) (omega (arith, starts)) start_boundary;
       end = subst (IsCharBoundary text)
           (omega (arith, ends, length-append front (encodes placed.quote))) end_boundary;
@@ -264,7 +264,7 @@ module _ (text : List ℕ) (comment : DependencyComment) (spelled : IsSpelled te
     }
       where
         specifier : hit.specifier ≡ import.specifier
-        specifier = sym (ap (λ (i : Import). i.specifier) place)
+        specifier = sym (ap (λ (i : Import). i.specifier) is_moved)
 
         by_kind : (encodes placed.quote ≡ codes "\"" ++ encodes hit.specifier ++ codes "\"")
             ⊎ (encodes placed.quote ≡ codes "'" ++ encodes hit.specifier ++ codes "'")
@@ -279,7 +279,7 @@ module _ (text : List ℕ) (comment : DependencyComment) (spelled : IsSpelled te
     inside_comment =
         let length_is = comment_size in
         let own = placed.start in
-        let moves = ap (λ (i : Import). i.start) place in
+        let moves = ap (λ (i : Import). i.start) is_moved in
         let quote = byte_count_quote hit.specifier placed.quote placed.quoted in
         let inner : length comment.text
         ≡ byte_count placed.before + (byte_count placed.quote + byte_count placed.behind) =
@@ -289,22 +289,22 @@ module _ (text : List ℕ) (comment : DependencyComment) (spelled : IsSpelled te
         (length-append (encodes placed.quote) (encodes placed.behind)) in
         (omega (arith, moves), omega (arith, length_is.0, own, moves, quote, inner))
 
--- in comments that share no byte a start determines an import
+-- an import is determined by its start, in comments that share no byte
 pub one_import : (text : List ℕ) (comments : List DependencyComment) → AreApart comments
     → (a b : DependencyComment) → Contains comments a → Contains comments b
     → IsSpelled text a → IsSpelled text b → IsUtf8 a.text → IsUtf8 b.text → (import other : Import)
     → IsImportOf a import → IsImportOf b other → import.start ≡ other.start → import ≡ other
 one_import text comments apart a b has also spelled written utf8 valid import other i j same =
-    i.place ∙ ap (moved (a.range.start + 2)) (one_hit (chars a.text) i.hit hit i.is_hit is_hit starts)
-    ∙ sym place
+    i.is_moved ∙ ap (moved (a.range.start + 2)) (one_hit (chars a.text) i.hit hit i.is_hit is_hit starts)
+    ∙ sym is_moved
   where
     first : (a.range.start ≤ import.start) × (import.start < a.range.end)
     first = inside_comment text a spelled i.jsdoc.0 utf8 import i.hit
-        (hit_placed (chars a.text) i.hit i.is_hit) i.place
+        (hit_placed (chars a.text) i.hit i.is_hit) i.is_moved
 
     second : (b.range.start ≤ other.start) × (other.start < b.range.end)
     second = inside_comment text b written j.jsdoc.0 valid other j.hit
-        (hit_placed (chars b.text) j.hit j.is_hit) j.place
+        (hit_placed (chars b.text) j.hit j.is_hit) j.is_moved
 
     equal : a ≡ b
     equal = apart a b has also
@@ -316,8 +316,13 @@ one_import text comments apart a b has also spelled written utf8 valid import ot
     is_hit : IsHit (chars a.text) hit
     is_hit = subst (λ (c : DependencyComment). IsHit (chars c.text) hit) (sym equal) j.is_hit
 
-    place : other ≡ moved (a.range.start + 2) hit
-    place = j.place ∙ ap (λ (c : DependencyComment). moved (c.range.start + 2) hit) (sym equal)
+    is_moved : other ≡ moved (a.range.start + 2) hit
+    is_moved = j.is_moved ∙ ap (λ (c : DependencyComment). moved (c.range.start + 2) hit) (sym equal)
 
     starts : i.hit.start ≡ hit.start
-    starts = omega (arith, ap (λ (k : Import). k.start) i.place, ap (λ (k : Import). k.start) place, same)
+    starts = omega (
+      arith,
+      ap (λ (k : Import). k.start) i.is_moved,
+      ap (λ (k : Import). k.start) is_moved,
+      same,
+    )

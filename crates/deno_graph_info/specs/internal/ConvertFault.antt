@@ -1,4 +1,4 @@
--- Why a part of a value isn't converted.
+-- Why a part of a value can't be converted.
 use Rattle.deno_graph_info.specs.declared.conversion.fault.ConvertFault.{ConvertFault}
 use Rattle.deno_graph_info.specs.declared.conversion.fault.ConvertFault.TheVariants.{
   ColumnOverflow,
@@ -6,7 +6,7 @@ use Rattle.deno_graph_info.specs.declared.conversion.fault.ConvertFault.TheVaria
   OutOfMemory,
 }
 
--- the fault is ColumnOverflow, and it is there; or memory was refused
+-- the fault is ColumnOverflow, and a column overflows; or an allocation failed
 abbrev pub IsColumnFault : Type 0 → ConvertFault → Type 0
 IsColumnFault Overflows ColumnOverflow = Overflows
 IsColumnFault Overflows Float = ⊥
