@@ -85,7 +85,8 @@ module _ (P : DependencyComment → Type 0) (comments : FiledComments)
 
 -- the comments before the dependency of a node are those that are filed as leading at the node
 stated_at : (comments : FiledComments) (node : Node) (kind : Kind) (item : Descriptor)
-    → IsDescriptorOfKind comments node kind item → comments_before item ≡ leading_at comments (range_of node).start
+    → IsDescriptorOfKind comments node kind item
+    → comments_before item ≡ leading_at comments (range_of node).start
 stated_at comments node (ImportDecl type_only phase src has_specifiers has_with) item states =
     ap comments_before states.2
 stated_at comments node (NamedExport type_only None has_with) item states = absurd states
