@@ -48,7 +48,12 @@ use Rattle.deno_graph_dep.specs.DependencyRules.{
 }
 use Rattle.deno_graph_dep.specs.DependencyKind.{call_kind}
 use Rattle.deno_graph_dep.specs.Argument.{HasForm, expression}
-use Rattle.deno_graph_dep.specs.Descriptor.{DynamicDescriptor, Descriptor, descriptor_seen, dynamic_descriptor}
+use Rattle.deno_graph_dep.specs.Descriptor.{
+  DynamicDescriptor,
+  Descriptor,
+  descriptor_seen,
+  dynamic_descriptor,
+}
 use Rattle.deno_graph_dep.specs.declared.descriptor.DependencyDescriptor.{DependencyDescriptor}
 use Rattle.deno_graph_dep.specs.internal.CallSteps.{IsNoModuleCall}
 use Rattle.deno_graph_dep.proofs.Calls.{no_module_call}

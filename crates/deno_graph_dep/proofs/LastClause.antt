@@ -125,10 +125,11 @@ IsLastBelow xs bound (Some object) = LastBelow xs bound object
 
 -- the indices below a bound: whether one has the key `with`, that the value of no clause is unknown,
 -- and the last clause
-pub record LookedAtBelow (xs : List Node) (bound : ℕ) (after_with : Bool) (last : Option Node) : Type 0 where
+pub record ClausesBelow (xs : List Node) (bound : ℕ) (after_with : Bool) (last : Option Node) : Type 0 where
   pub with_below : after_with ≡ true → (index : ℕ) × (index < bound) × (key_at xs index ≡ Some (codes "with"))
   pub no_with : after_with ≡ false → (index : ℕ) → index < bound → key_at xs index ≢ Some (codes "with")
-  pub known : (index : ℕ) → index < bound → IsClause xs index → AreAttributesAt xs index attributes.Unknown → ⊥
+  pub known : (index : ℕ) → index < bound → IsClause xs index → AreAttributesAt xs index attributes.Unknown
+      → ⊥
   pub last_is : IsLastBelow xs bound last
 
 -- whether a property is a clause, by whether a `with` came before
@@ -145,7 +146,7 @@ below_next P i before here index below =
 
 -- the next property
 module _ (xs : List Node) (i : ℕ) (y : Node) (within : i < length xs) (at : y ≡ get_or xs i y)
-    (after_with : Bool) (last : Option Node) (so_far : LookedAtBelow xs i after_with last) where
+    (after_with : Bool) (last : Option Node) (so_far : ClausesBelow xs i after_with last) where
   is_clause : IsClauseAfter y after_with → IsClause xs i
   is_clause clause =
       ⊎_elim (λ k. inl (key_here xs i y within at ∙ k))
@@ -176,9 +177,9 @@ module _ (xs : List Node) (i : ℕ) (y : Node) (within : i < length xs) (at : y 
         (λ k. both_ways has_with both.1 (tested.1 (sym (key_here xs i y within at) ∙ k)))
 
     -- a property that is no clause changes nothing
-    pub LookedAtBelow-skip : (IsClauseAfter y after_with → ⊥)
-        → LookedAtBelow xs (i + 1) (after_with || has_with) last
-    LookedAtBelow-skip no_clause = record {
+    pub ClausesBelow-skip : (IsClauseAfter y after_with → ⊥)
+        → ClausesBelow xs (i + 1) (after_with || has_with) last
+    ClausesBelow-skip no_clause = record {
       with_below = with_next;
       no_with = no_with_next;
       known = below_next (λ index. IsClause xs index → AreAttributesAt xs index attributes.Unknown
@@ -204,9 +205,9 @@ module _ (xs : List Node) (i : ℕ) (y : Node) (within : i < length xs) (at : y 
         }
 
     -- a clause with a known object becomes the last clause
-    pub LookedAtBelow-clause : (object : Node) → IsClauseAfter y after_with → known_object y ≡ Some object
-        → LookedAtBelow xs (i + 1) (after_with || has_with) (Some object)
-    LookedAtBelow-clause object clause is =
+    pub ClausesBelow-clause : (object : Node) → IsClauseAfter y after_with → known_object y ≡ Some object
+        → ClausesBelow xs (i + 1) (after_with || has_with) (Some object)
+    ClausesBelow-clause object clause is =
         let found = known_value (value_node y) object is in
         let value : option_and_then value_node (slice_get xs i) ≡ Some object = value_here xs i y within at
         ∙ found.0 in
@@ -241,21 +242,23 @@ module _ (xs : List Node) (i : ℕ) (y : Node) (within : i < length xs) (at : y 
 -- no property is a clause
 pub AreClauseAttributes-none : (xs : List Node) (bound : ℕ) (after_with : Bool) (last : Option Node)
     → length xs ≤ bound → last ≡ None
-    → LookedAtBelow xs bound after_with last → AreClauseAttributes xs attributes.None
+    → ClausesBelow xs bound after_with last → AreClauseAttributes xs attributes.None
 AreClauseAttributes-none xs bound after_with last end none all index clause =
     ⊎_elim (λ below. let last_is = subst (IsLastBelow xs bound) none all.last_is in
     last_is index below clause)
     (λ past. past_the_end xs index (omega arith) clause) (cases_lt index bound)
 
 -- the attributes are those of the last clause's object
-pub AreClauseAttributes-last : (xs : List Node) (bound : ℕ) (after_with : Bool) (last : Option Node) (object : Node)
+pub AreClauseAttributes-last : (xs : List Node) (bound : ℕ) (after_with : Bool) (last : Option Node)
+    (object : Node)
     (result : ImportAttributes)
-    → length xs ≤ bound → last ≡ Some object → LookedAtBelow xs bound after_with last
+    → length xs ≤ bound → last ≡ Some object → ClausesBelow xs bound after_with last
     → AreObjectAttributes object result → AreClauseAttributes xs result
 AreClauseAttributes-last xs bound after_with last object result end is all gives =
     by_result result (subst (IsLastBelow xs bound) is all.last_is) gives
   where
-    by_result : (r : ImportAttributes) → LastBelow xs bound object → AreObjectAttributes object r → AreClauseAttributes xs r
+    by_result : (r : ImportAttributes) → LastBelow xs bound object → AreObjectAttributes object r
+        → AreClauseAttributes xs r
     by_result attributes.None found g = let keys = found.keys in absurd (rw keys at g)
     by_result attributes.Unknown found g = let keys = found.keys in absurd (rw keys at g)
     by_result (attributes.Known entries) found g = record {

@@ -24,6 +24,7 @@ pub mod Spelling
 pub mod Spine
 pub mod Stacks
 pub mod Steps
+pub mod Unfolded
 pub mod Unique
 pub mod UniqueAttributes
 pub mod WalkEnds

@@ -68,9 +68,9 @@ use Rattle.deno_graph_dep.specs.DescriptorOf.{AreTypeAttributes}
 use Rattle.deno_graph_dep.proofs.Inserted.{Puts-inserted}
 use Rattle.deno_graph_dep.proofs.LastClause.{
   IsClauseAfter,
-  LookedAtBelow,
-  LookedAtBelow-skip,
-  LookedAtBelow-clause,
+  ClausesBelow,
+  ClausesBelow-skip,
+  ClausesBelow-clause,
   AreClauseAttributes-unknown,
   AreClauseAttributes-none,
   AreClauseAttributes-last,
@@ -168,7 +168,7 @@ module _ (xs : List Node) where
   Given = (result : ImportAttributes) × AreClauseAttributes xs result
 
   at_end : (i : ℕ) (after_with : Bool) (last : Option Node) → length xs ≤ i
-      → LookedAtBelow xs i after_with last → Given
+      → ClausesBelow xs i after_with last → Given
   at_end i after_with None end all =
       (attributes.None, AreClauseAttributes-none xs i after_with None end refl all)
   at_end i after_with (Some object) end all =
@@ -176,8 +176,8 @@ module _ (xs : List Node) where
       (gives.0, AreClauseAttributes-last xs i after_with (Some object) object gives.0 end refl all gives.1)
 
   step : (i : ℕ) (y : Node) → slice_get xs i ≡ Some y → (after_with : Bool) (last : Option Node)
-      → LookedAtBelow xs i after_with last
-      → ((now : Bool) (found : Option Node) → LookedAtBelow xs (i + 1) now found → Given) → Given
+      → ClausesBelow xs i after_with last
+      → ((now : Bool) (found : Option Node) → ClausesBelow xs (i + 1) now found → Given) → Given
   step i y is after_with last so_far next =
       by_clause (decide_clause y after_with) (known_object y) refl
     where
@@ -190,7 +190,7 @@ module _ (xs : List Node) where
       by_clause : IsClauseAfter y after_with ⊎ (IsClauseAfter y after_with → ⊥) → (o : Option Node)
           → known_object y ≡ o → Given
       by_clause (inr none) o known =
-          next _ last (LookedAtBelow-skip xs i y within at after_with last so_far
+          next _ last (ClausesBelow-skip xs i y within at after_with last so_far
           (is_key (static_key y) (codes "with")) (tested (static_key y) (codes "with")) none)
       by_clause (inl clause) None known = (
         attributes.Unknown,
@@ -198,17 +198,17 @@ module _ (xs : List Node) where
             known,
       )
       by_clause (inl clause) (Some object) known =
-          next _ (Some object) (LookedAtBelow-clause xs i y within at after_with last so_far
+          next _ (Some object) (ClausesBelow-clause xs i y within at after_with last so_far
           (is_key (static_key y) (codes "with")) (tested (static_key y) (codes "with")) object clause known)
 
   go : (left i : ℕ) (after_with : Bool) (last : Option Node) → length xs ≤ i + left
-      → LookedAtBelow xs i after_with last → Given
+      → ClausesBelow xs i after_with last → Given
   go zero i after_with last end so_far = at_end i after_with last (omega (arith, end)) so_far
   go (suc left) i after_with last end so_far =
       by (slice_get xs i) refl (λ now found more. go left (i + 1) now found (omega (arith, end)) more)
     where
       by : (o : Option Node) → slice_get xs i ≡ o
-          → ((now : Bool) (found : Option Node) → LookedAtBelow xs (i + 1) now found → Given) → Given
+          → ((now : Bool) (found : Option Node) → ClausesBelow xs (i + 1) now found → Given) → Given
       by None is next = at_end i after_with last (past_end xs i is) so_far
       by (Some y) is next = step i y is after_with last so_far next
 

@@ -1,4 +1,4 @@
-#![tactic(auto, unfolding(deno_graph_source::specs::Node::kind_of, deno_graph_source::specs::Node::children_of))]
+#![tactic(auto, unfolding(crate::proofs::Unfolded::node_parts))]
 
 ghost use Rattle.std.specs.Prelude.{◌≡◌, ◌<◌, ◌∷◌, IfOk, IsTrue, OnOk, true, length, map, ◌++◌, [], All};
 ghost use Rattle.deno_graph_source.specs.Node.{kind_of, children_of, nodes_in, IsShaped};
@@ -28,7 +28,8 @@ pub enum DynamicArgument<'a> {
 }
 
 impl<'a> DynamicArgument<'a> {
-    /// Returns an equal argument that borrows the same texts. The only error is that memory ran out.
+    /// Returns an equal argument that borrows the same texts. The only error is that memory ran
+    /// out.
     pub fn try_clone(&self, alloc: Global) -> Result<DynamicArgument<'a>, AllocError>
         ensures { IfOk result (λ copy. form_seen copy ≡ form_seen self.now) }
     {

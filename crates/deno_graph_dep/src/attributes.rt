@@ -1,4 +1,4 @@
-#![tactic(auto, unfolding(deno_graph_source::specs::Node::kind_of, deno_graph_source::specs::Node::children_of))]
+#![tactic(auto, unfolding(crate::proofs::Unfolded::node_parts))]
 
 ghost use Rattle.std.specs.Prelude.{◌≡◌, ◌↔◌, ◌⊎◌, IfOk, OnOk, IsTrue, Some, false, codes, is_some, option_map};
 ghost use Rattle.std.specs.Option.{option_copied};
@@ -36,8 +36,8 @@ pub fn parse_import_attributes(
 }
 
 /// Returns the attributes of a dynamic import. `argument` is its second argument: an object literal
-/// with a clause `with`, or `assert` as the clause was once called. An `assert` after a `with` is no
-/// clause.
+/// with a clause `with`, or `assert` as the clause was once called. An `assert` after a `with` is
+/// no clause.
 ///
 /// Returns `None` without a second argument, and without a clause. Returns `Unknown` where the
 /// argument is spread, is no object literal, or has a property without a static key, and where the

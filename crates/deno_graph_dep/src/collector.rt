@@ -38,9 +38,10 @@ pub fn analyze_program_dependencies<'a>(
     let mut walk = Walk::new(alloc, program);
     let mut descriptors = Vec::new(alloc);
     'nodes: while let Some(node) = walk.step()? {
-        if let Some(descriptor) = descriptor_of(alloc, comments, node)? {
-            descriptors.push(descriptor)?;
-        }
+        let Some(descriptor) = descriptor_of(alloc, comments, node)? else {
+            continue;
+        };
+        descriptors.push(descriptor)?;
     }
     Ok(descriptors)
 }

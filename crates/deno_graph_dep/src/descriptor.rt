@@ -52,7 +52,8 @@ impl<'a> StaticDependencyDescriptor<'a> {
     /// Returns an equal descriptor that borrows from the same tree. The only error is that memory
     /// ran out.
     pub fn try_clone(&self, alloc: Global) -> Result<StaticDependencyDescriptor<'a>, AllocError>
-        ensures { IfOk result (λ copy. static_descriptor_seen copy ≡ static_descriptor_seen self.now) }
+        ensures { IfOk result (λ copy.
+            static_descriptor_seen copy ≡ static_descriptor_seen self.now) }
     {
         Ok(StaticDependencyDescriptor {
             kind: self.kind,
@@ -70,7 +71,8 @@ impl<'a> DynamicDependencyDescriptor<'a> {
     /// Returns an equal descriptor that borrows from the same tree. The only error is that memory
     /// ran out.
     pub fn try_clone(&self, alloc: Global) -> Result<DynamicDependencyDescriptor<'a>, AllocError>
-        ensures { IfOk result (λ copy. dynamic_descriptor_seen copy ≡ dynamic_descriptor_seen self.now) }
+        ensures { IfOk result (λ copy.
+            dynamic_descriptor_seen copy ≡ dynamic_descriptor_seen self.now) }
     {
         Ok(DynamicDependencyDescriptor {
             kind: self.kind,

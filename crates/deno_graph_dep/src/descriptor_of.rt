@@ -1,4 +1,4 @@
-#![tactic(auto, unfolding(deno_graph_source::specs::Node::kind_of, deno_graph_source::specs::Node::children_of, deno_graph_source::specs::Node::range_of, crate::specs::DependencyRules::is_dependency, crate::specs::DescriptorOf::IsDescriptorOf))]
+#![tactic(auto, unfolding(crate::proofs::Unfolded::node_meaning))]
 
 ghost use Rattle.std.specs.Prelude.{◌≡◌, ◌≤◌, false, IfOk, IsTrue, MatchOption, All};
 ghost use Rattle.std.specs.Option.{option_copied, option_map};
@@ -100,7 +100,8 @@ fn import_type<'a>(
     specifier: &'a StrLit,
 ) -> Result<StaticDependencyDescriptor<'a>, AllocError>
     ensures { IfOk result (λ descriptor. IsStaticDescriptorOf comments.now node.now
-        ImportType (range_of node.now) specifier.now false (AreTypeAttributes (with_clause node.now))
+        ImportType (range_of node.now) specifier.now false
+        (AreTypeAttributes (with_clause node.now))
         (static_descriptor (static_descriptor_seen descriptor))) }
 {
     let import_attributes = type_attributes(alloc, with_clause(node))?;

@@ -1,6 +1,6 @@
 //! Which nodes are dependencies, and in which order: decided by the node alone, not by the nodes
 //! around it.
-#![tactic(auto, unfolding(deno_graph_source::specs::Node::kind_of, deno_graph_source::specs::Node::children_of, crate::specs::DependencyRules::is_dependency))]
+#![tactic(auto, unfolding(crate::proofs::Unfolded::node_meaning))]
 
 ghost use Rattle.std.specs.Prelude.{◌≡◌, Some, option_map, slice_get};
 ghost use Rattle.deno_graph_source.specs.Node.{kind_of, children_of};

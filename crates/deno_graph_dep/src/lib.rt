@@ -1,5 +1,5 @@
-//! The dependencies of a module: which nodes of the syntax tree are dependencies, the walk over these
-//! nodes, and their descriptors.
+//! The dependencies of a module: which nodes of the syntax tree are dependencies, the walk over
+//! these nodes, and their descriptors.
 #![tactic(auto)]
 
 pub mod argument;

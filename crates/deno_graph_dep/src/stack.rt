@@ -1,5 +1,5 @@
 //! The nodes that a walk has entered and not left yet.
-#![tactic(auto, unfolding(deno_graph_source::specs::Node::kind_of, deno_graph_source::specs::Node::children_of, crate::specs::DependencyRules::children_to_visit))]
+#![tactic(auto, unfolding(crate::proofs::Unfolded::node_meaning))]
 
 ghost use Rattle.std.specs.Prelude.{◌≡◌, ◌+◌, ◌-◌, ◌^◌, ◌≤◌, ◌++◌, ◌∷◌, [], min, IfOk, OnOk, OnErr, MatchOption, List};
 ghost use Rattle.deno_graph_source.specs.declared.tree.node.Node.{Node};

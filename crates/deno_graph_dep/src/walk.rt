@@ -101,8 +101,8 @@ impl<'a> Walk<'a> {
             → IsStep old end None → IsStep end new found → (found ≡ None) × (new ≡ end) }
     {}
 
-    /// A law: a walk ends. Each step that returns a node takes one of the paths still to come, which
-    /// are finitely many. This call does nothing; its contract holds of every walk.
+    /// A law: a walk ends. Each step that returns a node takes one of the paths still to come, and
+    /// these are finitely many. This call does nothing; its contract holds of every walk.
     pub fn ends()
         ensures { (old new : WalkState) (found : List (Option (Bor Node)))
             → AreSteps old found new

@@ -23,6 +23,6 @@ pub record FiledComments : Type 0 where
 unfoldable pub comments_of : FiledComments → List DependencyComment
 comments_of comments = all_items comments.leading ++ all_items comments.trailing
 
--- the comments that are filed as leading at a position, in the order of filing
+-- the comments that are filed as leading at an offset, in the order of filing
 abbrev pub leading_at : FiledComments → ℕ → List DependencyComment
 leading_at comments pos = unwrap_or (value_at comments.leading pos) []

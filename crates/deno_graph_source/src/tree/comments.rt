@@ -167,8 +167,8 @@ impl Comments {
         }
     }
 
-    /// Returns the comments filed as leading at `pos`, in bytes from zero, in the order of filing.
-    /// The slice is empty where none were filed.
+    /// Returns the comments that are filed as leading at the offset `pos`, in the order of filing.
+    /// The slice is empty if there are none.
     pub fn leading_comments(&self, pos: usize) -> &[DependencyComment]
         ensures { result.now ≡ leading_at self.now pos }
     {

@@ -6,9 +6,9 @@ use Rattle.std.proofs.lemmas.Result.{IfOk-weaker}
 use Rattle.deno_graph_source.specs.declared.tree.node.Node.{Node}
 use Rattle.deno_graph_dep.specs.Attributes.{AreObjectAttributes, AreClauseAttributes}
 use Rattle.deno_graph_dep.proofs.LastClause.{
-  LookedAtBelow,
-  LookedAtBelow-skip,
-  LookedAtBelow-clause,
+  ClausesBelow,
+  ClausesBelow-skip,
+  ClausesBelow-clause,
   AreClauseAttributes-unknown,
   AreClauseAttributes-none,
   AreClauseAttributes-last,
@@ -27,18 +27,18 @@ loop-property-preserved c =
     let after_with = c.loop-property.after_with in
     let last = option_copied c.loop-property.last in
     let next : Option Node → Type 0 =
-    λ o. LookedAtBelow xs (i + 1) (after_with || c.has_key-after_with.result) o in
+    λ o. ClausesBelow xs (i + 1) (after_with || c.has_key-after_with.result) o in
     elim c.if-is_clause.branch [
       | then-is_clause+in-Some w ↦
           subst next (sym (ap option_copied w.last-is))
-          (LookedAtBelow-clause xs i property c.loop-property-test.true c.property-item.is after_with last
+          (ClausesBelow-clause xs i property c.loop-property-test.true c.property-item.is after_with last
           c.loop-property.invariant
           c.has_key-after_with.result c.has_key-after_with.ensures w.in-Some.object.now
           (c.is_clause.ensures.0 w.if-is_clause.true)
           (sym w.known_object.ensures ∙ ap option_copied w.in-Some.is))
       | else-is_clause w ↦
           subst next (sym (ap option_copied w.last-is))
-          (LookedAtBelow-skip xs i property c.loop-property-test.true c.property-item.is after_with last
+          (ClausesBelow-skip xs i property c.loop-property-test.true c.property-item.is after_with last
           c.loop-property.invariant
           c.has_key-after_with.result c.has_key-after_with.ensures
           (λ clause. both_ways c.is_clause.result w.if-is_clause.false (c.is_clause.ensures.1 clause)))
@@ -54,7 +54,8 @@ returns-in_default c =
 
 pub returns-in-Some-last : goal.returns-in-Some-last
 returns-in-Some-last c =
-    IfOk-weaker c.parse_import_attributes_from_object_lit.result (AreObjectAttributes c.in-Some-last.object.now)
+    IfOk-weaker c.parse_import_attributes_from_object_lit.result
+    (AreObjectAttributes c.in-Some-last.object.now)
     (AreClauseAttributes c.args.properties.now)
     (λ result gives. AreClauseAttributes-last c.args.properties.now c.loop-property.property-index
     c.loop-property.after_with

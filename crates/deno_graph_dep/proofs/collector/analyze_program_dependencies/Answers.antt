@@ -32,8 +32,8 @@ descriptor_of-requires c =
     c.nodes.invariant step
 
 -- the node of a step is a dependency, so it has a descriptor
-pub nodes-preserved : goal.nodes-preserved
-nodes-preserved c =
+pub nodes-preserved-in_default-2 : goal.nodes-preserved-in_default-2
+nodes-preserved-in_default-2 c =
     let comments = c.args.comments.now in
     let new = c.step.new.self in
     let node = c.in-Some.node in
@@ -48,8 +48,8 @@ nodes-preserved c =
     (map descriptor_seen c.nodes.descriptors.items) node c.nodes.invariant step))
 
 -- its descriptor comes next
-pub nodes-preserved-in-Continue-branch-5 : goal.nodes-preserved-in-Continue-branch-5
-nodes-preserved-in-Continue-branch-5 c =
+pub nodes-preserved : goal.nodes-preserved
+nodes-preserved c =
     let comments = c.args.comments.now in
     let new = c.step.new.self in
     let node = c.in-Some.node in
