@@ -23,7 +23,7 @@ use Rattle.std.proofs.Common.{
 }
 use Rattle.std.proofs.lemmas.List.Elements.{All-nil, All-cons}
 use Rattle.deno_graph_source.specs.ByOffset.{value_at}
-use Rattle.deno_graph_source.specs.Comments.{FiledComments, comments_of}
+use Rattle.deno_graph_source.specs.Comments.{FiledComments, comments_of, leading_at}
 use Rattle.deno_graph_source.specs.Node.{kind_of, range_of}
 use Rattle.deno_graph_source.specs.Source.{IsSpelled, IsValid}
 use Rattle.deno_graph_source.specs.declared.tree.comments.DependencyComment.{DependencyComment}
@@ -117,7 +117,7 @@ pub all_before_dependencies : (P : DependencyComment → Type 0) (program : Prog
     (items : List Descriptor) → All P (comments_of comments) → AreDependencies comments program.body items
     → All (λ item. All P (comments_before item)) items
 all_before_dependencies P program comments items all are =
-    all_before P comments are.nodes items all are.stated
+    all_before P comments are.nodes items all are.described
 
 -- the dependencies of a valid source fit its text
 pub dependencies_fit : (text : List ℕ) (program : Program) (comments : FiledComments)
