@@ -9,21 +9,21 @@ use lib.Utf8.{scalar, scalars}
 use Rattle.deno_graph_jsdoc.specs.JsDocGrammar.{IsSpace, Lacks, EmptyOr, NoSpace}
 
 -- characters of one kind, and then a character of another: there is one place between
-pub same_run : (P S : ℕ → Type 0) → ((c : ℕ) → P c → S c → ⊥) → (xs ys rest behind : List ℕ)
-    → AllByRecursion P xs → AllByRecursion P ys → EmptyOr S rest → EmptyOr S behind
-    → xs ++ rest ≡ ys ++ behind → (xs ≡ ys) × (rest ≡ behind)
-same_run P S apart [] [] rest behind all each stop end same = (refl, same)
-same_run P S apart [] (y ∷ ys) [] behind all each stop end same = absurd (cc)
-same_run P S apart [] (y ∷ ys) (c ∷ rest) behind all each stop end same =
+pub same_run : (P S : ℕ → Type 0) → ((c : ℕ) → P c → S c → ⊥) → (xs ys rest after : List ℕ)
+    → AllByRecursion P xs → AllByRecursion P ys → EmptyOr S rest → EmptyOr S after
+    → xs ++ rest ≡ ys ++ after → (xs ≡ ys) × (rest ≡ after)
+same_run P S apart [] [] rest after all each stop end same = (refl, same)
+same_run P S apart [] (y ∷ ys) [] after all each stop end same = absurd (cc)
+same_run P S apart [] (y ∷ ys) (c ∷ rest) after all each stop end same =
     let first : y ≡ c = cc in
     absurd (apart c (subst P first each.0) stop)
 same_run P S apart (x ∷ xs) [] rest [] all each stop end same = absurd (cc)
-same_run P S apart (x ∷ xs) [] rest (c ∷ behind) all each stop end same =
+same_run P S apart (x ∷ xs) [] rest (c ∷ after) all each stop end same =
     let first : x ≡ c = cc in
     absurd (apart c (subst P first all.0) end)
-same_run P S apart (x ∷ xs) (y ∷ ys) rest behind all each stop end same =
-    let tails : xs ++ rest ≡ ys ++ behind = cc in
-    let again = same_run P S apart xs ys rest behind all.1 each.1 stop end tails in
+same_run P S apart (x ∷ xs) (y ∷ ys) rest after all each stop end same =
+    let tails : xs ++ rest ≡ ys ++ after = cc in
+    let again = same_run P S apart xs ys rest after all.1 each.1 stop end tails in
     let first : x ≡ y = cc in
     (λ i. first i ∷ again.0 i, again.1)
 
@@ -58,23 +58,23 @@ same_space text space rest white stop whole =
     (skip_leading_whitespace text) white own.1 stop (space_ends text) (sym whole ∙ own.2)).1
 
 -- the text before a mark that it doesn't hold
-pub same_before_mark : (mark : ℕ) (xs ys rest behind : List ℕ) → Lacks mark xs → Lacks mark ys
-    → xs ++ mark ∷ rest ≡ ys ++ mark ∷ behind → (xs ≡ ys) × (rest ≡ behind)
-same_before_mark mark xs ys rest behind left right same =
+pub same_before_mark : (mark : ℕ) (xs ys rest after : List ℕ) → Lacks mark xs → Lacks mark ys
+    → xs ++ mark ∷ rest ≡ ys ++ mark ∷ after → (xs ≡ ys) × (rest ≡ after)
+same_before_mark mark xs ys rest after left right same =
     let found = same_run (λ c. c ≢ mark) (λ c. c ≡ mark) (λ c not is. not is) xs ys (mark ∷ rest)
-    (mark ∷ behind) left right refl refl same in
-    let tails : mark ∷ rest ≡ mark ∷ behind = found.1 in
+    (mark ∷ after) left right refl refl same in
+    let tails : mark ∷ rest ≡ mark ∷ after = found.1 in
     (found.0, cc)
 
 pub Lacks-not_inside : (mark : ℕ) (xs rest : List ℕ) → Lacks mark (xs ++ mark ∷ rest) → ⊥
 Lacks-not_inside mark [] rest all = all.0 refl
 Lacks-not_inside mark (x ∷ xs) rest all = Lacks-not_inside mark xs rest all.1
 
--- what is behind white space are characters too
-pub scalars_behind_space : (cs : List ℕ) → scalars cs ≡ true → scalars (skip_leading_whitespace cs) ≡ true
-scalars_behind_space [] all = all
-scalars_behind_space (c ∷ cs) all =
-    by_first (is_whitespace c) (scalars_behind_space cs (and_parts (scalar c) (scalars cs) all).1)
+-- what is after white space are characters too
+pub scalars_after_space : (cs : List ℕ) → scalars cs ≡ true → scalars (skip_leading_whitespace cs) ≡ true
+scalars_after_space [] all = all
+scalars_after_space (c ∷ cs) all =
+    by_first (is_whitespace c) (scalars_after_space cs (and_parts (scalar c) (scalars cs) all).1)
   where
     by_first : (b : Bool) → scalars (skip_leading_whitespace cs) ≡ true
         → scalars (cond b (skip_leading_whitespace cs) (c ∷ cs)) ≡ true

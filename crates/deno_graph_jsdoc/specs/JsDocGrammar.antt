@@ -83,13 +83,13 @@ pub record Attribute : Type 0 where
 abbrev pub IsAttribute : Attribute → List ℕ → Type 0
 IsAttribute attribute = IsKey attribute.key · IsSpace · Is (codes ":") · IsSpace · IsQuote attribute.value
 
--- attributes, each behind a comma
+-- attributes, each after a comma
 abbrev pub AreFurther : List Attribute → List ℕ → Type 0
 AreFurther [] = Is []
 AreFurther (attribute ∷ others) =
     IsSpace · Is (codes ",") · IsSpace · IsAttribute attribute · AreFurther others
 
--- attributes with commas between them, and none behind the last; or nothing
+-- attributes with commas between them, and none after the last; or nothing
 abbrev pub AreAttributes : List Attribute → List ℕ → Type 0
 AreAttributes [] = Is []
 AreAttributes (attribute ∷ others) = IsAttribute attribute · AreFurther others
@@ -144,4 +144,4 @@ pub record IsUpTo (word text : List ℕ) : Type 0 where
   pub front : List ℕ
   pub whole : text ≡ front ++ word
   pub unclosed : Lacks closing_brace front
-  pub first : (before behind : List ℕ) → text ≡ before ++ (word ++ behind) → behind ≡ []
+  pub first : (before after : List ℕ) → text ≡ before ++ (word ++ after) → after ≡ []

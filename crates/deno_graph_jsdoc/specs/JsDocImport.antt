@@ -29,36 +29,36 @@ pub record StatesImport (Head : List ℕ → Type 0) (Tail : List ℕ → Mode �
     (import : Import) (rest : List ℕ) : Type 0 where
   pub before : List ℕ
   pub quote : List ℕ
-  pub behind : List ℕ
-  pub whole : input ≡ before ++ (quote ++ behind)
+  pub after : List ℕ
+  pub whole : input ≡ before ++ (quote ++ after)
   pub head : Head before
   pub quoted : IsQuote import.specifier quote
   pub start : import.start ≡ byte_count before + 1
   pub end : import.end ≡ import.start + byte_count import.specifier
-  pub tail : Tail behind import.mode rest
+  pub tail : Tail after import.mode rest
 
--- behind the specifier of a declaration: attributes where they parse; and else no mode, and the rest from
+-- after the specifier of a declaration: attributes where they parse; and else no mode, and the rest from
 -- the next character on that is no white space
 abbrev pub EndsDeclaration : List ℕ → Mode → List ℕ → Type 0
-EndsDeclaration behind mode rest =
-    Begins (IsSpace · IsWith mode) behind rest
+EndsDeclaration after mode rest =
+    Begins (IsSpace · IsWith mode) after rest
     ⊎ ((mode ≡ None)
-    × ((other : Mode) (others_rest : List ℕ) → ¬ (Begins (IsSpace · IsWith other) behind others_rest))
-    × Begins IsSpace behind rest × NoSpace rest)
+    × ((other : Mode) (others_rest : List ℕ) → ¬ (Begins (IsSpace · IsWith other) after others_rest))
+    × Begins IsSpace after rest × NoSpace rest)
 
--- `input` begins with a declaration that states `import`, and `rest` is behind it
+-- `input` begins with a declaration that states `import`, and `rest` is after it
 abbrev pub IsDeclaration : List ℕ → Import → List ℕ → Type 0
 IsDeclaration =
     StatesImport (Is (codes "@import") · IsGap · IsClause · IsSpace · Is (codes "from") · IsSpace)
     EndsDeclaration
 
--- behind the specifier of a dynamic import: maybe a second argument, and the rest behind the next `}`
+-- after the specifier of a dynamic import: maybe a second argument, and the rest after the next `}`
 abbrev pub EndsDynamicImport : List ℕ → Mode → List ℕ → Type 0
-EndsDynamicImport behind mode rest =
-    Begins (IsSpace · IsSecond mode · IsSpace · Is (codes ")") · Lacks closing_brace · Is (codes "}")) behind
+EndsDynamicImport after mode rest =
+    Begins (IsSpace · IsSecond mode · IsSpace · Is (codes ")") · Lacks closing_brace · Is (codes "}")) after
     rest
 
--- `input` begins with a dynamic import that states `import`, and `rest` is behind it
+-- `input` begins with a dynamic import that states `import`, and `rest` is after it
 abbrev pub IsDynamicImport : List ℕ → Import → List ℕ → Type 0
 IsDynamicImport =
     StatesImport (Is (codes "{") · IsUpTo (codes "import") · IsSpace · Is (codes "(") · IsSpace)

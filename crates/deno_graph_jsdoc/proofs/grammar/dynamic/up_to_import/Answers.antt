@@ -14,7 +14,7 @@ use Rattle.deno_graph_jsdoc.proofs.grammar.dynamic.up_to_import.Goals.{After-spl
 -- the text up to the first brace, or all
 abbrev IsUpToBrace : List ℕ → List ℕ → Type 0
 IsUpToBrace input unclosed = Lacks closing_brace unclosed
-    × ((input ≡ unclosed) ⊎ ((behind : List ℕ) × (input ≡ unclosed ++ closing_brace ∷ behind)))
+    × ((input ≡ unclosed) ⊎ ((after : List ℕ) × (input ≡ unclosed ++ closing_brace ∷ after)))
 
 unclosed_at : (c : After-split_once-2)
     → IsUpToBrace (chars c.args.input.now) (chars c.match-split_once.unclosed.now)
