@@ -9,7 +9,8 @@ use Rattle.std.specs.Option.{option_and_then}
 use Rattle.std.specs.Str.{chars, IsUtf8}
 use lib.Utf8.{encode, encodes}
 use Rattle.deno_graph_pragmas.specs.Finders.{attribute}
-use Rattle.deno_graph_pragmas.specs.internal.Reading.{after_one, after_pieces, attribute_front, HasNoAttribute}
+use Rattle.deno_graph_pragmas.specs.internal.Reading.{after_one, after_pieces, attribute_front}
+use Rattle.deno_graph_pragmas.specs.internal.Reading.{HasNoAttribute}
 use Rattle.deno_graph_pragmas.specs.internal.Reading.{IsAttributeAt}
 use Rattle.deno_graph_pragmas.specs.Split.{ArePieces, Split, IsCaptured, TextPart}
 use Rattle.deno_graph_pragmas.proofs.Barriers.{attribute_apart}

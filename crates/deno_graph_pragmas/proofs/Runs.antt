@@ -8,7 +8,8 @@ use Rattle.std.specs.Option.{option_map, option_and_then}
 use Rattle.std.specs.Str.{chars, IsUtf8}
 use lib.Utf8.{encodes}
 use Rattle.deno_graph_pragmas.specs.Piece.{Piece, any, some}
-use Rattle.deno_graph_pragmas.specs.internal.Reading.{skip_while, after_one, after_some, after_pieces, IsCapturedAt}
+use Rattle.deno_graph_pragmas.specs.internal.Reading.{skip_while, after_one, after_some, after_pieces}
+use Rattle.deno_graph_pragmas.specs.internal.Reading.{IsCapturedAt}
 use Rattle.deno_graph_pragmas.specs.Split.{TextPart}
 
 length-skip_while : (test : ℕ → Bool) (text : List ℕ) → length (skip_while test text) ≤ length text

@@ -1,4 +1,5 @@
--- What is left of a text after its front. The front is read from left to right, each piece as long as it can be.
+-- What is left of a text after its front. The front is read from left to right, each piece as long as it can
+-- be.
 use Rattle.std.specs.Prelude.{◌≡◌, ◌⊎◌, ℕ, ◌+◌, ◌-◌, ◌++◌, length, ◌==◌, ◌&&◌, Bool, false, nat_lt, List, []}
 use Rattle.std.specs.Prelude.{◌∷◌, Option, Some, None, IsSome, IsTrue, codes, if◌then◌else◌, option_and_then}
 use Rattle.std.specs.Borrow.{Bor}
@@ -66,8 +67,8 @@ begins_above_star (letter ∷ word) = nat_lt star letter && nat_lt letter 128
 abbrev pub assignment : List ℕ → List Piece
 assignment name = keyword name ∷ any_white_space ∷ literal "=" ∷ any_white_space ∷ []
 
--- `text` ends with `rest`, and the part is at the start of `rest`: the characters that are read as `piece`. After
--- the part `back` can be read.
+-- `text` ends with `rest`, and the part is at the start of `rest`: the characters that are read as `piece`.
+-- After the part `back` can be read.
 pub record IsCapturedAt (piece : Piece) (back : List Piece) (text rest : List ℕ) (part : TextPart) : Type 0
   where
     pub tail : List ℕ
