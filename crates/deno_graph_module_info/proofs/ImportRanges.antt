@@ -43,9 +43,9 @@ use Rattle.std.specs.Str.{IsCharBoundary, IsUtf8, chars}
 use lib.Utf8.{encodes, encode, scalar, scalars}
 use Rattle.deno_graph_jsdoc.specs.Characters.{apostrophe, double_quote}
 use Rattle.deno_graph_jsdoc.specs.JsDocGrammar.{IsQuote}
-use Rattle.deno_graph_jsdoc.specs.JsDocHits.{IsHit}
+use Rattle.deno_graph_jsdoc.specs.JsDocImports.{IsImportIn}
 use Rattle.deno_graph_jsdoc.specs.JsDocImport.{Import, moved, byte_count}
-use Rattle.deno_graph_jsdoc.proofs.Hits.{one_hit, IsPlaced, hit_placed}
+use Rattle.deno_graph_jsdoc.proofs.ImportsIn.{one_import_in, IsPlaced, import_placed}
 use Rattle.deno_graph_jsdoc.proofs.Imports.{byte_count-append, byte_count_quote}
 use Rattle.deno_graph_jsdoc.proofs.Words.{IsAscii-from_test}
 use Rattle.deno_graph_module_info.specs.CommentImports.{IsImportOf, IsQuotedAt, AreApart, quoted_range}
@@ -60,10 +60,10 @@ scalars_back [] ys all = all
 scalars_back (x ∷ xs) ys all = scalars_back xs ys (and_parts (scalar x) (scalars (xs ++ ys)) all).1
 
 -- the range of a hit in the bytes of its text
-pub hit_bounds : (bytes : List ℕ) (import : Import) → IsUtf8 bytes → IsHit (chars bytes) import
+pub hit_bounds : (bytes : List ℕ) (import : Import) → IsUtf8 bytes → IsImportIn (chars bytes) import
     → (import.start ≤ import.end) × (import.end ≤ length bytes)
 hit_bounds bytes import utf8 hit =
-    let placed = hit_placed (chars bytes) import hit in
+    let placed = import_placed (chars bytes) import hit in
     let own = placed.start in
     let last = placed.end in
     let quote = byte_count_quote import.specifier placed.quote placed.quoted in
@@ -295,16 +295,17 @@ pub one_import : (text : List ℕ) (comments : List DependencyComment) → AreAp
     → IsSpelled text a → IsSpelled text b → IsUtf8 a.text → IsUtf8 b.text → (import other : Import)
     → IsImportOf a import → IsImportOf b other → import.start ≡ other.start → import ≡ other
 one_import text comments apart a b has also spelled written utf8 valid import other i j same =
-    i.is_moved ∙ ap (moved (a.range.start + 2)) (one_hit (chars a.text) i.hit hit i.is_hit is_hit starts)
+    i.is_moved
+    ∙ ap (moved (a.range.start + 2)) (one_import_in (chars a.text) i.hit hit i.is_hit is_hit starts)
     ∙ sym is_moved
   where
     first : (a.range.start ≤ import.start) × (import.start < a.range.end)
     first = inside_comment text a spelled i.jsdoc.0 utf8 import i.hit
-        (hit_placed (chars a.text) i.hit i.is_hit) i.is_moved
+        (import_placed (chars a.text) i.hit i.is_hit) i.is_moved
 
     second : (b.range.start ≤ other.start) × (other.start < b.range.end)
     second = inside_comment text b written j.jsdoc.0 valid other j.hit
-        (hit_placed (chars b.text) j.hit j.is_hit) j.is_moved
+        (import_placed (chars b.text) j.hit j.is_hit) j.is_moved
 
     equal : a ≡ b
     equal = apart a b has also
@@ -313,8 +314,8 @@ one_import text comments apart a b has also spelled written utf8 valid import ot
     hit : Import
     hit = j.hit
 
-    is_hit : IsHit (chars a.text) hit
-    is_hit = subst (λ (c : DependencyComment). IsHit (chars c.text) hit) (sym equal) j.is_hit
+    is_hit : IsImportIn (chars a.text) hit
+    is_hit = subst (λ (c : DependencyComment). IsImportIn (chars c.text) hit) (sym equal) j.is_hit
 
     is_moved : other ≡ moved (a.range.start + 2) hit
     is_moved = j.is_moved ∙ ap (λ (c : DependencyComment). moved (c.range.start + 2) hit) (sym equal)

@@ -1,6 +1,6 @@
 -- The name is the text up to the first character that ends it.
 use Rattle.std.proofs.Common.{sym, ◌∙◌, rules, drop, length}
-use Rattle.std.proofs.lemmas.List.Sorted.{reads_always}
+use Rattle.std.proofs.lemmas.List.Sorted.{answers_always}
 use Rattle.std.specs.Str.{chars}
 use Rattle.std.specs.Option.{unwrap_or}
 use Rattle.deno_graph_jsdoc.specs.JsDocGrammar.{ends_ident}
@@ -17,7 +17,7 @@ run c =
     (unwrap_or c.find.result (length input)) c.unwrap_or-end.ensures c.range-name.ensures.value
     (find_chars ends_ident input c.find.result c.utf8.input
     (find_by_test ends_ident _ input c.find.result
-    (reads_always _ _ _ (λ f a r g h. search rules)) c.find.ensures.cases))
+    (answers_always _ _ _ (λ f a r g h. search rules)) c.find.ensures.cases))
 
 pub returns-then-begins_ident : goal.returns-then-begins_ident
 returns-then-begins_ident c =
