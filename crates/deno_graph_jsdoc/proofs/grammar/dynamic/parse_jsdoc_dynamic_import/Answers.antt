@@ -2,7 +2,8 @@
 use Rattle.std.proofs.Common.{◌≡◌, ◌+◌, Some, None, length, subst, arith, rules}
 use Rattle.std.specs.Str.{IsUtf8, chars}
 use Rattle.deno_graph_jsdoc.specs.JsDocGrammar.{Anything}
-use Rattle.deno_graph_jsdoc.specs.internal.Reading.{ReadsImport, IsDynamicEnd, rest_and_import, Reads, rest_of}
+use Rattle.deno_graph_jsdoc.specs.internal.Reading.{ReadsImport, IsDynamicEnd, rest_and_import, Reads}
+use Rattle.deno_graph_jsdoc.specs.internal.Reading.{rest_of}
 use Rattle.deno_graph_jsdoc.specs.JsDocImport.{IsDynamicImport, import_of, byte_count}
 use Rattle.deno_graph_jsdoc.proofs.Arguments.{First, no_import, from_import}
 use Rattle.deno_graph_jsdoc.proofs.Imports.{byte_count_before, counted_from}
