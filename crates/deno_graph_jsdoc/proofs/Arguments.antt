@@ -10,7 +10,8 @@ use denote.Ref.{Bor}
 use Rattle.deno_graph_jsdoc.specs.Characters.{opening_brace, closing_brace}
 use Rattle.deno_graph_jsdoc.specs.JsDocGrammar.{◌·◌, Is, IsSpace, IsModeBlock, IsOptions, IsSecond, IsUpTo}
 use Rattle.deno_graph_jsdoc.specs.JsDocGrammar.{Lacks, Begins, Anything, NoSpace}
-use Rattle.deno_graph_jsdoc.specs.internal.Reading.{ReadsImport, HasArguments, IsDynamicEnd, EndsArguments, Reads}
+use Rattle.deno_graph_jsdoc.specs.internal.Reading.{ReadsImport, HasArguments, IsDynamicEnd}
+use Rattle.deno_graph_jsdoc.specs.internal.Reading.{EndsArguments, Reads}
 use Rattle.deno_graph_jsdoc.specs.internal.Reading.{rest_and_mode}
 use Rattle.deno_graph_jsdoc.specs.JsDocImport.{Mode, Import, IsDynamicImport, EndsDynamicImport, byte_count}
 use Rattle.deno_graph_jsdoc.specs.JsDocImport.{moved}
@@ -23,7 +24,7 @@ use Rattle.deno_graph_jsdoc.proofs.Readings.{one_space, same_first, regroup, ung
 use Rattle.deno_graph_jsdoc.proofs.Readings.{textwise}
 use Rattle.deno_graph_jsdoc.proofs.Runs.{front_of_front, same_space, space_ends, Lacks-not_inside}
 
--- the text up to the first of a word is one text
+-- a text begins with only one text up to the first of a word
 module _ (word : List ℕ) where
   same_front : (front rest other after : List ℕ)
       → ((before beyond : List ℕ) → other ++ word ≡ before ++ (word ++ beyond) → beyond ≡ [])
@@ -132,7 +133,7 @@ up_to_none_unclosed word input unclosed lacks (inr (after, closed)) none other r
     (append_assoc parts.0 word rest ∙ sym parts.1 ∙ closed) in
     none parts.0 middle.0 (middle.1 ∙ append_assoc parts.0 word middle.0)
 
--- and where it has one, the first in the whole text is before the first mark
+-- where the text up to the first mark has the word, the first word of the whole text is before the mark
 pub up_to_read_unclosed : (word input unclosed front rest : List ℕ) → Lacks closing_brace unclosed
     → (input ≡ unclosed) ⊎ ((after : List ℕ) × (input ≡ unclosed ++ closing_brace ∷ after))
     → (some beyond : List ℕ) → unclosed ≡ some ++ (word ++ beyond)
@@ -312,7 +313,7 @@ tail_without {after} b =
     (Begins-join (record { piece = []; whole = refl; is = inr (refl, refl) })
     (Begins-join (record { piece = []; whole = refl; is = tt }) b))
 
--- the only end of the arguments, or that there is none
+-- the only end of the arguments, or a proof that there is none
 abbrev pub OnlyEnd : List ℕ → Mode → Option (List ℕ × Unit {0}) → Type 0
 OnlyEnd after chosen None = (mode : Mode) (rest : List ℕ) → EndsArguments after mode rest → ⊥
 OnlyEnd after chosen (Some x) =
@@ -371,7 +372,7 @@ module _ (after : List ℕ) where
     ],
   )
 
-  -- the options that a parser gives, or none and all that is after white space
+  -- the options that a parser reads, or none and the text after white space
   pub arguments_end : (found : Option (Bor (List ℕ) × Mode)) (all : Bor (List ℕ))
       (chosen : Bor (List ℕ) × Mode) → chars all.now ≡ skip_leading_whitespace after
       → Reads Anything IsOptions (chars all.now) (rest_and_mode found) → chosen ≡ unwrap_or found (all, None)

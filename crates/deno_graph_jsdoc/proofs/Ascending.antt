@@ -1,4 +1,4 @@
--- A list that ascends, with one more element in its place.
+-- A list that ascends, with one more element inserted.
 use Rattle.std.proofs.Common.{◌≡◌, ℕ, zero, suc, ◌+◌, ◌-◌, ◌<◌, ◌≤◌, ◌⊎◌, inl, inr, Bool, true, false, nat_lt}
 use Rattle.std.proofs.Common.{◌≢◌, List, [], ◌∷◌, ◌++◌, length, take, drop, get_or, map, refl, sym, ap, ◌∙◌}
 use Rattle.std.proofs.Common.{subst, arith}
@@ -68,7 +68,7 @@ map-insert f xs at y =
 abbrev Ascends : Import → Import → Type 0
 Ascends import later = import.start < later.start
 
--- an import that is put into its place
+-- an import that is inserted
 pub GainsImport-insert : (old : List Import) (import : Import) (at : ℕ)
     → at ≤ length old → AllPairs Ascends old
     → ((k : ℕ) (d : Import) → k < at → (get_or old k d).start < import.start)
@@ -110,7 +110,7 @@ GainsImport-same old import pairs k inside same = record {
   there = (get_or old k import, Contains-get_or old k import inside, same import);
 }
 
--- the same of values of the program, by the place that a search gives
+-- inserted values of the program, by the index that a search returns
 abbrev pub is_before : ℕ → JsDocImport → Bool
 is_before start other = nat_lt other.specifier_range.start start
 

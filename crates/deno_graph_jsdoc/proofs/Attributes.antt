@@ -1,4 +1,4 @@
--- What the parsers of attributes result.
+-- The results of the parsers of attributes.
 use Rattle.std.proofs.Common.{◌≡◌, ℕ, inl, inr, true, false, Option, Some, None, List, [], ◌∷◌, ◌++◌, refl}
 use Rattle.std.proofs.Common.{sym, ap, ◌∙◌, subst, codes, option_map, arith}
 use Rattle.std.proofs.lemmas.Bool.{both_ways, or_left}
@@ -14,7 +14,7 @@ use Rattle.deno_graph_jsdoc.proofs.Alphabetic.{closing_brace_no_letter}
 use Rattle.deno_graph_jsdoc.proofs.Readings.{Begins-split, IsSolid, IsSolid-word, both_none, both_then}
 use Rattle.deno_graph_jsdoc.proofs.Readings.{space_then, lexeme_none, lexeme_then}
 
--- what a quote and an identifier begin with
+-- the first characters of quotes and identifiers
 begins_quoted : (inside text rest : List ℕ) → IsQuote inside text → (c : ℕ) × (cs : List ℕ)
     × (text ++ rest ≡ c ∷ cs) × (is_alphabetic c ≡ false) × (is_whitespace c ≡ false)
 begins_quoted inside text rest (inl (_, is)) = (

@@ -67,7 +67,7 @@ further_together : (others : List Attribute) (input : List ℕ) {rest : List ℕ
 further_together [] input b = before_nothing (before_space input b)
 further_together (a ∷ others) input b = regroup_4 (before_space input b)
 
--- the attribute with which a text begins is the first of any attributes with which it begins
+-- if a text begins with attributes, the attribute at its start is the first of them
 module _ (rest after : List ℕ) (a : Attribute)
     (found : Reads Anything IsAttribute rest (Some (after, a))) where
   first_apart : (all : List Attribute) {end : List ℕ} → 0 < length all → Begins (Through all) rest end
@@ -103,7 +103,7 @@ SoFar-start input = record {
   complete = λ all end some b. (all, some, refl, b);
 }
 
--- no attribute comes
+-- no attribute follows
 pub block_no_attribute : (input rest : List ℕ) (name : Option (List ℕ)) → SoFar input rest name
     → Reads Anything IsAttribute rest None → Reads Anything IsModeBlockEnd input None
 block_no_attribute input rest name so_far none mode end _ b =
@@ -238,7 +238,7 @@ module _ (input rest after : List ℕ) (name next : Option (List ℕ)) (a : Attr
       only (x ∷ others) b = absurd
           (let heads : ◌≡◌ {A = ℕ} 44 125 = same_first (Begins-split b).1 brace.0 in omega (arith, heads))
 
-  -- after which neither comes
+  -- after which neither a comma nor a brace follows
   pub block_broken : Reads Anything (λ (_ : Unit {0}). Closed) (skip_leading_whitespace after) None
       → Reads NoSpace (λ (_ : Unit {0}). Is (codes ",") · IsSpace) (skip_leading_whitespace after) None
       → Reads Anything IsModeBlockEnd input None

@@ -1,4 +1,4 @@
--- The closing braces of a text, and what is kept of them from one place of the text to a later one.
+-- The closing braces of a text, and the cache of the next one from one offset to a later one.
 use Rattle.std.proofs.Common.{◌≡◌, ◌≢◌, ℕ, ◌+◌, ◌<◌, ◌≤◌, ◌==◌, ◌⊎◌, inl, inr, Bool, true, false, Option}
 use Rattle.std.proofs.Common.{Some, None, List, [], ◌∷◌, ◌++◌, length, refl, sym, ap, ◌∙◌, subst, codes}
 use Rattle.std.proofs.Common.{append_assoc, length-append, arith}
@@ -40,7 +40,7 @@ first_mark mark (c ∷ cs) = by_first (c == mark) refl (first_mark mark cs)
     by_first true is rest = inr ([], cs, tt, ap (λ d. d ∷ cs) (eqb-true c mark is))
     by_first false is rest = by_rest (eqb-false c mark is) rest
 
--- how much at the end of a text has none
+-- the length of the end of a text that has no mark
 pub IsUnclosed-none : (text : List ℕ) → Lacks closing_brace text → IsUnclosed text (byte_count text)
 IsUnclosed-none text lacks front back whole = (
   (λ fits. Lacks-back closing_brace front back (subst (Lacks closing_brace) whole lacks)),
@@ -98,7 +98,7 @@ IsUnclosed-back text front back count whole unclosed before after parts =
     unclosed (front ++ before) after
     (whole ∙ ap (λ t. front ++ t) parts ∙ sym (append_assoc front before after))
 
--- what is kept at a later place
+-- the cache at a later offset
 pub IsAfterBrace-back : (after text front back : List ℕ) → text ≡ front ++ back → IsAfterBrace after text
     → IsAfterBrace after back
 IsAfterBrace-back after text front back whole (inr (before, is)) =
@@ -136,7 +136,7 @@ Keeps-back text front back None whole keeps = tt
 Keeps-back text front back (Some end) whole keeps =
     (keeps.0, IsAfterBrace-back (chars end.after.now) text front back whole keeps.1)
 
--- a brace that is cached is the next one where it isn't before the text
+-- a cached brace that isn't before the text is the next one
 pub IsNextEnd-ahead : (text : List ℕ) (end : NamesEnd) → Keeps text (Some end)
     → byte_count (chars end.after.now) < byte_count text → IsNextEnd text (Some end)
 IsNextEnd-ahead text end keeps ahead = by_place keeps.1
@@ -146,7 +146,7 @@ IsNextEnd-ahead text end keeps ahead = by_place keeps.1
         record { is_end = keeps.0; is_next = brace_read text inside (chars end.after.now) lacks whole }
     by_place (inr (front, is)) = absurd (omega (arith, ahead, ap byte_count is, byte_count-append front text))
 
--- and is kept where what is before has no brace
+-- the cache stays right if the text that is passed has no brace
 pub Keeps-next : (text before inside : List ℕ) (cache : Option NamesEnd) → text ≡ before ++ inside
     → Lacks closing_brace before → IsNextEnd inside cache → Keeps text cache
 Keeps-next text before inside None whole lacks next = tt
@@ -165,7 +165,7 @@ Keeps-next text before inside (Some end) whole lacks next =
       ),
     )
 
--- white space and an opening brace have none
+-- white space and an opening brace have no closing brace
 space_lacks : (text : List ℕ) → IsSpace text → Lacks closing_brace text
 space_lacks [] white = tt
 space_lacks (c ∷ cs) white = (
@@ -183,7 +183,7 @@ opening input clause inside gap brace = (
       ∙ sym (append_assoc gap.piece (opening_brace ∷ []) inside),
 )
 
--- whether one is left is told by how much of the text is left
+-- a brace is left exactly if more of the text is left than its unclosed end
 pub brace_left : (text : List ℕ) (count : ℕ) → IsUnclosed text count → count < byte_count text
     → (after : List ℕ)
     × Reads Anything (λ (_ : Unit {0}). Lacks closing_brace · Is (codes "}")) text (Some (after, tt))

@@ -1,4 +1,4 @@
--- What was read of a text beforehand.
+-- The caches of a text, at its ends.
 use Rattle.std.proofs.Common.{◌≡◌, ℕ, ◌+◌, ◌<◌, ◌≤◌, ◌⊎◌, inl, inr, Some, None, Option, List, [], ◌∷◌, ◌++◌}
 use Rattle.std.proofs.Common.{length, take, drop, refl, sym, ap, ◌∙◌, subst, append_assoc, arith}
 use Rattle.std.proofs.lemmas.Bool.{cases_lt}
@@ -17,7 +17,7 @@ use Rattle.deno_graph_jsdoc.proofs.Imports.{byte_count-append}
 use Rattle.deno_graph_jsdoc.proofs.Runs.{front_of_front, space_whole}
 use Rattle.deno_graph_jsdoc.proofs.Texts.{cut_after_mark}
 
--- what holds of an end of a text holds of that end of an end
+-- what holds of an end of a text holds also of this end as an end of a shorter end
 pub OfEnd-back : (left : ℕ) (P : List ℕ → Type 0) (text front back : List ℕ) → text ≡ front ++ back
     → OfEnd left P text → OfEnd left P back
 OfEnd-back left P text front back whole of before rest parts size =
@@ -58,7 +58,8 @@ AreCachedSpaces-skipped input rest cache is are =
     AreCachedSpaces-back input space.0 rest cache (space.2 ∙ ap (λ t. space.0 ++ t) (sym is)) are
 
 -- after options, or where there are none
-pub AreCachedSpaces-options : (cache : List CachedSpace) (found : Option (Bor (List ℕ) × Mode)) (all : Bor (List ℕ))
+pub AreCachedSpaces-options : (cache : List CachedSpace) (found : Option (Bor (List ℕ) × Mode))
+    (all : Bor (List ℕ))
     (chosen : Bor (List ℕ) × Mode) → Reads Anything IsOptions (chars all.now) (rest_and_mode found)
     → chosen ≡ unwrap_or found (all, None) → AreCachedSpaces (chars all.now) cache
     → AreCachedSpaces (chars chosen.0.now) cache
@@ -68,7 +69,7 @@ AreCachedSpaces-options cache (Some x) all chosen reads is are =
     subst (λ (c : Bor (List ℕ) × Mode). AreCachedSpaces (chars c.0.now) cache) (sym is)
     (AreCachedSpaces-after cache reads.0 are)
 
--- a text has one end of a size
+-- a text has only one end of a size
 same_back : (front back before rest : List ℕ) → front ++ back ≡ before ++ rest
     → byte_count back ≡ byte_count rest → length front ≤ length before → back ≡ rest
 same_back front back before rest same size fits =
@@ -96,7 +97,7 @@ one_back front back before rest same size = by_length (cases_lt (length before) 
     by_length (inl less) = sym (same_back before rest front back (sym same) (sym size) (omega (arith, less)))
     by_length (inr fits) = same_back front back before rest same size fits
 
--- what holds of one end of the text
+-- what holds of one end of the text, as `OfEnd`
 pub OfEnd-one : (left : ℕ) (P : List ℕ → Type 0) (text front back : List ℕ) → text ≡ front ++ back
     → byte_count back ≡ left → P back → OfEnd left P text
 OfEnd-one left P text front back whole size holds before rest parts its_size =

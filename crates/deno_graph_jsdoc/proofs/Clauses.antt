@@ -1,4 +1,4 @@
--- What the parsers of a declaration's clause result.
+-- The results of the parsers of a declaration's clause.
 use Rattle.std.proofs.Common.{◌≡◌, ℕ, ◌<◌, ◌⊎◌, inl, inr, true, false, Option, Some, None, List, [], ◌∷◌}
 use Rattle.std.proofs.Common.{◌++◌, length, refl, sym, ap, ◌∙◌, subst, codes, option_map, append_assoc}
 use Rattle.std.proofs.Common.{length-append, arith}
@@ -151,7 +151,7 @@ with_space {P} takes b =
 no_space : {P : List ℕ → Type 0} {input rest : List ℕ} → Begins P input rest → Begins (P · IsSpace) input rest
 no_space {P} {input} {rest} b = Begins-join b (record { piece = []; whole = refl; is = tt })
 
--- what the three forms begin with
+-- the first characters of the three forms
 first_of_name : {input rest after : List ℕ} (c : ℕ) {cs : List ℕ} → is_alphabetic c ≡ false
     → Begins IsName input rest → Begins (Is (c ∷ cs)) input after → ⊥
 first_of_name {input} {rest} {after} c {cs} not b word =
@@ -185,7 +185,7 @@ clause_apart b =
         inr (inr (with_space (TakesSpace-after TakesSpace-gap)
         (Begins-join (record { piece = piece; whole = whole; is = is }) space)))
 
--- a text doesn't begin with two of them
+-- a text doesn't begin with two of the forms
 pub names_or_namespace : {input rest after : List ℕ} → Begins (IsNames · IsSpace) input rest
     → Begins IsNamespace input after → ⊥
 names_or_namespace names namespace =
@@ -273,7 +273,7 @@ pub gap_before_clause : (_ : Unit {0}) (middle rest : List ℕ) → NoSpace rest
     → Begins (IsClause · IsSpace) middle rest → NoSpace middle
 gap_before_clause _ middle rest _ b = NoSpace-before (IsSolid-front IsSolid-clause) b
 
--- what is after `@import`, up to the `from`
+-- the text after `@import`, up to the `from`
 abbrev pub Head : Unit {0} → List ℕ → Type 0
 Head _ = IsGap · IsClause · IsSpace
 

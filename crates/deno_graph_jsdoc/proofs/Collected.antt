@@ -1,4 +1,4 @@
--- A list of all imports of a text, from one place of it to the next.
+-- A list of all imports in a text, from one offset to the next.
 use Rattle.std.proofs.Common.{◌≡◌, ℕ, zero, suc, ◌+◌, ◌<◌, ◌≤◌, ◌⊎◌, inl, inr, Option, Some, None, List, []}
 use Rattle.std.proofs.Common.{◌∷◌, ◌++◌, length, get_or, refl, sym, ap, ◌∙◌, subst, append_assoc}
 use Rattle.std.proofs.Common.{length-append, arith}
@@ -14,7 +14,7 @@ use Rattle.deno_graph_jsdoc.proofs.ExistenceOfDynamicImports.{read_dynamic}
 use Rattle.deno_graph_jsdoc.proofs.Passes.{gained, gained_sound}
 use Rattle.deno_graph_jsdoc.proofs.Sites.{same_front, same_after}
 
--- the place of a start in a list that ascends: an import has it, or it lies between two of them
+-- the index of a start in a list that ascends: an import has this start, or the start is between two imports
 abbrev Place : List Import → ℕ → Type 0
 Place old start =
     ((k : ℕ) × (k < length old) × ((d : Import) → (get_or old k d).start ≡ start))
@@ -72,7 +72,7 @@ pub record Collected (text : List ℕ) (limit : ℕ) (imports : List Import) : T
       → Contains imports import
 
 module _ (text front back : List ℕ) (whole : text ≡ front ++ back) where
-  -- what is at one place, as a parser gives it
+  -- the import at one offset, as a parser reads it
   abbrev At : (List ℕ → Import → List ℕ → Type 0) → List Import → Type 0
   At G imports = (here : Import) (rest : List ℕ) → G back here rest
       → Contains imports (moved (byte_count front) here)
@@ -152,19 +152,23 @@ module _ (text front back : List ℕ) (whole : text ≡ front ++ back) where
 
           backs : is_in.back ≡ back
           backs =
-              same_after text front is_in.back back (subst (λ f. text ≡ f ++ is_in.back) fronts is_in.whole) whole
+              same_after text front is_in.back back (subst (λ f. text ≡ f ++ is_in.back) fronts is_in.whole)
+              whole
 
           is : moved (byte_count front) is_in.here ≡ import
           is = ap (λ f. moved (byte_count f) is_in.here) (sym fronts) ∙ sym is_in.place
 
-          by_form : IsDynamicImport is_in.back is_in.here is_in.rest ⊎ IsDeclaration is_in.back is_in.here is_in.rest
+          by_form : IsDynamicImport is_in.back is_in.here is_in.rest
+              ⊎ IsDeclaration is_in.back is_in.here is_in.rest
               → Contains new import
           by_form (inl states) = keeps (subst (Contains middle) is
-              (dynamics is_in.here is_in.rest (subst (λ b. IsDynamicImport b is_in.here is_in.rest) backs states)))
+              (dynamics is_in.here is_in.rest
+              (subst (λ b. IsDynamicImport b is_in.here is_in.rest) backs states)))
           by_form (inr states) = subst (Contains new) is
-              (declarations is_in.here is_in.rest (subst (λ b. IsDeclaration b is_in.here is_in.rest) backs states))
+              (declarations is_in.here is_in.rest
+              (subst (λ b. IsDeclaration b is_in.here is_in.rest) backs states))
 
--- from one place to the next, up to the end
+-- from one offset to the next, up to the end
 collect : (text front back : List ℕ) → text ≡ front ++ back → (old : List Import)
     → Collected text (length front) old → (imports : List Import) × Collected text (length text + 1) imports
 collect text front [] whole old so_far =

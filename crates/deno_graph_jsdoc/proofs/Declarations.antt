@@ -38,7 +38,7 @@ pub after_clause : (input middle : List ℕ) (head : Reads NoSpace Head input (S
 after_clause input middle head o source =
     after_first NoSpace First From Whole EndsDeclaration apart together follows input middle head o source
 
--- a declaration of names in braces, by what is after the closing one
+-- a declaration of names in braces, by the text after the closing brace
 module _ (input clause inside : List ℕ)
     (gap : Reads NoSpace (λ (_ : Unit {0}). IsGap) input (Some (clause, tt)))
     (opens : Reads Anything (λ (_ : Unit {0}). Is (codes "{")) clause (Some (inside, tt))) where

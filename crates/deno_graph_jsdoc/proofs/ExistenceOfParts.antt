@@ -1,4 +1,4 @@
--- Each part of the grammar is there, and read in one way, or it isn't: so there is an result for each text.
+-- Each part of the grammar is at the start of a text in one way, or isn't there: each text has a result.
 use Rattle.std.proofs.Common.{◌≡◌, ◌≢◌, ℕ, zero, suc, ◌+◌, ◌<◌, ◌==◌, ◌⊎◌, inl, inr, Bool, true, false}
 use Rattle.std.proofs.Common.{Option, Some, None, List, [], ◌∷◌, ◌++◌, length, refl, sym, ap, ◌∙◌, cond}
 use Rattle.std.proofs.Common.{codes, option_map, length-append, arith}
@@ -11,7 +11,8 @@ use Rattle.deno_graph_jsdoc.specs.Characters.{double_quote, apostrophe, closing_
 use Rattle.deno_graph_jsdoc.specs.JsDocGrammar.{◌·◌, Is, IsSpace, IsGap, IsBetween, IsQuote, IsIdent, IsKey}
 use Rattle.deno_graph_jsdoc.specs.JsDocGrammar.{Attribute, IsAttribute, IsModeBlock, IsWith, Lacks}
 use Rattle.deno_graph_jsdoc.specs.JsDocGrammar.{ends_ident, resolution_mode_value, Anything, NoSpace}
-use Rattle.deno_graph_jsdoc.specs.internal.Reading.{IsModeBlockEnd, begins_ident, ReadsImport, EndOfIdent, Reads}
+use Rattle.deno_graph_jsdoc.specs.internal.Reading.{IsModeBlockEnd, begins_ident, ReadsImport}
+use Rattle.deno_graph_jsdoc.specs.internal.Reading.{EndOfIdent, Reads}
 use Rattle.deno_graph_jsdoc.specs.JsDocImport.{Mode, Import, byte_count}
 use Rattle.deno_graph_jsdoc.proofs.Attributes.{attribute_no_key, attribute_no_colon, attribute_read}
 use Rattle.deno_graph_jsdoc.proofs.Attributes.{key_quoted, key_named}
@@ -262,7 +263,7 @@ read_with input = by_word (read_token (codes "with") input).0 (read_token (codes
     by_word (Some x) word =
         ((read_block x.0).0, with_read input x.0 (read_block x.0).0 word (read_block x.0).1)
 
--- the import that a text states, if it states one
+-- the import at the start of a text, if there is one
 abbrev pub Parsed : (List ℕ → Import → List ℕ → Type 0) → List ℕ → Type 0
 Parsed G input = (o : Option (List ℕ × Import)) × ReadsImport G input o
 

@@ -1,4 +1,4 @@
--- Imports by what is before their specifier, the specifier and what is after it.
+-- Imports in three parts: the head before the specifier, the specifier in quotes, and the tail.
 use Rattle.std.proofs.Common.{◌≡◌, ℕ, suc, ◌+◌, ◌-◌, ◌≤◌, inl, inr, Option, Some, None, List, [], ◌∷◌, ◌++◌}
 use Rattle.std.proofs.Common.{length, refl, sym, ap, ◌∙◌, subst, codes, option_map, append_assoc}
 use Rattle.std.proofs.Common.{length-append, arith}
@@ -18,7 +18,7 @@ use Rattle.deno_graph_jsdoc.proofs.Readings.{after_space, before_space}
 use Rattle.deno_graph_jsdoc.proofs.Runs.{space_ends}
 use Rattle.deno_graph_jsdoc.proofs.Texts.{bytes_from_chars}
 
--- the bytes before a place
+-- the bytes before an offset
 pub byte_count_before : (input rest front : List ℕ) → IsUtf8 input → IsUtf8 rest
     → chars input ≡ front ++ chars rest → byte_count front + length rest ≡ length input
 byte_count_before input rest front utf8 utf8_rest whole =
@@ -137,7 +137,7 @@ module _ (Head : List ℕ → Type 0) (Tail : List ℕ → Mode → List ℕ →
               ((λ i. record { specifier = text i; start = first i; end = final i; mode = last.0 i }), last.1),
         )
 
--- what is after the specifier of a declaration
+-- the tail of a declaration
 module _ (after : List ℕ) where
   pub with_solid : (mode : Mode) (text : List ℕ) → IsWith mode text → IsSolid text
   with_solid mode text is = IsSolid-word 119 (codes "ith") refl text is
@@ -177,7 +177,7 @@ module _ (after : List ℕ) where
       × ((other : Mode) (others_rest : List ℕ) → EndsDeclaration after other others_rest
       → (other ≡ c.1) × (others_rest ≡ chars c.0.now))
 
-  -- the mode and the rest that a parser of attributes gives, or none and all that is after white space
+  -- the mode and the rest that a parser of attributes returns, or no mode and the text after white space
   pub ends_at : (found : Option (Bor (List ℕ) × Mode)) (all : Bor (List ℕ)) (chosen : Bor (List ℕ) × Mode)
       → chars all.now ≡ skip_leading_whitespace after
       → Reads Anything IsWith (chars all.now) (rest_and_mode found)
@@ -295,7 +295,7 @@ module _ (F First Head Whole : List ℕ → Type 0) (Tail : List ℕ → Mode �
         (parts.same ∙ (λ i. moved (byte_count (pieces i)) (same.0 i)), same.1),
   )
 
--- an import whose tail goes on
+-- an import with a longer tail
 module _ (Head : List ℕ → Type 0) (Tail Longer : List ℕ → Mode → List ℕ → Type 0) (P : List ℕ → Type 0)
     (apart : (after : List ℕ) (mode : Mode) (rest : List ℕ) → Longer after mode rest
     → (middle : List ℕ) × Tail after mode middle × Begins P middle rest)
@@ -352,7 +352,8 @@ module _ (Head : List ℕ → Type 0) (Tail Longer : List ℕ → Mode → List 
         (same.0, (more.1 tt rest tt (subst (λ m. Begins P m rest) same.1 parts.2)).1),
   )
 
--- an import whose places are counted from `rest`, which is after `piece`, with places counted from `text`
+-- an import with a range from the start of `rest`, which follows `piece`, as one with a range from the start
+-- of `text`
 pub counted_from : (G : List ℕ → Import → List ℕ → Type 0) (text rest piece last : List ℕ)
     (import result : Import) → byte_count piece + length rest ≡ length text
     → result ≡ moved (length text - length rest) import → ReadsImport G (chars text)

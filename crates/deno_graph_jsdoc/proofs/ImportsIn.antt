@@ -1,4 +1,4 @@
--- A import is after an `import`, and its start determines it.
+-- Each import follows a word `import`, and the start of its range determines it.
 use Rattle.std.proofs.Common.{◌≡◌, ℕ, ◌+◌, ◌<◌, ◌≤◌, ◌⊎◌, inl, inr, true, false, Some, None, List, [], ◌∷◌}
 use Rattle.std.proofs.Common.{◌++◌, length, refl, sym, ap, ◌∙◌, subst, codes, append_assoc, arith}
 use Rattle.std.proofs.lemmas.Bool.{both_ways, cases_lt}
@@ -42,7 +42,7 @@ moved-moved a b import =
     let end : import.end + b + a ≡ import.end + (a + b) = omega arith in
     λ i. record { specifier = import.specifier; start = start i; end = end i; mode = import.mode }
 
--- both forms, as what ends in `import` and what is after it
+-- both forms: a text that ends with `import`, and the text after it
 abbrev DynamicFirst : List ℕ → Type 0
 DynamicFirst = Is (codes "{") · IsUpTo (codes "import")
 
@@ -121,13 +121,14 @@ dynamic_apart = textwise (λ input rest b. regroup b)
 dynamic_together : (text : List ℕ) → (DynamicFirst · DynamicHead) text → DynamicWhole text
 dynamic_together = textwise (λ input rest b. ungroup b)
 
--- a import is stated after the end of an `import`
+-- an import follows the end of a word `import`
 pub import_stated : (text : List ℕ) (import : Import) → IsImportIn text import
     → ((front : List ℕ) × IsDynamicImportIn text front import)
     ⊎ ((front : List ℕ) × IsDeclarationIn text front import)
 import_stated text import is_in = by_form is_in.states
   where
-    by_form : IsDynamicImport is_in.back is_in.here is_in.rest ⊎ IsDeclaration is_in.back is_in.here is_in.rest
+    by_form : IsDynamicImport is_in.back is_in.here is_in.rest
+        ⊎ IsDeclaration is_in.back is_in.here is_in.rest
         → ((front : List ℕ) × IsDynamicImportIn text front import)
         ⊎ ((front : List ℕ) × IsDeclarationIn text front import)
     by_form (inl s) =
@@ -135,9 +136,11 @@ import_stated text import is_in = by_form is_in.states
         text is_in.front is_in.back is_in.rest is_in.here import is_in.whole s is_in.place)
     by_form (inr s) =
         inr (stated_by DeclarationFirst DeclarationHead (DeclarationFirst · DeclarationHead) EndsDeclaration
-        (λ _ is. is) (λ _ is. is) text is_in.front is_in.back is_in.rest is_in.here import is_in.whole s is_in.place)
+        (λ _ is. is) (λ _ is. is) text is_in.front is_in.back is_in.rest is_in.here import is_in.whole s
+        is_in.place)
 
-pub dynamic_in : (text front : List ℕ) (import : Import) → IsDynamicImportIn text front import → IsImportIn text import
+pub dynamic_in : (text front : List ℕ) (import : Import)
+    → IsDynamicImportIn text front import → IsImportIn text import
 dynamic_in text front import s =
     let found = found_by DynamicFirst DynamicHead DynamicWhole EndsDynamicImport dynamic_apart
     dynamic_together text front import s in
@@ -166,7 +169,7 @@ declaration_in text front import s =
       place = found.place;
     }
 
--- where such imports are stated, an `import` ends
+-- the text before such imports ends with `import`
 pub dynamic_ends : (front : List ℕ) → EndsAtDynamicImport front → EndsIn front
 dynamic_ends front is =
     let inner = is.is_back in
@@ -184,7 +187,7 @@ declaration_ends front is = (
       ∙ sym (append_assoc is.front (at_sign ∷ []) word),
 )
 
--- the result of a parser after a front says what is stated there
+-- the imports after a front are those that a parser reads there
 module _ (P : List ℕ → Type 0) (G : List ℕ → Import → List ℕ → Type 0) (text front after : List ℕ)
     (whole : text ≡ front ++ after) where
   here_of : (import : Import) (s : IsStated P G text front import) → G after s.here s.rest
@@ -211,7 +214,7 @@ module _ (P : List ℕ → Type 0) (G : List ℕ → Import → List ℕ → Typ
     place = refl;
   }
 
--- two fronts of a text that take as many bytes are the same
+-- two fronts of a text that take equally many bytes are the same
 same_size : (text front other back after : List ℕ) → text ≡ front ++ back → text ≡ other ++ after
     → byte_count front ≡ byte_count other → front ≡ other
 same_size text front other back after is are same = by_length (cases_lt (length other) (length front))
@@ -268,7 +271,7 @@ last_solid a b xs ys space other white blank solid hard same = by_length (cases_
         (append_cancel_left ys (b ∷ other) (middle.0 ++ a ∷ space)
         (sym same ∙ ap (λ t. t ++ a ∷ space) middle.1 ∙ append_assoc ys middle.0 (a ∷ space))))
 
--- how what is before a specifier ends
+-- the end of the text before a specifier
 dynamic_head_ends : (before : List ℕ) → DynamicHead before → (front : List ℕ) × (space : List ℕ)
     × IsSpace space × (before ≡ front ++ 40 ∷ space)
 dynamic_head_ends before is =
@@ -298,7 +301,7 @@ declaration_head_ends before is =
           ∙ sym (append_assoc is.front (clause.front ++ (space.front ++ codes "fro")) (109 ∷ from.back)),
     )
 
--- what is before the specifier of a import, the specifier in quotes, and what is after
+-- an import in a text: the text before the specifier, the specifier in quotes, and the text after
 record Specified (Head : List ℕ → Type 0) (Tail : List ℕ → Mode → List ℕ → Type 0) (text : List ℕ)
     (import : Import) : Type 0 where
   front : List ℕ
@@ -385,10 +388,11 @@ forms_apart text import other s t same =
     (t.front ++ right.0) left.1 right.1 left.2 right.2 refl refl whole in
     omega (arith, last)
 
--- a start determines a import
+-- a start determines the import
 pub one_import_in : (text : List ℕ) (import other : Import) → IsImportIn text import → IsImportIn text other
     → import.start ≡ other.start → import ≡ other
-one_import_in text import other is_in again same = by_form (import_stated text import is_in) (import_stated text other again)
+one_import_in text import other is_in again same =
+    by_form (import_stated text import is_in) (import_stated text other again)
   where
     dynamic : (i : Import) (found : (front : List ℕ) × IsDynamicImportIn text front i)
         → Specified DynamicHead EndsDynamicImport text i
@@ -412,7 +416,7 @@ one_import_in text import other is_in again same = by_form (import_stated text i
     by_form (inr x) (inl y) =
         absurd (forms_apart text other import (dynamic other y) (declaration import x) (sym same))
 
--- where the specifier of a import lies in its text
+-- the range of an import's specifier in the text
 pub record IsPlaced (text : List ℕ) (import : Import) : Type 0 where
   pub before : List ℕ
   pub quote : List ℕ

@@ -1,4 +1,4 @@
--- How often a word begins in a text, and in what is after one of its occurrences.
+-- The number of occurrences of a word in a text, and after one of the occurrences.
 use Rattle.std.proofs.Common.{◌≡◌, ℕ, ◌+◌, ◌≤◌, List, [], ◌∷◌, ◌++◌, ap, arith}
 use Rattle.deno_graph_jsdoc.specs.JsDocImports.{occurrences}
 use Rattle.deno_graph_jsdoc.proofs.Sites.{word}

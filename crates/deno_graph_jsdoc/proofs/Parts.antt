@@ -1,4 +1,4 @@
--- What the parsers of the smallest parts result.
+-- The results of the parsers of the smallest parts.
 use Rattle.std.proofs.Common.{◌≡◌, ◌≢◌, ℕ, ◌-◌, ◌<◌, ◌≤◌, inl, inr, true, false, Option, Some, None, List, []}
 use Rattle.std.proofs.Common.{◌∷◌, ◌++◌, length, take, drop, refl, sym, ap, ◌∙◌, subst, arith, append_assoc}
 use Rattle.std.proofs.Common.{codes, length-append, slice_range}
@@ -16,7 +16,7 @@ use Rattle.deno_graph_jsdoc.proofs.Runs.{same_run, space_whole, same_space, same
 use Rattle.deno_graph_jsdoc.proofs.Runs.{Lacks-not_inside}
 use Rattle.deno_graph_jsdoc.proofs.Texts.{bytes_from_chars}
 
--- what is left of a text is shorter where white space was skipped
+-- the rest of a text is shorter if white space was skipped
 module _ (input rest : List ℕ) (utf8 : IsUtf8 input) (utf8_rest : IsUtf8 rest)
     (skips : chars rest ≡ skip_leading_whitespace (chars input)) where
   some_space : (space : List ℕ) → IsSpace space → chars input ≡ space ++ chars rest

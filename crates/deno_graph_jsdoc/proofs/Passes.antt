@@ -9,10 +9,12 @@ use Rattle.std.specs.Option.{MatchOption}
 use Rattle.deno_graph_jsdoc.specs.Characters.{at_sign, opening_brace}
 use Rattle.deno_graph_jsdoc.specs.internal.Reading.{ReadsImport, IsDeclarationEnd, IsDynamicEnd}
 use Rattle.deno_graph_jsdoc.specs.JsDocImport.{Import, moved, byte_count}
-use Rattle.deno_graph_jsdoc.specs.JsDocImports.{AreImportsIn, HasFronts, IsImportIn, IsFront, EndsAtDynamicImport}
+use Rattle.deno_graph_jsdoc.specs.JsDocImports.{AreImportsIn, HasFronts, IsImportIn, IsFront}
+use Rattle.deno_graph_jsdoc.specs.JsDocImports.{EndsAtDynamicImport}
 use Rattle.deno_graph_jsdoc.specs.JsDocImports.{EndsAtDeclaration}
 use Rattle.deno_graph_jsdoc.specs.internal.Pass.{EndsWithAt, GainsImport, LeavesOpen}
-use Rattle.deno_graph_jsdoc.proofs.ImportsIn.{IsStated, IsDynamicImportIn, IsDeclarationIn, import_stated, dynamic_in}
+use Rattle.deno_graph_jsdoc.proofs.ImportsIn.{IsStated, IsDynamicImportIn, IsDeclarationIn}
+use Rattle.deno_graph_jsdoc.proofs.ImportsIn.{import_stated, dynamic_in}
 use Rattle.deno_graph_jsdoc.proofs.ImportsIn.{declaration_in, dynamic_ends, declaration_ends, stated_none}
 use Rattle.deno_graph_jsdoc.proofs.ImportsIn.{stated_only, stated_some, one_import_in}
 use Rattle.deno_graph_jsdoc.proofs.Runs.{front_of_front}
@@ -42,7 +44,7 @@ no_brace (a ∷ b ∷ c ∷ d ∷ e ∷ []) rest after same short =
     omega (arith, heads)
 no_brace (a ∷ b ∷ c ∷ d ∷ e ∷ f ∷ more) rest after same short = omega arith
 
--- two texts that end with the same have the same last character
+-- two texts with the same end have the same last character
 same_last : (a b : ℕ) (xs ys : List ℕ) → xs ++ a ∷ [] ≡ ys ++ b ∷ [] → a ≡ b
 same_last a b [] [] same = cc
 same_last a b [] (y ∷ ys) same = absurd (omega (arith, ap length same, length-append ys (b ∷ [])))
@@ -77,7 +79,7 @@ module _ (text front before after : List ℕ) (cut : IsCut front)
       subst (λ t. Skips t front next) (sym whole)
       (skips_to front (before ++ (word ++ after)) cut before after refl first)
 
-  -- it is a site of a declaration where an `@` is before it
+  -- it is a site of a declaration if an `@` is before it
   pub declaration_here : EndsWithAt before → EndsAtDeclaration next
   declaration_here ends = record {
     front = front ++ ends.front;
@@ -136,7 +138,7 @@ module _ (text front before after : List ℕ) (cut : IsCut front)
             is_back = refl;
           }
 
-  -- and of a dynamic import where a brace is open
+  -- it is a site of a dynamic import if a brace is open
   pub dynamic_here : LeavesOpen before → EndsAtDynamicImport next
   dynamic_here opens =
       let brace = opens.is_back in
@@ -296,7 +298,7 @@ Found-start text = record {
   few_decls = omega arith;
 }
 
--- the new list has the import that it gains, where all are imports
+-- the new list has the import that it gains, if all elements are imports in the text
 pub gained : (text : List ℕ) (old new : List Import) (import : Import)
     → ((other : Import) → Contains old other → IsImportIn text other) → IsImportIn text import
     → GainsImport old import new
@@ -325,8 +327,8 @@ abbrev pub Takes : List ℕ → List Import → Option (List ℕ × Import) → 
 Takes reached old answer new =
     MatchOption answer (new ≡ old) (λ found. GainsImport old (moved (byte_count reached) found.1) new)
 
-module _ (text last reached after : List ℕ) (whole : text ≡ reached ++ after) (skips : Skips text last reached)
-    (longer : length last < length reached) where
+module _ (text last reached after : List ℕ) (whole : text ≡ reached ++ after)
+    (skips : Skips text last reached) (longer : length last < length reached) where
   pub dynamic_skip : {imports : List Import} {dynamics decls : ℕ} {other : List ℕ}
       → Found text imports dynamics decls last other → (EndsAtDynamicImport reached → ⊥)
       → Found text imports dynamics decls reached other
@@ -361,7 +363,8 @@ module _ (text last reached after : List ℕ) (whole : text ≡ reached ++ after
 
   pub dynamic_take : {imports : List Import} {dynamics decls : ℕ} {other : List ℕ} (more : List Import)
       (answer : Option (List ℕ × Import)) → Found text imports dynamics decls last other
-      → EndsAtDynamicImport reached → ReadsImport IsDynamicEnd after answer → Takes reached imports answer more
+      → EndsAtDynamicImport reached → ReadsImport IsDynamicEnd after answer
+      → Takes reached imports answer more
       → Found text more (dynamics + 1) decls reached other
   dynamic_take {imports} {dynamics} {decls} {other} more None found site none same =
       subst (λ is. Found text is (dynamics + 1) decls reached other) (sym same)
@@ -391,8 +394,8 @@ module _ (text last reached after : List ℕ) (whole : text ≡ reached ++ after
             (after, whole) skips more
             (Complete-grow EndsAtDynamicImport dynamic_ends IsDynamicEnd text
             (length last) imports more gains.kept found.dynamic)
-            (λ i s. subst (Contains more) (sym (stated_only EndsAtDynamicImport IsDynamicEnd text reached after
-            whole answer parses i s)) has);
+            (λ i s. subst (Contains more) (sym (stated_only EndsAtDynamicImport IsDynamicEnd text reached
+            after whole answer parses i s)) has);
         decl = Complete-grow EndsAtDeclaration declaration_ends IsDeclarationEnd text
             (length other) imports more gains.kept found.decl;
         dynamic_count = Counted-more EndsAtDynamicImport dynamic_ends text last reached
@@ -404,7 +407,8 @@ module _ (text last reached after : List ℕ) (whole : text ≡ reached ++ after
 
   pub decl_take : {imports : List Import} {dynamics decls : ℕ} {other : List ℕ} (more : List Import)
       (answer : Option (List ℕ × Import)) → Found text imports dynamics decls other last
-      → EndsAtDeclaration reached → ReadsImport IsDeclarationEnd after answer → Takes reached imports answer more
+      → EndsAtDeclaration reached → ReadsImport IsDeclarationEnd after answer
+      → Takes reached imports answer more
       → Found text more dynamics (decls + 1) other reached
   decl_take {imports} {dynamics} {decls} {other} more None found site none same =
       subst (λ is. Found text is dynamics (decls + 1) other reached) (sym same)

@@ -1,4 +1,4 @@
--- Texts that begin with one thing and then another, and parsers one after another.
+-- Texts of one set followed by texts of another, and parsers one after another.
 use Rattle.std.proofs.Common.{◌≡◌, ℕ, false, Option, Some, None, List, [], ◌∷◌, ◌++◌, refl, sym, ap, ◌∙◌}
 use Rattle.std.proofs.Common.{subst, append_assoc, option_map, ◌<◌, ◌≤◌, length, length-append, arith}
 use Rattle.std.proofs.lemmas.List.{append-nil}
@@ -38,7 +38,7 @@ Begins-join {P} {Q} {input} {middle} {rest} first second = record {
   };
 }
 
--- the same text as one of another set
+-- a text of one set as a text of another set
 pub Begins-as : {P Q : List ℕ → Type 0} {input rest : List ℕ} → ((text : List ℕ) → P text → Q text)
     → Begins P input rest → Begins Q input rest
 Begins-as same b = record { piece = b.piece; whole = b.whole; is = same b.piece b.is }
@@ -76,7 +76,7 @@ space_read text =
       λ other after stop begins. (refl, same_space text begins.piece after begins.is stop begins.whole),
     )
 
--- white space after something is skipped in one way
+-- white space after a text is skipped in one way
 module _ {V : Type 0} (P : V → List ℕ → Type 0) (input : List ℕ) where
   pub spaced_none : Reads Anything P input None → Reads NoSpace (λ v. P v · IsSpace) input None
   spaced_none none v rest stop begins =
@@ -227,7 +227,7 @@ Reads-as F P Q to from input None none = λ v rest f b. none v rest f (from v in
 Reads-as F P Q to from input (Some x) found =
     (to x.1 input x.0 found.0, λ v rest f b. found.1 v rest f (from v input rest b))
 
--- what begins with no white space, after white space or after a word and white space
+-- a text that begins with no white space, after white space or after a word and white space
 module _ {W : Type 0} (G : List ℕ → Type 0) (Q : W → List ℕ → Type 0)
     (solid : (w : W) (text : List ℕ) → Q w text → IsSolid text) where
   pub space_then : (input : List ℕ) (o : Option (List ℕ × W)) → Reads G Q (skip_leading_whitespace input) o
@@ -285,7 +285,7 @@ same_first {c} {d} {cs} {ds} {input} {rest} {after} first second =
     let same : c ∷ (cs ++ rest) ≡ d ∷ (ds ++ after) = sym one ∙ other in
     cc
 
--- what is after something is not longer, and after a word shorter
+-- the rest after a text is not longer, and the rest after a word is shorter
 pub Begins-length : {P : List ℕ → Type 0} {input rest : List ℕ} → Begins P input rest
     → length rest ≤ length input
 Begins-length {P} {input} {rest} b = omega (arith, ap length b.whole, length-append b.piece rest)
@@ -306,7 +306,7 @@ one_space b =
     Begins-join (Begins-as (λ text both. subst IsSpace (sym both.whole)
     (IsSpace-append both.front both.back both.is_front both.is_back)) parts.1) parts.2
 
--- what holds of the front of any text holds of a whole text
+-- a property of all fronts is a property of a whole text
 pub textwise : {P Q : List ℕ → Type 0} → ((input rest : List ℕ) → Begins P input rest → Begins Q input rest)
     → (text : List ℕ) → P text → Q text
 textwise {P} {Q} same text is =

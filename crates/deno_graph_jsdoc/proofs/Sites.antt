@@ -1,4 +1,4 @@
--- The occurrences of `import` in a text, one after another, and what holds of those so far.
+-- The occurrences of `import` in a text, one after another.
 use Rattle.std.proofs.Common.{◌≡◌, ◌≢◌, ℕ, ◌+◌, ◌<◌, ◌≤◌, ◌⊎◌, inl, inr, ⊎_elim, List, [], ◌∷◌, ◌++◌, length}
 use Rattle.std.proofs.Common.{refl, sym, ap, ◌∙◌, subst, codes, append_assoc, length-append, arith}
 use Rattle.std.proofs.lemmas.Bool.{cases_lt}
@@ -17,7 +17,7 @@ word = codes "import"
 abbrev pub EndsIn : List ℕ → Type 0
 EndsIn front = (before : List ℕ) × (front ≡ before ++ word)
 
--- where a search for the next occurrence may begin
+-- an offset where a search for the next occurrence may begin
 abbrev pub IsCut : List ℕ → Type 0
 IsCut front = (front ≡ []) ⊎ EndsIn front
 
@@ -66,7 +66,7 @@ no_overlap front rest before after (inr (earlier, is)) same less =
     absurd (inside middle.0 rest after tails (omega (arith, sooner)) (omega arith)))
     (λ later. omega (arith, later)) (cases_lt (length earlier) (length before))
 
--- two fronts of a text that are as long are the same
+-- two fronts of a text that are equally long are the same
 pub same_front : (text front other : List ℕ) → IsFront text front → IsFront text other
     → length front ≡ length other → front ≡ other
 same_front text front other is are size =
@@ -133,7 +133,7 @@ module _ (front rest : List ℕ) (cut : IsCut front) where
                 length-append before word,
               ))
 
-  -- where the rest has no `import`, none ends after the cut
+  -- if the rest has no `import`, none ends after the cut
   pub no_further : ((sooner beyond : List ℕ) → rest ≢ sooner ++ (word ++ beyond)) → (other : List ℕ)
       → IsFront (front ++ rest) other → EndsIn other → length other ≤ length front
   no_further none other is ends = by_place (cases_lt (length ends.0) (length front))
@@ -163,7 +163,7 @@ module _ (P : List ℕ → Type 0) (ends : (front : List ℕ) → P front → En
     pub complete : (front : List ℕ) → IsFront text front → P front → length front ≤ limit
         → Contains fronts front
 
-  -- so many
+  -- the number of such fronts
   abbrev pub Counted : ℕ → ℕ → Type 0
   Counted limit count = (fronts : List (List ℕ)) × Reached limit fronts × (count ≡ length fronts)
 

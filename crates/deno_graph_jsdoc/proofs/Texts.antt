@@ -1,4 +1,4 @@
--- What std says of the bytes of a text, said of its characters.
+-- Lemmas of std on the bytes of a text, for the characters of the text.
 use Rattle.std.proofs.Common.{◌≡◌, ◌≢◌, ℕ, ◌+◌, ◌<◌, ◌≤◌, ◌==◌, Bool, true, false, Option, Some, None, List}
 use Rattle.std.proofs.Common.{[], ◌∷◌, ◌++◌, length, take, drop, get_or, refl, sym, ap, ◌∙◌, subst, arith}
 use Rattle.std.proofs.Common.{append_assoc, length-append}
@@ -27,7 +27,7 @@ pub bytes_from_chars : (text front rest : List ℕ) → IsUtf8 text → chars te
 bytes_from_chars text front rest utf8 is = sym (encodes-chars text utf8) ∙ ap encodes is
     ∙ encodes-append front rest
 
--- the word with which a text begins
+-- a word at the start of a text
 pub word_read : (word input : List ℕ) (answer : Option (Bor (List ℕ))) → IsUtf8 input → IsAscii word
     → MatchOption answer (FindsTextPrefix word input None)
     (λ rest. StripsPrefix (FindsTextPrefix word) input rest.now)
@@ -58,7 +58,7 @@ pub Lacks-chars : (mark : ℕ) (text : List ℕ) → IsUtf8 text
 Lacks-chars mark text utf8 (cs, is, none) =
     subst (Lacks mark) (chars_from_encodes cs text utf8 is) (Lacks-from_test mark cs none)
 
--- the mark with which a text begins
+-- a mark at the start of a text
 pub no_mark_chars : (mark : ℕ) (input : List ℕ) → IsUtf8 input
     → ((rest : List ℕ) → input ≢ encode mark ++ rest) → (rest : List ℕ) → chars input ≢ mark ∷ rest
 no_mark_chars mark input utf8 none rest is =
@@ -116,7 +116,7 @@ rsplit_chars mark input before rest utf8 ascii (i, j, found, front, back, order,
       whole ∙ (λ k. chars (sym front k) ++ mark ∷ chars (sym back k)),
     )
 
--- where a text is cut after the last of a mark
+-- the cut after the last of a mark
 pub rsplit_bytes : (mark : ℕ) (input before rest : List ℕ) → mark < 128
     → SplitsAroundMatch (RFindsChar mark) input before rest
     → (after : List ℕ) × (input ≡ before ++ mark ∷ after)
@@ -159,7 +159,7 @@ FindsAt test input answer =
     (λ i. (j : ℕ) × FindsBy test input (Some (i, j)) × (i ≤ j) × IsCharBoundary input i
     × IsCharBoundary input j)
 
--- the test by which a closure finds
+-- the test of a closure
 pub find_by_test : (test : ℕ → Bool) (IsTest : (ℕ → Bool) → Type 0) (input : List ℕ)
     (answer : Option ℕ) → IsTest test
     → MatchOption answer ((k : ℕ → Bool) → IsTest k → FindsBy k input None)

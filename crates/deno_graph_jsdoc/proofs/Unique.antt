@@ -24,12 +24,12 @@ OnlyOne {V} F P =
     (input rest after : List ℕ) (v w : V) → F rest → F after → Begins (P v) input rest
     → Begins (P w) input after → (v ≡ w) × (rest ≡ after)
 
--- the same of a set whose texts have no value
+-- like `Only`, of a set whose texts have no value
 abbrev pub OneRest : (List ℕ → Type 0) → (List ℕ → Type 0) → Type 0
 OneRest F P = (input rest after : List ℕ) → F rest → F after → Begins P input rest
     → Begins P input after → rest ≡ after
 
--- one thing and then another
+-- one text and then another
 module _ (F G : List ℕ → Type 0) {P : List ℕ → Type 0} {W : Type 0} {Q : W → List ℕ → Type 0}
     (first : OneRest F P) (second : OnlyOne G Q)
     (follows : (w : W) (middle rest : List ℕ) → G rest → Begins (Q w) middle rest → F middle) where
@@ -146,7 +146,7 @@ only_key input rest after v w stop end b c = by_form b.is c.is b.whole c.whole
         absurd (apart w {input = input} {rest = after} {after = rest} (record
         { piece = other; whole = second; is = are }) (record { piece = one; whole = first; is = is.0 }))
 
--- white space, and a word with white space, before what begins with none
+-- white space, or a word with white space, before a text that begins with no white space
 pub only_after_space : {W : Type 0} {Q : W → List ℕ → Type 0} → ((w : W) (text : List ℕ) → Q w text
     → IsSolid text) → OnlyOne Anything Q → OnlyOne Anything (λ w. IsSpace · Q w)
 only_after_space solid second =

@@ -1,4 +1,4 @@
--- A text states at most one declaration and at most one dynamic import at its start.
+-- A text begins with at most one declaration and with at most one dynamic import.
 use Rattle.std.proofs.Common.{◌≡◌, ℕ, ◌+◌, ◌⊎◌, inl, inr, None, List, [], ◌∷◌, ◌++◌, refl, sym, ap, ◌∙◌}
 use Rattle.std.proofs.Common.{subst, codes, append_assoc}
 use Rattle.std.proofs.lemmas.List.{append_cancel_right}
@@ -66,7 +66,7 @@ one_clause input rest after stop end b c = by_form (clause_apart b) (clause_apar
     by_form (inr (inr x)) (inr (inl y)) = absurd (namespace_or_name y x)
     by_form (inr (inr x)) (inr (inr y)) = one_name input rest after stop end x y
 
--- what is before the specifier
+-- the text before the specifier
 abbrev DeclarationHead : List ℕ → Type 0
 DeclarationHead = Is (codes "@import") · IsGap · IsClause · IsSpace · Is (codes "from") · IsSpace
 
@@ -102,7 +102,7 @@ one_dynamic_head =
     (λ _ _ _ _. tt))
     (λ _ _ _ _. tt)
 
--- what is after it
+-- the text after the specifier
 abbrev pub OnlyTail : (List ℕ → Mode → List ℕ → Type 0) → Type 0
 OnlyTail Tail = (text : List ℕ) (mode other : Mode) (rest after : List ℕ) → Tail text mode rest
     → Tail text other after → (mode ≡ other) × (rest ≡ after)
@@ -151,7 +151,7 @@ only_dynamic_tail text mode other rest after b c =
     by_form {middle} {next} (inr x) (inr y) =
         (x.0 ∙ sym y.0, one_paren (skip_leading_whitespace text) middle next tt tt x.1 y.1)
 
--- the whole
+-- whole declarations and dynamic imports
 module _ (Head : List ℕ → Type 0) (Tail : List ℕ → Mode → List ℕ → Type 0) (one_head : OneRest NoSpace Head)
     (only_tail : OnlyTail Tail) where
   solid_quote : {input rest : List ℕ} {a : Import} (s : StatesImport Head Tail input a rest)

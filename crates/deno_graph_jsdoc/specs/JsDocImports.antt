@@ -1,4 +1,4 @@
--- The imports that the text of a comment states, as a set, and the places where they may begin.
+-- The imports in the text of a comment, as a set, and the sites where imports may begin.
 use Rattle.std.specs.Prelude.{◌≡◌, ◌<◌, ◌⊎◌, ◌↔◌, ℕ, ◌+◌, Bool, List, [], ◌∷◌, ◌++◌, length, take, codes}
 use Rattle.std.specs.Prelude.{if◌then◌else◌}
 use Rattle.std.specs.List.{AllPairs, Contains}
@@ -6,7 +6,7 @@ use Rattle.std.specs.Str.{bytes_eq}
 use Rattle.deno_graph_jsdoc.specs.JsDocGrammar.{◌·◌, Anything, Is, IsUpTo}
 use Rattle.deno_graph_jsdoc.specs.JsDocImport.{Import, IsDeclaration, IsDynamicImport, moved, byte_count}
 
--- after some front of the text there is a dynamic import or a declaration that states this import
+-- after some front of the text there is a dynamic import or a declaration of this import
 pub record IsImportIn (text : List ℕ) (import : Import) : Type 0 where
   pub front : List ℕ
   pub back : List ℕ
@@ -16,25 +16,25 @@ pub record IsImportIn (text : List ℕ) (import : Import) : Type 0 where
   pub states : IsDynamicImport back here rest ⊎ IsDeclaration back here rest
   pub place : import ≡ moved (byte_count front) here
 
--- each start is above those before it
+-- the starts strictly ascend
 abbrev pub Ascend : List Import → Type 0
 Ascend imports = AllPairs (λ (import later : Import). import.start < later.start) imports
 
--- the list has all imports of the text and nothing else, each start above those before it
+-- the list has exactly the imports in the text, and their starts strictly ascend
 pub record AreImportsIn (text : List ℕ) (imports : List Import) : Type 0 where
   pub ascending : Ascend imports
   pub exact : (import : Import) → Contains imports import ↔ IsImportIn text import
 
--- a front of the text
+-- the text begins with `front`
 abbrev pub IsFront : List ℕ → List ℕ → Type 0
 IsFront text front = (back : List ℕ) × (text ≡ front ++ back)
 
--- The list has all fronts of the text of which `P` holds and nothing else, each longer than those before it.
+-- the list has exactly the fronts of the text that have `P`, by ascending length
 pub record AreFronts (P : List ℕ → Type 0) (text : List ℕ) (fronts : List (List ℕ)) : Type 0 where
   pub ascending : AllPairs (λ (front longer : List ℕ). length front < length longer) fronts
   pub exact : (front : List ℕ) → Contains fronts front ↔ (IsFront text front × P front)
 
--- so many fronts of the text have `P`
+-- `count` fronts of the text have `P`
 abbrev pub HasFronts : (List ℕ → Type 0) → List ℕ → ℕ → Type 0
 HasFronts P text count = (fronts : List (List ℕ)) × AreFronts P text fronts × (count ≡ length fronts)
 
@@ -49,7 +49,7 @@ EndsAtDeclaration = Anything · Is (codes "@import")
 abbrev pub begins_with : List ℕ → List ℕ → Bool
 begins_with word text = bytes_eq (take (length word) text) word
 
--- how often `word`, which isn't empty, begins in the text
+-- the number of occurrences of `word` in the text; `word` isn't empty
 abbrev pub occurrences : List ℕ → List ℕ → ℕ
 occurrences word [] = 0
 occurrences word (c ∷ cs) = (if begins_with word (c ∷ cs) then 1 else 0) + occurrences word cs

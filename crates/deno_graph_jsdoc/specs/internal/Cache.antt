@@ -1,4 +1,4 @@
--- What was read of a text beforehand. No promise of a public call names it.
+-- The caches of a text: lists of attributes and white space that were read before a pass.
 use Rattle.std.specs.Prelude.{◌≡◌, ℕ, List, ◌++◌}
 use Rattle.std.specs.List.{All}
 use Rattle.std.specs.Str.{chars, skip_leading_whitespace}
@@ -8,11 +8,11 @@ use Rattle.deno_graph_jsdoc.specs.JsDocImport.{byte_count}
 use Rattle.deno_graph_jsdoc.specs.declared.grammar.cached_lists.CachedList.{CachedList}
 use Rattle.deno_graph_jsdoc.specs.declared.grammar.cached_spaces.CachedSpace.{CachedSpace}
 
--- `P` holds of the end of the text that has so many bytes, if there is one
+-- the end of the text that takes `left` bytes has `P`, if there is such an end
 abbrev pub OfEnd : ℕ → (List ℕ → Type 0) → List ℕ → Type 0
 OfEnd left P text = (front back : List ℕ) → text ≡ front ++ back → byte_count back ≡ left → P back
 
--- what attributes give from there on
+-- the cached list is what a parser of attributes reads of that end of the text
 abbrev pub IsCached : List ℕ → CachedList → Type 0
 IsCached text list =
     OfEnd list.left (λ back. Reads Anything IsModeBlockEnd back (rest_and_mode list.read)) text
@@ -20,7 +20,7 @@ IsCached text list =
 abbrev pub AreCached : List ℕ → List CachedList → Type 0
 AreCached text cache = All (IsCached text) cache
 
--- what is after the white space that begins there
+-- the cached rest follows the white space at the start of that end of the text
 abbrev pub IsCachedSpace : List ℕ → CachedSpace → Type 0
 IsCachedSpace text space = OfEnd space.left (λ back. chars space.rest.now ≡ skip_leading_whitespace back) text
 

@@ -1,5 +1,4 @@
--- Where a pass over a text starts its parsers, and what a list gains by one. No promise of a public call
--- names it.
+-- The sites where a pass over a text starts its parsers, and the list of imports after one start.
 use Rattle.std.specs.Prelude.{◌≡◌, ◌⊎◌, ℕ, List, codes}
 use Rattle.std.specs.List.{Contains}
 use Rattle.deno_graph_jsdoc.specs.Characters.{closing_brace}
@@ -15,8 +14,8 @@ LeavesOpen = Anything · Is (codes "{") · Lacks closing_brace
 abbrev pub EndsWithAt : List ℕ → Type 0
 EndsWithAt = Anything · Is (codes "@")
 
--- The new list has this import, or one with its start, and else what the old one has. It ascends as that
--- does.
+-- the new list has the imports of the old list and this import, or another with the same start; the starts
+-- ascend
 pub record GainsImport (old : List Import) (import : Import) (new : List Import) : Type 0 where
   pub ascending : Ascend new
   pub only : (other : Import) → Contains new other → Contains old other ⊎ (import ≡ other)

@@ -1,4 +1,4 @@
--- What the parsers of JSDoc imports result. No promise of a public call names it.
+-- The results of the parsers of JSDoc imports.
 use Rattle.std.specs.Prelude.{◌≡◌, ◌<◌, ℕ, Bool, true, false, Option, Some, None, List, [], ◌∷◌, length}
 use Rattle.std.specs.Prelude.{codes, option_map}
 use Rattle.std.specs.Char.Unicode.Alphabetic.{is_alphabetic}
@@ -13,29 +13,29 @@ use Rattle.deno_graph_base.specs.declared.values.resolution_mode.TypeScriptTypes
   TypeScriptTypesResolutionMode,
 }
 
--- what begins an identifier: an Alphabetic character
+-- the text begins with an Alphabetic character, as an identifier does
 abbrev pub begins_ident : List ℕ → Bool
 begins_ident [] = false
 begins_ident (c ∷ cs) = is_alphabetic c
 
--- what may follow an identifier
+-- a text that may follow an identifier
 abbrev pub EndOfIdent : List ℕ → Type 0
 EndOfIdent rest = EmptyOr (λ c. ends_ident c ≡ true) rest
 
--- what is left of a block from its first attribute on
+-- a block from its first attribute on; it has at least one
 abbrev pub IsModeBlockEnd : Option TypeScriptTypesResolutionMode → List ℕ → Type 0
 IsModeBlockEnd mode text =
     (attributes : List Attribute) × (0 < length attributes) × (mode ≡ mode_of attributes)
     × (AreAttributes attributes · IsSpace · Is (codes "}")) text
 
--- a declaration and a dynamic import from after their `import` on
+-- a declaration from after its `@import` on, and a dynamic import from after its `import` on
 abbrev pub IsDeclarationEnd : List ℕ → Import → List ℕ → Type 0
 IsDeclarationEnd = StatesImport (IsGap · IsClause · IsSpace · Is (codes "from") · IsSpace) EndsDeclaration
 
 abbrev pub IsDynamicEnd : List ℕ → Import → List ℕ → Type 0
 IsDynamicEnd = StatesImport (IsSpace · Is (codes "(") · IsSpace) EndsDynamicImport
 
--- the declaration from its `from` on, and the dynamic import from its argument list on, to the end of that
+-- a declaration from its `from` on, and the argument list of a dynamic import
 abbrev pub IsSource : List ℕ → Import → List ℕ → Type 0
 IsSource = StatesImport (Is (codes "from") · IsSpace) EndsDeclaration
 
@@ -45,8 +45,8 @@ EndsArguments after mode rest = Begins (IsSpace · IsSecond mode · IsSpace · I
 abbrev pub HasArguments : List ℕ → Import → List ℕ → Type 0
 HasArguments = StatesImport (IsSpace · Is (codes "(") · IsSpace) EndsArguments
 
--- The result is the only way in which `input` begins with a text of `P value`, for some value, before what
--- may follow; None where there is no way.
+-- The result is the only value and rest for which `input` is a text of `P value` and then the rest, which has
+-- `Follow`. The result is None if there is none.
 abbrev pub Reads : {V : Type 0} → (List ℕ → Type 0) → (V → List ℕ → Type 0) → List ℕ
     → Option (List ℕ × V) → Type 0
 Reads {V} Follow P input None = (value : V) (rest : List ℕ) → Follow rest → Begins (P value) input rest → ⊥
@@ -55,7 +55,8 @@ Reads {V} Follow P input (Some (rest, value)) =
     × ((other : V) (after : List ℕ) → Follow after → Begins (P other) input after
     → (other ≡ value) × (after ≡ rest))
 
--- The result is the only import that `input` states, with what is after it; None where it states none.
+-- The result is the only import at the start of `input`, with the rest after the import, or None if there is
+-- no import.
 abbrev pub ReadsImport : (List ℕ → Import → List ℕ → Type 0) → List ℕ → Option (List ℕ × Import) → Type 0
 ReadsImport G input None = (import : Import) (rest : List ℕ) → G input import rest → ⊥
 ReadsImport G input (Some (rest, import)) =
@@ -63,12 +64,12 @@ ReadsImport G input (Some (rest, import)) =
     × ((other : Import) (after : List ℕ) → G input other after
     → (other ≡ import) × (after ≡ rest))
 
--- the same, whatever is after the import
+-- like `ReadsImport`, with any rest
 abbrev pub ReadsImportAlone : (List ℕ → Import → List ℕ → Type 0) → List ℕ → Option Import → Type 0
 ReadsImportAlone G input answer =
     (rest : List ℕ) × ReadsImport G input (option_map (λ import. (rest, import)) answer)
 
--- the rest that a parser gives, alone or with what it read
+-- the results of parsers as lists of characters: the rest, alone or with what was read
 abbrev pub rest_of : Option (Bor (List ℕ)) → Option (List ℕ × Unit {0})
 rest_of answer = option_map (λ rest. (chars rest.now, tt)) answer
 

@@ -1,4 +1,4 @@
--- The place is where no start before is as large, and none from there on smaller.
+-- All starts before the index are smaller, and no start from the index on is smaller.
 use Rattle.std.proofs.Common.{◌≡◌, true, false, List, length, get_or, map, sym, ap, ◌∙◌, subst, arith, rules}
 use Rattle.std.proofs.lemmas.List.Sorted.{IsPartitionPoint-from_clause}
 use Rattle.std.specs.List.Sorted.{IsPartitionedBy, IsPartitionPoint}

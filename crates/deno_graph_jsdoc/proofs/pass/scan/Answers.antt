@@ -16,7 +16,8 @@ use Rattle.deno_graph_jsdoc.specs.internal.Pass.{GainsImport}
 use Rattle.deno_graph_jsdoc.proofs.Braces.{IsUnclosed-back, Keeps-back}
 use Rattle.deno_graph_jsdoc.proofs.Imports.{byte_count_before}
 use Rattle.deno_graph_jsdoc.proofs.Cached.{AreCached-back, AreCachedSpaces-back}
-use Rattle.deno_graph_jsdoc.proofs.Passes.{Found, Found-start, Found-imports, Found-dynamics, Found-decls, Takes}
+use Rattle.deno_graph_jsdoc.proofs.Passes.{Found, Found-start, Found-imports, Found-dynamics}
+use Rattle.deno_graph_jsdoc.proofs.Passes.{Found-decls, Takes}
 use Rattle.deno_graph_jsdoc.proofs.Passes.{dynamic_skip, dynamic_take, decl_skip, decl_take, next, next_whole}
 use Rattle.deno_graph_jsdoc.proofs.Passes.{next_cut, next_longer, next_skips, declaration_here}
 use Rattle.deno_graph_jsdoc.proofs.Passes.{at_declaration, dynamic_here, at_dynamic}
@@ -41,7 +42,7 @@ loop-before-init c = record {
   few = omega arith;
 }
 
--- what `add` leaves
+-- the list after `add`
 takes : (rest beyond : List ℕ) (old new : List JsDocImport) (found : Option JsDocImport)
     (by : ℕ) → by ≡ byte_count beyond
     → MatchOption found (new ≡ old)
@@ -55,7 +56,8 @@ takes rest beyond old new (Some import) by is gains =
 -- the `import` that was found
 split : (c : In-Some)
     → (chars c.loop-before.rest.now ≡ chars c.in-Some.before.now ++ (word ++ chars c.in-Some.after.now))
-    × ((sooner beyond : List ℕ) → chars c.in-Some.before.now ++ word ≡ sooner ++ (word ++ beyond) → beyond ≡ [])
+    × ((sooner beyond : List ℕ) → chars c.in-Some.before.now ++ word ≡ sooner ++ (word ++ beyond)
+    → beyond ≡ [])
 split c =
     let utf8 : IsUtf8 c.in-Some.before.now = search rules in
     split_word (codes "import") c.loop-before.rest.now (Some (c.in-Some.before, c.in-Some.after))
@@ -103,7 +105,7 @@ find_import-found-requires-clause-unclosed c =
     IsUnclosed-back (chars c.args.text.now) (beyond here) (chars c.in-Some.after.now)
     c.unclosed_len-unclosed.result (through here) c.unclosed_len-unclosed.ensures
 
--- what is cached of the braces after a later place
+-- the cache of the next brace at a later offset
 still : (c : In-Some) → Keeps (chars c.in-Some.after.now) c.loop-before.cache
 still c =
     Keeps-back (chars c.loop-before.rest.now) (chars c.in-Some.before.now ++ word)
@@ -120,7 +122,7 @@ find_import-requires-clause-unclosed c =
     IsUnclosed-back (chars c.args.text.now) (beyond here) (chars c.in-Some.after.now)
     c.unclosed_len-unclosed.result (through here) c.unclosed_len-unclosed.ensures
 
--- what was read of the attributes after it
+-- the cached attributes after the `import`
 lists : (c : In-Some) → AreCached (chars c.in-Some.after.now) c.as_slice-lists.result.now
 lists c =
     AreCached-back (chars c.args.text.now) (beyond c) (chars c.in-Some.after.now) c.as_slice-lists.result.now
@@ -133,11 +135,11 @@ find_import-found-requires-clause-lists c = lists (goal.at.find_import-found-req
 pub find_import-requires-clause-lists : goal.find_import-requires-clause-lists
 find_import-requires-clause-lists c = lists (goal.at.find_import-requires-clause-lists c).In-Some
 
--- what is cached of the white space in it
+-- the cached white space after the `import`
 spaces : (c : In-Some) → AreCachedSpaces (chars c.in-Some.after.now) c.as_slice-spaces.result.now
 spaces c =
-    AreCachedSpaces-back (chars c.args.text.now) (beyond c) (chars c.in-Some.after.now) c.as_slice-spaces.result.now
-    (through c)
+    AreCachedSpaces-back (chars c.args.text.now) (beyond c) (chars c.in-Some.after.now)
+    c.as_slice-spaces.result.now (through c)
     (subst (AreCachedSpaces (chars c.args.text.now)) (sym c.as_slice-spaces.ensures.value)
     c.in_ok-space_table.ensures)
 
@@ -151,7 +153,7 @@ skips c = next_skips (chars c.args.text.now) c.loop-before.invariant.front (char
 by : (c : In-Some) → length c.args.text.now - length c.in-Some.after.now ≡ byte_count (beyond c)
 by c = omega (arith, bytes c)
 
--- what is found and kept after the declaration that may begin here
+-- the imports found and the cache, after the declaration that may begin here
 abbrev Declared : (c : After-leaves_open) → In-Some → Type 0
 Declared c here =
     Found (chars c.args.text.now) (map import_of c.if-ends_with_at.imports.items) c.loop-before.dynamic_starts
@@ -195,7 +197,7 @@ declared c =
           (found, still here)))
     ]
 
--- how many dynamic starts there can still be
+-- the number of dynamic starts that can still come
 fewer : (c : In-Some) → c.loop-before.dynamic_starts + 1 + occurrences word (chars c.in-Some.after.now)
     ≤ occurrences word (chars c.args.text.now)
 fewer c =

@@ -1,5 +1,5 @@
--- What was found after the fronts up to where the search for the next `import` begins, and what is kept
--- of the braces from there on.
+-- The imports found up to where the search for the next `import` begins, and the cache of the next brace
+-- from there on.
 use Rattle.std.proofs.Common.{◌≡◌, ◌+◌, ◌≤◌, List, ℕ, ◌++◌, length, map}
 use denote.Text.{Utf8}
 use denote.Shadow.{shadow}

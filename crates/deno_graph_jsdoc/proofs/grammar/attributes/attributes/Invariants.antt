@@ -1,4 +1,4 @@
--- What has been read, whatever follows it, and what is cached of that; each attribute leaves less of the text.
+-- The attributes that have been read, and the cache of the rest; each attribute leaves less of the text.
 use Rattle.std.proofs.Common.{length}
 use Rattle.std.specs.Str.{chars}
 use denote.Shadow.{shadow}

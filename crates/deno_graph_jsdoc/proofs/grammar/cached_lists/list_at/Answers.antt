@@ -1,4 +1,4 @@
--- What is left tells which end of the text it is.
+-- The number of bytes left determines the end of the text.
 use Rattle.std.proofs.Common.{[], refl, sym, ap, subst, arith, length}
 use Rattle.std.proofs.lemmas.Str.{encodes-chars}
 use Rattle.std.specs.Str.{chars}

@@ -28,7 +28,7 @@ range_from-requires c =
     λ some. after_mark comma c.args.text.now c.in-Some.sooner.now (split here).0 c.utf8.text (lit< tt)
     (split here).1
 
--- the place after it and white space is an end of the text
+-- the text after the comma and white space is an end of the text
 input_at : (c : After-as_slice) → (front : List ℕ)
     × (chars c.args.text.now ≡ front ++ chars c.skip_space-input.result.now)
 input_at c =

@@ -1,4 +1,4 @@
--- What was read after the commas from the end of the text up to where the search for the next one begins.
+-- The lists after the commas, from the end of the text back to where the search for the next comma begins.
 use Rattle.std.proofs.Common.{◌≡◌, ℕ, List, ◌++◌, length}
 use denote.Text.{Utf8}
 use denote.Shadow.{shadow}

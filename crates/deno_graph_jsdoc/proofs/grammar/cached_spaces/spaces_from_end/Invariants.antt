@@ -1,4 +1,5 @@
--- The white space after the braces from the end of the text up to where the search for the next one begins.
+-- The white space after the braces, from the end of the text back to where the search for the next brace
+-- begins.
 use Rattle.std.proofs.Common.{◌≡◌, ℕ, List, ◌++◌, length}
 use denote.Text.{Utf8}
 use denote.Shadow.{shadow}

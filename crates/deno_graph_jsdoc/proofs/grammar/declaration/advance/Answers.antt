@@ -1,4 +1,4 @@
--- The brace that is cached is the next, or it is looked for.
+-- The cached brace is the next one, or the next one is searched for.
 use Rattle.std.proofs.Common.{◌<◌, ℕ, Option, Some, None, List, length, ap, arith}
 use Rattle.std.specs.Option.{IsSomeAnd}
 use Rattle.std.proofs.lemmas.Str.{encodes-chars}

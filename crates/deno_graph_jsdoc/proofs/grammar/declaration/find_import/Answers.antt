@@ -1,4 +1,4 @@
--- The next brace, and what is after it.
+-- The next brace, and the text after it.
 use Rattle.std.proofs.Common.{◌≡◌, ◌<◌, ◌≤◌, ◌+◌, ◌^◌, List, ℕ, Option, Some, None, [], ◌++◌, codes, length}
 use Rattle.std.proofs.Common.{sym, subst, arith, rules}
 use Rattle.std.specs.Str.{chars}
@@ -26,7 +26,7 @@ returns-in_err-clause-clause-found c =
           (head_no_gap (chars c.args.input.now) c.in_err-clause.ensures),
     )
 
--- the text up to after the opening brace
+-- the text up to the opening brace, with the brace
 before : (c : In-Some) → (front : List ℕ) × Lacks closing_brace front
     × (chars c.args.input.now ≡ front ++ chars c.in-Some.inside.now)
 before c = opening (chars c.args.input.now) (chars c.in_ok-clause.clause.now)
@@ -59,7 +59,7 @@ returns-in_err-end-clause-found c =
           (chars c.in-Some.inside.now) c.in_ok-clause.ensures c.in-Some.ensures next.is_next,
     )
 
--- the next brace, and the text up to what is after it and white space
+-- the next brace, and the text up to the end of the white space after the brace
 next : (c : In_ok-end) → IsNextEnd (chars c.in-Some.inside.now) (Some c.in_ok-end.end.now)
 next c = subst (IsNextEnd (chars c.in-Some.inside.now)) (sym c.in_ok-end.ensures.value) c.advance.ensures
 

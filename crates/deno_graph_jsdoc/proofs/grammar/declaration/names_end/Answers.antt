@@ -1,4 +1,4 @@
--- What is after the next brace, if one is left.
+-- The text after the next brace, if one is left.
 use Rattle.std.proofs.Common.{◌≤◌, ap, length, arith}
 use Rattle.std.proofs.lemmas.Str.{encodes-chars}
 use Rattle.std.specs.Str.{chars}

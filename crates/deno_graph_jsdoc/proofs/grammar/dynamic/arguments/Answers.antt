@@ -86,15 +86,16 @@ options-requires-clause-lists c =
     c.requires.lists)))
 
 -- the white space that is cached after the specifier
-spaces : (c : After-skip_space-after) → AreCachedSpaces (chars c.skip_space-after.result.now) c.args.spaces.now
+spaces : (c : After-skip_space-after)
+    → AreCachedSpaces (chars c.skip_space-after.result.now) c.args.spaces.now
 spaces c =
     let cache = c.args.spaces.now in
     AreCachedSpaces-skipped (chars c.in_ok-after.after.now) (chars c.skip_space-after.result.now) cache
     c.skip_space-after.ensures
     (AreCachedSpaces-after cache c.in_ok-after.ensures.0
     (AreCachedSpaces-after cache c.in_ok-quoted.ensures.0
-    (AreCachedSpaces-skipped (chars c.args.input.now) (chars c.skip_space.result.now) cache c.skip_space.ensures
-    c.requires.spaces)))
+    (AreCachedSpaces-skipped (chars c.args.input.now) (chars c.skip_space.result.now) cache
+    c.skip_space.ensures c.requires.spaces)))
 
 pub options-requires-clause-spaces : goal.options-requires-clause-spaces
 options-requires-clause-spaces c = spaces (goal.at.options-requires-clause-spaces c).After-skip_space-after

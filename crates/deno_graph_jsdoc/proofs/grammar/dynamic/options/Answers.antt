@@ -67,5 +67,6 @@ pub skip_cached-requires : goal.skip_cached-requires
 skip_cached-requires c =
     let cache = c.args.spaces.now in
     AreCachedSpaces-after cache c.in_ok-rest-4.ensures.0 (AreCachedSpaces-after cache c.in_ok-token.ensures.0
-    (AreCachedSpaces-after cache c.in_ok-rest-3.ensures.0 (AreCachedSpaces-after cache c.in_ok-rest-2.ensures.0
+    (AreCachedSpaces-after cache c.in_ok-rest-3.ensures.0
+    (AreCachedSpaces-after cache c.in_ok-rest-2.ensures.0
     (AreCachedSpaces-after cache c.in_ok-rest.ensures.0 c.requires.spaces))))

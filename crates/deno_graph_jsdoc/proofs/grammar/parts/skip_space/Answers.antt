@@ -1,4 +1,4 @@
--- The characters are skipped that std's `trim_start` cuts off.
+-- Skips the characters that std's `trim_start` cuts off.
 use Rattle.std.proofs.Common.{ap, ◌∙◌}
 use Rattle.std.proofs.lemmas.Str.{chars-encodes, scalars-chars}
 use Rattle.std.specs.Str.{chars, skip_leading_whitespace, trim_start}

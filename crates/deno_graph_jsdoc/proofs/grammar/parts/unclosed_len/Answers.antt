@@ -1,4 +1,4 @@
--- What is after the last brace has none.
+-- The text after the last brace has no brace.
 use Rattle.std.proofs.Common.{lit<, subst, ap, rules}
 use Rattle.std.proofs.lemmas.Str.{encodes-chars}
 use Rattle.std.specs.Str.{IsUtf8, chars}
