@@ -24,7 +24,7 @@ abbrev pub IsWithin : JsDocImport → ℕ → Type 0
 IsWithin import count =
     (import.specifier_range.start ≤ import.specifier_range.end) × (import.specifier_range.end ≤ count)
 
--- `from` follows white space at the start of `after`, and `source` is what `from` begins with
+-- `from` is `after` without its leading white space, and `source` is the import at the start of `from`
 pub record IsNamesEnd (end : NamesEnd) : Type 0 where
   pub utf8 : IsUtf8 end.after.now
   pub from : chars end.from.now ≡ skip_leading_whitespace (chars end.after.now)

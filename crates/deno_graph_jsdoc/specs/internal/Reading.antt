@@ -45,8 +45,8 @@ EndsArguments after mode rest = Begins (IsSpace · IsSecond mode · IsSpace · I
 abbrev pub HasArguments : List ℕ → Import → List ℕ → Type 0
 HasArguments = StatesImport (IsSpace · Is (codes "(") · IsSpace) EndsArguments
 
--- The result is the only value and rest for which `input` is a text of `P value` and then the rest, which has
--- `Follow`. The result is None if there is none.
+-- The result is a value and a rest: `input` is a text of `P value` and then the rest, and with no other value
+-- and rest that has `Follow`. The result is None if `input` is such a text with no value and rest.
 abbrev pub Reads : {V : Type 0} → (List ℕ → Type 0) → (V → List ℕ → Type 0) → List ℕ
     → Option (List ℕ × V) → Type 0
 Reads {V} Follow P input None = (value : V) (rest : List ℕ) → Follow rest → Begins (P value) input rest → ⊥
@@ -64,7 +64,7 @@ ReadsImport G input (Some (rest, import)) =
     × ((other : Import) (after : List ℕ) → G input other after
     → (other ≡ import) × (after ≡ rest))
 
--- like `ReadsImport`, with any rest
+-- like `ReadsImport`, for a result without the rest
 abbrev pub ReadsImportAlone : (List ℕ → Import → List ℕ → Type 0) → List ℕ → Option Import → Type 0
 ReadsImportAlone G input answer =
     (rest : List ℕ) × ReadsImport G input (option_map (λ import. (rest, import)) answer)

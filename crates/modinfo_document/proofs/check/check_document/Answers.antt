@@ -8,5 +8,8 @@ returns-in-Ok c = c.check_tape.ensures c.args.text.now c.in-Ok.ensures.value
 
 pub returns-in-Err-Json : goal.returns-in-Err-Json
 returns-in-Err-Json c =
-    let offset = c.in-Err-Json.offset in
-    (Json offset, search rules, inl (c.in-Err-Json.ensures.unreadable offset (ap Err c.in-Err-Json.field-0-is)))
+    let offset = c.in-Err-Json.offset in (
+      Json offset,
+      search rules,
+      inl (c.in-Err-Json.ensures.unreadable offset (ap Err c.in-Err-Json.field-0-is)),
+    )
