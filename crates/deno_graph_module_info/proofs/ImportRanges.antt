@@ -68,10 +68,10 @@ hit_bounds bytes import utf8 hit =
     let last = placed.end in
     let quote = byte_count_quote import.specifier placed.quote placed.quoted in
     let whole : length bytes
-    ≡ byte_count placed.before + (byte_count placed.quote + byte_count placed.behind) =
+    ≡ byte_count placed.before + (byte_count placed.quote + byte_count placed.after) =
     ap length (sym (encodes-chars bytes utf8)) ∙ ap byte_count placed.whole
-    ∙ byte_count-append placed.before (placed.quote ++ placed.behind)
-    ∙ ap (λ n. byte_count placed.before + n) (byte_count-append placed.quote placed.behind) in
+    ∙ byte_count-append placed.before (placed.quote ++ placed.after)
+    ∙ ap (λ n. byte_count placed.before + n) (byte_count-append placed.quote placed.after) in
     (omega (arith, last), omega (arith, own, last, quote, whole))
 
 -- the bytes of a specifier in quotes
@@ -151,32 +151,32 @@ module _ (text : List ℕ) (comment : DependencyComment) (spelled : IsSpelled te
   -- the bytes before and after an import's specifier with its quotes
   module _ (utf8 : IsUtf8 comment.text) (import hit : Import) (placed : IsPlaced (chars comment.text) hit)
       (is_moved : import ≡ moved (comment.range.start + 2) hit) where
-    bytes : comment.text ≡ encodes placed.before ++ (encodes placed.quote ++ encodes placed.behind)
+    bytes : comment.text ≡ encodes placed.before ++ (encodes placed.quote ++ encodes placed.after)
     bytes =
         sym (encodes-chars comment.text utf8) ∙ ap encodes placed.whole
-        ∙ encodes-append placed.before (placed.quote ++ placed.behind)
-        ∙ ap (λ t. encodes placed.before ++ t) (encodes-append placed.quote placed.behind)
+        ∙ encodes-append placed.before (placed.quote ++ placed.after)
+        ∙ ap (λ t. encodes placed.before ++ t) (encodes-append placed.quote placed.after)
 
     abbrev front : List ℕ
     front = pre ++ (codes "/*" ++ encodes placed.before)
 
     abbrev back : List ℕ
-    back = (encodes placed.behind ++ codes "*/") ++ post
+    back = (encodes placed.after ++ codes "*/") ++ post
 
     parts : text ≡ front ++ (encodes placed.quote ++ back)
     parts =
         whole ∙ ap (λ t. pre ++ ((codes "/*" ++ t ++ codes "*/") ++ post)) bytes
         ∙ ap (λ t. pre ++ t)
         (append_assoc (codes "/*"
-        ++ (encodes placed.before ++ (encodes placed.quote ++ encodes placed.behind))) (codes "*/") post
-        ∙ append_assoc (codes "/*") (encodes placed.before ++ (encodes placed.quote ++ encodes placed.behind))
+        ++ (encodes placed.before ++ (encodes placed.quote ++ encodes placed.after))) (codes "*/") post
+        ∙ append_assoc (codes "/*") (encodes placed.before ++ (encodes placed.quote ++ encodes placed.after))
         (codes "*/" ++ post)
         ∙ ap (λ t. codes "/*" ++ t)
-        (append_assoc (encodes placed.before) (encodes placed.quote ++ encodes placed.behind)
+        (append_assoc (encodes placed.before) (encodes placed.quote ++ encodes placed.after)
         (codes "*/" ++ post)
         ∙ ap (λ t. encodes placed.before ++ t)
-        (append_assoc (encodes placed.quote) (encodes placed.behind) (codes "*/" ++ post)
-        ∙ ap (λ t. encodes placed.quote ++ t) (sym (append_assoc (encodes placed.behind) (codes "*/") post))))
+        (append_assoc (encodes placed.quote) (encodes placed.after) (codes "*/" ++ post)
+        ∙ ap (λ t. encodes placed.quote ++ t) (sym (append_assoc (encodes placed.after) (codes "*/") post))))
         ∙ sym (append_assoc (codes "/*") (encodes placed.before) (encodes placed.quote ++ back)))
         ∙ sym (append_assoc pre (codes "/*" ++ encodes placed.before) (encodes placed.quote ++ back))
 
@@ -226,19 +226,19 @@ module _ (text : List ℕ) (comment : DependencyComment) (spelled : IsSpelled te
         IsCharBoundary-from_rest text (length (front ++ encodes placed.quote)) 0
         (omega (arith, sizes, length-append front (encodes placed.quote)))
         (subst (λ t. IsCharBoundary t 0) (sym at_end)
-        (text_first (encodes placed.behind ++ codes "*/") post closed
-        (omega (arith, length-append (encodes placed.behind) (codes "*/")))))
+        (text_first (encodes placed.after ++ codes "*/") post closed
+        (omega (arith, length-append (encodes placed.after) (codes "*/")))))
       where
-        closed : IsUtf8 (encodes placed.behind ++ codes "*/")
-        closed = IsUtf8-append (encodes placed.behind) (codes "*/") behind
+        closed : IsUtf8 (encodes placed.after ++ codes "*/")
+        closed = IsUtf8-append (encodes placed.after) (codes "*/") behind
             (IsUtf8-from_ascii (codes "*/") (IsAscii-from_test (codes "*/") refl))
           where
-            behind : IsUtf8 (encodes placed.behind)
+            behind : IsUtf8 (encodes placed.after)
             behind = (
-              placed.behind,
+              placed.after,
               (
-                scalars_back placed.quote placed.behind
-                    (scalars_back placed.before (placed.quote ++ placed.behind)
+                scalars_back placed.quote placed.after
+                    (scalars_back placed.before (placed.quote ++ placed.after)
                     (ap scalars (sym placed.whole) ∙ scalars-chars comment.text utf8)),
                 refl,
               ),
@@ -282,11 +282,11 @@ module _ (text : List ℕ) (comment : DependencyComment) (spelled : IsSpelled te
         let moves = ap (λ (i : Import). i.start) is_moved in
         let quote = byte_count_quote hit.specifier placed.quote placed.quoted in
         let inner : length comment.text
-        ≡ byte_count placed.before + (byte_count placed.quote + byte_count placed.behind) =
+        ≡ byte_count placed.before + (byte_count placed.quote + byte_count placed.after) =
         ap length bytes ∙ length-append (encodes placed.before)
-        (encodes placed.quote ++ encodes placed.behind)
+        (encodes placed.quote ++ encodes placed.after)
         ∙ ap (λ n. length (encodes placed.before) + n)
-        (length-append (encodes placed.quote) (encodes placed.behind)) in
+        (length-append (encodes placed.quote) (encodes placed.after)) in
         (omega (arith, moves), omega (arith, length_is.0, own, moves, quote, inner))
 
 -- an import is determined by its start, in comments that share no byte

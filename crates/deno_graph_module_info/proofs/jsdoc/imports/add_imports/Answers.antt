@@ -36,7 +36,7 @@ hits c =
     subst (λ (xs : List JsDocImport). AreImportsIn (chars c.args.comment.now.text) (map import_of xs))
     (sym c.deref-import-items.ensures.value)
     (subst (λ t. AreImportsIn (chars t)
-    (map import_of c.in_ok-found.found.imports.items)) c.as_str.ensures c.in_ok-found.ensures.hits)
+    (map import_of c.in_ok-found.found.imports.items)) c.as_str.ensures c.in_ok-found.ensures.imports)
 
 utf8 : (c : After-deref-import-items) → IsUtf8 c.args.comment.now.text
 utf8 c = subst IsUtf8 c.as_str.ensures c.as_str.utf8
