@@ -16,7 +16,7 @@ pub end_fits : {P : List ℕ → Type 0} (input after : List ℕ) → IsUtf8 inp
 end_fits input after utf8 after_utf8 start =
     omega (arith, byte_count_before input after start.piece utf8 after_utf8 start.whole)
 
--- the import that a parser returns with its range counted from the start of `input`
+-- an import that is read of `after`, with its range counted from the start of `input`
 pub counted_reads : {P : List ℕ → Type 0} (G : List ℕ → Import → List ℕ → Type 0) (input after : List ℕ)
     (o result : Option (List ℕ × Import)) → IsUtf8 input → IsUtf8 after
     → (start : Begins P (chars input) (chars after))
@@ -29,7 +29,7 @@ counted_reads G input after o result utf8 after_utf8 start reads is =
     subst (ReadsImport G (chars input))
     (ap (λ n. option_map (λ x. (x.0, moved n x.1)) o) by ∙ sym is) reads
 
--- `answer` has an import exactly if the text states one, and the import is the only one
+-- `answer` has an import exactly if the text begins with one, and the text begins with no other import
 abbrev pub Parses : (List ℕ → Import → List ℕ → Type 0) → List ℕ
     → Result (Bor (List ℕ) × JsDocImport) NoParse → Type 0
 Parses G text answer =
@@ -37,7 +37,7 @@ Parses G text answer =
     × ((import : Import) (rest : List ℕ) → G text import rest
     → IsOkAnd answer (λ parsed. (import ≡ import_of parsed.1) × (rest ≡ chars parsed.0.now)))
 
--- what a parser reads, as its result
+-- the only import that is read, or none, as the result of a parser
 parses : (G : List ℕ → Import → List ℕ → Type 0) (text : List ℕ)
     (read : Option (Bor (List ℕ) × JsDocImport)) (fault : NoParse)
     (answer : Result (Bor (List ℕ) × JsDocImport) NoParse)

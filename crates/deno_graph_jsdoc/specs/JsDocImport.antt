@@ -1,4 +1,4 @@
--- The two forms of a JSDoc import, and what each states.
+-- The two forms of a JSDoc import, and the import that each form represents.
 use Rattle.std.specs.Prelude.{◌≡◌, ◌+◌, ◌⊎◌, ℕ, Option, None, List, ◌++◌, length, codes, encode_utf8_all}
 use Rattle.std.specs.Str.{chars}
 use Rattle.deno_graph_jsdoc.specs.Characters.{closing_brace}
