@@ -1,4 +1,4 @@
-//! The imports that JSDoc comments state.
+//! The imports in JSDoc comments: `@import` declarations and `import("..")` in braces.
 #![tactic(auto)]
 
 pub mod grammar;

@@ -51,7 +51,7 @@ use Rattle.deno_graph_info.specs.declared.analysis.type_script_reference.TypeScr
   Types,
 }
 use Rattle.deno_graph_jsdoc.specs.JsDocImport.{Import}
-use Rattle.deno_graph_jsdoc.proofs.Hits.{hit_placed}
+use Rattle.deno_graph_jsdoc.proofs.ImportsIn.{import_placed}
 use Rattle.deno_graph_pragmas.specs.Finders as finder
 use Rattle.deno_graph_pragmas.specs.Split.{Pattern, TextPart, IsCaptured, IsInQuotes}
 use Rattle.deno_graph_pragmas.proofs.Captured.{captured_slice, attribute_in_quotes, pragma_in_quotes}
@@ -258,7 +258,7 @@ module _ (source : List ℕ) where
       → CoversInEqualQuotes source (info_of source import).specifier
   import_covers comment import fits is =
       let at = quoted_at source comment fits.0 is.jsdoc.0 fits.1 import is.hit
-      (hit_placed (chars comment.text) is.hit is.is_hit) is.is_moved in
+      (import_placed (chars comment.text) is.hit is.is_hit) is.is_moved in
       (quoted_range import, record { start = (at.start, refl); end = (at.end, refl) }, at.quoted)
 
   imports_cover : (reads : Bool) (comments : List DependencyComment) (infos : List JsDocImportInfo)

@@ -33,11 +33,11 @@ use Rattle.std.proofs.lemmas.List.Elements.{
 }
 use Rattle.std.specs.List.{All, AllPairs, Contains}
 use Rattle.std.specs.Str.{IsUtf8, chars}
-use Rattle.deno_graph_jsdoc.specs.JsDocHits.{AreHits, IsHit}
-use Rattle.deno_graph_jsdoc.specs.JsDocPass.{GainsImport}
+use Rattle.deno_graph_jsdoc.specs.JsDocImports.{AreImportsIn, IsImportIn}
+use Rattle.deno_graph_jsdoc.specs.internal.Pass.{GainsImport}
 use Rattle.deno_graph_jsdoc.specs.JsDocImport.{Import, import_of, moved}
 use Rattle.deno_graph_jsdoc.specs.declared.import.JsDocImport.{JsDocImport}
-use Rattle.deno_graph_jsdoc.proofs.Hits.{hit_placed}
+use Rattle.deno_graph_jsdoc.proofs.ImportsIn.{import_placed}
 use Rattle.deno_graph_module_info.specs.CommentImports.{AreApart, AreImports, IsImportOf, IsJsDoc, IsQuotedAt}
 use Rattle.deno_graph_module_info.specs.internal.CommentImportSteps.{GainsImports, IsMovedHit}
 use Rattle.deno_graph_module_info.proofs.ImportRanges.{one_import, quoted_at}
@@ -203,12 +203,12 @@ Gathered-quoted comments done imports gathered text spelled import has =
     let from = gathered.sound import has in
     quoted_at text from.0 (All-contains (IsSpelled text) comments from.0 spelled from.1)
     (from.3).jsdoc.0 from.2 import (from.3).hit
-    (hit_placed (chars (from.0).text) (from.3).hit (from.3).is_hit) (from.3).is_moved
+    (import_placed (chars (from.0).text) (from.3).hit (from.3).is_hit) (from.3).is_moved
 
 -- the hits in a text, with offsets from the start of the source
-module _ (by : ℕ) (hits : List Import) (text : List ℕ) (are : AreHits text hits) where
+module _ (by : ℕ) (hits : List Import) (text : List ℕ) (are : AreImportsIn text hits) where
   pub moved_is_hit : (import : Import) → Contains (map (moved by) hits) import
-      → (hit : Import) × IsHit text hit × (import ≡ moved by hit)
+      → (hit : Import) × IsImportIn text hit × (import ≡ moved by hit)
   moved_is_hit import (i, inside, is) =
       let within : i < length hits = omega (arith, inside, length-map hits (moved by)) in
       let hit = get_or hits i import in (
@@ -218,7 +218,7 @@ module _ (by : ℕ) (hits : List Import) (text : List ℕ) (are : AreHits text h
             ∙ get_or-map (moved by) hits i import import within,
       )
 
-  pub hit_is_moved : (import : Import) → (hit : Import) × IsHit text hit × (import ≡ moved by hit)
+  pub hit_is_moved : (import : Import) → (hit : Import) × IsImportIn text hit × (import ≡ moved by hit)
       → Contains (map (moved by) hits) import
   hit_is_moved import (hit, is_hit, is_moved) =
       let has = (are.exact hit).1 is_hit in
@@ -251,17 +251,17 @@ module _ (by : ℕ) (items : List JsDocImport) where
   twice (x ∷ xs) = ap (λ t. moved by (import_of x) ∷ t) (twice xs)
 
   pub insert_all : (k : ℕ) (old new : List Import) (text : List ℕ) → length items ≤ k
-      → AreHits text (map import_of items) → GainsImports old (Contains (placed (take k items))) new
-      → GainsImports old (λ import. (hit : Import) × IsHit text hit × (import ≡ moved by hit)) new
+      → AreImportsIn text (map import_of items) → GainsImports old (Contains (placed (take k items))) new
+      → GainsImports old (λ import. (hit : Import) × IsImportIn text hit × (import ≡ moved by hit)) new
   insert_all k old new text done hits gains =
       GainsImports-as old new (Contains (map (moved by) (map import_of items)))
-      (λ import. (hit : Import) × IsHit text hit × (import ≡ moved by hit))
+      (λ import. (hit : Import) × IsImportIn text hit × (import ≡ moved by hit))
       (moved_is_hit by (map import_of items) text hits) (hit_is_moved by (map import_of items) text hits)
       (subst (λ xs. GainsImports old (Contains xs) new)
       (ap placed (take_all k items done) ∙ twice items) gains)
 
   pub item_hit : (k : ℕ) (d : JsDocImport) (text : List ℕ) → k < length items
-      → AreHits text (map import_of items) → IsHit text (import_of (get_or items k d))
+      → AreImportsIn text (map import_of items) → IsImportIn text (import_of (get_or items k d))
   item_hit k d text inside hits =
       (hits.exact (import_of (get_or items k d))).0
       (subst (Contains (map import_of items)) (get_or-map import_of items k d (import_of d) inside)

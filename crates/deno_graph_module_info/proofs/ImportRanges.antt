@@ -43,9 +43,9 @@ use Rattle.std.specs.Str.{IsCharBoundary, IsUtf8, chars}
 use lib.Utf8.{encodes, encode, scalar, scalars}
 use Rattle.deno_graph_jsdoc.specs.Characters.{apostrophe, double_quote}
 use Rattle.deno_graph_jsdoc.specs.JsDocGrammar.{IsQuote}
-use Rattle.deno_graph_jsdoc.specs.JsDocHits.{IsHit}
+use Rattle.deno_graph_jsdoc.specs.JsDocImports.{IsImportIn}
 use Rattle.deno_graph_jsdoc.specs.JsDocImport.{Import, moved, byte_count}
-use Rattle.deno_graph_jsdoc.proofs.Hits.{one_hit, IsPlaced, hit_placed}
+use Rattle.deno_graph_jsdoc.proofs.ImportsIn.{one_import_in, IsPlaced, import_placed}
 use Rattle.deno_graph_jsdoc.proofs.Imports.{byte_count-append, byte_count_quote}
 use Rattle.deno_graph_jsdoc.proofs.Words.{IsAscii-from_test}
 use Rattle.deno_graph_module_info.specs.CommentImports.{IsImportOf, IsQuotedAt, AreApart, quoted_range}
@@ -60,18 +60,18 @@ scalars_back [] ys all = all
 scalars_back (x ∷ xs) ys all = scalars_back xs ys (and_parts (scalar x) (scalars (xs ++ ys)) all).1
 
 -- the range of a hit in the bytes of its text
-pub hit_bounds : (bytes : List ℕ) (import : Import) → IsUtf8 bytes → IsHit (chars bytes) import
+pub hit_bounds : (bytes : List ℕ) (import : Import) → IsUtf8 bytes → IsImportIn (chars bytes) import
     → (import.start ≤ import.end) × (import.end ≤ length bytes)
 hit_bounds bytes import utf8 hit =
-    let placed = hit_placed (chars bytes) import hit in
+    let placed = import_placed (chars bytes) import hit in
     let own = placed.start in
     let last = placed.end in
     let quote = byte_count_quote import.specifier placed.quote placed.quoted in
     let whole : length bytes
-    ≡ byte_count placed.before + (byte_count placed.quote + byte_count placed.behind) =
+    ≡ byte_count placed.before + (byte_count placed.quote + byte_count placed.after) =
     ap length (sym (encodes-chars bytes utf8)) ∙ ap byte_count placed.whole
-    ∙ byte_count-append placed.before (placed.quote ++ placed.behind)
-    ∙ ap (λ n. byte_count placed.before + n) (byte_count-append placed.quote placed.behind) in
+    ∙ byte_count-append placed.before (placed.quote ++ placed.after)
+    ∙ ap (λ n. byte_count placed.before + n) (byte_count-append placed.quote placed.after) in
     (omega (arith, last), omega (arith, own, last, quote, whole))
 
 -- the bytes of a specifier in quotes
@@ -151,32 +151,32 @@ module _ (text : List ℕ) (comment : DependencyComment) (spelled : IsSpelled te
   -- the bytes before and after an import's specifier with its quotes
   module _ (utf8 : IsUtf8 comment.text) (import hit : Import) (placed : IsPlaced (chars comment.text) hit)
       (is_moved : import ≡ moved (comment.range.start + 2) hit) where
-    bytes : comment.text ≡ encodes placed.before ++ (encodes placed.quote ++ encodes placed.behind)
+    bytes : comment.text ≡ encodes placed.before ++ (encodes placed.quote ++ encodes placed.after)
     bytes =
         sym (encodes-chars comment.text utf8) ∙ ap encodes placed.whole
-        ∙ encodes-append placed.before (placed.quote ++ placed.behind)
-        ∙ ap (λ t. encodes placed.before ++ t) (encodes-append placed.quote placed.behind)
+        ∙ encodes-append placed.before (placed.quote ++ placed.after)
+        ∙ ap (λ t. encodes placed.before ++ t) (encodes-append placed.quote placed.after)
 
     abbrev front : List ℕ
     front = pre ++ (codes "/*" ++ encodes placed.before)
 
     abbrev back : List ℕ
-    back = (encodes placed.behind ++ codes "*/") ++ post
+    back = (encodes placed.after ++ codes "*/") ++ post
 
     parts : text ≡ front ++ (encodes placed.quote ++ back)
     parts =
         whole ∙ ap (λ t. pre ++ ((codes "/*" ++ t ++ codes "*/") ++ post)) bytes
         ∙ ap (λ t. pre ++ t)
         (append_assoc (codes "/*"
-        ++ (encodes placed.before ++ (encodes placed.quote ++ encodes placed.behind))) (codes "*/") post
-        ∙ append_assoc (codes "/*") (encodes placed.before ++ (encodes placed.quote ++ encodes placed.behind))
+        ++ (encodes placed.before ++ (encodes placed.quote ++ encodes placed.after))) (codes "*/") post
+        ∙ append_assoc (codes "/*") (encodes placed.before ++ (encodes placed.quote ++ encodes placed.after))
         (codes "*/" ++ post)
         ∙ ap (λ t. codes "/*" ++ t)
-        (append_assoc (encodes placed.before) (encodes placed.quote ++ encodes placed.behind)
+        (append_assoc (encodes placed.before) (encodes placed.quote ++ encodes placed.after)
         (codes "*/" ++ post)
         ∙ ap (λ t. encodes placed.before ++ t)
-        (append_assoc (encodes placed.quote) (encodes placed.behind) (codes "*/" ++ post)
-        ∙ ap (λ t. encodes placed.quote ++ t) (sym (append_assoc (encodes placed.behind) (codes "*/") post))))
+        (append_assoc (encodes placed.quote) (encodes placed.after) (codes "*/" ++ post)
+        ∙ ap (λ t. encodes placed.quote ++ t) (sym (append_assoc (encodes placed.after) (codes "*/") post))))
         ∙ sym (append_assoc (codes "/*") (encodes placed.before) (encodes placed.quote ++ back)))
         ∙ sym (append_assoc pre (codes "/*" ++ encodes placed.before) (encodes placed.quote ++ back))
 
@@ -226,19 +226,19 @@ module _ (text : List ℕ) (comment : DependencyComment) (spelled : IsSpelled te
         IsCharBoundary-from_rest text (length (front ++ encodes placed.quote)) 0
         (omega (arith, sizes, length-append front (encodes placed.quote)))
         (subst (λ t. IsCharBoundary t 0) (sym at_end)
-        (text_first (encodes placed.behind ++ codes "*/") post closed
-        (omega (arith, length-append (encodes placed.behind) (codes "*/")))))
+        (text_first (encodes placed.after ++ codes "*/") post closed
+        (omega (arith, length-append (encodes placed.after) (codes "*/")))))
       where
-        closed : IsUtf8 (encodes placed.behind ++ codes "*/")
-        closed = IsUtf8-append (encodes placed.behind) (codes "*/") behind
+        closed : IsUtf8 (encodes placed.after ++ codes "*/")
+        closed = IsUtf8-append (encodes placed.after) (codes "*/") behind
             (IsUtf8-from_ascii (codes "*/") (IsAscii-from_test (codes "*/") refl))
           where
-            behind : IsUtf8 (encodes placed.behind)
+            behind : IsUtf8 (encodes placed.after)
             behind = (
-              placed.behind,
+              placed.after,
               (
-                scalars_back placed.quote placed.behind
-                    (scalars_back placed.before (placed.quote ++ placed.behind)
+                scalars_back placed.quote placed.after
+                    (scalars_back placed.before (placed.quote ++ placed.after)
                     (ap scalars (sym placed.whole) ∙ scalars-chars comment.text utf8)),
                 refl,
               ),
@@ -282,11 +282,11 @@ module _ (text : List ℕ) (comment : DependencyComment) (spelled : IsSpelled te
         let moves = ap (λ (i : Import). i.start) is_moved in
         let quote = byte_count_quote hit.specifier placed.quote placed.quoted in
         let inner : length comment.text
-        ≡ byte_count placed.before + (byte_count placed.quote + byte_count placed.behind) =
+        ≡ byte_count placed.before + (byte_count placed.quote + byte_count placed.after) =
         ap length bytes ∙ length-append (encodes placed.before)
-        (encodes placed.quote ++ encodes placed.behind)
+        (encodes placed.quote ++ encodes placed.after)
         ∙ ap (λ n. length (encodes placed.before) + n)
-        (length-append (encodes placed.quote) (encodes placed.behind)) in
+        (length-append (encodes placed.quote) (encodes placed.after)) in
         (omega (arith, moves), omega (arith, length_is.0, own, moves, quote, inner))
 
 -- an import is determined by its start, in comments that share no byte
@@ -295,16 +295,17 @@ pub one_import : (text : List ℕ) (comments : List DependencyComment) → AreAp
     → IsSpelled text a → IsSpelled text b → IsUtf8 a.text → IsUtf8 b.text → (import other : Import)
     → IsImportOf a import → IsImportOf b other → import.start ≡ other.start → import ≡ other
 one_import text comments apart a b has also spelled written utf8 valid import other i j same =
-    i.is_moved ∙ ap (moved (a.range.start + 2)) (one_hit (chars a.text) i.hit hit i.is_hit is_hit starts)
+    i.is_moved
+    ∙ ap (moved (a.range.start + 2)) (one_import_in (chars a.text) i.hit hit i.is_hit is_hit starts)
     ∙ sym is_moved
   where
     first : (a.range.start ≤ import.start) × (import.start < a.range.end)
     first = inside_comment text a spelled i.jsdoc.0 utf8 import i.hit
-        (hit_placed (chars a.text) i.hit i.is_hit) i.is_moved
+        (import_placed (chars a.text) i.hit i.is_hit) i.is_moved
 
     second : (b.range.start ≤ other.start) × (other.start < b.range.end)
     second = inside_comment text b written j.jsdoc.0 valid other j.hit
-        (hit_placed (chars b.text) j.hit j.is_hit) j.is_moved
+        (import_placed (chars b.text) j.hit j.is_hit) j.is_moved
 
     equal : a ≡ b
     equal = apart a b has also
@@ -313,8 +314,8 @@ one_import text comments apart a b has also spelled written utf8 valid import ot
     hit : Import
     hit = j.hit
 
-    is_hit : IsHit (chars a.text) hit
-    is_hit = subst (λ (c : DependencyComment). IsHit (chars c.text) hit) (sym equal) j.is_hit
+    is_hit : IsImportIn (chars a.text) hit
+    is_hit = subst (λ (c : DependencyComment). IsImportIn (chars c.text) hit) (sym equal) j.is_hit
 
     is_moved : other ≡ moved (a.range.start + 2) hit
     is_moved = j.is_moved ∙ ap (λ (c : DependencyComment). moved (c.range.start + 2) hit) (sym equal)

@@ -33,11 +33,11 @@ use Rattle.std.proofs.lemmas.List.Elements.{
 use Rattle.std.proofs.lemmas.List.Quantifiers.{all_pairs_push}
 use Rattle.std.specs.List.{All, Contains}
 use Rattle.std.specs.Str.{IsUtf8, chars}
-use Rattle.deno_graph_jsdoc.specs.JsDocHits.{AreHits, Ascend}
-use Rattle.deno_graph_jsdoc.specs.JsDocPass.{GainsImport}
+use Rattle.deno_graph_jsdoc.specs.JsDocImports.{AreImportsIn, Ascend}
+use Rattle.deno_graph_jsdoc.specs.internal.Pass.{GainsImport}
 use Rattle.deno_graph_jsdoc.specs.JsDocImport.{Import, import_of, moved}
 use Rattle.deno_graph_jsdoc.specs.declared.import.JsDocImport.{JsDocImport}
-use Rattle.deno_graph_jsdoc.proofs.Hits.{hit_placed}
+use Rattle.deno_graph_jsdoc.proofs.ImportsIn.{import_placed}
 use Rattle.deno_graph_source.specs.Source.{IsSpelled}
 use Rattle.deno_graph_source.specs.declared.tree.comments.CommentKind.TheVariants.{Block}
 use Rattle.deno_graph_source.specs.declared.tree.comments.DependencyComment.{DependencyComment}
@@ -59,7 +59,7 @@ GainsImport-push now import up below = record {
 
 -- the next import in a comment starts after those so far, of this comment and of those before
 pub next_behind : (by : ℕ) (items : List JsDocImport) (k : ℕ) (d : JsDocImport) (old now : List Import)
-    (text : List ℕ) → k < length items → AreHits text (map import_of items)
+    (text : List ℕ) → k < length items → AreImportsIn text (map import_of items)
     → All (λ (i : Import). i.start < by) old
     → GainsImports old (Contains (placed by items (take k items))) now
     → (other : Import) → Contains now other
@@ -104,5 +104,5 @@ inside_end text comment spelled block utf8 old new behind order below gains impo
         omega (arith, order, first, size.0)
     by_moved (inr (hit, is_hit, is_moved)) =
         (inside_comment text comment spelled block utf8 import hit
-        (hit_placed (chars comment.text) hit is_hit)
+        (import_placed (chars comment.text) hit is_hit)
         is_moved).1

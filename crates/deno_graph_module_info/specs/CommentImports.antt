@@ -18,7 +18,7 @@ use Rattle.std.specs.Prelude.{
 }
 use Rattle.std.specs.List.{AllPairs, Contains}
 use Rattle.std.specs.Str.{IsCharBoundary, chars}
-use Rattle.deno_graph_jsdoc.specs.JsDocHits.{IsHit}
+use Rattle.deno_graph_jsdoc.specs.JsDocImports.{IsImportIn}
 use Rattle.deno_graph_jsdoc.specs.JsDocImport.{Import, moved}
 use Rattle.deno_graph_source.specs.Source.{SharesByte}
 use Rattle.deno_graph_source.specs.declared.tree.comments.CommentKind.TheVariants.{Block}
@@ -54,7 +54,7 @@ IsJsDoc comment = (comment.kind ≡ Block) × ((rest : List ℕ) × (comment.tex
 pub record IsImportOf (comment : DependencyComment) (import : Import) : Type 0 where
   pub jsdoc : IsJsDoc comment
   pub hit : Import
-  pub is_hit : IsHit (chars comment.text) hit
+  pub is_hit : IsImportIn (chars comment.text) hit
   pub is_moved : import ≡ moved (comment.range.start + 2) hit
 
 -- the list has exactly the imports in the comments, and their starts strictly ascend

@@ -2,7 +2,7 @@
 use Rattle.std.specs.Prelude.{◌≡◌, ◌<◌, ◌+◌, ◌⊎◌, ◌↔◌, List}
 use Rattle.std.specs.List.{AllPairs, Contains}
 use Rattle.std.specs.Str.{chars}
-use Rattle.deno_graph_jsdoc.specs.JsDocHits.{IsHit}
+use Rattle.deno_graph_jsdoc.specs.JsDocImports.{IsImportIn}
 use Rattle.deno_graph_jsdoc.specs.JsDocImport.{Import, moved}
 use Rattle.deno_graph_source.specs.declared.tree.comments.DependencyComment.{DependencyComment}
 use Rattle.deno_graph_module_info.specs.CommentImports.{IsJsDoc}
@@ -15,7 +15,7 @@ AreJsDocOf comments chosen = (comment : DependencyComment)
 -- `import` is a hit in the text of the comment, with offsets from the start of the source
 abbrev pub IsMovedHit : DependencyComment → Import → Type 0
 IsMovedHit comment import =
-    (hit : Import) × IsHit (chars comment.text) hit × (import ≡ moved (comment.range.start + 2) hit)
+    (hit : Import) × IsImportIn (chars comment.text) hit × (import ≡ moved (comment.range.start + 2) hit)
 
 -- the new list has the imports of the old list and those with the property `P`, in ascending order; of
 -- imports with the same start it may have only one

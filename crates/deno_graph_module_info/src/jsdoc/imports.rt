@@ -4,7 +4,7 @@ ghost use Rattle.std.specs.Prelude.{◌≡◌, ◌+◌, ◌<◌, ◌^◌, ◌↔
 ghost use Rattle.std.specs.List.{All};
 ghost use Rattle.std.specs.List.Sorted.{IsNonDecreasingBy};
 ghost use Rattle.std.specs.Str.{IsUtf8, chars};
-ghost use Rattle.deno_graph_jsdoc.specs.JsDocHits.{Ascend};
+ghost use Rattle.deno_graph_jsdoc.specs.JsDocImports.{Ascend};
 ghost use Rattle.deno_graph_jsdoc.specs.JsDocImport.{import_of};
 ghost use Rattle.deno_graph_module_info.specs.CommentImports.{AreApart, AreImports, IsJsDoc, IsQuotedAt, reads_jsdoc};
 ghost use Rattle.deno_graph_module_info.specs.internal.CommentImportSteps.{AreJsDocOf, GainsImports, IsMovedHit};

@@ -1,9 +1,9 @@
--- The place is where no start before is as large, and none from there on smaller.
+-- All starts before the index are smaller, and no start from the index on is smaller.
 use Rattle.std.proofs.Common.{◌≡◌, true, false, List, length, get_or, map, sym, ap, ◌∙◌, subst, arith, rules}
 use Rattle.std.proofs.lemmas.List.Sorted.{IsPartitionPoint-from_clause}
 use Rattle.std.specs.List.Sorted.{IsPartitionedBy, IsPartitionPoint}
 use Rattle.deno_graph_jsdoc.specs.JsDocImport.{import_of}
-use Rattle.deno_graph_jsdoc.specs.JsDocPass.{GainsImport}
+use Rattle.deno_graph_jsdoc.specs.internal.Pass.{GainsImport}
 use Rattle.deno_graph_jsdoc.specs.declared.import.JsDocImport.{JsDocImport}
 use Rattle.deno_graph_jsdoc.proofs.Ascending.{GainsImport-placed, GainsImport-there, is_before, placed}
 use Rattle.deno_graph_jsdoc.proofs.pass.insert.Goals as goal

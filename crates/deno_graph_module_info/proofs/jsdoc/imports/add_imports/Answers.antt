@@ -20,8 +20,8 @@ use Rattle.std.proofs.Common.{
 }
 use Rattle.std.proofs.lemmas.List.{map-append}
 use Rattle.std.specs.Str.{IsUtf8, chars}
-use Rattle.deno_graph_jsdoc.specs.JsDocHits.{AreHits}
-use Rattle.deno_graph_jsdoc.specs.JsDocPass.{GainsImport}
+use Rattle.deno_graph_jsdoc.specs.JsDocImports.{AreImportsIn}
+use Rattle.deno_graph_jsdoc.specs.internal.Pass.{GainsImport}
 use Rattle.deno_graph_jsdoc.specs.JsDocImport.{Import, import_of}
 use Rattle.deno_graph_jsdoc.specs.declared.import.JsDocImport.{JsDocImport}
 use Rattle.deno_graph_module_info.proofs.Gathered.{insert_next, insert_all, item_hit}
@@ -31,12 +31,12 @@ use Rattle.deno_graph_module_info.proofs.jsdoc.imports.add_imports.Goals as goal
 use Rattle.deno_graph_module_info.proofs.jsdoc.imports.add_imports.Goals.{After-deref-import-items}
 
 hits : (c : After-deref-import-items)
-    → AreHits (chars c.args.comment.now.text) (map import_of c.deref-import-items.result.now)
+    → AreImportsIn (chars c.args.comment.now.text) (map import_of c.deref-import-items.result.now)
 hits c =
-    subst (λ (xs : List JsDocImport). AreHits (chars c.args.comment.now.text) (map import_of xs))
+    subst (λ (xs : List JsDocImport). AreImportsIn (chars c.args.comment.now.text) (map import_of xs))
     (sym c.deref-import-items.ensures.value)
-    (subst (λ t. AreHits (chars t)
-    (map import_of c.in_ok-found.found.imports.items)) c.as_str.ensures c.in_ok-found.ensures.hits)
+    (subst (λ t. AreImportsIn (chars t)
+    (map import_of c.in_ok-found.found.imports.items)) c.as_str.ensures c.in_ok-found.ensures.imports)
 
 utf8 : (c : After-deref-import-items) → IsUtf8 c.args.comment.now.text
 utf8 c = subst IsUtf8 c.as_str.ensures c.as_str.utf8
