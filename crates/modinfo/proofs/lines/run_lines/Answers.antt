@@ -73,7 +73,8 @@ returns-in_err-write_waiting-in-None g c =
     let (same, end) = rw c.in-None.is at c.in_ok-passes.ensures in
     let (told, front) = c.in_err-write_waiting-in-None.ensures in
     let new = c.run_next.new.waiting.items in
-    exits _ _ _ c.in_err-write_waiting-in-None.field-0.0 c.from_residual-in_err-write_waiting-in-None.ensures.1
+    exits _ _ _ c.in_err-write_waiting-in-None.field-0.0
+    c.from_residual-in_err-write_waiting-in-None.ensures.1
     (LeavesFirstLines-at c.args.task _ _ _ _ done c.lines.is_passed ((sent ++ written) ++ new)
     c.in_err-write_waiting-in-None.field-0.0 (subst IsFailure (sym told) tt)
     (TakesLines-same _ _ _ done c.in_ok-input.ensures taken)
