@@ -23,8 +23,8 @@ quads = refl
 
 in_range : (low count c : ℕ) → none_from low count → low ≤ c → c < low + count → is_alphabetic c ≡ false
 in_range low count c none from below =
-    let place : low + (c - low) ≡ c = omega arith in
-    subst (λ n. is_alphabetic n ≡ false) place
+    let sum : low + (c - low) ≡ c = omega arith in
+    subst (λ n. is_alphabetic n ≡ false) sum
     (agree_below_at (λ k. is_alphabetic (low + k)) (λ _. false) count (c - low) none (omega arith))
 
 between : (low count c : ℕ) → none_from (low + 1) count

@@ -15,16 +15,16 @@ use Rattle.deno_graph_jsdoc.proofs.Passes.{gained, gained_sound}
 use Rattle.deno_graph_jsdoc.proofs.Sites.{same_front, same_after}
 
 -- the index of a start in a list that ascends: an import has this start, or the start is between two imports
-abbrev Place : List Import → ℕ → Type 0
-Place old start =
+abbrev Index : List Import → ℕ → Type 0
+Index old start =
     ((k : ℕ) × (k < length old) × ((d : Import) → (get_or old k d).start ≡ start))
     ⊎ ((at : ℕ) × (at ≤ length old) × ((k : ℕ) (d : Import) → k < at → (get_or old k d).start < start)
     × ((k : ℕ) (d : Import) → at ≤ k → k < length old → start < (get_or old k d).start))
 
-place : (old : List Import) (start : ℕ) → Ascend old → Place old start
-place [] start up =
+index_of : (old : List Import) (start : ℕ) → Ascend old → Index old start
+index_of [] start up =
     inr (0, omega arith, (λ k d less. absurd (omega arith)), λ k d more inside. absurd (omega arith))
-place (x ∷ xs) start up = by_first (cases_lt x.start start) (place xs start (tail_pairs x xs up))
+index_of (x ∷ xs) start up = by_first (cases_lt x.start start) (index_of xs start (tail_pairs x xs up))
   where
     above : start < x.start → (k : ℕ) (d : Import) → k < length (x ∷ xs) → start < (get_or (x ∷ xs) k d).start
     above less zero d inside = less
@@ -42,26 +42,26 @@ place (x ∷ xs) start up = by_first (cases_lt x.start start) (place xs start (t
     after over zero d more inside = absurd (omega arith)
     after over (suc k) d more inside = over k d (omega arith) (omega arith)
 
-    by_same : (start < x.start) ⊎ (x.start ≤ start) → start ≤ x.start → Place (x ∷ xs) start
+    by_same : (start < x.start) ⊎ (x.start ≤ start) → start ≤ x.start → Index (x ∷ xs) start
     by_same (inl less) least =
         inr (0, omega arith, (λ k d below. absurd (omega arith)), λ k d more inside. above less k d inside)
     by_same (inr more) least = inl (0, omega arith, λ d. omega (arith, more, least))
 
-    by_rest : x.start < start → Place xs start → Place (x ∷ xs) start
+    by_rest : x.start < start → Index xs start → Index (x ∷ xs) start
     by_rest less (inl (k, inside, is)) = inl (suc k, omega arith, is)
     by_rest less (inr (at, fits, below, over)) = inr (at + 1, omega arith, first less below, after over)
 
-    by_first : (x.start < start) ⊎ (start ≤ x.start) → Place xs start → Place (x ∷ xs) start
+    by_first : (x.start < start) ⊎ (start ≤ x.start) → Index xs start → Index (x ∷ xs) start
     by_first (inl less) rest = by_rest less rest
     by_first (inr least) rest = by_same (cases_lt start x.start) least
 
 pub gain : (old : List Import) (import : Import) → Ascend old → (new : List Import)
     × GainsImport old import new
-gain old import up = by_place (place old import.start up)
+gain old import up = by_index (index_of old import.start up)
   where
-    by_place : Place old import.start → (new : List Import) × GainsImport old import new
-    by_place (inl (k, inside, is)) = (old, GainsImport-same old import up k inside is)
-    by_place (inr (at, fits, below, over)) =
+    by_index : Index old import.start → (new : List Import) × GainsImport old import new
+    by_index (inl (k, inside, is)) = (old, GainsImport-same old import up k inside is)
+    by_index (inr (at, fits, below, over)) =
         (insert old at import, GainsImport-insert old import at fits up below over)
 
 -- all imports whose front is shorter
@@ -110,7 +110,7 @@ module _ (text front back : List ℕ) (whole : text ≡ front ++ back) where
         here = here;
         whole = whole;
         states = inl is;
-        place = refl;
+        is_moved = refl;
       })
       old so_far.ascending so_far.sound dynamic.0 dynamic.1 in
       let second = take IsDeclaration
@@ -121,7 +121,7 @@ module _ (text front back : List ℕ) (whole : text ≡ front ++ back) where
         here = here;
         whole = whole;
         states = inr is;
-        place = refl;
+        is_moved = refl;
       })
       first.0 first.1 first.2 declaration.0 declaration.1 in (
         second.0,
@@ -156,7 +156,7 @@ module _ (text front back : List ℕ) (whole : text ≡ front ++ back) where
               whole
 
           is : moved (byte_count front) is_in.here ≡ import
-          is = ap (λ f. moved (byte_count f) is_in.here) (sym fronts) ∙ sym is_in.place
+          is = ap (λ f. moved (byte_count f) is_in.here) (sym fronts) ∙ sym is_in.is_moved
 
           by_form : IsDynamicImport is_in.back is_in.here is_in.rest
               ⊎ IsDeclaration is_in.back is_in.here is_in.rest
@@ -181,8 +181,8 @@ collect text front (c ∷ cs) whole old so_far =
     collect text (front ++ c ∷ []) cs (whole ∙ sym (append_assoc front (c ∷ []) cs)) next.0
     (subst (λ n. Collected text n next.0) size next.1)
 
-pub imports_in_of : (text : List ℕ) → (imports : List Import) × AreImportsIn text imports
-imports_in_of text =
+pub all_imports : (text : List ℕ) → (imports : List Import) × AreImportsIn text imports
+all_imports text =
     let all = collect text [] text refl []
     (record {
       ascending = λ i j d order inside. absurd (omega arith);

@@ -28,7 +28,7 @@ pub record IsStated (P : List ℕ → Type 0) (G : List ℕ → Import → List 
   pub whole : text ≡ front ++ after
   pub site : P front
   pub states : G after here rest
-  pub place : import ≡ moved (byte_count front) here
+  pub is_moved : import ≡ moved (byte_count front) here
 
 abbrev pub IsDynamicImportIn : List ℕ → List ℕ → Import → Type 0
 IsDynamicImportIn = IsStated EndsAtDynamicImport IsDynamicEnd
@@ -64,7 +64,7 @@ module _ (First Head Whole : List ℕ → Type 0) (Tail : List ℕ → Mode → 
   stated_by : (text front back rest : List ℕ) (here import : Import) → text ≡ front ++ back
       → StatesImport Whole Tail back here rest → import ≡ moved (byte_count front) here
       → (next : List ℕ) × IsStated (Anything · First) (StatesImport Head Tail) text next import
-  stated_by text front back rest here import whole s place =
+  stated_by text front back rest here import whole s is_moved =
       let parts = parts_of Anything First Head Whole Tail apart together (λ _ _ _ _. tt) back s in (
         front ++ parts.first.piece,
         record {
@@ -81,7 +81,7 @@ module _ (First Head Whole : List ℕ → Type 0) (Tail : List ℕ → Mode → 
             is_back = parts.first.is;
           };
           states = parts.states;
-          place = place ∙ ap (moved (byte_count front)) parts.same
+          is_moved = is_moved ∙ ap (moved (byte_count front)) parts.same
               ∙ moved-moved (byte_count front) (byte_count parts.first.piece) parts.later
               ∙ ap (λ n. moved n parts.later) (sym (byte_count-append front parts.first.piece));
         },
@@ -94,7 +94,7 @@ module _ (First Head Whole : List ℕ → Type 0) (Tail : List ℕ → Mode → 
     here : Import
     whole : text ≡ front ++ back
     states : StatesImport Whole Tail back here rest
-    place : import ≡ moved (byte_count front) here
+    is_moved : import ≡ moved (byte_count front) here
 
   found_by : (text next : List ℕ) (import : Import)
       → IsStated (Anything · First) (StatesImport Head Tail) text next import → Found text import
@@ -110,7 +110,7 @@ module _ (First Head Whole : List ℕ → Type 0) (Tail : List ℕ → Mode → 
         whole = s.whole ∙ ap (λ t. t ++ s.after) site.whole ∙ append_assoc site.front site.back s.after;
         states = joined Anything First Head Whole Tail apart together (λ _ _ _ _. tt)
             (site.back ++ s.after) s.after first s.states;
-        place = s.place ∙ ap (λ t. moved (byte_count t) s.here) site.whole
+        is_moved = s.is_moved ∙ ap (λ t. moved (byte_count t) s.here) site.whole
             ∙ ap (λ n. moved n s.here) (byte_count-append site.front site.back)
             ∙ sym (moved-moved (byte_count site.front) (byte_count site.back) s.here);
       }
@@ -133,11 +133,11 @@ import_stated text import is_in = by_form is_in.states
         ⊎ ((front : List ℕ) × IsDeclarationIn text front import)
     by_form (inl s) =
         inl (stated_by DynamicFirst DynamicHead DynamicWhole EndsDynamicImport dynamic_apart dynamic_together
-        text is_in.front is_in.back is_in.rest is_in.here import is_in.whole s is_in.place)
+        text is_in.front is_in.back is_in.rest is_in.here import is_in.whole s is_in.is_moved)
     by_form (inr s) =
         inr (stated_by DeclarationFirst DeclarationHead (DeclarationFirst · DeclarationHead) EndsDeclaration
         (λ _ is. is) (λ _ is. is) text is_in.front is_in.back is_in.rest is_in.here import is_in.whole s
-        is_in.place)
+        is_in.is_moved)
 
 pub dynamic_in : (text front : List ℕ) (import : Import)
     → IsDynamicImportIn text front import → IsImportIn text import
@@ -151,7 +151,7 @@ dynamic_in text front import s =
       here = found.here;
       whole = found.whole;
       states = inl found.states;
-      place = found.place;
+      is_moved = found.is_moved;
     }
 
 pub declaration_in : (text front : List ℕ) (import : Import)
@@ -166,7 +166,7 @@ declaration_in text front import s =
       here = found.here;
       whole = found.whole;
       states = inr found.states;
-      place = found.place;
+      is_moved = found.is_moved;
     }
 
 -- the text before such imports ends with `import`
@@ -200,7 +200,7 @@ module _ (P : List ℕ → Type 0) (G : List ℕ → Import → List ℕ → Typ
   pub stated_only : (answer : List ℕ × Import) → ReadsImport G after (Some answer) → (import : Import)
       → IsStated P G text front import → import ≡ moved (byte_count front) answer.1
   stated_only answer found import s =
-      s.place ∙ ap (moved (byte_count front)) (found.1 s.here s.rest (here_of import s)).0
+      s.is_moved ∙ ap (moved (byte_count front)) (found.1 s.here s.rest (here_of import s)).0
 
   pub stated_some : (answer : List ℕ × Import) → ReadsImport G after (Some answer) → P front
       → IsStated P G text front (moved (byte_count front) answer.1)
@@ -211,7 +211,7 @@ module _ (P : List ℕ → Type 0) (G : List ℕ → Import → List ℕ → Typ
     whole = whole;
     site = site;
     states = found.0;
-    place = refl;
+    is_moved = refl;
   }
 
 -- two fronts of a text that take equally many bytes are the same
@@ -321,10 +321,10 @@ specified_by : (P Head : List ℕ → Type 0) (Tail : List ℕ → Mode → List
     → IsStated P (StatesImport Head Tail) text front import → Specified Head Tail text import
 specified_by P Head Tail text front import s =
     let states = s.states in
-    let specifier : import.specifier ≡ s.here.specifier = ap (λ (i : Import). i.specifier) s.place in
-    let mode : import.mode ≡ s.here.mode = ap (λ (i : Import). i.mode) s.place in
-    let starts : import.start ≡ s.here.start + byte_count front = ap (λ (i : Import). i.start) s.place in
-    let ends : import.end ≡ s.here.end + byte_count front = ap (λ (i : Import). i.end) s.place in
+    let specifier : import.specifier ≡ s.here.specifier = ap (λ (i : Import). i.specifier) s.is_moved in
+    let mode : import.mode ≡ s.here.mode = ap (λ (i : Import). i.mode) s.is_moved in
+    let starts : import.start ≡ s.here.start + byte_count front = ap (λ (i : Import). i.start) s.is_moved in
+    let ends : import.end ≡ s.here.end + byte_count front = ap (λ (i : Import). i.end) s.is_moved in
     let start = states.start in
     let end = states.end in
     record {

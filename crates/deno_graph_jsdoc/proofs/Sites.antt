@@ -110,11 +110,11 @@ module _ (front rest : List ℕ) (cut : IsCut front) where
           let tails : rest ≡ middle.0 ++ (word ++ is.0) =
           append_cancel_left front rest (middle.0 ++ (word ++ is.0))
           (all ∙ ap (λ t. t ++ (word ++ is.0)) middle.1 ∙ append_assoc front middle.0 (word ++ is.0)) in
-          let place : length ends.0 ≡ length front + length middle.0 =
+          let end_size : length ends.0 ≡ length front + length middle.0 =
           ap length middle.1 ∙ length-append front middle.0 in
           let fits : length before ≤ length middle.0 =
           not_sooner middle.0 tails (cases_lt (length middle.0) (length before)) in
-          omega (arith, size, sizes, place)
+          omega (arith, size, sizes, end_size)
         where
           not_sooner : (middle : List ℕ) → rest ≡ middle ++ (word ++ is.0) → (length middle < length before)
               ⊎ (length before ≤ length middle) → length before ≤ length middle

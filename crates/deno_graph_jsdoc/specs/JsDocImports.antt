@@ -14,7 +14,7 @@ pub record IsImportIn (text : List ℕ) (import : Import) : Type 0 where
   pub here : Import
   pub whole : text ≡ front ++ back
   pub states : IsDynamicImport back here rest ⊎ IsDeclaration back here rest
-  pub place : import ≡ moved (byte_count front) here
+  pub is_moved : import ≡ moved (byte_count front) here
 
 -- the starts strictly ascend
 abbrev pub Ascend : List Import → Type 0

@@ -32,7 +32,7 @@ use Rattle.std.specs.Str.{IsUtf8, chars}
 use Rattle.deno_graph_pragmas.specs.Piece.{star}
 use Rattle.deno_graph_jsdoc.specs.JsDocImports.{Ascend}
 use Rattle.deno_graph_jsdoc.specs.JsDocImport.{Import, moved}
-use Rattle.deno_graph_jsdoc.proofs.Collected.{gain, imports_in_of}
+use Rattle.deno_graph_jsdoc.proofs.Collected.{gain, all_imports}
 use Rattle.deno_graph_module_info.specs.CommentImports.{AreApart, AreImports, IsJsDoc}
 use Rattle.deno_graph_module_info.specs.internal.CommentImportSteps.{GainsImports, IsMovedHit}
 use Rattle.deno_graph_module_info.proofs.Gathered.{
@@ -71,7 +71,7 @@ add : (comment : DependencyComment) (old : List Import) → Ascend old
 add comment old up =
     let by = comment.range.start + 2 in
     let text = chars comment.text in
-    let hits = imports_in_of text in
+    let hits = all_imports text in
     let all = gather by hits.0 old old []
     (GainsImports-start old (Contains []) up (λ import has. absurd (omega (arith, has.1)))) in (
       all.0,
