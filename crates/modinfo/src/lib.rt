@@ -2,9 +2,9 @@
 #![tactic(auto)]
 
 pub mod check;
+mod command_line;
 pub mod fault;
 mod input;
-mod invocation;
 pub mod laws;
 mod lines;
 mod output;

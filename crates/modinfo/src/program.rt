@@ -2,15 +2,15 @@ ghost use Rattle.std.specs.Prelude.{◌≡◌, [], ◌∷◌, ◌++◌, ℕ, Boo
 ghost use Rattle.std.specs.Prelude.{MatchResult, OnOk, true};
 ghost use Rattle.std.specs.Io.KnownBytes.{Appends, Keeps};
 ghost use Rattle.modinfo.specs.Answer.{IsRunFault, name_of};
-ghost use Rattle.modinfo.specs.Invocation.{Flags, are_strict, flag_words, have_lines};
-ghost use Rattle.modinfo.specs.internal.Invocation.{invocation_of};
+ghost use Rattle.modinfo.specs.CommandLine.{Flags, are_strict, flag_words, have_lines};
+ghost use Rattle.modinfo.specs.internal.CommandLine.{command_line_of};
 ghost use Rattle.modinfo.specs.Lines.{IsLinesRun, LeavesFirstLines, LeavesLines};
 ghost use Rattle.modinfo.specs.Run.{AppendsFront, IsFailure, IsRun, PrintsAnswer, PrintsReport, error_line};
 ghost use Rattle.modinfo.specs.internal.Run.{Leaves, LeavesFault};
 
+use crate::command_line::{CommandLine, HELP, USAGE, VERSION, unexpected_word};
 use crate::fault::Fault;
 use crate::input::read_to_end;
-use crate::invocation::{HELP, Invocation, USAGE, VERSION, unexpected_word};
 use crate::lines::run_lines;
 use crate::output::write_front;
 use crate::subcommand::Subcommand;
@@ -77,11 +77,11 @@ pub fn serve<R: Read, W: Write, E: Write>(
         result }
     ensures usage { result ≡ 2 → Keeps (W.contents output.old) (W.contents output.new) }
 {
-    let Some(invocation) = Invocation::from_words(words) else {
+    let Some(command_line) = CommandLine::from_words(words) else {
         print_usage(errors, unexpected_word(words));
         return 2;
     };
-    match answer(alloc, invocation, input, output) {
+    match answer(alloc, command_line, input, output) {
         Ok(passes) => status_of(passes),
         Err(fault) => {
             print_fault(errors, &fault);
@@ -146,34 +146,34 @@ fn print_line<E: Write>(errors: &mut E, text: &str)
     }
 }
 
-/// Runs an invocation, and returns whether its checks passed; true without a check.
+/// Runs a command line, and returns whether its checks passed; true without a check.
 fn answer<R: Read, W: Write>(
     alloc: Global,
-    invocation: Invocation,
+    command_line: CommandLine,
     input: &mut R,
     output: &mut W,
 ) -> Result<bool, Fault>
-    ensures answer { (subcommand : Subcommand) → invocation ≡ Invocation.Document (Task.Answer subcommand)
+    ensures answer { (subcommand : Subcommand) → command_line ≡ CommandLine.Document (Task.Answer subcommand)
         → (document : List ℕ) × IfSome (R.remaining input.old) (λ left. document ≡ left)
         × MatchResult result
         (Leaves (PrintsAnswer subcommand document) (W.contents output.old) (W.contents output.new))
         (LeavesFault (IsRunFault subcommand document) (W.contents output.old) (W.contents output.new)) }
     ensures check { (subcommand : Subcommand) → (is_strict : Bool)
-        → invocation ≡ Invocation.Document (Task.Check subcommand is_strict)
+        → command_line ≡ CommandLine.Document (Task.Check subcommand is_strict)
         → (document : List ℕ) × IfSome (R.remaining input.old) (λ left. document ≡ left)
         × MatchResult result
         (Leaves (PrintsReport subcommand is_strict document) (W.contents output.old) (W.contents output.new))
         (LeavesFault IsFailure (W.contents output.old) (W.contents output.new)) }
-    ensures lines { (task : Task) → invocation ≡ Invocation.Lines task
+    ensures lines { (task : Task) → command_line ≡ CommandLine.Lines task
         → MatchResult result
         (LeavesLines task (R.remaining input.old) (W.contents output.old) (W.contents output.new))
         (LeavesFirstLines task (R.remaining input.old) (W.contents output.old) (W.contents output.new)) }
 {
-    match invocation {
-        Invocation::Help => print(output, HELP)?,
-        Invocation::Version => print(output, VERSION)?,
-        Invocation::Document(task) => return run_document(alloc, task, input, output),
-        Invocation::Lines(task) => return run_lines(alloc, task, input, output),
+    match command_line {
+        CommandLine::Help => print(output, HELP)?,
+        CommandLine::Version => print(output, VERSION)?,
+        CommandLine::Document(task) => return run_document(alloc, task, input, output),
+        CommandLine::Lines(task) => return run_lines(alloc, task, input, output),
     }
     Ok(true)
 }

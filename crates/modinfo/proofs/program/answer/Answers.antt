@@ -1,11 +1,11 @@
 use Rattle.std.proofs.Common.{◌≡◌, sym, ap, ◌∙◌}
-use Rattle.modinfo.specs.declared.invocation.Invocation.{Invocation}
-use Rattle.modinfo.specs.declared.invocation.Invocation.TheVariants.{Help, Version, Document, Lines}
+use Rattle.modinfo.specs.declared.command_line.CommandLine.{CommandLine}
+use Rattle.modinfo.specs.declared.command_line.CommandLine.TheVariants.{Help, Version, Document, Lines}
 use Rattle.modinfo.specs.declared.task.Task.{Task}
 use Rattle.modinfo.proofs.program.answer.Goals as goal
 
 -- The task for the only document, or `other`.
-abbrev document_task : Task → Invocation → Task
+abbrev document_task : Task → CommandLine → Task
 document_task other (Document task) = task
 document_task other Help = other
 document_task other Version = other
@@ -23,7 +23,7 @@ returns-in-Document-clause-check g c subcommand is_strict is =
     (ap (document_task c.in-Document.task) (sym c.in-Document.is ∙ is))
 
 -- The task for the lines, or `other`.
-abbrev lines_task : Task → Invocation → Task
+abbrev lines_task : Task → CommandLine → Task
 lines_task other (Lines task) = task
 lines_task other (Document _) = other
 lines_task other Help = other

@@ -1,8 +1,8 @@
 use Rattle.std.proofs.Common.{◌∙◌, Some, false, true, ap, refl, sym}
 use Rattle.std.proofs.KnownBytes.{Keeps-refl}
 use Rattle.std.proofs.lemmas.Option.{none-some, same_Some}
-use Rattle.modinfo.specs.Invocation.{are_strict}
-use Rattle.modinfo.specs.internal.Invocation.{invocation_of}
+use Rattle.modinfo.specs.CommandLine.{are_strict}
+use Rattle.modinfo.specs.internal.CommandLine.{command_line_of}
 use Rattle.modinfo.specs.Lines.IsLinesRun.{printed as lines_printed, failed as lines_failed}
 use Rattle.modinfo.specs.Run.{printed, failed}
 use Rattle.modinfo.specs.declared.subcommand.Subcommand.TheVariants.{Analyze}
@@ -47,7 +47,7 @@ pub returns-in-Ok-clause-check : goal.returns-in-Ok-clause-check
 returns-in-Ok-clause-check g c subcommand flags words one =
     let task = Check subcommand (are_strict flags) in
     let is = same_Some _ _ (sym c.in-Some.is ∙ c.from_words.ensures.check subcommand flags words
-    ∙ ap (λ b. Some (invocation_of b task)) one) in
+    ∙ ap (λ b. Some (command_line_of b task)) one) in
     let ran = c.in-Ok.ensures.check subcommand (are_strict flags) is in
     (ran.0, ran.1, printed c.in-Ok.passes ran.2.0 ran.2.1 c.status_of.ensures ran.2.2 (Keeps-refl _))
 
@@ -55,7 +55,7 @@ pub returns-in-Ok-clause-check_analyze : goal.returns-in-Ok-clause-check_analyze
 returns-in-Ok-clause-check_analyze g c flags words one =
     let task = Check Analyze (are_strict flags) in
     let is = same_Some _ _ (sym c.in-Some.is ∙ c.from_words.ensures.check_analyze flags words
-    ∙ ap (λ b. Some (invocation_of b task)) one) in
+    ∙ ap (λ b. Some (command_line_of b task)) one) in
     let ran = c.in-Ok.ensures.check Analyze (are_strict flags) is in
     (ran.0, ran.1, printed c.in-Ok.passes ran.2.0 ran.2.1 c.status_of.ensures ran.2.2 (Keeps-refl _))
 
@@ -71,7 +71,7 @@ pub returns-in-Err-clause-check : goal.returns-in-Err-clause-check
 returns-in-Err-clause-check g c subcommand flags words one =
     let task = Check subcommand (are_strict flags) in
     let is = same_Some _ _ (sym c.in-Some.is ∙ c.from_words.ensures.check subcommand flags words
-    ∙ ap (λ b. Some (invocation_of b task)) one) in
+    ∙ ap (λ b. Some (command_line_of b task)) one) in
     let ran = c.in-Err.ensures.check subcommand (are_strict flags) is in
     (ran.0, ran.1, failed c.in-Err.fault ran.2.0 refl ran.2.1 c.print_fault.ensures)
 
@@ -79,7 +79,7 @@ pub returns-in-Err-clause-check_analyze : goal.returns-in-Err-clause-check_analy
 returns-in-Err-clause-check_analyze g c flags words one =
     let task = Check Analyze (are_strict flags) in
     let is = same_Some _ _ (sym c.in-Some.is ∙ c.from_words.ensures.check_analyze flags words
-    ∙ ap (λ b. Some (invocation_of b task)) one) in
+    ∙ ap (λ b. Some (command_line_of b task)) one) in
     let ran = c.in-Err.ensures.check Analyze (are_strict flags) is in
     (ran.0, ran.1, failed c.in-Err.fault ran.2.0 refl ran.2.1 c.print_fault.ensures)
 
@@ -95,14 +95,14 @@ pub returns-in-Ok-clause-check_lines : goal.returns-in-Ok-clause-check_lines
 returns-in-Ok-clause-check_lines g c subcommand flags words many =
     let task = Check subcommand (are_strict flags) in
     let is = same_Some _ _ (sym c.in-Some.is ∙ c.from_words.ensures.check subcommand flags words
-    ∙ ap (λ b. Some (invocation_of b task)) many) in
+    ∙ ap (λ b. Some (command_line_of b task)) many) in
     lines_printed c.in-Ok.passes (c.in-Ok.ensures.lines task is) c.status_of.ensures (Keeps-refl _)
 
 pub returns-in-Ok-clause-check_analyze_lines : goal.returns-in-Ok-clause-check_analyze_lines
 returns-in-Ok-clause-check_analyze_lines g c flags words many =
     let task = Check Analyze (are_strict flags) in
     let is = same_Some _ _ (sym c.in-Some.is ∙ c.from_words.ensures.check_analyze flags words
-    ∙ ap (λ b. Some (invocation_of b task)) many) in
+    ∙ ap (λ b. Some (command_line_of b task)) many) in
     lines_printed c.in-Ok.passes (c.in-Ok.ensures.lines task is) c.status_of.ensures (Keeps-refl _)
 
 pub returns-in-Err-clause-lines : goal.returns-in-Err-clause-lines
@@ -114,12 +114,12 @@ pub returns-in-Err-clause-check_lines : goal.returns-in-Err-clause-check_lines
 returns-in-Err-clause-check_lines g c subcommand flags words many =
     let task = Check subcommand (are_strict flags) in
     let is = same_Some _ _ (sym c.in-Some.is ∙ c.from_words.ensures.check subcommand flags words
-    ∙ ap (λ b. Some (invocation_of b task)) many) in
+    ∙ ap (λ b. Some (command_line_of b task)) many) in
     lines_failed c.in-Err.fault (c.in-Err.ensures.lines task is) refl c.print_fault.ensures
 
 pub returns-in-Err-clause-check_analyze_lines : goal.returns-in-Err-clause-check_analyze_lines
 returns-in-Err-clause-check_analyze_lines g c flags words many =
     let task = Check Analyze (are_strict flags) in
     let is = same_Some _ _ (sym c.in-Some.is ∙ c.from_words.ensures.check_analyze flags words
-    ∙ ap (λ b. Some (invocation_of b task)) many) in
+    ∙ ap (λ b. Some (command_line_of b task)) many) in
     lines_failed c.in-Err.fault (c.in-Err.ensures.lines task is) refl c.print_fault.ensures

@@ -2,8 +2,8 @@
 
 ghost use Rattle.std.specs.Prelude.{◌≡◌, [], ◌∷◌, Bool, codes, if◌then◌else◌, map, Some};
 ghost use Rattle.modinfo.specs.Answer.{name_of};
-ghost use Rattle.modinfo.specs.Invocation.{Flags, are_strict, flag_words, have_lines};
-ghost use Rattle.modinfo.specs.internal.Invocation.{invocation_of};
+ghost use Rattle.modinfo.specs.CommandLine.{Flags, are_strict, flag_words, have_lines};
+ghost use Rattle.modinfo.specs.internal.CommandLine.{command_line_of};
 
 use crate::subcommand::Subcommand;
 use crate::task::Task;
@@ -63,7 +63,7 @@ Example:
 
 /// A run of the program, as its arguments describe it.
 #[derive(Debug, Clone, Copy, PartialEq, Eq)]
-pub enum Invocation {
+pub enum CommandLine {
     /// `--help`, or `-h`
     Help,
     /// `--version`
@@ -74,32 +74,32 @@ pub enum Invocation {
     Lines(Task),
 }
 
-impl Invocation {
-    /// The invocation with these arguments, `None` if they are wrong.
-    pub fn from_words(words: &[&str]) -> Option<Invocation>
+impl CommandLine {
+    /// The command line with these arguments, `None` if they are wrong.
+    pub fn from_words(words: &[&str]) -> Option<CommandLine>
         ensures answer { (subcommand : Subcommand) → (has_lines : Bool)
             → map (λ word. word.now) words.now
             ≡ name_of subcommand ∷ (if has_lines then codes "--lines" ∷ [] else [])
-            → result ≡ Some (invocation_of has_lines (Task.Answer subcommand)) }
+            → result ≡ Some (command_line_of has_lines (Task.Answer subcommand)) }
         ensures check { (subcommand : Subcommand) → (flags : Flags)
             → map (λ word. word.now) words.now ≡ codes "check" ∷ name_of subcommand ∷ flag_words flags
-            → result ≡ Some (invocation_of (have_lines flags) (Task.Check subcommand (are_strict flags))) }
+            → result ≡ Some (command_line_of (have_lines flags) (Task.Check subcommand (are_strict flags))) }
         ensures check_analyze { (flags : Flags)
             → map (λ word. word.now) words.now ≡ codes "check" ∷ flag_words flags
             → result ≡ Some
-            (invocation_of (have_lines flags) (Task.Check Subcommand.Analyze (are_strict flags))) }
+            (command_line_of (have_lines flags) (Task.Check Subcommand.Analyze (are_strict flags))) }
     {
         match words {
-            [word] if *word == "--help" || *word == "-h" => Some(Invocation::Help),
-            [word] if *word == "--version" => Some(Invocation::Version),
-            [word, words @ ..] if *word == "check" => Invocation::from_check(words),
+            [word] if *word == "--help" || *word == "-h" => Some(CommandLine::Help),
+            [word] if *word == "--version" => Some(CommandLine::Version),
+            [word, words @ ..] if *word == "check" => CommandLine::from_check(words),
             [name] => {
                 let task = Task::Answer(Subcommand::from_name(name)?);
-                Some(Invocation::Document(task))
+                Some(CommandLine::Document(task))
             }
             [name, word] if *word == "--lines" => {
                 let task = Task::Answer(Subcommand::from_name(name)?);
-                Some(Invocation::Lines(task))
+                Some(CommandLine::Lines(task))
             }
             _ => None,
         }
@@ -107,27 +107,27 @@ impl Invocation {
 
     /// The check with the arguments after `check`: the name of a subcommand, `analyze` if there is none,
     /// and then flags.
-    fn from_check(words: &[&str]) -> Option<Invocation>
+    fn from_check(words: &[&str]) -> Option<CommandLine>
         ensures named { (subcommand : Subcommand) → (flags : Flags)
             → map (λ word. word.now) words.now ≡ name_of subcommand ∷ flag_words flags
-            → result ≡ Some (invocation_of (have_lines flags) (Task.Check subcommand (are_strict flags))) }
+            → result ≡ Some (command_line_of (have_lines flags) (Task.Check subcommand (are_strict flags))) }
         ensures unnamed { (flags : Flags) → map (λ word. word.now) words.now ≡ flag_words flags
             → result ≡ Some
-            (invocation_of (have_lines flags) (Task.Check Subcommand.Analyze (are_strict flags))) }
+            (command_line_of (have_lines flags) (Task.Check Subcommand.Analyze (are_strict flags))) }
     {
         match words {
             [name, flags @ ..] if !name.starts_with("--") => {
                 let subcommand = Subcommand::from_name(name)?;
-                Invocation::of_check(subcommand, flags)
+                CommandLine::of_check(subcommand, flags)
             }
-            _ => Invocation::of_check(Subcommand::Analyze, words),
+            _ => CommandLine::of_check(Subcommand::Analyze, words),
         }
     }
 
     /// The check of a subcommand with these flags, in any order.
-    fn of_check(subcommand: Subcommand, flags: &[&str]) -> Option<Invocation>
+    fn of_check(subcommand: Subcommand, flags: &[&str]) -> Option<CommandLine>
         ensures { (given : Flags) → map (λ word. word.now) flags.now ≡ flag_words given
-            → result ≡ Some (invocation_of (have_lines given) (Task.Check subcommand (are_strict given))) }
+            → result ≡ Some (command_line_of (have_lines given) (Task.Check subcommand (are_strict given))) }
     {
         let (is_strict, has_lines) = match flags {
             [] => (false, false),
@@ -142,9 +142,9 @@ impl Invocation {
             is_strict,
         };
         if has_lines {
-            Some(Invocation::Lines(task))
+            Some(CommandLine::Lines(task))
         } else {
-            Some(Invocation::Document(task))
+            Some(CommandLine::Document(task))
         }
     }
 }
