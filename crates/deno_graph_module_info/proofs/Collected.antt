@@ -34,7 +34,7 @@ use Rattle.deno_graph_jsdoc.specs.JsDocImports.{Ascend}
 use Rattle.deno_graph_jsdoc.specs.JsDocImport.{Import, moved}
 use Rattle.deno_graph_jsdoc.proofs.Collected.{gain, all_imports}
 use Rattle.deno_graph_module_info.specs.CommentImports.{AreApart, AreImports, IsJsDoc}
-use Rattle.deno_graph_module_info.specs.internal.CommentImportSteps.{GainsImports, IsMovedHit}
+use Rattle.deno_graph_module_info.specs.internal.CommentImportSteps.{GainsImports, IsMovedImport}
 use Rattle.deno_graph_module_info.proofs.Gathered.{
   Gathered,
   Gathered-start,
@@ -44,8 +44,8 @@ use Rattle.deno_graph_module_info.proofs.Gathered.{
   GainsImports-start,
   GainsImports-more,
   GainsImports-as,
-  moved_is_hit,
-  hit_is_moved,
+  moved_is_inner,
+  inner_is_moved,
 }
 use Rattle.deno_graph_source.specs.Source.{IsSpelled}
 use Rattle.deno_graph_source.specs.declared.tree.comments.CommentKind.{CommentKind}
@@ -53,30 +53,30 @@ use Rattle.deno_graph_source.specs.declared.tree.comments.CommentKind.TheVariant
 use Rattle.deno_graph_source.specs.declared.tree.comments.DependencyComment.{DependencyComment}
 
 -- the list with the imports in one more comment
-gather : (by : ℕ) (hits old now done : List Import) → GainsImports old (Contains done) now
-    → (new : List Import) × GainsImports old (Contains (done ++ map (moved by) hits)) new
+gather : (by : ℕ) (inners old now done : List Import) → GainsImports old (Contains done) now
+    → (new : List Import) × GainsImports old (Contains (done ++ map (moved by) inners)) new
 gather by [] old now done gains =
     (now, subst (λ xs. GainsImports old (Contains xs) now) (sym (append-nil done)) gains)
-gather by (hit ∷ hits) old now done gains =
-    let next = gain now (moved by hit) gains.ascending in
-    let more = gather by hits old next.0 (done ++ moved by hit ∷ [])
-    (GainsImports-more old now next.0 done (moved by hit) gains next.1) in (
+gather by (inner ∷ inners) old now done gains =
+    let next = gain now (moved by inner) gains.ascending in
+    let more = gather by inners old next.0 (done ++ moved by inner ∷ [])
+    (GainsImports-more old now next.0 done (moved by inner) gains next.1) in (
       more.0,
       subst (λ xs. GainsImports old (Contains xs) more.0)
-          (append_assoc done (moved by hit ∷ []) (map (moved by) hits)) more.1,
+          (append_assoc done (moved by inner ∷ []) (map (moved by) inners)) more.1,
     )
 
 add : (comment : DependencyComment) (old : List Import) → Ascend old
-    → (new : List Import) × GainsImports old (IsMovedHit comment) new
+    → (new : List Import) × GainsImports old (IsMovedImport comment) new
 add comment old up =
     let by = comment.range.start + 2 in
     let text = chars comment.text in
-    let hits = all_imports text in
-    let all = gather by hits.0 old old []
+    let inners = all_imports text in
+    let all = gather by inners.0 old old []
     (GainsImports-start old (Contains []) up (λ import has. absurd (omega (arith, has.1)))) in (
       all.0,
-      GainsImports-as old all.0 (Contains (map (moved by) hits.0)) (IsMovedHit comment)
-          (moved_is_hit by hits.0 text hits.1) (hit_is_moved by hits.0 text hits.1) all.1,
+      GainsImports-as old all.0 (Contains (map (moved by) inners.0)) (IsMovedImport comment)
+          (moved_is_inner by inners.0 text inners.1) (inner_is_moved by inners.0 text inners.1) all.1,
     )
 
 -- a comment is a JSDoc comment or isn't

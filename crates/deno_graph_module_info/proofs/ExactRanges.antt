@@ -65,7 +65,7 @@ use Rattle.deno_graph_dep.specs.Descriptor.{Descriptor, static_descriptor, dynam
 use Rattle.deno_graph_module_info.specs.CommentImports.{IsImportOf, quoted_range, reads_jsdoc}
 use Rattle.deno_graph_module_info.specs.internal.HeadPragma.{Covers}
 use Rattle.deno_graph_module_info.specs.HeadTail.{head_comments, tail_comments}
-use Rattle.deno_graph_module_info.specs.JsDocInfo.{CoversInEqualQuotes, IsJsDocList, info_of}
+use Rattle.deno_graph_module_info.specs.JsDocInfo.{CoversInSameQuotes, IsJsDocList, info_of}
 use Rattle.deno_graph_module_info.specs.ModuleInfo.{
   CoversTypes,
   Describes,
@@ -255,25 +255,25 @@ module _ (source : List ℕ) where
   -- JSDoc imports
 
   import_covers : (comment : DependencyComment) (import : Import) → Fits comment → IsImportOf comment import
-      → CoversInEqualQuotes source (info_of source import).specifier
+      → CoversInSameQuotes source (info_of source import).specifier
   import_covers comment import fits is =
-      let at = quoted_at source comment fits.0 is.jsdoc.0 fits.1 import is.hit
-      (import_placed (chars comment.text) is.hit is.is_hit) is.is_moved in
+      let at = quoted_at source comment fits.0 is.jsdoc.0 fits.1 import is.inner
+      (import_placed (chars comment.text) is.inner is.is_inner) is.is_moved in
       (quoted_range import, record { start = (at.start, refl); end = (at.end, refl) }, at.quoted)
 
   imports_cover : (reads : Bool) (comments : List DependencyComment) (infos : List JsDocImportInfo)
       → All Fits comments → IsJsDocList reads source comments infos
-      → All (λ info. CoversInEqualQuotes source info.specifier) infos
+      → All (λ info. CoversInSameQuotes source info.specifier) infos
   imports_cover false comments infos fit none =
-      subst (All (λ info. CoversInEqualQuotes source info.specifier)) (sym none)
-      (All-nil (λ info. CoversInEqualQuotes source info.specifier))
+      subst (All (λ info. CoversInSameQuotes source info.specifier)) (sym none)
+      (All-nil (λ info. CoversInSameQuotes source info.specifier))
   imports_cover true comments infos fit (imports, are, is) =
-      subst (All (λ info. CoversInEqualQuotes source info.specifier)) (sym is)
-      (All-map (λ info. CoversInEqualQuotes source info.specifier) (info_of source) imports
+      subst (All (λ info. CoversInSameQuotes source info.specifier)) (sym is)
+      (All-map (λ info. CoversInSameQuotes source info.specifier) (info_of source) imports
       (λ k d below. covers (get_or imports k d) (Contains-get_or imports k d below)))
     where
       covers : (import : Import) → Contains imports import
-          → CoversInEqualQuotes source (info_of source import).specifier
+          → CoversInSameQuotes source (info_of source import).specifier
       covers import there =
           let of = (are.exact import).0 there in
           import_covers of.0 import (All-contains Fits comments of.0 fit of.1) of.2

@@ -39,7 +39,7 @@ use Rattle.deno_graph_jsdoc.specs.JsDocImport.{Import, import_of, moved}
 use Rattle.deno_graph_jsdoc.specs.declared.import.JsDocImport.{JsDocImport}
 use Rattle.deno_graph_jsdoc.proofs.ImportsIn.{import_placed}
 use Rattle.deno_graph_module_info.specs.CommentImports.{AreApart, AreImports, IsImportOf, IsJsDoc, IsQuotedAt}
-use Rattle.deno_graph_module_info.specs.internal.CommentImportSteps.{GainsImports, IsMovedHit}
+use Rattle.deno_graph_module_info.specs.internal.CommentImportSteps.{GainsImports, IsMovedImport}
 use Rattle.deno_graph_module_info.proofs.ImportRanges.{one_import, quoted_at}
 use Rattle.deno_graph_source.specs.Source.{IsSpelled}
 use Rattle.deno_graph_source.specs.declared.tree.comments.DependencyComment.{DependencyComment}
@@ -133,7 +133,7 @@ module _ (text : List ℕ) (comments : List DependencyComment) (spelled : All (I
     (apart : AreApart comments) where
   pub Gathered-more : (done : List DependencyComment) (comment : DependencyComment)
       (imports more : List Import) → Contains comments comment → IsJsDoc comment → IsUtf8 comment.text
-      → Gathered comments done imports → GainsImports imports (IsMovedHit comment) more
+      → Gathered comments done imports → GainsImports imports (IsMovedImport comment) more
       → Gathered comments (done ++ comment ∷ []) more
   Gathered-more done comment imports more inside jsdoc utf8 gathered gains = record {
     ascending = gains.ascending;
@@ -141,16 +141,16 @@ module _ (text : List ℕ) (comments : List DependencyComment) (spelled : All (I
     complete = λ other has import is. by_moved other (Contains-push_cases done comment other has) import is;
   }
     where
-      import_of_added : (import : Import) → IsMovedHit comment import → IsImportOf comment import
-      import_of_added import (hit, is_hit, is_moved) =
-          record { jsdoc = jsdoc; hit = hit; is_hit = is_hit; is_moved = is_moved }
+      import_of_added : (import : Import) → IsMovedImport comment import → IsImportOf comment import
+      import_of_added import (inner, is_inner, is_moved) =
+          record { jsdoc = jsdoc; inner = inner; is_inner = is_inner; is_moved = is_moved }
 
       sound : (import : Import) → Contains more import
           → (comment : DependencyComment) × Contains comments comment × IsUtf8 comment.text
           × IsImportOf comment import
       sound import has = by_new (gains.only import has)
         where
-          by_new : Contains imports import ⊎ IsMovedHit comment import
+          by_new : Contains imports import ⊎ IsMovedImport comment import
               → (comment : DependencyComment) × Contains comments comment × IsUtf8 comment.text
               × IsImportOf comment import
           by_new (inl old) = gathered.sound import old
@@ -158,7 +158,7 @@ module _ (text : List ℕ) (comments : List DependencyComment) (spelled : All (I
 
       added : (import : Import) → IsImportOf comment import → Contains more import
       added import is =
-          let there = gains.there import (is.hit, is.is_hit, is.is_moved) in
+          let there = gains.there import (is.inner, is.is_inner, is.is_moved) in
           let from = sound there.0 there.1 in
           subst (Contains more)
           (one_import text comments apart from.0 comment from.1 inside
@@ -202,30 +202,31 @@ pub Gathered-quoted : (comments done : List DependencyComment) (imports : List I
 Gathered-quoted comments done imports gathered text spelled import has =
     let from = gathered.sound import has in
     quoted_at text from.0 (All-contains (IsSpelled text) comments from.0 spelled from.1)
-    (from.3).jsdoc.0 from.2 import (from.3).hit
-    (import_placed (chars (from.0).text) (from.3).hit (from.3).is_hit) (from.3).is_moved
+    (from.3).jsdoc.0 from.2 import (from.3).inner
+    (import_placed (chars (from.0).text) (from.3).inner (from.3).is_inner) (from.3).is_moved
 
--- the hits in a text, with offsets from the start of the source
-module _ (by : ℕ) (hits : List Import) (text : List ℕ) (are : AreImportsIn text hits) where
-  pub moved_is_hit : (import : Import) → Contains (map (moved by) hits) import
-      → (hit : Import) × IsImportIn text hit × (import ≡ moved by hit)
-  moved_is_hit import (i, inside, is) =
-      let within : i < length hits = omega (arith, inside, length-map hits (moved by)) in
-      let hit = get_or hits i import in (
-        hit,
-        (are.exact hit).0 (Contains-get_or hits i import within),
+-- the inners in a text, with offsets from the start of the source
+module _ (by : ℕ) (inners : List Import) (text : List ℕ) (are : AreImportsIn text inners) where
+  pub moved_is_inner : (import : Import) → Contains (map (moved by) inners) import
+      → (inner : Import) × IsImportIn text inner × (import ≡ moved by inner)
+  moved_is_inner import (i, inside, is) =
+      let within : i < length inners = omega (arith, inside, length-map inners (moved by)) in
+      let inner = get_or inners i import in (
+        inner,
+        (are.exact inner).0 (Contains-get_or inners i import within),
         sym is
-            ∙ get_or-map (moved by) hits i import import within,
+            ∙ get_or-map (moved by) inners i import import within,
       )
 
-  pub hit_is_moved : (import : Import) → (hit : Import) × IsImportIn text hit × (import ≡ moved by hit)
-      → Contains (map (moved by) hits) import
-  hit_is_moved import (hit, is_hit, is_moved) =
-      let has = (are.exact hit).1 is_hit in
+  pub inner_is_moved : (import : Import)
+      → (inner : Import) × IsImportIn text inner × (import ≡ moved by inner)
+      → Contains (map (moved by) inners) import
+  inner_is_moved import (inner, is_inner, is_moved) =
+      let has = (are.exact inner).1 is_inner in
       let inside = has.1 in (
         has.0,
-        omega (arith, inside, length-map hits (moved by)),
-        get_or-map (moved by) hits has.0 hit import inside ∙ ap (moved by) has.2 ∙ sym is_moved,
+        omega (arith, inside, length-map inners (moved by)),
+        get_or-map (moved by) inners has.0 inner import inside ∙ ap (moved by) has.2 ∙ sym is_moved,
       )
 
 -- the list with one more import
@@ -252,18 +253,19 @@ module _ (by : ℕ) (items : List JsDocImport) where
 
   pub insert_all : (k : ℕ) (old new : List Import) (text : List ℕ) → length items ≤ k
       → AreImportsIn text (map import_of items) → GainsImports old (Contains (placed (take k items))) new
-      → GainsImports old (λ import. (hit : Import) × IsImportIn text hit × (import ≡ moved by hit)) new
-  insert_all k old new text done hits gains =
+      → GainsImports old (λ import. (inner : Import) × IsImportIn text inner × (import ≡ moved by inner)) new
+  insert_all k old new text done inners gains =
       GainsImports-as old new (Contains (map (moved by) (map import_of items)))
-      (λ import. (hit : Import) × IsImportIn text hit × (import ≡ moved by hit))
-      (moved_is_hit by (map import_of items) text hits) (hit_is_moved by (map import_of items) text hits)
+      (λ import. (inner : Import) × IsImportIn text inner × (import ≡ moved by inner))
+      (moved_is_inner by (map import_of items) text inners)
+      (inner_is_moved by (map import_of items) text inners)
       (subst (λ xs. GainsImports old (Contains xs) new)
       (ap placed (take_all k items done) ∙ twice items) gains)
 
   pub item_hit : (k : ℕ) (d : JsDocImport) (text : List ℕ) → k < length items
       → AreImportsIn text (map import_of items) → IsImportIn text (import_of (get_or items k d))
-  item_hit k d text inside hits =
-      (hits.exact (import_of (get_or items k d))).0
+  item_hit k d text inside inners =
+      (inners.exact (import_of (get_or items k d))).0
       (subst (Contains (map import_of items)) (get_or-map import_of items k d (import_of d) inside)
       (Contains-get_or (map import_of items) k (import_of d)
       (omega (arith, inside, length-map items import_of))))

@@ -59,11 +59,11 @@ scalars_back : (xs ys : List ℕ) → scalars (xs ++ ys) ≡ true → scalars ys
 scalars_back [] ys all = all
 scalars_back (x ∷ xs) ys all = scalars_back xs ys (and_parts (scalar x) (scalars (xs ++ ys)) all).1
 
--- the range of a hit in the bytes of its text
-pub hit_bounds : (bytes : List ℕ) (import : Import) → IsUtf8 bytes → IsImportIn (chars bytes) import
+-- the range of an import in the bytes of its text
+pub inner_bounds : (bytes : List ℕ) (import : Import) → IsUtf8 bytes → IsImportIn (chars bytes) import
     → (import.start ≤ import.end) × (import.end ≤ length bytes)
-hit_bounds bytes import utf8 hit =
-    let placed = import_placed (chars bytes) import hit in
+inner_bounds bytes import utf8 inner =
+    let placed = import_placed (chars bytes) import inner in
     let own = placed.start in
     let last = placed.end in
     let quote = byte_count_quote import.specifier placed.quote placed.quoted in
@@ -149,8 +149,8 @@ module _ (text : List ℕ) (comment : DependencyComment) (spelled : IsSpelled te
       length-take-le comment.range.start text (omega (arith, size.0, size.1))
 
   -- the bytes before and after an import's specifier with its quotes
-  module _ (utf8 : IsUtf8 comment.text) (import hit : Import) (placed : IsPlaced (chars comment.text) hit)
-      (is_moved : import ≡ moved (comment.range.start + 2) hit) where
+  module _ (utf8 : IsUtf8 comment.text) (import inner : Import) (placed : IsPlaced (chars comment.text) inner)
+      (is_moved : import ≡ moved (comment.range.start + 2) inner) where
     bytes : comment.text ≡ encodes placed.before ++ (encodes placed.quote ++ encodes placed.after)
     bytes =
         sym (encodes-chars comment.text utf8) ∙ ap encodes placed.whole
@@ -198,7 +198,7 @@ module _ (text : List ℕ) (comment : DependencyComment) (spelled : IsSpelled te
         let own = placed.end in
         let moves = ap (λ (i : Import). i.end) is_moved in
         let shifts = ap (λ (i : Import). i.start) is_moved in
-        let quote = byte_count_quote hit.specifier placed.quote placed.quoted in
+        let quote = byte_count_quote inner.specifier placed.quote placed.quoted in
         omega (arith, own, moves, shifts, starts, quote)
 
     at_start : drop (length front) text ≡ encodes placed.quote ++ back
@@ -219,7 +219,7 @@ module _ (text : List ℕ) (comment : DependencyComment) (spelled : IsSpelled te
     start_boundary =
         IsCharBoundary-from_rest text (length front) 0 (omega (arith, sizes))
         (subst (λ t. IsCharBoundary t 0) (sym at_start)
-        (quoted_first hit.specifier placed.quote back placed.quoted))
+        (quoted_first inner.specifier placed.quote back placed.quoted))
 
     end_boundary : IsCharBoundary text (length (front ++ encodes placed.quote) + 0)
     end_boundary =
@@ -260,14 +260,14 @@ module _ (text : List ℕ) (comment : DependencyComment) (spelled : IsSpelled te
       start = subst (IsCharBoundary text) (omega (arith, starts)) start_boundary;
       end = subst (IsCharBoundary text)
           (omega (arith, ends, length-append front (encodes placed.quote))) end_boundary;
-      quoted = by_kind (quote_bytes hit.specifier placed.quote placed.quoted);
+      quoted = by_kind (quote_bytes inner.specifier placed.quote placed.quoted);
     }
       where
-        specifier : hit.specifier ≡ import.specifier
+        specifier : inner.specifier ≡ import.specifier
         specifier = sym (ap (λ (i : Import). i.specifier) is_moved)
 
-        by_kind : (encodes placed.quote ≡ codes "\"" ++ encodes hit.specifier ++ codes "\"")
-            ⊎ (encodes placed.quote ≡ codes "'" ++ encodes hit.specifier ++ codes "'")
+        by_kind : (encodes placed.quote ≡ codes "\"" ++ encodes inner.specifier ++ codes "\"")
+            ⊎ (encodes placed.quote ≡ codes "'" ++ encodes inner.specifier ++ codes "'")
             → (slice_of text (quoted_range import) ≡ codes "\"" ++ encodes import.specifier ++ codes "\"")
             ⊎ (slice_of text (quoted_range import) ≡ codes "'" ++ encodes import.specifier ++ codes "'")
         by_kind (inl same) = inl
@@ -280,14 +280,14 @@ module _ (text : List ℕ) (comment : DependencyComment) (spelled : IsSpelled te
         let length_is = comment_size in
         let own = placed.start in
         let moves = ap (λ (i : Import). i.start) is_moved in
-        let quote = byte_count_quote hit.specifier placed.quote placed.quoted in
-        let inner : length comment.text
+        let quote = byte_count_quote inner.specifier placed.quote placed.quoted in
+        let in_text : length comment.text
         ≡ byte_count placed.before + (byte_count placed.quote + byte_count placed.after) =
         ap length bytes ∙ length-append (encodes placed.before)
         (encodes placed.quote ++ encodes placed.after)
         ∙ ap (λ n. length (encodes placed.before) + n)
         (length-append (encodes placed.quote) (encodes placed.after)) in
-        (omega (arith, moves), omega (arith, length_is.0, own, moves, quote, inner))
+        (omega (arith, moves), omega (arith, length_is.0, own, moves, quote, in_text))
 
 -- an import is determined by its start, in comments that share no byte
 pub one_import : (text : List ℕ) (comments : List DependencyComment) → AreApart comments
@@ -296,31 +296,31 @@ pub one_import : (text : List ℕ) (comments : List DependencyComment) → AreAp
     → IsImportOf a import → IsImportOf b other → import.start ≡ other.start → import ≡ other
 one_import text comments apart a b has also spelled written utf8 valid import other i j same =
     i.is_moved
-    ∙ ap (moved (a.range.start + 2)) (one_import_in (chars a.text) i.hit hit i.is_hit is_hit starts)
+    ∙ ap (moved (a.range.start + 2)) (one_import_in (chars a.text) i.inner inner i.is_inner is_inner starts)
     ∙ sym is_moved
   where
     first : (a.range.start ≤ import.start) × (import.start < a.range.end)
-    first = inside_comment text a spelled i.jsdoc.0 utf8 import i.hit
-        (import_placed (chars a.text) i.hit i.is_hit) i.is_moved
+    first = inside_comment text a spelled i.jsdoc.0 utf8 import i.inner
+        (import_placed (chars a.text) i.inner i.is_inner) i.is_moved
 
     second : (b.range.start ≤ other.start) × (other.start < b.range.end)
-    second = inside_comment text b written j.jsdoc.0 valid other j.hit
-        (import_placed (chars b.text) j.hit j.is_hit) j.is_moved
+    second = inside_comment text b written j.jsdoc.0 valid other j.inner
+        (import_placed (chars b.text) j.inner j.is_inner) j.is_moved
 
     equal : a ≡ b
     equal = apart a b has also
         (import.start, first.0, first.1, omega (arith, second, same), omega (arith, second, same))
 
-    hit : Import
-    hit = j.hit
+    inner : Import
+    inner = j.inner
 
-    is_hit : IsImportIn (chars a.text) hit
-    is_hit = subst (λ (c : DependencyComment). IsImportIn (chars c.text) hit) (sym equal) j.is_hit
+    is_inner : IsImportIn (chars a.text) inner
+    is_inner = subst (λ (c : DependencyComment). IsImportIn (chars c.text) inner) (sym equal) j.is_inner
 
-    is_moved : other ≡ moved (a.range.start + 2) hit
-    is_moved = j.is_moved ∙ ap (λ (c : DependencyComment). moved (c.range.start + 2) hit) (sym equal)
+    is_moved : other ≡ moved (a.range.start + 2) inner
+    is_moved = j.is_moved ∙ ap (λ (c : DependencyComment). moved (c.range.start + 2) inner) (sym equal)
 
-    starts : i.hit.start ≡ hit.start
+    starts : i.inner.start ≡ inner.start
     starts = omega (
       arith,
       ap (λ (k : Import). k.start) i.is_moved,

@@ -41,7 +41,7 @@ use Rattle.deno_graph_jsdoc.proofs.ImportsIn.{import_placed}
 use Rattle.deno_graph_source.specs.Source.{IsSpelled}
 use Rattle.deno_graph_source.specs.declared.tree.comments.CommentKind.TheVariants.{Block}
 use Rattle.deno_graph_source.specs.declared.tree.comments.DependencyComment.{DependencyComment}
-use Rattle.deno_graph_module_info.specs.internal.CommentImportSteps.{GainsImports, IsMovedHit}
+use Rattle.deno_graph_module_info.specs.internal.CommentImportSteps.{GainsImports, IsMovedImport}
 use Rattle.deno_graph_module_info.proofs.Gathered.{placed}
 use Rattle.deno_graph_module_info.proofs.ImportRanges.{comment_size, inside_comment}
 
@@ -64,7 +64,7 @@ pub next_behind : (by : ℕ) (items : List JsDocImport) (k : ℕ) (d : JsDocImpo
     → GainsImports old (Contains (placed by items (take k items))) now
     → (other : Import) → Contains now other
     → other.start < (moved by (import_of (get_or items k d))).start
-next_behind by items k d old now text inside hits before gains other has = by_moved (gains.only other has)
+next_behind by items k d old now text inside inners before gains other has = by_moved (gains.only other has)
   where
     by_moved : Contains old other ⊎ Contains (placed by items (take k items)) other
         → other.start < (moved by (import_of (get_or items k d))).start
@@ -80,7 +80,7 @@ next_behind by items k d old now text inside hits before gains other has = by_mo
         get_or-map f (take k items) j d other here ∙ ap f (get_or-take k items j d smaller) in
         let same : other.start ≡ (import_of (get_or items j d)).start + by =
         ap (λ (i : Import). i.start) (sym is ∙ at) in
-        let order = hits.ascending j k (import_of d) smaller
+        let order = inners.ascending j k (import_of d) smaller
         (omega (arith, inside, length-map items import_of)) in
         let first = ap (λ (i : Import). i.start)
         (get_or-map import_of items j d (import_of d) (omega (arith, smaller, inside))) in
@@ -92,17 +92,17 @@ pub inside_end : (text : List ℕ) (comment : DependencyComment) → IsSpelled t
     → comment.kind ≡ Block → IsUtf8 comment.text → (old new : List Import) (behind : ℕ)
     → behind ≤ comment.range.start
     → ((import : Import) → Contains old import → import.start < behind)
-    → GainsImports old (IsMovedHit comment) new
+    → GainsImports old (IsMovedImport comment) new
     → (import : Import) → Contains new import → import.start < comment.range.end
 inside_end text comment spelled block utf8 old new behind order below gains import has =
     by_moved (gains.only import has)
   where
-    by_moved : Contains old import ⊎ IsMovedHit comment import → import.start < comment.range.end
+    by_moved : Contains old import ⊎ IsMovedImport comment import → import.start < comment.range.end
     by_moved (inl was) =
         let size = comment_size text comment spelled block in
         let first = below import was in
         omega (arith, order, first, size.0)
-    by_moved (inr (hit, is_hit, is_moved)) =
-        (inside_comment text comment spelled block utf8 import hit
-        (import_placed (chars comment.text) hit is_hit)
+    by_moved (inr (inner, is_inner, is_moved)) =
+        (inside_comment text comment spelled block utf8 import inner
+        (import_placed (chars comment.text) inner is_inner)
         is_moved).1

@@ -38,7 +38,7 @@ use Rattle.deno_graph_jsdoc.specs.JsDocImport.{Import}
 use Rattle.deno_graph_source.specs.Source.{IsSpelled}
 use Rattle.deno_graph_source.specs.declared.tree.comments.DependencyComment.{DependencyComment}
 use Rattle.deno_graph_module_info.specs.CommentImports.{AreApart, IsImportOf, IsJsDoc}
-use Rattle.deno_graph_module_info.specs.internal.CommentImportSteps.{AreJsDocOf, GainsImports, IsMovedHit}
+use Rattle.deno_graph_module_info.specs.internal.CommentImportSteps.{AreJsDocOf, GainsImports, IsMovedImport}
 use Rattle.deno_graph_module_info.proofs.Chosen.{all, item_in, item_next}
 use Rattle.deno_graph_module_info.proofs.Gathered.{Gathered, Gathered-more, Gathered-start}
 use Rattle.deno_graph_module_info.proofs.ImportRanges.{comment_size}
@@ -92,7 +92,7 @@ module _ (text : List ℕ) (comments : List DependencyComment) (spelled : All (I
   next = take_more items k item inside ∙ ap (λ x. take k items ++ x ∷ []) (sym is)
 
   pub AreRead-more : (imports new : List Import) (end : ℕ) → end ≤ item.now.range.start
-      → IsUtf8 item.now.text → GainsImports imports (IsMovedHit item.now) new
+      → IsUtf8 item.now.text → GainsImports imports (IsMovedImport item.now) new
       → AreRead comments items k imports end → AreRead comments items (k + 1) new item.now.range.end
   AreRead-more imports new end order utf8 gains so_far = record {
     gathered =

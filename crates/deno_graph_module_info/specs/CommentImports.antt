@@ -50,12 +50,13 @@ AreApart comments =
 abbrev pub IsJsDoc : DependencyComment → Type 0
 IsJsDoc comment = (comment.kind ≡ Block) × ((rest : List ℕ) × (comment.text ≡ codes "*" ++ rest))
 
--- `import` is a hit in the text of a JSDoc comment, with offsets from the start of the source
+-- an import in the text of a JSDoc comment; the offsets of `import` count from the start of the source,
+-- those of `inner` from the start of the text, which is after the two bytes `/*`
 pub record IsImportOf (comment : DependencyComment) (import : Import) : Type 0 where
   pub jsdoc : IsJsDoc comment
-  pub hit : Import
-  pub is_hit : IsImportIn (chars comment.text) hit
-  pub is_moved : import ≡ moved (comment.range.start + 2) hit
+  pub inner : Import
+  pub is_inner : IsImportIn (chars comment.text) inner
+  pub is_moved : import ≡ moved (comment.range.start + 2) inner
 
 -- the list has exactly the imports in the comments, and their starts strictly ascend
 pub record AreImports (comments : List DependencyComment) (imports : List Import) : Type 0 where

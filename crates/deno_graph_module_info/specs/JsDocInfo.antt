@@ -25,7 +25,8 @@ use Rattle.deno_graph_base.specs.PositionRange.{IsRangeAt}
 use Rattle.deno_graph_base.specs.SourceRange.{slice_of}
 use Rattle.deno_graph_base.specs.declared.text.position.SourceRange.{SourceRange}
 
--- the info of an import: its specifier, the positions of the specifier with its two quotes, its mode
+-- the info of an import: its specifier, the positions of the specifier with its two quotes, its mode;
+-- the specifier of an import is after a quote, so its start isn't 0
 abbrev pub info_of : List ℕ → Import → JsDocImportInfo
 info_of text import = record {
   specifier = record {
@@ -41,9 +42,10 @@ IsJsDocList false text comments infos = infos ≡ []
 IsJsDocList true text comments infos =
     (imports : List Import) × AreImports comments imports × (infos ≡ map (info_of text) imports)
 
--- the range covers the specifier with its quotes, which are equal
-abbrev pub CoversInEqualQuotes : List ℕ → SpecifierWithRange → Type 0
-CoversInEqualQuotes text specifier =
+-- between the two positions of the range, the text has the specifier in two quotes of one kind; the
+-- range isn't reversed, since what it covers isn't empty
+abbrev pub CoversInSameQuotes : List ℕ → SpecifierWithRange → Type 0
+CoversInSameQuotes text specifier =
     (range : SourceRange) × IsRangeAt text specifier.range range
     × ((slice_of text range ≡ codes "\"" ++ specifier.text ++ codes "\"")
     ⊎ (slice_of text range ≡ codes "'" ++ specifier.text ++ codes "'"))

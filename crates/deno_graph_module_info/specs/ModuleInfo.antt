@@ -29,7 +29,7 @@ use Rattle.deno_graph_dep.specs.Descriptor.{
   dynamic_descriptor,
   HasTextRanges,
 }
-use Rattle.deno_graph_module_info.specs.JsDocInfo.{CoversInEqualQuotes, IsJsDocList}
+use Rattle.deno_graph_module_info.specs.JsDocInfo.{CoversInSameQuotes, IsJsDocList}
 use Rattle.deno_graph_module_info.specs.CommentImports.{reads_jsdoc}
 use Rattle.deno_graph_module_info.specs.HeadTail.{head_comments, tail_comments}
 use Rattle.deno_graph_module_info.specs.Pragma.{
@@ -154,5 +154,5 @@ pub record HasExactRanges (source : List ℕ) (info : ModuleInfo) : Type 0 where
   pub self_types_specifier : IfSome info.self_types_specifier (CoversQuoted source)
   pub jsx_import_source : IfSome info.jsx_import_source (CoversBare source)
   pub jsx_import_source_types : IfSome info.jsx_import_source_types (CoversBare source)
-  pub jsdoc_imports : All (λ import. CoversInEqualQuotes source import.specifier) info.jsdoc_imports
+  pub jsdoc_imports : All (λ import. CoversInSameQuotes source import.specifier) info.jsdoc_imports
   pub source_map_url : IfSome info.source_map_url (CoversBare source)

@@ -23,7 +23,8 @@ pub fn module_info(alloc: Global, source: &ParsedSource) -> Result<ModuleInfo, A
     ensures is { IfOk result (IsModuleInfo source.now.text source.now.media_type
         source.now.program source.now.comments) }
 
-    // The range of each specifier covers exactly the specifier, as the source spells it.
+    // The range of each specifier that a comment names covers exactly that specifier, with its quotes
+    // if it has any.
     ensures ranges { IfOk result (HasExactRanges source.now.text) }
 
     // Whatever texts the unknown parts have, each argument spells the text of its expression.
@@ -52,7 +53,8 @@ pub fn module_info_from_program(
     ensures is { IfOk result
         (IsModuleInfo text_info.now media_type program.now comments.now) }
 
-    // The range of each specifier covers exactly the specifier, as the source spells it.
+    // The range of each specifier that a comment names covers exactly that specifier, with its quotes
+    // if it has any.
     ensures ranges { IfOk result (HasExactRanges text_info.now) }
 
     // Whatever texts the unknown parts have, each argument spells the text of its expression.

@@ -12,10 +12,11 @@ abbrev pub AreJsDocOf : List DependencyComment → List DependencyComment → Ty
 AreJsDocOf comments chosen = (comment : DependencyComment)
     → Contains chosen comment ↔ (Contains comments comment × IsJsDoc comment)
 
--- `import` is a hit in the text of the comment, with offsets from the start of the source
-abbrev pub IsMovedHit : DependencyComment → Import → Type 0
-IsMovedHit comment import =
-    (hit : Import) × IsImportIn (chars comment.text) hit × (import ≡ moved (comment.range.start + 2) hit)
+-- `import` is an import in the text of the comment, with offsets from the start of the source
+abbrev pub IsMovedImport : DependencyComment → Import → Type 0
+IsMovedImport comment import =
+    (inner : Import) × IsImportIn (chars comment.text) inner
+    × (import ≡ moved (comment.range.start + 2) inner)
 
 -- the new list has the imports of the old list and those with the property `P`, in ascending order; of
 -- imports with the same start it may have only one

@@ -1,7 +1,7 @@
 //! The JSDoc imports of a source.
 
 ghost use Rattle.std.specs.Prelude.{IfOk, All};
-ghost use Rattle.deno_graph_module_info.specs.JsDocInfo.{CoversInEqualQuotes, IsJsDocList};
+ghost use Rattle.deno_graph_module_info.specs.JsDocInfo.{CoversInSameQuotes, IsJsDocList};
 ghost use Rattle.deno_graph_module_info.specs.CommentImports.{AreApart, reads_jsdoc};
 ghost use Rattle.deno_graph_source.specs.Comments.{comments_of};
 ghost use Rattle.deno_graph_source.specs.Source.{IsSpelled};
@@ -27,7 +27,7 @@ pub(crate) fn analyze_jsdoc_imports(
     ensures list { IfOk result (IsJsDocList (reads_jsdoc media_type) text_info.now
         (comments_of comments.now)) }
     ensures covers { IfOk result
-        (All (λ info. CoversInEqualQuotes text_info.now info.specifier)) }
+        (All (λ info. CoversInSameQuotes text_info.now info.specifier)) }
 {
     if !reads_jsdoc(media_type) {
         return Ok(Items::new(alloc));

@@ -7,7 +7,7 @@ ghost use Rattle.std.specs.Str.{IsUtf8, chars};
 ghost use Rattle.deno_graph_jsdoc.specs.JsDocImports.{Ascend};
 ghost use Rattle.deno_graph_jsdoc.specs.JsDocImport.{import_of};
 ghost use Rattle.deno_graph_module_info.specs.CommentImports.{AreApart, AreImports, IsJsDoc, IsQuotedAt, reads_jsdoc};
-ghost use Rattle.deno_graph_module_info.specs.internal.CommentImportSteps.{AreJsDocOf, GainsImports, IsMovedHit};
+ghost use Rattle.deno_graph_module_info.specs.internal.CommentImportSteps.{AreJsDocOf, GainsImports, IsMovedImport};
 ghost use Rattle.deno_graph_source.specs.Source.{IsSpelled};
 
 use deno_graph_jsdoc::{JsDocImport, scan};
@@ -81,7 +81,7 @@ fn add_imports<'a>(
     requires fits { comment.now.range.start + 2 + length comment.now.text < 2 ^ 64 }
     ensures utf8 { OnOk result (IsUtf8 comment.now.text) }
     ensures gains { OnOk result (GainsImports
-        (map import_of imports.old.items) (IsMovedHit comment.now)
+        (map import_of imports.old.items) (IsMovedImport comment.now)
         (map import_of imports.new.items)) }
 {
     let found = scan(alloc, comment.text.as_str())?;

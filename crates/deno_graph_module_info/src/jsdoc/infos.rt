@@ -3,7 +3,7 @@
 ghost use Rattle.std.specs.Prelude.{◌≡◌, map, true, IfOk};
 ghost use Rattle.std.specs.List.{All};
 ghost use Rattle.deno_graph_jsdoc.specs.JsDocImport.{import_of};
-ghost use Rattle.deno_graph_module_info.specs.JsDocInfo.{CoversInEqualQuotes, IsJsDocList, info_of};
+ghost use Rattle.deno_graph_module_info.specs.JsDocInfo.{CoversInSameQuotes, IsJsDocList, info_of};
 ghost use Rattle.deno_graph_module_info.specs.CommentImports.{AreApart, IsQuotedAt, reads_jsdoc};
 ghost use Rattle.deno_graph_source.specs.Source.{IsSpelled};
 
@@ -33,7 +33,7 @@ pub fn jsdoc_imports(
     ensures list { IfOk result (λ infos. IsJsDocList (reads_jsdoc media_type) text_info.now
         (map (λ comment. comment.now) comments.now) infos.items) }
     ensures covers { IfOk result
-        (λ infos. All (λ info. CoversInEqualQuotes text_info.now info.specifier) infos.items) }
+        (λ infos. All (λ info. CoversInSameQuotes text_info.now info.specifier) infos.items) }
 {
     if !reads_jsdoc(media_type) {
         return Ok(Vec::new(alloc));
@@ -52,7 +52,7 @@ pub(crate) fn infos_of(
     ensures list { IfOk result (λ infos. IsJsDocList true text_info.now
         (map (λ comment. comment.now) comments.now) infos.items) }
     ensures covers { IfOk result
-        (λ infos. All (λ info. CoversInEqualQuotes text_info.now info.specifier) infos.items) }
+        (λ infos. All (λ info. CoversInSameQuotes text_info.now info.specifier) infos.items) }
 {
     let imports = imports_of(alloc, comments)?;
     let mut infos = Vec::new(alloc);
@@ -71,7 +71,7 @@ fn info_of(
 ) -> Result<JsDocImportInfo, AllocError>
     requires { IsQuotedAt text_info.now (import_of import.now) }
     ensures info { IfOk result (λ info. info ≡ info_of text_info.now (import_of import.now)) }
-    ensures covers { IfOk result (λ info. CoversInEqualQuotes text_info.now info.specifier) }
+    ensures covers { IfOk result (λ info. CoversInSameQuotes text_info.now info.specifier) }
 {
     let length = text_info.text().len();
     prove!(import.specifier_range.end < length);

@@ -25,14 +25,14 @@ use Rattle.deno_graph_jsdoc.specs.internal.Pass.{GainsImport}
 use Rattle.deno_graph_jsdoc.specs.JsDocImport.{Import, import_of}
 use Rattle.deno_graph_jsdoc.specs.declared.import.JsDocImport.{JsDocImport}
 use Rattle.deno_graph_module_info.proofs.Gathered.{insert_next, insert_all, item_hit}
-use Rattle.deno_graph_module_info.proofs.ImportRanges.{hit_bounds}
+use Rattle.deno_graph_module_info.proofs.ImportRanges.{inner_bounds}
 use Rattle.deno_graph_module_info.proofs.Pushed.{GainsImport-push, next_behind}
 use Rattle.deno_graph_module_info.proofs.jsdoc.imports.add_imports.Goals as goal
 use Rattle.deno_graph_module_info.proofs.jsdoc.imports.add_imports.Goals.{After-deref-import-items}
 
-hits : (c : After-deref-import-items)
+inners : (c : After-deref-import-items)
     → AreImportsIn (chars c.args.comment.now.text) (map import_of c.deref-import-items.result.now)
-hits c =
+inners c =
     subst (λ (xs : List JsDocImport). AreImportsIn (chars c.args.comment.now.text) (map import_of xs))
     (sym c.deref-import-items.ensures.value)
     (subst (λ t. AreImportsIn (chars t)
@@ -53,17 +53,17 @@ pub moved-requires-clause-order : goal.moved-requires-clause-order
 moved-requires-clause-order c =
     let here = (goal.at.moved-requires-clause-order c).After-deref-import-items in
     let inside : c.loop-import.import-index < length c.deref-import-items.result.now = search rules in
-    (hit_bounds c.args.comment.now.text _ (utf8 here)
+    (inner_bounds c.args.comment.now.text _ (utf8 here)
     (item_hit 0 c.deref-import-items.result.now c.loop-import.import-index _
-    (chars c.args.comment.now.text) inside (hits here))).0
+    (chars c.args.comment.now.text) inside (inners here))).0
 
 pub moved-requires-clause-fits : goal.moved-requires-clause-fits
 moved-requires-clause-fits c =
     let here = (goal.at.moved-requires-clause-fits c).After-deref-import-items in
     let inside : c.loop-import.import-index < length c.deref-import-items.result.now = search rules in
-    let bound = (hit_bounds c.args.comment.now.text _ (utf8 here)
+    let bound = (inner_bounds c.args.comment.now.text _ (utf8 here)
     (item_hit 0 c.deref-import-items.result.now c.loop-import.import-index no_import
-    (chars c.args.comment.now.text) inside (hits here))).1 in
+    (chars c.args.comment.now.text) inside (inners here))).1 in
     omega (arith, bound, c.requires.fits)
 
 pub loop-import-preserved : goal.loop-import-preserved
@@ -79,7 +79,7 @@ loop-import-preserved c =
     ap (map import_of) c.in_ok-push.ensures.items
     ∙ map-append import_of c.loop-import.imports.items (c.moved.result ∷ []) in
     let behind = next_behind by items k no_import (map import_of c.args.imports.now.items) now
-    (chars c.args.comment.now.text) inside (hits here) c.requires.before c.loop-import.invariant in
+    (chars c.args.comment.now.text) inside (inners here) c.requires.before c.loop-import.invariant in
     insert_next by items k no_import (map import_of c.args.imports.now.items) now
     (map import_of c.push.new.self.items) import inside c.moved.ensures c.loop-import.invariant
     (subst (GainsImport now import) (sym pushed)
@@ -93,4 +93,4 @@ returns-clause-gains c =
     insert_all (c.args.comment.now.range.start + 2) c.deref-import-items.result.now c.loop-import.import-index
     (map import_of c.args.imports.now.items)
     (map import_of c.loop-import.imports.items) (chars c.args.comment.now.text) done
-    (hits here) c.loop-import.invariant
+    (inners here) c.loop-import.invariant

@@ -4,7 +4,7 @@ use Rattle.std.proofs.lemmas.List.Elements.{All-push}
 use Rattle.std.specs.List.{All}
 use Rattle.deno_graph_jsdoc.specs.JsDocImport.{import_of}
 use Rattle.deno_graph_jsdoc.specs.declared.import.JsDocImport.{JsDocImport}
-use Rattle.deno_graph_module_info.specs.JsDocInfo.{CoversInEqualQuotes}
+use Rattle.deno_graph_module_info.specs.JsDocInfo.{CoversInSameQuotes}
 use Rattle.deno_graph_module_info.specs.CommentImports.{IsQuotedAt}
 use Rattle.deno_graph_info.specs.declared.analysis.js_doc_import_info.JsDocImportInfo.{JsDocImportInfo}
 use Rattle.deno_graph_module_info.proofs.InfoLemmas.{at_item, infos_more, infos_all}
@@ -25,9 +25,9 @@ loop-import-preserved c =
       infos_more c.args.text_info.now c.deref-import-items.result.now c.loop-import.import-index _
           c.loop-import.infos.items c.push.new.self.items c.in_ok-info_of.field-0 inside
           c.in_ok-info_of.ensures.info c.loop-import.invariant.0 c.in_ok-push.ensures.items,
-      subst (All (λ (info : JsDocImportInfo). CoversInEqualQuotes c.args.text_info.now info.specifier))
+      subst (All (λ (info : JsDocImportInfo). CoversInSameQuotes c.args.text_info.now info.specifier))
           (sym c.in_ok-push.ensures.items)
-          (All-push (λ (info : JsDocImportInfo). CoversInEqualQuotes c.args.text_info.now info.specifier)
+          (All-push (λ (info : JsDocImportInfo). CoversInSameQuotes c.args.text_info.now info.specifier)
           c.loop-import.infos.items c.in_ok-info_of.field-0 c.loop-import.invariant.1
           c.in_ok-info_of.ensures.covers),
     )
