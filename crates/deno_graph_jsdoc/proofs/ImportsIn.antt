@@ -197,17 +197,17 @@ module _ (P : List ℕ → Type 0) (G : List ℕ → Import → List ℕ → Typ
   pub stated_none : ReadsImport G after None → (import : Import) → IsStated P G text front import → ⊥
   stated_none none import s = none s.here s.rest (here_of import s)
 
-  pub stated_only : (result : List ℕ × Import) → ReadsImport G after (Some result) → (import : Import)
-      → IsStated P G text front import → import ≡ moved (byte_count front) result.1
-  stated_only result found import s =
+  pub stated_only : (answer : List ℕ × Import) → ReadsImport G after (Some answer) → (import : Import)
+      → IsStated P G text front import → import ≡ moved (byte_count front) answer.1
+  stated_only answer found import s =
       s.is_moved ∙ ap (moved (byte_count front)) (found.1 s.here s.rest (here_of import s)).0
 
-  pub stated_some : (result : List ℕ × Import) → ReadsImport G after (Some result) → P front
-      → IsStated P G text front (moved (byte_count front) result.1)
-  stated_some result found site = record {
+  pub stated_some : (answer : List ℕ × Import) → ReadsImport G after (Some answer) → P front
+      → IsStated P G text front (moved (byte_count front) answer.1)
+  stated_some answer found site = record {
     after = after;
-    rest = result.0;
-    here = result.1;
+    rest = answer.0;
+    here = answer.1;
     whole = whole;
     site = site;
     states = found.0;

@@ -118,14 +118,14 @@ quote_double input rest inside found = (
   ],
 )
 
-pub quote_single : (input : List ℕ) (result : Option (List ℕ × List ℕ))
+pub quote_single : (input : List ℕ) (answer : Option (List ℕ × List ℕ))
     → Reads Anything (IsBetween double_quote) input
-    None → Reads Anything (IsBetween apostrophe) input result → Reads Anything IsQuote input result
+    None → Reads Anything (IsBetween apostrophe) input answer → Reads Anything IsQuote input answer
 quote_single input None none other = λ inside rest _ begins. elim begins.is [
   | inl is ↦ none inside rest tt (record { piece = begins.piece; whole = begins.whole; is = is })
   | inr is ↦ other inside rest tt (record { piece = begins.piece; whole = begins.whole; is = is })
 ]
-quote_single input (Some result) none found = (
+quote_single input (Some answer) none found = (
   record { piece = found.0.piece; whole = found.0.whole; is = inr found.0.is },
   λ other after _ begins. elim begins.is [
     | inl is ↦ absurd (none other after tt (record { piece = begins.piece; whole = begins.whole; is = is }))

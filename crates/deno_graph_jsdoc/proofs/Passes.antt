@@ -324,8 +324,8 @@ gained_sound text old new import sound is_in gains other has = by_place (gains.o
 
 -- the list after a start of a parser at the end of `after`
 abbrev pub Takes : List ℕ → List Import → Option (List ℕ × Import) → List Import → Type 0
-Takes reached old result new =
-    MatchOption result (new ≡ old) (λ found. GainsImport old (moved (byte_count reached) found.1) new)
+Takes reached old answer new =
+    MatchOption answer (new ≡ old) (λ found. GainsImport old (moved (byte_count reached) found.1) new)
 
 module _ (text last reached after : List ℕ) (whole : text ≡ reached ++ after)
     (skips : Skips text last reached) (longer : length last < length reached) where
@@ -362,9 +362,9 @@ module _ (text last reached after : List ℕ) (whole : text ≡ reached ++ after
   }
 
   pub dynamic_take : {imports : List Import} {dynamics decls : ℕ} {other : List ℕ} (more : List Import)
-      (result : Option (List ℕ × Import)) → Found text imports dynamics decls last other
-      → EndsAtDynamicImport reached → ReadsImport IsDynamicEnd after result
-      → Takes reached imports result more
+      (answer : Option (List ℕ × Import)) → Found text imports dynamics decls last other
+      → EndsAtDynamicImport reached → ReadsImport IsDynamicEnd after answer
+      → Takes reached imports answer more
       → Found text more (dynamics + 1) decls reached other
   dynamic_take {imports} {dynamics} {decls} {other} more None found site none same =
       subst (λ is. Found text is (dynamics + 1) decls reached other) (sym same)
@@ -382,10 +382,10 @@ module _ (text last reached after : List ℕ) (whole : text ≡ reached ++ after
         few_dynamics = (let few = found.few_dynamics in omega arith);
         few_decls = found.few_decls;
       })
-  dynamic_take {imports} {dynamics} {decls} {other} more (Some result) found site parses gains =
-      let import = moved (byte_count reached) result.1 in
+  dynamic_take {imports} {dynamics} {decls} {other} more (Some answer) found site parses gains =
+      let import = moved (byte_count reached) answer.1 in
       let is_in = dynamic_in text reached import
-      (stated_some EndsAtDynamicImport IsDynamicEnd text reached after whole result parses site) in
+      (stated_some EndsAtDynamicImport IsDynamicEnd text reached after whole answer parses site) in
       let has = gained text imports more import found.sound is_in gains in
       record {
         ascending = gains.ascending;
@@ -395,7 +395,7 @@ module _ (text last reached after : List ℕ) (whole : text ≡ reached ++ after
             (Complete-grow EndsAtDynamicImport dynamic_ends IsDynamicEnd text
             (length last) imports more gains.kept found.dynamic)
             (λ i s. subst (Contains more) (sym (stated_only EndsAtDynamicImport IsDynamicEnd text reached
-            after whole result parses i s)) has);
+            after whole answer parses i s)) has);
         decl = Complete-grow EndsAtDeclaration declaration_ends IsDeclarationEnd text
             (length other) imports more gains.kept found.decl;
         dynamic_count = Counted-more EndsAtDynamicImport dynamic_ends text last reached
@@ -406,9 +406,9 @@ module _ (text last reached after : List ℕ) (whole : text ≡ reached ++ after
       }
 
   pub decl_take : {imports : List Import} {dynamics decls : ℕ} {other : List ℕ} (more : List Import)
-      (result : Option (List ℕ × Import)) → Found text imports dynamics decls other last
-      → EndsAtDeclaration reached → ReadsImport IsDeclarationEnd after result
-      → Takes reached imports result more
+      (answer : Option (List ℕ × Import)) → Found text imports dynamics decls other last
+      → EndsAtDeclaration reached → ReadsImport IsDeclarationEnd after answer
+      → Takes reached imports answer more
       → Found text more dynamics (decls + 1) other reached
   decl_take {imports} {dynamics} {decls} {other} more None found site none same =
       subst (λ is. Found text is dynamics (decls + 1) other reached) (sym same)
@@ -426,10 +426,10 @@ module _ (text last reached after : List ℕ) (whole : text ≡ reached ++ after
         few_dynamics = found.few_dynamics;
         few_decls = (let few = found.few_decls in omega arith);
       })
-  decl_take {imports} {dynamics} {decls} {other} more (Some result) found site parses gains =
-      let import = moved (byte_count reached) result.1 in
+  decl_take {imports} {dynamics} {decls} {other} more (Some answer) found site parses gains =
+      let import = moved (byte_count reached) answer.1 in
       let is_in = declaration_in text reached import
-      (stated_some EndsAtDeclaration IsDeclarationEnd text reached after whole result parses site) in
+      (stated_some EndsAtDeclaration IsDeclarationEnd text reached after whole answer parses site) in
       let has = gained text imports more import found.sound is_in gains in
       record {
         ascending = gains.ascending;
@@ -441,7 +441,7 @@ module _ (text last reached after : List ℕ) (whole : text ≡ reached ++ after
             (Complete-grow EndsAtDeclaration declaration_ends IsDeclarationEnd text
             (length last) imports more gains.kept found.decl)
             (λ i s. subst (Contains more) (sym (stated_only EndsAtDeclaration IsDeclarationEnd text reached
-            after whole result parses i s)) has);
+            after whole answer parses i s)) has);
         dynamic_count = found.dynamic_count;
         decl_count = Counted-more EndsAtDeclaration declaration_ends text last reached
             (after, whole) skips decls found.decl_count site longer;

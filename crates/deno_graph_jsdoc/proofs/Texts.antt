@@ -28,10 +28,10 @@ bytes_from_chars text front rest utf8 is = sym (encodes-chars text utf8) ∙ ap 
     ∙ encodes-append front rest
 
 -- a word at the start of a text
-pub word_read : (word input : List ℕ) (result : Option (Bor (List ℕ))) → IsUtf8 input → IsAscii word
-    → MatchOption result (FindsTextPrefix word input None)
+pub word_read : (word input : List ℕ) (answer : Option (Bor (List ℕ))) → IsUtf8 input → IsAscii word
+    → MatchOption answer (FindsTextPrefix word input None)
     (λ rest. StripsPrefix (FindsTextPrefix word) input rest.now)
-    → Reads Anything (λ (_ : Unit {0}). Is word) (chars input) (rest_of result)
+    → Reads Anything (λ (_ : Unit {0}). Is word) (chars input) (rest_of answer)
 word_read word input None utf8 ascii none = λ _ rest _ begins.
     none (encodes rest)
     (bytes_from_chars input word rest utf8 (begins.whole ∙ ap (λ piece. piece ++ rest) begins.is)
@@ -71,11 +71,11 @@ mark_chars mark input rest utf8 (n, at, cut, size) =
     (chars_past_char input rest mark utf8 bytes, IsUtf8-past_char input rest mark utf8 bytes)
 
 -- the characters before and after the first of a mark
-pub split_chars : (mark : ℕ) (input : List ℕ) (result : Option (Bor (List ℕ) × Bor (List ℕ)))
+pub split_chars : (mark : ℕ) (input : List ℕ) (answer : Option (Bor (List ℕ) × Bor (List ℕ)))
     → IsUtf8 input → mark < 128
-    → MatchOption result (FindsChar mark input None)
+    → MatchOption answer (FindsChar mark input None)
     (λ x. SplitsAroundMatch (FindsChar mark) input x.0.now x.1.now)
-    → MatchOption result (Lacks mark (chars input))
+    → MatchOption answer (Lacks mark (chars input))
     (λ x. Lacks mark (chars x.0.now) × (chars input ≡ chars x.0.now ++ mark ∷ chars x.1.now))
 split_chars mark input None utf8 ascii none = Lacks-chars mark input utf8 none
 split_chars mark input (Some x) utf8 ascii (i, j, found, front, back, order, front_size, back_size) =
@@ -154,25 +154,25 @@ none_chars test text utf8 (cs, is, none) =
     subst (AllByRecursion (λ c. test c ≡ false)) (chars_from_encodes cs text utf8 is) (from_none test cs none)
 
 abbrev pub FindsAt : (ℕ → Bool) → List ℕ → Option ℕ → Type 0
-FindsAt test input result =
-    MatchOption result (FindsBy test input None)
+FindsAt test input answer =
+    MatchOption answer (FindsBy test input None)
     (λ i. (j : ℕ) × FindsBy test input (Some (i, j)) × (i ≤ j) × IsCharBoundary input i
     × IsCharBoundary input j)
 
 -- the test of a closure
 pub find_by_test : (test : ℕ → Bool) (IsTest : (ℕ → Bool) → Type 0) (input : List ℕ)
-    (result : Option ℕ) → IsTest test
-    → MatchOption result ((k : ℕ → Bool) → IsTest k → FindsBy k input None)
+    (answer : Option ℕ) → IsTest test
+    → MatchOption answer ((k : ℕ → Bool) → IsTest k → FindsBy k input None)
     (λ i. (j : ℕ) × ((k : ℕ → Bool) → IsTest k → FindsBy k input (Some (i, j))) × (i ≤ j)
     × IsCharBoundary input i × IsCharBoundary input j)
-    → FindsAt test input result
+    → FindsAt test input answer
 find_by_test test IsTest input None is found = found test is
 find_by_test test IsTest input (Some i) is (j, found, order, start, end) =
     (j, found test is, order, start, end)
 
-pub find_chars : (test : ℕ → Bool) (input : List ℕ) (result : Option ℕ) → IsUtf8 input
-    → FindsAt test input result
-    → let at = unwrap_or result (length input) in
+pub find_chars : (test : ℕ → Bool) (input : List ℕ) (answer : Option ℕ) → IsUtf8 input
+    → FindsAt test input answer
+    → let at = unwrap_or answer (length input) in
     (chars input ≡ chars (take at input) ++ chars (drop at input))
     × AllByRecursion (λ c. test c ≡ false) (chars (take at input))
     × EmptyOr (λ c. test c ≡ true) (chars (drop at input))
@@ -198,12 +198,12 @@ find_chars test input (Some i) utf8 (j, found, order, boundary, end) =
     )
 
 -- the characters before and after the first of a word
-pub split_word : (word input : List ℕ) (result : Option (Bor (List ℕ) × Bor (List ℕ)))
+pub split_word : (word input : List ℕ) (answer : Option (Bor (List ℕ) × Bor (List ℕ)))
     → IsUtf8 input → IsAscii word
-    → MatchOption result (Unit {0}) (λ x. IsUtf8 x.0.now)
-    → MatchOption result (FindsText word input None)
+    → MatchOption answer (Unit {0}) (λ x. IsUtf8 x.0.now)
+    → MatchOption answer (FindsText word input None)
     (λ x. SplitsAroundMatch (FindsText word) input x.0.now x.1.now)
-    → MatchOption result ((front rest : List ℕ) → chars input ≢ front ++ (word ++ rest))
+    → MatchOption answer ((front rest : List ℕ) → chars input ≢ front ++ (word ++ rest))
     (λ x. (chars input ≡ chars x.0.now ++ (word ++ chars x.1.now))
     × ((before after : List ℕ) → chars x.0.now ++ word ≡ before ++ (word ++ after) → after ≡ []))
 split_word word input None utf8 ascii _ none = λ front rest whole.

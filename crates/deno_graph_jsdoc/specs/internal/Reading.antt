@@ -66,28 +66,28 @@ ReadsImport G input (Some (rest, import)) =
 
 -- like `ReadsImport`, for a result without the rest
 abbrev pub ReadsImportAlone : (List ℕ → Import → List ℕ → Type 0) → List ℕ → Option Import → Type 0
-ReadsImportAlone G input result =
-    (rest : List ℕ) × ReadsImport G input (option_map (λ import. (rest, import)) result)
+ReadsImportAlone G input answer =
+    (rest : List ℕ) × ReadsImport G input (option_map (λ import. (rest, import)) answer)
 
 -- the results of parsers as lists of characters: the rest, alone or with what was read
 abbrev pub rest_of : Option (Bor (List ℕ)) → Option (List ℕ × Unit {0})
-rest_of result = option_map (λ rest. (chars rest.now, tt)) result
+rest_of answer = option_map (λ rest. (chars rest.now, tt)) answer
 
 abbrev pub text_of : Option (Bor (List ℕ)) → Option (List ℕ)
 text_of text = option_map (λ text. chars text.now) text
 
 abbrev pub rest_and_text : Option (Bor (List ℕ) × Bor (List ℕ)) → Option (List ℕ × List ℕ)
-rest_and_text result = option_map (λ found. (chars found.0.now, chars found.1.now)) result
+rest_and_text answer = option_map (λ found. (chars found.0.now, chars found.1.now)) answer
 
 abbrev pub rest_and_attribute : Option (Bor (List ℕ) × (Bor (List ℕ) × Bor (List ℕ)))
     → Option (List ℕ × Attribute)
-rest_and_attribute result =
+rest_and_attribute answer =
     option_map
     (λ found. (chars found.0.now, record { key = chars found.1.0.now; value = chars found.1.1.now }))
-    result
+    answer
 
 abbrev pub rest_and_mode : Option (Bor (List ℕ) × Mode) → Option (List ℕ × Mode)
-rest_and_mode result = option_map (λ found. (chars found.0.now, found.1)) result
+rest_and_mode answer = option_map (λ found. (chars found.0.now, found.1)) answer
 
 abbrev pub rest_and_import : Option (Bor (List ℕ) × JsDocImport) → Option (List ℕ × Import)
 rest_and_import None = None
