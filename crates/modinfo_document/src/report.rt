@@ -163,8 +163,8 @@ fn write_range(line: &mut TextWriter, range: SourceRange) -> Result<(), AllocErr
 fn write_text_place(line: &mut TextWriter, at: TextPlace) -> Result<(), AllocError> {
     line.key("at")?;
     line.begin_object()?;
-    write_count(line, "line", at.line)?;
-    write_count(line, "column", at.column)?;
+    write_count(line, "line", at.position.line)?;
+    write_count(line, "column", at.position.character)?;
     write_count(line, "offset", at.offset)?;
     line.end_object()
 }
