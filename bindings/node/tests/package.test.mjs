@@ -131,7 +131,7 @@ test("its licence is the repository's, its version the program's and that of the
   assert.deepEqual(optionalDependencies, Object.fromEntries(names.map((name) => [`modinfo-${name}`, version])));
   assert.equal(read("LICENSE"), read("../../LICENSE"));
   assert.match(read("LICENSE"), new RegExp(`^${license} License\n`));
-  assert.ok(read("../../crates/modinfo/src/invocation.rt").includes(`"modinfo ${version}\\n"`));
+  assert.ok(read("../../crates/modinfo/src/command_line.rt").includes(`"modinfo ${version}\\n"`));
 });
 
 describe("the package", { skip: noNpm && "npm isn't there" }, () => {

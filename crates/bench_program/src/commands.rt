@@ -1,13 +1,14 @@
 //! Runs commands over a parser for which each line of a text is an import.
 //!
 //!     bench_program commands parse TURNS TEXTS SPECIFIERS LINES
-//!         in each turn parses each of the texts, of so many lines, at each of the specifiers
+//!         in each of TURNS turns, parses TEXTS texts of LINES lines under SPECIFIERS specifiers
 //!     bench_program commands analyze TURNS TEXTS SPECIFIERS LINES
-//!         analyzes them
+//!         analyzes the texts instead
 //!     bench_program commands parse TURNS TEXTS SPECIFIERS LINES build
-//!         makes the commands, and no more
+//!         makes the commands, and runs none
 //!
-//! With one text all but the first command of each specifier are hits; with more all are misses.
+//! With one text, the parser is called only for the first command of each specifier; with more
+//! texts, for each command.
 
 use crate::imports::{import, program};
 use crate::words::number;
@@ -52,14 +53,14 @@ fn print_answers<R: AllocGlobal + Print>(rt: &R, commands: &[Command]) -> Result
     Ok(())
 }
 
-/// A parser for which each line of a text is an import of what it says.
+/// A parser for which each line of a text is an import, with the line as its specifier.
 #[derive(Drop)]
 struct LineParser {
-    /// How many texts were parsed.
+    /// The number of parsed texts.
     parsed: Rc<Cell<u64>>,
 }
 
-/// It promises nothing of its outcomes: none of what is measured asks for them.
+/// Has no outcomes and no promise: the benchmarks need none.
 impl EsParser for LineParser {
     ghost use Rattle.std.specs.Prelude.{None};
 
@@ -92,7 +93,7 @@ impl EsParser for LineParser {
     }
 }
 
-/// An import for each line of the text.
+/// Returns a program with an import for each line of the text.
 fn program_of(alloc: Global, text: &str) -> Result<Program, AllocError> {
     let mut body = Items::new(alloc);
     let mut start = 0_usize;
@@ -105,7 +106,7 @@ fn program_of(alloc: Global, text: &str) -> Result<Program, AllocError> {
     Ok(program(text.len(), body))
 }
 
-/// The commands: in each turn each text in turn, at each specifier.
+/// Returns the commands: in each turn, each text under each specifier.
 fn commands_of(
     alloc: Global,
     analyzes: bool,
@@ -144,7 +145,7 @@ fn command(analyzes: bool, specifier: &Url, text: &RcStr) -> Result<Command, All
     })
 }
 
-/// Texts of so many lines of one length, which differ in their numbers.
+/// Returns `count` texts of `lines` lines. All lines have one length, and the texts differ by a number.
 fn texts_of(alloc: Global, count: usize, lines: usize) -> Result<Vec<RcStr>, AllocError> {
     let mut texts = Vec::new(alloc);
     for number in 0..count {

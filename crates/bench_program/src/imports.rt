@@ -1,11 +1,11 @@
-//! The trees of imports, as a parser makes them.
+//! Trees of imports.
 
 use deno_graph_source::text::{JsString, SourceRange};
 use deno_graph_source::tree::{ImportPhase, Kind, Node, Program, StrLit};
 use deno_graph_source::values::Items;
 use std::alloc::{AllocError, Global};
 
-/// The import at `range` of the specifier at `quoted`.
+/// Returns the import at `range`, whose quoted specifier is at `quoted`.
 pub fn import(
     alloc: Global,
     range: SourceRange,
@@ -22,7 +22,7 @@ pub fn import(
     Ok(Node::new(alloc, range, kind))
 }
 
-/// The program of a text of so many bytes.
+/// Returns the program of a text of `size` bytes.
 pub fn program(size: usize, body: Items<Node>) -> Program {
     Program {
         range: SourceRange::new(0, size),

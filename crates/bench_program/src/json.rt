@@ -1,7 +1,7 @@
-//! Reads one JSON value and drops it: what the reader of JSON alone costs.
+//! Reads one JSON value and drops it, to measure the reader of JSON alone.
 //!
 //!     bench_program json          reads the value
-//!     bench_program json print    and prints it
+//!     bench_program json print    reads and prints the value
 
 use anyhow::Result;
 use serde_json::Value;

@@ -1,12 +1,12 @@
-//! What `bench/run` measures beside the program `modinfo`. The first word says which, and the file
-//! of that name says what follows it:
+//! Measured by `bench/run`, besides the program `modinfo`. The file of each word has the words that
+//! follow:
 //!
 //!     bench_program commands ..     runs of commands
 //!     bench_program json ..         the reading of JSON alone
 //!     bench_program positions ..    look-ups of positions in a text
 //!     bench_program sources ..      a module made in code, and its analysis
 //!     bench_program walk ..         a walk over a tree
-//!     bench_program all             a few small cases of each, with one JSON text as their input
+//!     bench_program all             a few small cases of each; the input is a JSON text
 #![tactic(auto)]
 
 mod commands;
@@ -47,7 +47,7 @@ fn main(rt: HostRuntime) -> Result<()> {
     }
 }
 
-/// Runs each case, and prints it before what it prints.
+/// Runs each case, and prints the case before its output.
 fn print_cases<R: AllocGlobal + Print>(rt: &R, input: &[u8]) -> Result<()> {
     for case in CASES {
         let words: Vec<&str> = case.split(' ').collect(rt.alloc())?;

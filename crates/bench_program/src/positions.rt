@@ -1,10 +1,10 @@
-//! Looks up positions in a text, the input.
+//! Looks up positions in the text of the input. Each mode does the work of the modes above it too.
 //!
-//!     bench_program positions read COUNT          takes the text alone
-//!     bench_program positions new COUNT           and makes what finds positions in it
-//!     bench_program positions boundaries COUNT    and takes so many boundaries of the text
-//!     bench_program positions find COUNT          and looks up their positions
-//!     bench_program positions back COUNT          and finds each of them again by its position
+//!     bench_program positions read COUNT          reads the text
+//!     bench_program positions new COUNT           makes a `SourceTextInfo`
+//!     bench_program positions boundaries COUNT    finds COUNT boundaries of the text
+//!     bench_program positions find COUNT          converts the boundaries into positions
+//!     bench_program positions back COUNT          converts the positions into boundaries again
 
 ghost use Rattle.std.specs.Str.{IsCharBoundary};
 
@@ -14,7 +14,7 @@ use deno_graph_source::text::{Position, SourceTextInfo};
 use std::rc::RcStr;
 use std::str;
 
-/// How many bytes lie between one look-up and the next. A prime, so that they fall everywhere.
+/// The bytes from one look-up to the next: a prime, so that the look-ups are spread over the text.
 const STEP: usize = 7919;
 
 pub fn run<R: AllocGlobal + Print>(rt: &R, words: &[&str], input: &[u8]) -> Result<()> {
@@ -35,7 +35,7 @@ pub fn run<R: AllocGlobal + Print>(rt: &R, words: &[&str], input: &[u8]) -> Resu
     Ok(())
 }
 
-/// The sum of so many boundaries.
+/// Returns the sum of `count` boundaries.
 fn boundaries(info: &SourceTextInfo, count: usize) -> usize {
     let mut sum = 0_usize;
     for i in 0..count {
@@ -44,7 +44,7 @@ fn boundaries(info: &SourceTextInfo, count: usize) -> usize {
     sum
 }
 
-/// The sum of the lines and characters of so many boundaries.
+/// Returns the sum of the lines and characters of `count` boundaries.
 fn found(info: &SourceTextInfo, count: usize) -> usize {
     let mut sum = 0_usize;
     for i in 0..count {
@@ -56,7 +56,7 @@ fn found(info: &SourceTextInfo, count: usize) -> usize {
     sum
 }
 
-/// The sum of so many boundaries, each found by its position.
+/// Returns the sum of `count` boundaries, each converted from its position.
 fn found_again(info: &SourceTextInfo, count: usize) -> usize {
     let mut sum = 0_usize;
     for i in 0..count {
@@ -66,7 +66,7 @@ fn found_again(info: &SourceTextInfo, count: usize) -> usize {
     sum
 }
 
-/// A character boundary of the text.
+/// Returns the boundary of look-up number `i`.
 fn boundary(info: &SourceTextInfo, i: usize) -> usize
     ensures { IsCharBoundary info.now result }
 {

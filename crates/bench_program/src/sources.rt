@@ -1,8 +1,9 @@
-//! Makes a module of imports in code, as a caller with a parser does, and analyzes it.
+//! Makes a module of imports in code, as a caller with a parser does, and analyzes the module. Each
+//! mode does the work of the modes above it too.
 //!
-//!     bench_program sources tree COUNT      makes the text and the tree of so many imports
-//!     bench_program sources source COUNT    and the parsed source
-//!     bench_program sources info COUNT      and prints how many dependencies it states
+//!     bench_program sources tree COUNT      makes the text and the tree of COUNT imports
+//!     bench_program sources source COUNT    makes the parsed source
+//!     bench_program sources info COUNT      prints the number of dependencies
 
 use crate::imports::{import, program};
 use crate::words::number;
@@ -15,16 +16,19 @@ use std::alloc::{AllocError, Global};
 use std::rc::RcStr;
 use url::Url;
 
-/// An import on a line of its own, and what it imports.
+/// The text of one import, with a line break.
 const LINE: &str = "import { é } from \"./日本語.ts\";\n";
 
+/// The specifier in `LINE`.
 const SPECIFIER: &str = "./日本語.ts";
 
-/// How many bytes the line has, where its quoted specifier is, and where its statement ends.
+/// The length of `LINE` in bytes.
 const LINE_BYTES: usize = 37;
 
+/// The range of the quoted specifier in `LINE`.
 const QUOTED: SourceRange = SourceRange { start: 19, end: 35 };
 
+/// The length of the statement in `LINE`, in bytes.
 const STATEMENT_BYTES: usize = 36;
 
 pub fn run<R: AllocGlobal + Print>(rt: &R, words: &[&str]) -> Result<()> {
@@ -48,7 +52,7 @@ fn dependency_count(alloc: Global, source: &ParsedSource) -> Result<usize, Alloc
     Ok(module_info(alloc, source)?.dependencies.len())
 }
 
-/// The line, so many times.
+/// Returns `count` lines.
 fn lines(alloc: Global, count: usize) -> Result<RcStr, AllocError> {
     let mut text = String::new(alloc);
     for _ in 0..count {
@@ -57,7 +61,7 @@ fn lines(alloc: Global, count: usize) -> Result<RcStr, AllocError> {
     RcStr::from_str(alloc, text.as_str())
 }
 
-/// The tree of so many lines.
+/// Returns the program of `count` lines.
 fn imports(alloc: Global, count: usize) -> Result<Program, AllocError> {
     let mut body = Items::with_capacity(alloc, count)?;
     for i in 0..count {
@@ -66,7 +70,7 @@ fn imports(alloc: Global, count: usize) -> Result<Program, AllocError> {
     Ok(program(count.saturating_mul(LINE_BYTES), body))
 }
 
-/// The import of the line that begins at the byte `start`.
+/// Returns the import of the line at the offset `start`.
 fn import_at(alloc: Global, start: usize) -> Result<Node, AllocError> {
     let range = SourceRange::new(start, start.saturating_add(STATEMENT_BYTES));
     let quoted = SourceRange::new(

@@ -1,9 +1,9 @@
 //! Builds a tree of import types, wide or deep, and walks through it.
 //!
-//!     bench_program walk wide COUNT          prints how many nodes a walk gives and enters
-//!     bench_program walk deep COUNT          the same, where each node is inside the one before it
+//!     bench_program walk wide COUNT          prints the number of nodes that a walk returns and enters
+//!     bench_program walk deep COUNT          the same for nodes that are nested
 //!     bench_program walk wide COUNT count    counts the nodes by plain recursion instead
-//!     bench_program walk wide COUNT build    builds the tree, and no more
+//!     bench_program walk wide COUNT build    builds the tree, and doesn't walk
 
 use crate::imports::program;
 use crate::words::number;
@@ -14,7 +14,7 @@ use deno_graph_source::tree::{Kind, Node, Program, StrLit};
 use deno_graph_source::values::Items;
 use std::alloc::{AllocError, Global};
 
-/// Where everything is, since there is no source.
+/// The range of all nodes, since there is no source.
 const NOWHERE: SourceRange = SourceRange { start: 0, end: 0 };
 
 pub fn run<R: AllocGlobal + Print>(rt: &R, words: &[&str]) -> Result<()> {
@@ -29,24 +29,24 @@ pub fn run<R: AllocGlobal + Print>(rt: &R, words: &[&str]) -> Result<()> {
         Some(&"build") => {}
         Some(_) => println!(rt; "{}", counted(program.body.as_slice()))?,
         None => {
-            let (given, entered) = walked(rt.alloc(), &program)?;
-            println!(rt; "{given} given, {entered} entered")?;
+            let (returned, entered) = walked(rt.alloc(), &program)?;
+            println!(rt; "{returned} returned, {entered} entered")?;
         }
     }
     Ok(())
 }
 
-/// How many nodes a walk gives, and how many it enters.
+/// Returns the number of nodes that a walk returns, and the number of nodes that it enters.
 fn walked(alloc: Global, program: &Program) -> Result<(usize, u64), AllocError> {
     let mut walk = Walk::new(alloc, program);
-    let mut given: usize = 0;
+    let mut returned: usize = 0;
     'nodes: while let Some(_) = walk.step()? {
-        given = given.saturating_add(1);
+        returned = returned.saturating_add(1);
     }
-    Ok((given, walk.entered()))
+    Ok((returned, walk.entered()))
 }
 
-/// How many nodes there are, by plain recursion.
+/// Returns the number of nodes, by plain recursion.
 fn counted(nodes: &[Node]) -> u64 {
     let mut count: u64 = 0;
     for node in nodes {
@@ -57,7 +57,7 @@ fn counted(nodes: &[Node]) -> u64 {
     count
 }
 
-/// Import types beside one another.
+/// Returns `count` import types in one list.
 fn wide(alloc: Global, count: usize) -> Result<Items<Node>, AllocError> {
     let mut nodes = Items::with_capacity(alloc, count)?;
     for _ in 0..count {
@@ -66,7 +66,7 @@ fn wide(alloc: Global, count: usize) -> Result<Items<Node>, AllocError> {
     Ok(nodes)
 }
 
-/// Import types inside one another.
+/// Returns `count` import types, each inside the next.
 fn deep(alloc: Global, count: usize) -> Result<Items<Node>, AllocError> {
     let mut nodes = Items::new(alloc);
     for _ in 0..count {
@@ -75,7 +75,7 @@ fn deep(alloc: Global, count: usize) -> Result<Items<Node>, AllocError> {
     Ok(nodes)
 }
 
-/// An import type of the empty text.
+/// Returns an import type of the empty text.
 fn import_type(alloc: Global, children: Items<Node>) -> Result<Node, AllocError> {
     Ok(Node {
         range: NOWHERE,

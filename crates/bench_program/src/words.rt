@@ -1,8 +1,8 @@
-//! The words of a call.
+//! The words of the command line.
 
 use anyhow::{Context, Result};
 
-/// The number at this place.
+/// Returns the number at index `at`.
 pub fn number(words: &[&str], at: usize) -> Result<usize> {
     Ok(words.get(at).context("how many?")?.parse::<usize>()?)
 }

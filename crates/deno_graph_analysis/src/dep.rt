@@ -1,4 +1,4 @@
-//! The dependencies of a module, found in its syntax tree.
+//! The dependencies in a syntax tree.
 
 pub use deno_graph_dep::{
     DependencyDescriptor, DynamicArgument, DynamicDependencyDescriptor, DynamicTemplatePart,

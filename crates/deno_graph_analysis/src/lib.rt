@@ -1,5 +1,5 @@
-//! The analysis of modules, by the names of the original's files: `ast`, `dep` and `jsdoc`. What
-//! they name is in the crates below.
+//! Facade for the analysis of modules: `ast`, `dep` and `jsdoc`, named after the files of
+//! `deno_graph`. It defines nothing.
 #![tactic(auto)]
 
 pub mod ast;

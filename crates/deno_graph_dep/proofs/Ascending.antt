@@ -1,5 +1,4 @@
--- Lists whose members are in an order: membership and order by recursion on the list, and that
--- such a list is determined by its members.
+-- Ascending lists: membership and order by recursion, and a list is determined by its members.
 use Rattle.std.proofs.Common.{
   ◌≡◌,
   ℕ,
@@ -33,7 +32,7 @@ abbrev pub Member : {X : Type 0} → List X → X → Type 0
 Member [] x = ⊥
 Member (y ∷ ys) x = (y ≡ x) ⊎ Member ys x
 
--- each item is in the relation R to each later one
+-- each member is in the relation R to each later one
 abbrev pub Ascending : {X : Type 0} → (X → X → Type 0) → List X → Type 0
 Ascending R [] = Unit {0}
 Ascending R (x ∷ xs) = ((y : _) → Member xs y → R x y) × Ascending R xs
@@ -63,7 +62,7 @@ Member-mapped f [] x m = absurd m
 Member-mapped f (z ∷ xs) x (inl e) = inl (ap f e)
 Member-mapped f (z ∷ xs) x (inr m) = inr (Member-mapped f xs x m)
 
--- membership as the contracts say it
+-- membership by recursion is that of the contracts
 pub Contains-from_Member : {X : Type 0} (xs : List X) (x : X) → Member xs x → Contains xs x
 Contains-from_Member [] x m = absurd m
 Contains-from_Member (y ∷ ys) x (inl e) = (0, omega arith, e)
@@ -77,7 +76,7 @@ Member-from_Contains xs x c = at xs c.0 x c.1 c.2
     at (y ∷ ys) zero x h e = inl e
     at (y ∷ ys) (suc k) x h e = inr (at ys k x (omega arith) e)
 
--- order as the contracts say it
+-- order by recursion is that of the contracts
 pub AllPairs-from_Ascending : {X : Type 0} (R : X → X → Type 0) (xs : List X) → Ascending R xs → AllPairs R xs
 AllPairs-from_Ascending R [] a = λ i j d h k. absurd (omega arith)
 AllPairs-from_Ascending R (x ∷ xs) a = AllPairs-cons R x xs (all xs (a.0)) (AllPairs-from_Ascending R xs a.1)

@@ -1,17 +1,26 @@
--- What a listed call is, and that its arguments are among its children.
+-- The arguments of a call among its children, and which calls are no dependencies.
 use Rattle.std.proofs.Common.{
   ◌≡◌,
-  true,
   ℕ,
+  zero,
+  suc,
+  Bool,
+  true,
+  false,
+  ◌&&◌,
+  cond,
   ◌+◌,
   ◌<◌,
   List,
   [],
   ◌∷◌,
+  Option,
   Some,
+  None,
+  option_map,
+  option_and_then,
   slice_get,
   length,
-  get_or,
   arith,
   ap,
   sym,
@@ -19,10 +28,11 @@ use Rattle.std.proofs.Common.{
   refl,
   subst,
   All,
+  inl,
+  inr,
 }
 use Rattle.std.specs.Prelude.{is_some}
-use Rattle.std.proofs.lemmas.Bool.{and_parts, false≢true}
-use Rattle.std.proofs.lemmas.Option.{slice_get_within, slice_get_read, get_or_from_slice_get}
+use Rattle.std.proofs.lemmas.Option.{same_Some, slice_get_within, get_or_from_slice_get}
 use Rattle.deno_graph_source.specs.Node.{
   kind_of,
   children_of,
@@ -33,26 +43,28 @@ use Rattle.deno_graph_source.specs.Node.{
 }
 use Rattle.deno_graph_source.specs.declared.tree.node.Arg.{Arg}
 use Rattle.deno_graph_source.specs.declared.tree.node.Callee.{Callee}
+use Rattle.deno_graph_source.specs.declared.tree.node.Callee.TheVariants as callee
 use Rattle.deno_graph_source.specs.declared.tree.node.Kind.{Kind}
 use Rattle.deno_graph_source.specs.declared.tree.node.Kind.TheVariants.{Call}
 use Rattle.deno_graph_source.specs.declared.tree.node.Node.{Node}
 use Rattle.deno_graph_source.proofs.ValidSource.{All-child_nodes, node-holds}
-use Rattle.deno_graph_dep.specs.DependencyRules.{is_dependency, is_listed, is_module_call}
-use Rattle.deno_graph_dep.specs.Stated.{argument_node}
+use Rattle.deno_graph_info.specs.declared.analysis.dynamic_dependency.DynamicDependencyKind.TheVariants as dynamic_kind
+use Rattle.deno_graph_dep.specs.internal.CallSteps.{IsNoModuleCall}
+use Rattle.deno_graph_dep.specs.DependencyKind.{call_kind}
+use Rattle.deno_graph_dep.specs.DependencyRules.{
+  is_dependency_kind,
+  is_dependency,
+  is_module_call,
+  is_require,
+}
+use Rattle.deno_graph_dep.specs.DescriptorOf.{argument_at, argument_node}
 
-some_first : (args : List Arg) → is_some (slice_get args 0) ≡ true → 0 < length args
-some_first [] is = absurd (false≢true is)
-some_first (arg ∷ args) is = omega arith
-
--- a listed call is one of `import` or `require`, and has an argument
-pub listed_call : (node : Node) (callee : Callee) (args : List Arg) → kind_of node ≡ Call callee args
-    → is_listed node ≡ true → (is_module_call callee (children_of node) ≡ true) × (0 < length args)
-unfolding is_listed
-listed_call node callee args is listed =
-    let P : Kind → Type 0 = λ kind. is_dependency kind (children_of node) ≡ true in
-    let both =
-    and_parts (is_module_call callee (children_of node)) (is_some (slice_get args 0)) (subst P is listed) in
-    (both.0, some_first args both.1)
+-- a list has a node at each index below its length
+pub node_within : (nodes : List Node) (k : ℕ) → k < length nodes
+    → (node : Node) × (slice_get nodes k ≡ Some node)
+node_within [] k within = absurd (omega (arith, within))
+node_within (node ∷ nodes) zero within = (node, refl)
+node_within (node ∷ nodes) (suc k) within = node_within nodes k (omega (arith, within))
 
 -- a call with an argument has a node for it
 pub first_argument_within : (node : Node) (callee : Callee) (args : List Arg)
@@ -76,11 +88,62 @@ argument_shaped node callee index argument shaped at =
       get_or_from_slice_get (children_of node) k argument argument at,
     ) shaped
 
--- the node behind the callee is that of the first argument
-pub argument_at : (node : Node) (callee : Callee) (children : List Node) (count : ℕ) (argument : Node)
-    → children ≡ children_of node → count ≡ callee_count callee → count < length children
-    → argument ≡ get_or children count argument → argument_node callee (children_of node) 0 ≡ Some argument
-argument_at node callee children count argument same is within read =
-    let place : callee_count callee + 0 ≡ count = omega (arith, is) in
-    ap (λ n. slice_get (children_of node) n) place ∙ ap (λ xs. slice_get xs count) (sym same)
-    ∙ slice_get_read children (length children) count argument refl within read
+-- an argument and its node that are there are those with its index
+pub argument_parts : (callee : Callee) (args : List Arg) (children : List Node) (index : ℕ) (arg : Arg)
+    (argument : Node)
+    → argument_at callee args children index ≡ Some (arg, argument)
+    → (slice_get args index ≡ Some arg) × (argument_node callee children index ≡ Some argument)
+argument_parts callee args children index arg argument at =
+    parts (slice_get args index) (argument_node callee children index) at
+  where
+    parts : (a : Option Arg) (n : Option Node)
+        → option_and_then {U = Arg × Node} (λ x. option_map (λ node. (x, node)) n) a ≡ Some (arg, argument)
+        → (a ≡ Some arg) × (n ≡ Some argument)
+    parts None n is = cc
+    parts (Some x) None is = cc
+    parts (Some x) (Some node) is =
+        let a : Arg × Node = (x, node) in
+        let b : Arg × Node = (arg, argument) in
+        let same : a ≡ b = same_Some a b is in
+        (ap (λ (p : Arg × Node). Some p.0) same, ap (λ (p : Arg × Node). Some p.1) same)
+
+no_kind : (callee : Callee) (children : List Node) → call_kind callee children ≡ None
+    → is_module_call callee children ≡ false
+no_kind (callee.Import phase) children none = cc
+no_kind callee.Expr children none = by_name (is_require (option_map kind_of (slice_get children 0))) none
+  where
+    by_name : (b : Bool) → cond b (Some dynamic_kind.Require) None ≡ None → b ≡ false
+    by_name true e = cc
+    by_name false e = refl
+no_kind callee.Super children none = refl
+
+no_argument : (callee : Callee) (args : List Arg) (children : List Node)
+    → (0 < length args → callee_count callee < length children) → argument_at callee args children 0 ≡ None
+    → is_some (slice_get args 0) ≡ false
+no_argument callee [] children within none = refl
+no_argument callee (arg ∷ args) children within none =
+    let below = within (omega arith) in
+    let node = node_within children (callee_count callee + 0) (omega (arith, below)) in
+    let here = sym (ap (option_map (λ (n : Node). (arg, n))) node.1) ∙ none in
+    cc
+
+and_false : (b c : Bool) → c ≡ false → (b && c) ≡ false
+and_false true c is = is
+and_false false c is = refl
+
+-- a call that is none of `import` or `require`, or that has no first argument, is no dependency
+pub no_module_call : (node : Node) (callee : Callee) (args : List Arg) → kind_of node ≡ Call callee args
+    → All IsShaped (nodes_in node) → IsNoModuleCall callee args (children_of node)
+    → is_dependency node ≡ false
+unfolding is_dependency
+no_module_call node callee args is shaped none =
+    let P : Kind → Type 0 = λ kind. is_dependency_kind kind (children_of node) ≡ false in
+    subst P (sym is) (by_case none)
+  where
+    by_case : IsNoModuleCall callee args (children_of node)
+        → (is_module_call callee (children_of node) && is_some (slice_get args 0)) ≡ false
+    by_case (inl none) =
+        ap (λ b. b && is_some (slice_get args 0)) (no_kind callee (children_of node) none)
+    by_case (inr none) =
+        and_false (is_module_call callee (children_of node)) (is_some (slice_get args 0))
+        (no_argument callee args (children_of node) (first_argument_within node callee args is shaped) none)

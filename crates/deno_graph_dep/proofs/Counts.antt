@@ -1,5 +1,4 @@
--- What a stack counts: the paths that are passed, and so those that are entered by the time that a
--- node is given.
+-- The count of a stack: the passed paths, which are those of the nodes entered when a step returns.
 use Rattle.std.proofs.Common.{
   ◌≡◌,
   ◌≢◌,
@@ -42,11 +41,11 @@ use Rattle.deno_graph_source.specs.declared.tree.node.Node.{Node}
 use Rattle.deno_graph_dep.specs.DependencyRules.{children_to_visit, dependency_rules}
 use Rattle.deno_graph_dep.specs.Entered as by
 use Rattle.deno_graph_dep.specs.Entered.{IsEnteredBy, EnteredBy, IsCountOf}
-use Rattle.deno_graph_dep.specs.Stack.{
+use Rattle.deno_graph_dep.specs.internal.Stack.{
   entry_rules,
   frame_of,
-  is_given_before,
-  is_given_after,
+  comes_before,
+  comes_after,
   index_of,
   next_path,
   paths_to_come,
@@ -56,8 +55,8 @@ use Rattle.deno_graph_dep.specs.Stack.{
   IsPassed,
   IsStackOf,
 }
-use Rattle.deno_graph_dep.specs.ListedPaths.{listed_paths}
-use Rattle.deno_graph_dep.specs.Listing.{Rules, IsReachable, IsListed, IsAfterInside, Precedes}
+use Rattle.deno_graph_dep.specs.internal.ListingPaths.{listing_paths}
+use Rattle.deno_graph_dep.specs.Listing.{Rules, IsReachable, IsMember, IsAfterInside, Precedes}
 use Rattle.deno_graph_source.specs.NodePath.{NodePath, node_at}
 use Rattle.deno_graph_dep.specs.declared.stack.Stack.{Stack}
 use Rattle.deno_graph_dep.proofs.Ascending.{
@@ -71,7 +70,7 @@ use Rattle.deno_graph_dep.proofs.Ascending.{
   Ascending-from_AllPairs,
   Ascending-weaker,
 }
-use Rattle.deno_graph_dep.proofs.Listings.{IsListing-listed_paths, Precedes-asymmetric}
+use Rattle.deno_graph_dep.proofs.Listings.{IsListing-listing_paths, Precedes-asymmetric}
 use Rattle.deno_graph_dep.proofs.NodePaths.{
   Below-from_IsStrictPrefix,
   IsStrictPrefix-from_Below,
@@ -204,20 +203,20 @@ IsStackOf-leave body old new node siblings step s =
 
 -- the paths that were entered are the reachable ones that are passed
 reachable_entry : (rules : Rules) (body : List Node) (q : NodePath) → IsReachable rules body q
-    → IsReachable (entry_rules rules) body q × IsListed (entry_rules rules) body q
+    → IsReachable (entry_rules rules) body q × IsMember (entry_rules rules) body q
 reachable_entry rules body q r =
-    (record { to_node = r.to_node; is_open = r.is_open }, listed (node_at body q) r.to_node)
+    (record { to_node = r.to_node; is_open = r.is_open }, member (node_at body q) r.to_node)
   where
-    listed : (o : Option Node) → IsSome o → IsSomeAnd o (λ node. IsTrue true)
-    listed (Some node) some = refl
-    listed None some = absurd (false≢true some)
+    member : (o : Option Node) → IsSome o → IsSomeAnd o (λ node. IsTrue true)
+    member (Some node) some = refl
+    member None some = absurd (false≢true some)
 
 pub passed_are : (body : List Node) (stack : Stack) (s : IsStackOf body stack) (q : NodePath)
     → Contains s.passed q ↔ (IsReachable dependency_rules body q × IsPassed (next_of body stack) q)
 passed_are body stack s q =
     let entries = entry_rules dependency_rules in
-    let all = listed_paths entries body in
-    let listing = IsListing-listed_paths entries body in
+    let all = listing_paths entries body in
+    let listing = IsListing-listing_paths entries body in
     let P : List NodePath → Type 0 = λ ps. Member ps q in (
       λ c.
           let there : Member all q =
@@ -244,17 +243,17 @@ Ascending-front R (x ∷ xs) ys a = (λ y m. a.0 y (Member-left xs ys y m), Asce
 passed_distinct : (body : List Node) (stack : Stack) (s : IsStackOf body stack) → AllPairs ◌≢◌ s.passed
 passed_distinct body stack s =
     let entries = entry_rules dependency_rules in
-    let all = listed_paths entries body in
+    let all = listing_paths entries body in
     let R = Precedes entries body in
     let P : List NodePath → Type 0 = λ ps. Ascending R ps in
     let ascending = subst P s.follow
-    (Ascending-from_AllPairs R all (IsListing-listed_paths entries body).ascending) in
+    (Ascending-from_AllPairs R all (IsListing-listing_paths entries body).ascending) in
     AllPairs-from_Ascending ◌≢◌ s.passed
     (Ascending-weaker R ◌≢◌ (λ x y r e. let Q : NodePath → Type 0 = λ z. R x z in
     let own = subst Q (sym e) r in Precedes-asymmetric entries body x x own own)
     s.passed (Ascending-front R s.passed (to_come entries body stack) ascending))
 
--- a count of what is passed, where that is a property of the reachable paths
+-- the count of the reachable paths that are passed
 pub count_of : (P : NodePath → Type 0) (body : List Node) (stack : Stack) → IsStackOf body stack
     → ((q : NodePath) → IsReachable dependency_rules body q → IsPassed (next_of body stack) q ↔ P q)
     → IsCountOf (λ q. IsReachable dependency_rules body q × P q) stack.entered
@@ -268,30 +267,30 @@ count_of P body stack s same = record {
   length_is = s.counted;
 }
 
-not_after : (after listed : Bool) → (not after && listed) ≡ true → after ≡ false
-not_after true listed e = absurd (false≢true e)
-not_after false listed e = refl
+not_after : (after member : Bool) → (not after && member) ≡ true → after ≡ false
+not_after true member e = absurd (false≢true e)
+not_after false member e = refl
 
-after_of : (after listed : Bool) → (after && listed) ≡ true → after ≡ true
-after_of true listed e = refl
-after_of false listed e = absurd (false≢true e)
+after_of : (after member : Bool) → (after && member) ≡ true → after ≡ true
+after_of true member e = refl
+after_of false member e = absurd (false≢true e)
 
--- a node that is given before its inside is not one that comes after it, and the other way round
+-- a node comes before its inside or after it, not both
 no_inner : (body : List Node) (path : NodePath) (node : Node) → node_at body path ≡ Some node
-    → is_given_before dependency_rules node ≡ true
+    → comes_before dependency_rules node ≡ true
     → IsAfterInside dependency_rules body path → ⊥
 no_inner body path node at before h =
     let P : Option Node → Type 0 = λ o. IsSomeAnd o (λ n. IsTrue (dependency_rules.is_after_inside n)) in
     false≢true (sym (not_after (dependency_rules.is_after_inside node)
-    (dependency_rules.is_listed node) before) ∙ subst P at h)
+    (dependency_rules.is_member node) before) ∙ subst P at h)
 
 is_inner : (body : List Node) (path : NodePath) (node : Node) → node_at body path ≡ Some node
-    → is_given_after dependency_rules node ≡ true
+    → comes_after dependency_rules node ≡ true
     → IsAfterInside dependency_rules body path
 is_inner body path node at after =
     let P : Option Node → Type 0 = λ o. IsSomeAnd o (λ n. IsTrue (dependency_rules.is_after_inside n)) in
     subst P (sym at) (after_of (dependency_rules.is_after_inside node)
-    (dependency_rules.is_listed node) after)
+    (dependency_rules.is_member node) after)
 
 entered_before : (body : List Node) (path q : NodePath) → UpTo path q
     → IsEnteredBy dependency_rules body path q
@@ -320,11 +319,11 @@ around_entered body path q (by.itself e) = inr (inl e)
 around_entered body path q (by.outer g) = inr (inr (inl (Below-from_IsStrictPrefix q path g)))
 around_entered body path q (by.inner g h) = inr (inr (inr (Below-from_IsStrictPrefix path q g)))
 
--- the count when a node is given before its inside
+-- the count when a step returns a node before its inside
 pub count-enter : (body : List Node) (old new : Stack) (node : Bor Node) (siblings : Bor (List Node))
     → Enters old new node siblings
     → IsStackOf body new → node_at body (path_of body old.frames.items node siblings) ≡ Some node.now
-    → is_given_before dependency_rules node.now ≡ true
+    → comes_before dependency_rules node.now ≡ true
     → IsCountOf (EnteredBy dependency_rules body (path_of body old.frames.items node siblings)) new.entered
 count-enter body old new node siblings step s at before =
     let path = path_of body old.frames.items node siblings in
@@ -338,12 +337,12 @@ count-enter body old new node siblings step s at before =
           (up_to_entered body path q (no_inner body path node.now at before) entered))),
     ))
 
--- the count when a node is given after its inside
+-- the count when a step returns a node after its inside
 pub count-leave : (body : List Node) (old new : Stack) (node : Bor Node) (siblings : Bor (List Node))
     → Left old new node siblings
     → IsStackOf body old → IsStackOf body new
     → node_at body (path_of body new.frames.items node siblings) ≡ Some node.now
-    → is_given_after dependency_rules node.now ≡ true
+    → comes_after dependency_rules node.now ≡ true
     → IsCountOf (EnteredBy dependency_rules body (path_of body new.frames.items node siblings)) new.entered
 count-leave body old new node siblings step before s at after =
     let path = path_of body new.frames.items node siblings in
@@ -368,8 +367,8 @@ pub count-end : (body : List Node) (stack : Stack) → IsStackOf body stack → 
     → IsCountOf (IsReachable dependency_rules body) stack.entered
 count-end body stack s frames nodes =
     let entries = entry_rules dependency_rules in
-    let all = listed_paths entries body in
-    let listing = IsListing-listed_paths entries body in
+    let all = listing_paths entries body in
+    let listing = IsListing-listing_paths entries body in
     let none : to_come entries body stack ≡ [] =
     ap (λ fs. paths_to_come entries body fs stack.nodes.now) frames
     ∙ ap (λ ns. paths_to_come entries body [] ns) nodes in

@@ -1,4 +1,4 @@
--- What validity says of the nodes of a listing, and of the ranges that dependencies are read at.
+-- The dependencies of a valid source: the shapes of their nodes, and the ranges in their descriptors.
 use Rattle.std.proofs.Common.{
   ◌≡◌,
   ℕ,
@@ -40,8 +40,8 @@ use Rattle.deno_graph_source.specs.Node.{
   IsShaped,
 }
 use Rattle.deno_graph_source.specs.Source.{IsValid}
-use Rattle.deno_graph_text.specs.SourceRange.{IsTextRange}
-use Rattle.deno_graph_text.specs.declared.text.position.SourceRange.{SourceRange}
+use Rattle.deno_graph_base.specs.SourceRange.{IsTextRange}
+use Rattle.deno_graph_base.specs.declared.text.position.SourceRange.{SourceRange}
 use Rattle.deno_graph_source.specs.declared.tree.node.Arg.{Arg}
 use Rattle.deno_graph_source.specs.declared.tree.node.Kind.{Kind}
 use Rattle.deno_graph_source.specs.declared.tree.node.Kind.TheVariants.{
@@ -64,19 +64,24 @@ use Rattle.deno_graph_source.proofs.ValidSource.{
   All-item_nodes,
   All-child_nodes,
 }
-use Rattle.deno_graph_dependency.specs.declared.import_attributes.ImportAttributes.{ImportAttributes}
-use Rattle.deno_graph_dependency.specs.declared.static_dependency.StaticDependencyKind.{StaticDependencyKind}
+use Rattle.deno_graph_info.specs.declared.analysis.import_attributes.ImportAttributes.{ImportAttributes}
+use Rattle.deno_graph_info.specs.declared.analysis.static_dependency.StaticDependencyKind.{StaticDependencyKind}
 use Rattle.deno_graph_dep.specs.Dependencies.{AreDependencies}
-use Rattle.deno_graph_dep.specs.ListedNodes.{AreListed, listed_at, listed_node}
-use Rattle.deno_graph_dep.specs.DependencyRules.{is_listed}
-use Rattle.deno_graph_dep.specs.Item.{Item, HasTextRanges}
+use Rattle.deno_graph_dep.specs.DependencyNodes.{AreDependencyNodes, dependency_at, dependency_node}
+use Rattle.deno_graph_dep.specs.DependencyRules.{is_dependency}
+use Rattle.deno_graph_dep.specs.Descriptor.{Descriptor, HasTextRanges}
 use Rattle.deno_graph_source.specs.NodePath.{NodePath, node_at, node_below}
-use Rattle.deno_graph_dep.specs.Stated.{States, StatesAt, StatesSpecifier, AllStated}
+use Rattle.deno_graph_dep.specs.DescriptorOf.{
+  IsDescriptorOf,
+  IsDescriptorOfKind,
+  IsStaticDescriptorOf,
+  AreDescriptorsOf,
+}
 
 there : {X : Type 0} (xs : List X) (k : ℕ) (x : X) → slice_get xs k ≡ Some x → Contains xs x
 there xs k x at = (k, slice_get_within xs k x at, get_or_from_slice_get xs k x x at)
 
--- what holds of a node and of the children of each node of which it holds, holds of each node below it
+-- a property that passes from each node to its children passes to all nodes below
 holds_below : (P : Node → Type 0)
     → ((node child : Node) → Contains (children_of node) child → P node → P child)
     → (o : Option Node) (path : NodePath) (node : Node) → ((top : Node) → o ≡ Some top → P top)
@@ -95,7 +100,7 @@ valid_node text program comments [] node valid at = cc
 valid_node text program comments (k ∷ path) node valid at =
     holds_below (λ n. All (IsTextRange text) (node_ranges n)) (All-child_ranges (IsTextRange text))
     (slice_get program.body k) path node
-    (λ item is. valid_item text program comments item valid (there program.body k item is)) at
+    (λ top is. valid_item text program comments top valid (there program.body k top is)) at
 
 -- a node at a path of a program has, with all below it, the children that it needs
 pub shaped_node : (program : Program) (path : NodePath) (node : Node)
@@ -104,45 +109,45 @@ shaped_node program [] node shaped at = cc
 shaped_node program (k ∷ path) node shaped at =
     holds_below (λ n. All IsShaped (nodes_in n)) (All-child_nodes IsShaped)
     (slice_get program.body k) path node
-    (λ item is. All-item_nodes IsShaped program item (there program.body k item is) shaped) at
+    (λ top is. All-item_nodes IsShaped program top (there program.body k top is) shaped) at
 
--- a listed node is itself, and it is listed
-listed_itself : (o : Option Node) (node : Node) → option_and_then listed_node o ≡ Some node
-    → (o ≡ Some node) × (is_listed node ≡ true)
-unfolding listed_node
-listed_itself None node is = cc
-listed_itself (Some n) node is = by_test (is_listed n) refl is
+-- a node that is found as a dependency is the one at its path, and is a dependency
+dependency_itself : (o : Option Node) (node : Node) → option_and_then dependency_node o ≡ Some node
+    → (o ≡ Some node) × (is_dependency node ≡ true)
+unfolding dependency_node
+dependency_itself None node is = cc
+dependency_itself (Some n) node is = by_test (is_dependency n) refl is
   where
-    by_test : (b : Bool) → is_listed n ≡ b → cond b (Some n) None ≡ Some node
-        → (Some n ≡ Some node) × (is_listed node ≡ true)
-    by_test true listed e = let same : n ≡ node = cc in (e, subst (λ m. is_listed m ≡ true) same listed)
-    by_test false listed e = cc
+    by_test : (b : Bool) → is_dependency n ≡ b → cond b (Some n) None ≡ Some node
+        → (Some n ≡ Some node) × (is_dependency node ≡ true)
+    by_test true holds e = let same : n ≡ node = cc in (e, subst (λ m. is_dependency m ≡ true) same holds)
+    by_test false holds e = cc
 
 at_path : {X Y : Type 0} (f : X → Option Y) (o : Option X) (y : Y) → option_map f o ≡ Some (Some y)
     → (x : X) × (f x ≡ Some y)
 at_path f None y is = cc
 at_path f (Some x) y is = (x, cc)
 
--- each node of a listing is at a path, and is listed
-pub listed_one : (body nodes : List Node) (k : ℕ) (node : Node) → AreListed body nodes
+-- each node of a listing is at a path, and is a dependency
+pub dependency_one : (body nodes : List Node) (k : ℕ) (node : Node) → AreDependencyNodes body nodes
     → slice_get nodes k ≡ Some node
-    → (path : NodePath) × (node_at body path ≡ Some node) × (is_listed node ≡ true)
-listed_one body nodes k node are at =
-    let here : option_map (listed_at body) (slice_get are.paths k) ≡ Some (Some node) =
-    sym (slice_get-map (listed_at body) are.paths k) ∙ ap (λ xs. slice_get xs k) (sym are.at_paths)
+    → (path : NodePath) × (node_at body path ≡ Some node) × (is_dependency node ≡ true)
+dependency_one body nodes k node are at =
+    let here : option_map (dependency_at body) (slice_get are.paths k) ≡ Some (Some node) =
+    sym (slice_get-map (dependency_at body) are.paths k) ∙ ap (λ xs. slice_get xs k) (sym are.at_paths)
     ∙ slice_get-map Some nodes k ∙ ap (option_map Some) at in
-    let path = at_path (listed_at body) (slice_get are.paths k) node here in
-    let itself = listed_itself (node_at body path.0) node path.1 in
+    let path = at_path (dependency_at body) (slice_get are.paths k) node here in
+    let itself = dependency_itself (node_at body path.0) node path.1 in
     (path.0, itself.0, itself.1)
 
--- the range of a specifier is that of its literal
+-- the specifier's range in a descriptor is that of the literal
 specifier_range : (text : List ℕ) (comments : FiledComments) (node : Node) (kind : StaticDependencyKind)
     (range : SourceRange) (literal : StrLit)
-    (is_side_effect : Bool) (Gives : ImportAttributes → Type 0) (item : Item)
-    → StatesSpecifier comments node kind range literal is_side_effect Gives item
-    → IsTextRange text literal.range → HasTextRanges text item
-specifier_range text comments node kind range literal is_side_effect Gives item states held =
-    subst (HasTextRanges text) (sym states.2) held
+    (is_side_effect : Bool) (AreAttributes : ImportAttributes → Type 0) (descriptor : Descriptor)
+    → IsStaticDescriptorOf comments node kind range literal is_side_effect AreAttributes descriptor
+    → IsTextRange text literal.range → HasTextRanges text descriptor
+specifier_range text comments node kind range literal is_side_effect AreAttributes descriptor describes held =
+    subst (HasTextRanges text) (sym describes.2) held
 
 first_arg_range : (P : SourceRange → Type 0) (args : List Arg) (arg : Arg) → slice_get args 0 ≡ Some arg
     → All P (map (λ (a : Arg). a.range) args) → P arg.range
@@ -151,71 +156,83 @@ first_arg_range P (first ∷ args) arg is held =
     let same : first ≡ arg = cc in
     subst (λ (a : Arg). P a.range) same (All-head P first.range (map (λ (a : Arg). a.range) args) held)
 
--- the ranges of an item are those that its node's kind holds
-kind_item_ranges : (text : List ℕ) (comments : FiledComments) (node : Node) (kind : Kind) (item : Item)
-    → StatesAt comments node kind item → All (IsTextRange text) (ranges_in_kind kind)
-    → HasTextRanges text item
-kind_item_ranges text comments node
-    (ImportDecl type_only phase src has_specifiers has_with) item states held =
-    specifier_range text comments node _ _ src _ _ item states (All-head (IsTextRange text) src.range [] held)
-kind_item_ranges text comments node (NamedExport type_only None has_with) item states held = absurd states
-kind_item_ranges text comments node (NamedExport type_only (Some src) has_with) item states held =
-    specifier_range text comments node _ _ src _ _ item states (All-head (IsTextRange text) src.range [] held)
-kind_item_ranges text comments node (ExportAll type_only src has_with) item states held =
-    specifier_range text comments node _ _ src _ _ item states (All-head (IsTextRange text) src.range [] held)
-kind_item_ranges text comments node (ImportEquals type_only is_export None) item states held = absurd states
-kind_item_ranges text comments node (ImportEquals type_only is_export (Some external)) item states held =
-    specifier_range text comments node _ _ external _ _ item states
+-- the range in a descriptor is one of those in its node's kind
+kind_descriptor_ranges : (text : List ℕ) (comments : FiledComments) (node : Node) (kind : Kind)
+    (descriptor : Descriptor)
+    → IsDescriptorOfKind comments node kind descriptor → All (IsTextRange text) (ranges_in_kind kind)
+    → HasTextRanges text descriptor
+kind_descriptor_ranges text comments node
+    (ImportDecl type_only phase src has_specifiers has_with) descriptor describes held =
+    specifier_range text comments node _ _ src _ _ descriptor describes
+    (All-head (IsTextRange text) src.range [] held)
+kind_descriptor_ranges text comments node (NamedExport type_only None has_with) descriptor describes held =
+    absurd describes
+kind_descriptor_ranges text comments node (NamedExport type_only (Some src) has_with) descriptor describes
+    held =
+    specifier_range text comments node _ _ src _ _ descriptor describes
+    (All-head (IsTextRange text) src.range [] held)
+kind_descriptor_ranges text comments node (ExportAll type_only src has_with) descriptor describes held =
+    specifier_range text comments node _ _ src _ _ descriptor describes
+    (All-head (IsTextRange text) src.range [] held)
+kind_descriptor_ranges text comments node (ImportEquals type_only is_export None) descriptor describes held =
+    absurd describes
+kind_descriptor_ranges text comments node (ImportEquals type_only is_export (Some external)) descriptor
+    describes held =
+    specifier_range text comments node _ _ external _ _ descriptor describes
     (All-head (IsTextRange text) external.range [] held)
-kind_item_ranges text comments node (ImportType arg has_with) item states held =
-    specifier_range text comments node _ _ arg _ _ item states (All-head (IsTextRange text) arg.range [] held)
-kind_item_ranges text comments node (ModuleDecl None) item states held = absurd states
-kind_item_ranges text comments node (ModuleDecl (Some name)) item states held =
-    specifier_range text comments node _ _ name _ _ item states.1
+kind_descriptor_ranges text comments node (ImportType arg has_with) descriptor describes held =
+    specifier_range text comments node _ _ arg _ _ descriptor describes
+    (All-head (IsTextRange text) arg.range [] held)
+kind_descriptor_ranges text comments node (ModuleDecl None) descriptor describes held = absurd describes
+kind_descriptor_ranges text comments node (ModuleDecl (Some name)) descriptor describes held =
+    specifier_range text comments node _ _ name _ _ descriptor describes.1
     (All-head (IsTextRange text) name.range [] held)
-kind_item_ranges text comments node (Call callee args) item states held =
-    subst (HasTextRanges text) (sym states.says)
-    (first_arg_range (IsTextRange text) args states.arg states.is_arg held)
-kind_item_ranges text comments node _ item states held = absurd states
+kind_descriptor_ranges text comments node (Call callee args) descriptor describes held =
+    subst (HasTextRanges text) (sym describes.says)
+    (first_arg_range (IsTextRange text) args describes.arg describes.is_arg held)
+kind_descriptor_ranges text comments node _ descriptor describes held = absurd describes
 
--- what nodes with ranges of the text state has ranges of the text
-stated_ranges : (text : List ℕ) (comments : FiledComments) (nodes : List Node) (items : List Item)
-    → AllStated comments nodes items
+-- the descriptors of nodes with ranges of the text have ranges of the text
+descriptor_ranges : (text : List ℕ) (comments : FiledComments) (nodes : List Node)
+    (descriptors : List Descriptor)
+    → AreDescriptorsOf comments nodes descriptors
     → ((k : ℕ) (node : Node) → slice_get nodes k ≡ Some node → All (IsTextRange text) (node_ranges node))
-    → All (HasTextRanges text) items
-unfolding States
-stated_ranges text comments [] [] stated ranges = All-nil (HasTextRanges text)
-stated_ranges text comments [] (item ∷ items) stated ranges = absurd stated
-stated_ranges text comments (node ∷ nodes) [] stated ranges = absurd stated
-stated_ranges text comments (node ∷ nodes) (item ∷ items) stated ranges =
-    All-cons (HasTextRanges text) item items
-    (kind_item_ranges text comments node (kind_of node) item stated.0
+    → All (HasTextRanges text) descriptors
+unfolding IsDescriptorOf
+descriptor_ranges text comments [] [] described ranges = All-nil (HasTextRanges text)
+descriptor_ranges text comments [] (descriptor ∷ descriptors) described ranges = absurd described
+descriptor_ranges text comments (node ∷ nodes) [] described ranges = absurd described
+descriptor_ranges text comments (node ∷ nodes) (descriptor ∷ descriptors) described ranges =
+    All-cons (HasTextRanges text) descriptor descriptors
+    (kind_descriptor_ranges text comments node (kind_of node) descriptor described.0
     (All-kind_ranges (IsTextRange text) node (ranges 0 node refl)))
-    (stated_ranges text comments nodes items stated.1 (λ k n at. ranges (suc k) n at))
+    (descriptor_ranges text comments nodes descriptors described.1 (λ k n at. ranges (suc k) n at))
 
--- the ranges of the dependencies of a valid source are ranges of its text
-pub dependency_ranges : (text : List ℕ) (program : Program) (comments : FiledComments) (items : List Item)
-    → IsValid text program comments → AreDependencies comments program.body items
-    → All (HasTextRanges text) items
-dependency_ranges text program comments items valid are =
-    stated_ranges text comments are.nodes items are.stated
-    (λ k node at. let one = listed_one program.body are.nodes k node are.are_listed at in
+-- the ranges in the descriptors of a valid source are ranges of its text
+pub dependency_ranges : (text : List ℕ) (program : Program) (comments : FiledComments)
+    (descriptors : List Descriptor)
+    → IsValid text program comments → AreDependencies comments program.body descriptors
+    → All (HasTextRanges text) descriptors
+dependency_ranges text program comments descriptors valid are =
+    descriptor_ranges text comments are.nodes descriptors are.described
+    (λ k node at. let one = dependency_one program.body are.nodes k node are.are_nodes at in
     valid_node text program comments one.0 node valid one.1)
 
--- what holds of the images of all elements holds of each image
+-- a property of all members of a mapped list is one of each image
 pub All-of_map : {X Y : Type 0} (P : Y → Type 0) (f : X → Y) (xs : List X) → All P (map f xs)
     → All (λ x. P (f x)) xs
 All-of_map P f xs all k d below =
     All-contains P (map f xs) (f (get_or xs k d)) all
     (Contains-map f xs (get_or xs k d) (Contains-get_or xs k d below))
 
--- one more node, and what it states
-pub AllStated-more : (comments : FiledComments) (nodes : List Node) (items : List Item) (node : Node)
-    (item : Item)
-    → AllStated comments nodes items → States comments node item
-    → AllStated comments (nodes ++ node ∷ []) (items ++ item ∷ [])
-AllStated-more comments [] [] node item stated states = (states, tt)
-AllStated-more comments [] (i ∷ items) node item stated states = absurd stated
-AllStated-more comments (n ∷ nodes) [] node item stated states = absurd stated
-AllStated-more comments (n ∷ nodes) (i ∷ items) node item stated states =
-    (stated.0, AllStated-more comments nodes items node item stated.1 states)
+-- one more node and its descriptor
+pub AreDescriptorsOf-more : (comments : FiledComments) (nodes : List Node) (descriptors : List Descriptor)
+    (node : Node)
+    (descriptor : Descriptor)
+    → AreDescriptorsOf comments nodes descriptors → IsDescriptorOf comments node descriptor
+    → AreDescriptorsOf comments (nodes ++ node ∷ []) (descriptors ++ descriptor ∷ [])
+AreDescriptorsOf-more comments [] [] node descriptor described describes = (describes, tt)
+AreDescriptorsOf-more comments [] (i ∷ descriptors) node descriptor described describes = absurd described
+AreDescriptorsOf-more comments (n ∷ nodes) [] node descriptor described describes = absurd described
+AreDescriptorsOf-more comments (n ∷ nodes) (i ∷ descriptors) node descriptor described describes =
+    (described.0, AreDescriptorsOf-more comments nodes descriptors node descriptor described.1 describes)

@@ -50,7 +50,7 @@ entries_at-pieces rules own node =
     ap (λ inside. cond after [] (own node) ++ inside ++ cond after (own node) [])
     (flat_map-unless (entries_at rules own) (rules.is_closed node) (children_of node))
 
--- three appends in a row
+-- appending three lists
 pub appended_thrice : {A : Type 0} (old one two new first inside last all : List A) → one ≡ old ++ first
     → two ≡ one ++ inside → new ≡ two ++ last → all ≡ first ++ inside ++ last → new ≡ old ++ all
 appended_thrice old one two new first inside last all a b c d =

@@ -1,4 +1,4 @@
--- Entries with this value at a key.
+-- Inserting an entry into entries in the order of their keys.
 use Rattle.std.proofs.Common.{
   ◌≡◌,
   ℕ,
@@ -29,12 +29,12 @@ use Rattle.std.proofs.lemmas.Bool.{cases_Bool, false≢true}
 use Rattle.std.proofs.lemmas.Cmp.{nat_list_cmp_total}
 use Rattle.std.proofs.lemmas.Map.Text.{is_eq-slice_cmp}
 use Rattle.std.proofs.lemmas.Slice.Eq.{bytes_eq-Decides}
-use Rattle.deno_graph_text.specs.TextMap.{value_at, insert_entry, IsAscending}
-use Rattle.deno_graph_dependency.specs.declared.import_attributes.ImportAttribute.{ImportAttribute}
+use Rattle.deno_graph_base.specs.TextMap.{value_at, insert_entry, IsAscending}
+use Rattle.deno_graph_info.specs.declared.analysis.import_attributes.ImportAttribute.{ImportAttribute}
 use Rattle.deno_graph_dep.specs.Attributes.{Entries}
-use Rattle.deno_graph_dep.specs.AttributeSteps.{Puts}
+use Rattle.deno_graph_dep.specs.internal.AttributeSteps.{Puts}
 
--- how the keys are ordered
+-- the order of keys
 abbrev order : List ℕ → List ℕ → Ordering
 order = slice_cmp nat_cmp
 
@@ -68,7 +68,7 @@ module _ (k : List ℕ) (v : ImportAttribute) where
       by Greater is rest =
           ap (λ b. cond b (Some e.1) (value_at (insert_entry es k v) k)) (greater_is k e.0 is) ∙ rest
 
-  -- every other key has what it had
+  -- every other key has the value that it had
   elsewhere : (other : List ℕ) → bytes_eq other k ≡ false → (es : Entries)
       → value_at (insert_entry es k v) other ≡ value_at es other
   elsewhere other apart [] = ap (λ b. cond b (Some v) None) apart
@@ -85,7 +85,7 @@ module _ (k : List ℕ) (v : ImportAttribute) where
           ∙ sym (ap (λ b. cond b (Some e.1) (value_at es other)) away)
       by Greater is rest = ap (λ o. cond (bytes_eq other e.0) (Some e.1) o) rest
 
-  -- what holds of the key and of the keys holds of all keys
+  -- a property of the new key and of all old keys is one of all new keys
   all_keys : (P : List ℕ → Type 0) (es : Entries) → P k → AllByRecursion P (keys_of es)
       → AllByRecursion P (keys_of (insert_entry es k v))
   all_keys P [] holds all = (holds, tt)
@@ -115,7 +115,7 @@ module _ (k : List ℕ) (v : ImportAttribute) where
       by Equal is rest = up
       by Greater is rest = (all_keys (λ m. order e.0 m ≡ Less) es (other_way k e.0 is) up.0, rest)
 
--- an entry can be put into entries in order
+-- entries in order stay in order with a new entry
 pub Puts-inserted : (es : Entries) (k : List ℕ) (v : ImportAttribute) → IsAscending es
     → Puts es (insert_entry es k v) k v
 Puts-inserted es k v up = record {

@@ -1,4 +1,4 @@
--- What the properties of an object give last, with one more property.
+-- The entries that the properties of an object literal give last, when one more property is read.
 use Rattle.std.proofs.Common.{
   ◌≡◌,
   ◌≢◌,
@@ -38,21 +38,21 @@ use Rattle.std.proofs.lemmas.List.{length_push, take_more}
 use Rattle.std.proofs.lemmas.Option.{none-some, same_Some, slice_get_within, some_pair_parts}
 use Rattle.std.proofs.lemmas.Slice.Eq.{bytes_eq-Decides}
 use Rattle.deno_graph_source.specs.declared.tree.node.Node.{Node}
-use Rattle.deno_graph_text.specs.TextMap.{value_at}
-use Rattle.deno_graph_dependency.specs.declared.import_attributes.ImportAttribute.{ImportAttribute}
+use Rattle.deno_graph_base.specs.TextMap.{value_at}
+use Rattle.deno_graph_info.specs.declared.analysis.import_attributes.ImportAttribute.{ImportAttribute}
 use Rattle.deno_graph_dep.specs.Attributes.{
   static_key,
   static_value,
   Entries,
   Giving,
   attribute_of,
-  stated,
+  in_object,
   GivesLast,
   HoldsLast,
 }
-use Rattle.deno_graph_dep.specs.AttributeSteps.{Puts}
+use Rattle.deno_graph_dep.specs.internal.AttributeSteps.{Puts}
 
--- an item of a list with one more is an item of the list, or the one at its end
+-- a member of a list with one more at its end is a member of the list, or the last
 push_before : {A : Type 0} (xs : List A) (y x : A) (n : ℕ) → slice_get xs n ≡ Some x
     → slice_get (xs ++ y ∷ []) n ≡ Some x
 push_before [] y x n e = absurd (none-some x e)
@@ -71,7 +71,7 @@ push_cases (z ∷ xs) y x zero e = inl e
 push_cases (z ∷ xs) y x (suc n) e =
     ⊎_elim (λ h. inl h) (λ h. inr (ap (λ k. suc k) h.0, h.1)) (push_cases xs y x n e)
 
--- a property that gives nothing for a key leaves what is given last for it
+-- a property that gives no value for a key leaves the last value of the key
 GivesLast-push : (gives : Giving) (xs : List Node) (y : Node) (name : List ℕ) (value : ImportAttribute)
     → ((other : ImportAttribute) → gives y ≢ Some (name, other)) → GivesLast gives xs name value
     → GivesLast gives (xs ++ y ∷ []) name value
@@ -122,7 +122,7 @@ GivesLast-same gives xs y name value last is given =
     (λ end. (some_pair_parts name name last value (sym is ∙ ap gives end.1 ∙ given.given)).1)
     (push_cases xs y given.property given.index given.there)
 
--- nothing is given by no property
+-- no properties give no entries
 pub HoldsLast-nil : (gives : Giving) → HoldsLast gives [] []
 unfolding IsStrictlySortedBy
 HoldsLast-nil gives = record {
@@ -133,7 +133,7 @@ HoldsLast-nil gives = record {
   );
 }
 
--- a property that gives nothing is skipped
+-- a property that gives nothing leaves the entries
 pub HoldsLast-skip : (gives : Giving) (xs : List Node) (y : Node) (entries : Entries) → gives y ≡ None
     → HoldsLast gives xs entries → HoldsLast gives (xs ++ y ∷ []) entries
 HoldsLast-skip gives xs y entries is held = record {
@@ -146,7 +146,7 @@ HoldsLast-skip gives xs y entries is held = record {
       );
 }
 
--- a property that gives a value puts it at its key
+-- a property that gives a value changes the entry of its key
 pub HoldsLast-put : (gives : Giving) (xs : List Node) (y : Node) (old new : Entries) (name : List ℕ)
     (value : ImportAttribute)
     → gives y ≡ Some (name, value) → Puts old new name value → HoldsLast gives xs old
@@ -183,7 +183,7 @@ HoldsLast-put gives xs y old new name value is puts held = record {
           λ given. found ∙ (held.values other v).1 (GivesLast-pop gives xs y other v none given),
         )
 
--- the same at a step of a loop over the properties
+-- the two cases at a step of a loop over the properties
 pub HoldsLast-skip_more : (gives : Giving) (xs : List Node) (i : ℕ) (y : Node) (entries : Entries)
     → i < length xs → y ≡ get_or xs i y
     → gives y ≡ None → HoldsLast gives (take i xs) entries → HoldsLast gives (take (i + 1) xs) entries
@@ -202,7 +202,7 @@ HoldsLast-put_more gives xs i y old new name value within at is puts held =
     subst (λ l. HoldsLast gives l new) (sym more)
     (HoldsLast-put gives (take i xs) y old new name value is puts held)
 
--- what a property gives, by its static key and value
-pub stated-key : (property : Node) (name : List ℕ) → static_key property ≡ Some name
-    → stated property ≡ Some (name, attribute_of (static_value property))
-stated-key property name k = rw k refl
+-- the entry that a property gives, by its static key and value
+pub in_object-key : (property : Node) (name : List ℕ) → static_key property ≡ Some name
+    → in_object property ≡ Some (name, attribute_of (static_value property))
+in_object-key property name k = rw k refl

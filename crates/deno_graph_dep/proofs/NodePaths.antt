@@ -1,4 +1,4 @@
--- How two paths are related, by recursion on both.
+-- The relations between two paths, by recursion on both.
 use Rattle.std.proofs.Common.{
   ◌≡◌,
   ℕ,
@@ -145,13 +145,13 @@ compared [] (n ∷ q) = above tt
 compared (m ∷ p) [] = under tt
 compared (m ∷ p) (n ∷ q) = compared_more m n p q (compared p q) (cases_order m n)
 
--- The order of paths, where `after` says of a path whether it comes after those that go on from it.
+-- The order of paths, where `after` tests whether a path comes after those that go on from it.
 pub data Before (after : NodePath → Bool) (p q : NodePath) : Type 0 where
   apart : Apart p q → Before after p q
   outer : Below p q → after p ≡ false → Before after p q
   inner : Below q p → after q ≡ true → Before after p q
 
--- it goes one way at most
+-- the order is asymmetric
 pub Before-asymmetric : (after : NodePath → Bool) (p q : NodePath) → Before after p q → Before after q p → ⊥
 Before-asymmetric after p q (apart a) (apart b) = Apart-asymmetric p q a b
 Before-asymmetric after p q (apart a) (outer b f) = Apart-not_above p q a b
@@ -163,7 +163,7 @@ Before-asymmetric after p q (inner a t) (apart b) = Apart-not_below q p b a
 Before-asymmetric after p q (inner a t) (outer b f) = cc
 Before-asymmetric after p q (inner a t) (inner b u) = Below-asymmetric p q b a
 
--- and between two different paths one way at least
+-- the order is total
 pub Before-total : (after : NodePath → Bool) (p q : NodePath)
     → (p ≡ q) ⊎ (Before after p q ⊎ Before after q p)
 Before-total after p q = way (compared p q)
@@ -200,7 +200,7 @@ Apart-transitive (m ∷ p) (n ∷ q) (k ∷ r) (inl a) (inr b) = inl (omega (ari
 Apart-transitive (m ∷ p) (n ∷ q) (k ∷ r) (inr a) (inl b) = inl (omega (arith, a.0))
 Apart-transitive (m ∷ p) (n ∷ q) (k ∷ r) (inr a) (inr b) = inr (a.0 ∙ b.0, Apart-transitive p q r a.1 b.1)
 
--- what is apart from a path is apart from those that go on from it
+-- a path that is apart from another is apart from all that go on from the other
 Apart-below : (p q r : NodePath) → Apart p q → Below q r → Apart p r
 Apart-below [] q r a b = absurd a
 Apart-below (m ∷ p) [] r a b = absurd a
@@ -225,7 +225,7 @@ Apart-front (m ∷ p) (n ∷ q) (k ∷ r) (inr a) b =
     let e : m ≡ k = a.0 ∙ sym b.0 in
     ⊎_elim (λ h. inl (inr (e, h))) (λ h. inr (sym e, h)) (Apart-front p q r a.1 b.1)
 
--- a front of the first
+-- a front of the first of two paths that are apart
 Front-apart : (p q r : NodePath) → Below p q → Apart q r → Apart p r ⊎ Below p r
 Front-apart p [] r b a = absurd a
 Front-apart p (n ∷ q) [] b a = absurd a
@@ -235,7 +235,7 @@ Front-apart (m ∷ p) (n ∷ q) (k ∷ r) b (inr a) =
     let e : m ≡ k = b.0 ∙ a.0 in
     ⊎_elim (λ h. inl (inr (e, h))) (λ h. inr (e, h)) (Front-apart p q r b.1 a.1)
 
--- two fronts of one path
+-- of two fronts of one path, one goes on from the other
 Fronts : (p q r : NodePath) → Below p q → Below r q → (p ≡ r) ⊎ (Below p r ⊎ Below r p)
 Fronts [] q [] a b = inl refl
 Fronts [] q (k ∷ r) a b = inr (inl tt)
@@ -247,7 +247,7 @@ Fronts (m ∷ p) (n ∷ q) (k ∷ r) a b =
     (λ w. inr (⊎_elim (λ h. inl (e, h)) (λ h. inr (sym e, h)) w))
     (Fronts p q r a.1 b.1)
 
--- and it is transitive
+-- the order is transitive
 pub Before-transitive : (after : NodePath → Bool) (p q r : NodePath) → Before after p q → Before after q r
     → Before after p r
 Before-transitive after p q r (apart a) (apart b) = apart (Apart-transitive p q r a b)
@@ -266,14 +266,14 @@ Before-transitive after p q r (inner a t) (apart b) = apart (Below-apart p q r a
 Before-transitive after p q r (inner a t) (outer b f) = absurd (false≢true (sym f ∙ t))
 Before-transitive after p q r (inner a t) (inner b u) = inner (Below-transitive r q p b a) u
 
--- the order below one index
+-- two paths below one index are ordered as without it
 pub Before-cons : (after : NodePath → Bool) (n : ℕ) (p q : NodePath) → Before (λ r. after (n ∷ r)) p q
     → Before after (n ∷ p) (n ∷ q)
 Before-cons after n p q (apart a) = apart (inr (refl, a))
 Before-cons after n p q (outer b f) = outer (refl, b) f
 Before-cons after n p q (inner b t) = inner (refl, b) t
 
--- the order where two functions say the same
+-- two functions that agree have the same order
 pub Before-same : (after again : NodePath → Bool) → ((p : NodePath) → after p ≡ again p) → (p q : NodePath)
     → Before after p q → Before again p q
 Before-same after again e p q (apart a) = apart a

@@ -26,7 +26,7 @@ held : {P : Node → Type 0} (o : Option ((node : Node) × P node)) (child : Nod
 held None child e = cc
 held {P} (Some x) child e = let s : x.0 ≡ child = cc in subst P s x.1
 
--- what holds of a node where it holds of its children holds of every node
+-- induction: a property that passes from children to their node is one of every node
 pub node_induction : (P : Node → Type 0)
     → ((node : Node) → ((index : ℕ) (child : Node) → slice_get (children_of node) index ≡ Some child
     → P child) → P node) → (node : Node) → P node
@@ -35,7 +35,7 @@ node_induction P step = ind-Node P (λ x y is. step (roll-Node x) (λ index chil
     held (slice_get y.children index) child
     (sym (slice_get-map (λ e. e.0) y.children index) ∙ (ap (λ ks. slice_get ks index) (sym same) ∙ e))))
 
--- two maps that undo each other at each item
+-- two maps that undo each other at each member
 map_map-same : {A B : Type 0} (f : A → B) (g : B → A) (xs : List A)
     → ((n : ℕ) (x : A) → slice_get xs n ≡ Some x → g (f x) ≡ x) → map g (map f xs) ≡ xs
 map_map-same f g [] h = refl

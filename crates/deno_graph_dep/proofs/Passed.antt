@@ -1,4 +1,4 @@
--- Which paths a walk has passed, by the path that it enters next.
+-- The paths that a walk has passed, by the path that it enters next.
 use Rattle.std.proofs.Common.{
   ◌≡◌,
   ℕ,
@@ -24,7 +24,7 @@ use Rattle.std.proofs.lemmas.Bool.{cases_order}
 use Rattle.std.specs.Borrow.{Bor}
 use Rattle.deno_graph_source.specs.declared.tree.node.Node.{Node}
 use Rattle.deno_graph_dep.specs.DependencyRules.{children_to_visit}
-use Rattle.deno_graph_dep.specs.Stack.{
+use Rattle.deno_graph_dep.specs.internal.Stack.{
   entry_rules,
   frame_of,
   index_of,
@@ -34,12 +34,12 @@ use Rattle.deno_graph_dep.specs.Stack.{
   AreNested,
   IsPassed,
 }
-use Rattle.deno_graph_dep.specs.ListedPaths.{under, paths_at}
+use Rattle.deno_graph_dep.specs.internal.ListingPaths.{under, paths_at}
 use Rattle.deno_graph_dep.specs.Listing.{Rules}
 use Rattle.deno_graph_source.specs.NodePath.{NodePath}
 use Rattle.deno_graph_dep.specs.declared.stack.Frame.{Frame}
 use Rattle.deno_graph_dep.proofs.Ascending.{Member, Member-append, Member-map}
-use Rattle.deno_graph_dep.proofs.ListedPaths.{Member-under}
+use Rattle.deno_graph_dep.proofs.ListingPaths.{Member-under}
 use Rattle.deno_graph_dep.proofs.NodePaths.{
   Below,
   Apart,
@@ -50,7 +50,7 @@ use Rattle.deno_graph_dep.proofs.NodePaths.{
 }
 use Rattle.deno_graph_dep.proofs.Stacks.{next_index}
 
--- the same by recursion on both paths
+-- passed paths by recursion on both paths
 abbrev pub Past : NodePath → NodePath → Type 0
 Past next q = Apart q next ⊎ Below q next
 
@@ -78,11 +78,11 @@ no_past_end : (q : NodePath) → Past [] q → ⊥
 no_past_end [] p = ⊎_elim (λ a. a) (λ b. b) p
 no_past_end (m ∷ q) p = ⊎_elim (λ a. a) (λ b. b) p
 
--- how a path is related to that of a node, where it does not part from it at a greater index
+-- a path that does not part from the node's path at a greater index
 abbrev pub Around : NodePath → NodePath → Type 0
 Around p q = Apart q p ⊎ ((q ≡ p) ⊎ (Below q p ⊎ Below p q))
 
--- the same, where it does not go on from it
+-- such a path that does not go on from the node's path either
 abbrev pub UpTo : NodePath → NodePath → Type 0
 UpTo p q = Apart q p ⊎ ((q ≡ p) ⊎ Below q p)
 
@@ -97,7 +97,7 @@ around_number m n p q e (inr (inl s)) = inr (inl cc)
 around_number m n p q e (inr (inr (inl b))) = inr (inr (inl (e, b)))
 around_number m n p q e (inr (inr (inr b))) = inr (inr (inr (sym e, b)))
 
--- past the first child of a node: up to the node
+-- the paths passed at the first child of a node
 pub UpTo-from_Past : (p q : NodePath) → Past (p ++ 0 ∷ []) q → UpTo p q
 UpTo-from_Past [] [] past = inr (inl refl)
 UpTo-from_Past [] (m ∷ q) past =
@@ -124,7 +124,7 @@ Past-from_UpTo (n ∷ p) (m ∷ q) (inr (inl s)) =
 Past-from_UpTo (n ∷ p) (m ∷ q) (inr (inr b)) =
     unnumbered m n (p ++ 0 ∷ []) q b.0 (Past-from_UpTo p q (inr (inr b.1)))
 
--- past any child of a node: around the node
+-- the paths passed at any child of a node
 Around-inside : (j : ℕ) (p q : NodePath) → Past (p ++ j ∷ []) q → Around p q
 Around-inside j [] [] past = inr (inl refl)
 Around-inside j [] (m ∷ q) past = inr (inr (inr tt))
@@ -138,7 +138,7 @@ less_or_same : (m k : ℕ) → m < suc k → (m < k) ⊎ (m ≡ k)
 less_or_same m k l = ⊎_elim (λ (e : m ≡ k). inr e)
     (λ b. inl (⊎_elim (λ (a : m < k). a) (λ (c : k < m). absurd (omega arith)) b)) (cases_order m k)
 
--- past the next sibling of a node: around the node
+-- the paths passed at the next sibling of a node
 pub Around-from_Past : (front : NodePath) (k : ℕ) (q : NodePath) → Past (front ++ suc k ∷ []) q
     → Around (front ++ k ∷ []) q
 Around-from_Past [] k [] past = inr (inr (inl tt))
@@ -177,7 +177,7 @@ Past-from_Around (n ∷ front) k (m ∷ q) (inr (inr (inl b))) =
 Past-from_Around (n ∷ front) k (m ∷ q) (inr (inr (inr b))) =
     unnumbered m n (front ++ suc k ∷ []) q (sym b.0) (Past-from_Around front k q (inr (inr (inr b.1))))
 
--- what is past stays past when a node is entered, and when one is left
+-- a passed path stays passed when a node is entered or left
 pub Past-enter : (p q : NodePath) → Past p q → Past (p ++ 0 ∷ []) q
 Past-enter p q past = Past-from_UpTo p q (⊎_elim (λ a. inl a) (λ b. inr (inr b)) past)
 
@@ -221,7 +221,7 @@ next_path-sibling level (frame ∷ frames) node siblings nested =
       second = ap (λ p. i ∷ p) below.second;
     }
 
--- what is still to come is not past
+-- a path still to come is not passed
 pub to_come-not_past : (rules : Rules) (level : List Node) (frames : List Frame) (nodes : List Node)
     (q : NodePath) →
     Member (paths_to_come (entry_rules rules) level frames nodes) q → Past (next_path level frames nodes) q

@@ -1,4 +1,4 @@
--- What a walk has done since it was asked for the next listed node, and what it then gives.
+-- The progress of a step: the nodes passed since it began, and its result.
 use Rattle.std.proofs.Common.{
   ◌≡◌,
   ℕ,
@@ -24,9 +24,9 @@ use Rattle.std.specs.Borrow.{Bor}
 use Rattle.deno_graph_source.specs.declared.tree.node.Node.{Node}
 use Rattle.deno_graph_source.specs.declared.tree.node.Program.{Program}
 use Rattle.deno_graph_dep.specs.DependencyRules.{dependency_rules}
-use Rattle.deno_graph_dep.specs.Stack.{is_given_before, is_given_after, once, IsStackOf, to_come}
-use Rattle.deno_graph_dep.specs.Walk.{Gives}
-use Rattle.deno_graph_dep.specs.WalkSteps.{state_of}
+use Rattle.deno_graph_dep.specs.internal.Stack.{comes_before, comes_after, once, IsStackOf, to_come}
+use Rattle.deno_graph_dep.specs.Walk.{IsStep}
+use Rattle.deno_graph_dep.specs.internal.WalkSteps.{state_of}
 use Rattle.deno_graph_dep.specs.declared.stack.Stack.{Stack}
 use Rattle.deno_graph_dep.proofs.Counts.{
   IsStackOf-enter,
@@ -35,7 +35,7 @@ use Rattle.deno_graph_dep.proofs.Counts.{
   count-leave,
   count-end,
 }
-use Rattle.deno_graph_dep.proofs.Rounds.{listed_close}
+use Rattle.deno_graph_dep.proofs.Rounds.{dependency_close}
 use Rattle.deno_graph_dep.proofs.Stacks.{node_at-next_path}
 use Rattle.deno_graph_dep.proofs.Steps.{
   Enters,
@@ -47,7 +47,7 @@ use Rattle.deno_graph_dep.proofs.Steps.{
   nested-left,
 }
 
--- only nodes that are not listed were passed
+-- the nodes passed so far are no dependencies
 pub record Progress (body : List Node) (first now : Stack) : Type 0 where
   pub stack : IsStackOf body now
   pub same : to_come dependency_rules body now ≡ to_come dependency_rules body first
@@ -60,7 +60,7 @@ rises-enter : (passed old new : ℕ) → old ≡ min passed (2 ^ 64 - 1) → new
     → old ≤ new
 rises-enter passed old new e f = omega arith
 
--- a node is entered, and whatever it is, the count has risen
+-- entering a node raises the count
 pub entered-rises : (body : List Node) (first old new : Stack) (node : Bor Node) (siblings : Bor (List Node))
     → Enters old new node siblings
     → Progress body first old → first.entered ≤ new.entered
@@ -77,14 +77,14 @@ left-rises body first old new node siblings step p =
     let e = step.entered in
     omega arith
 
--- a node that is not given is passed
+-- a node that is not returned is passed
 pub Progress-enter : (body : List Node) (first old new : Stack) (node : Bor Node) (siblings : Bor (List Node))
     → Enters old new node siblings
-    → is_given_before dependency_rules node.now ≡ false → Progress body first old → Progress body first new
+    → comes_before dependency_rules node.now ≡ false → Progress body first old → Progress body first new
 Progress-enter body first old new node siblings step passed p = record {
   stack = IsStackOf-enter body old new node siblings step p.stack;
   same =
-      sym (to_come-enter dependency_rules listed_close body old new node siblings step
+      sym (to_come-enter dependency_rules dependency_close body old new node siblings step
       ∙ ap (λ b. once b (path_of body old.frames.items node siblings)
       ++ to_come dependency_rules body new) passed)
       ∙ p.same;
@@ -93,7 +93,7 @@ Progress-enter body first old new node siblings step passed p = record {
 
 pub Progress-leave : (body : List Node) (first old new : Stack) (node : Bor Node) (siblings : Bor (List Node))
     → Left old new node siblings
-    → is_given_after dependency_rules node.now ≡ false → Progress body first old → Progress body first new
+    → comes_after dependency_rules node.now ≡ false → Progress body first old → Progress body first new
 Progress-leave body first old new node siblings step passed p = record {
   stack = IsStackOf-leave body old new node siblings step p.stack;
   same =
@@ -104,12 +104,12 @@ Progress-leave body first old new node siblings step passed p = record {
   rises = left-rises body first old new node siblings step p;
 }
 
--- a node that is given
-pub gives-enter : (program : Program) (first old new : Stack) (node : Bor Node) (siblings : Bor (List Node))
+-- the step returns a node
+pub step-enter : (program : Program) (first old new : Stack) (node : Bor Node) (siblings : Bor (List Node))
     → Enters old new node siblings
-    → is_given_before dependency_rules node.now ≡ true → Progress program.body first old
-    → Gives (state_of program first) (state_of program new) (Some node)
-gives-enter program first old new node siblings step given p =
+    → comes_before dependency_rules node.now ≡ true → Progress program.body first old
+    → IsStep (state_of program first) (state_of program new) (Some node)
+step-enter program first old new node siblings step given p =
     let body = program.body in
     let path = path_of body old.frames.items node siblings in
     let at = node_at-next_path body old.frames.items node.now siblings.now
@@ -117,17 +117,17 @@ gives-enter program first old new node siblings step given p =
     record {
       path = path;
       at_path = at;
-      first = sym p.same ∙ to_come-enter dependency_rules listed_close body old new node siblings step
+      first = sym p.same ∙ to_come-enter dependency_rules dependency_close body old new node siblings step
           ∙ ap (λ b. once b path ++ to_come dependency_rules body new) given;
       entered = count-enter body old new node siblings step
           (IsStackOf-enter body old new node siblings step p.stack) at given;
     }
 
-pub gives-leave : (program : Program) (first old new : Stack) (node : Bor Node) (siblings : Bor (List Node))
+pub step-leave : (program : Program) (first old new : Stack) (node : Bor Node) (siblings : Bor (List Node))
     → Left old new node siblings
-    → is_given_after dependency_rules node.now ≡ true → Progress program.body first old
-    → Gives (state_of program first) (state_of program new) (Some node)
-gives-leave program first old new node siblings step given p =
+    → comes_after dependency_rules node.now ≡ true → Progress program.body first old
+    → IsStep (state_of program first) (state_of program new) (Some node)
+step-leave program first old new node siblings step given p =
     let body = program.body in
     let path = path_of body new.frames.items node siblings in
     let at = node_at-next_path body new.frames.items node.now siblings.now
@@ -141,7 +141,7 @@ gives-leave program first old new node siblings step given p =
           (IsStackOf-leave body old new node siblings step p.stack) at given;
     }
 
--- nothing is left to enter or to leave, and nothing of it changes
+-- no node is left to enter or to leave, and the stack stays the same
 pub record Ends (old new : Stack) : Type 0 where
   pub no_nodes : old.nodes.now ≡ []
   pub no_frames : old.frames.items ≡ []
@@ -149,7 +149,7 @@ pub record Ends (old new : Stack) : Type 0 where
   pub nodes : new.nodes.now ≡ old.nodes.now
   pub entered : new.entered ≡ old.entered
 
--- the same frames, nodes and count are the same stack to a proof
+-- stacks with the same frames, nodes and count have the same properties
 pub IsStackOf-same : (body : List Node) (old new : Stack) → new.frames.items ≡ old.frames.items
     → new.nodes.now ≡ old.nodes.now
     → new.entered ≡ old.entered → IsStackOf body old → IsStackOf body new
@@ -166,9 +166,9 @@ pub to_come-same : (body : List Node) (old new : Stack) → new.frames.items ≡
     → to_come dependency_rules body new ≡ to_come dependency_rules body old
 to_come-same body old new frames nodes = rw (frames, nodes) refl
 
-pub gives-end : (program : Program) (first old new : Stack) → Ends old new → Progress program.body first old
-    → Gives (state_of program first) (state_of program new) None
-gives-end program first old new end p =
+pub step-end : (program : Program) (first old new : Stack) → Ends old new → Progress program.body first old
+    → IsStep (state_of program first) (state_of program new) None
+step-end program first old new end p =
     let body = program.body in
     let none : to_come dependency_rules body old ≡ [] = rw (end.no_frames, end.no_nodes) refl in
     let s = IsStackOf-same body old new end.frames end.nodes end.entered p.stack in

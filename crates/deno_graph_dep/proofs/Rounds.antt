@@ -1,11 +1,11 @@
--- How many rounds of a walk are left: two for each node to enter, and one for each entered node.
+-- The rounds of a walk that are left: two for each node to enter, and one for each entered node.
 use Rattle.std.proofs.Common.{◌≡◌, ℕ, suc, ◌+◌, ◌*◌, List, [], ◌∷◌, ◌++◌, length, map, ap, refl, arith}
 use Rattle.std.proofs.lemmas.List.{length-append}
 use Rattle.std.specs.Borrow.{Bor}
 use Rattle.deno_graph_source.specs.declared.tree.node.Node.{Node}
 use Rattle.deno_graph_dep.specs.DependencyRules.{children_to_visit, dependency_rules}
-use Rattle.deno_graph_dep.specs.Stack.{entry_rules, index_of, paths_to_come}
-use Rattle.deno_graph_dep.specs.ListedPaths.{under, paths_at}
+use Rattle.deno_graph_dep.specs.internal.Stack.{entry_rules, index_of, paths_to_come}
+use Rattle.deno_graph_dep.specs.internal.ListingPaths.{under, paths_at}
 use Rattle.deno_graph_source.specs.NodePath.{NodePath}
 use Rattle.deno_graph_dep.specs.declared.stack.Frame.{Frame}
 use Rattle.deno_graph_dep.specs.declared.stack.Stack.{Stack}
@@ -15,15 +15,15 @@ pub entries_close : ClosesAsVisited (entry_rules dependency_rules)
 unfolding children_to_visit
 entries_close node = refl
 
-pub listed_close : ClosesAsVisited dependency_rules
+pub dependency_close : ClosesAsVisited dependency_rules
 unfolding children_to_visit
-listed_close node = refl
+dependency_close node = refl
 
--- how many nodes are to enter in these and below them
+-- the count of the nodes to enter: these nodes and all below them
 abbrev pub to_enter : List Node → ℕ
 to_enter nodes = length (paths_to_come (entry_rules dependency_rules) nodes [] nodes)
 
--- what the entered nodes still ask for: leaving each, and their siblings
+-- the rounds of the entered nodes: one to leave each, and those of its siblings
 abbrev pub rounds_of : List Frame → ℕ
 rounds_of [] = 0
 rounds_of (frame ∷ frames) = rounds_of frames + (2 * to_enter frame.siblings.now + 1)
@@ -50,7 +50,7 @@ length-under f g (ps ∷ pss) =
     let rest = length-under (λ n. f (suc n)) (λ n. g (suc n)) pss in
     omega arith
 
--- entering a node takes it away, and leaves what is inside it and its siblings
+-- after a node is entered, the nodes inside it and its siblings are left to enter
 pub to_enter-first : (node : Bor Node) (siblings : Bor (List Node)) →
     to_enter (node.now ∷ siblings.now) ≡ suc (to_enter (children_to_visit node.now) + to_enter siblings.now)
 to_enter-first node siblings =

@@ -1,4 +1,4 @@
--- Every clause and every argument gives attributes.
+-- Each clause and each argument has attributes.
 use Rattle.std.proofs.Common.{
   ◌≡◌,
   ℕ,
@@ -45,39 +45,39 @@ use Rattle.std.proofs.lemmas.Slice.Eq.{bytes_eq-Decides}
 use Rattle.deno_graph_source.specs.Node.{kind_of, children_of, is_object}
 use Rattle.deno_graph_source.specs.declared.tree.node.Arg.{Arg}
 use Rattle.deno_graph_source.specs.declared.tree.node.Node.{Node}
-use Rattle.deno_graph_text.specs.TextMap.{insert_entry}
-use Rattle.deno_graph_dependency.specs.declared.import_attributes.ImportAttribute.{ImportAttribute}
-use Rattle.deno_graph_dependency.specs.declared.import_attributes.ImportAttributes.{ImportAttributes}
-use Rattle.deno_graph_dependency.specs.declared.import_attributes.ImportAttributes.TheVariants as attributes
+use Rattle.deno_graph_base.specs.TextMap.{insert_entry}
+use Rattle.deno_graph_info.specs.declared.analysis.import_attributes.ImportAttribute.{ImportAttribute}
+use Rattle.deno_graph_info.specs.declared.analysis.import_attributes.ImportAttributes.{ImportAttributes}
+use Rattle.deno_graph_info.specs.declared.analysis.import_attributes.ImportAttributes.TheVariants as attributes
 use Rattle.deno_graph_dep.specs.Attributes.{
   static_key,
   has_static_keys,
   declared,
-  stated,
+  in_object,
   Entries,
   Giving,
   HoldsLast,
   KnowsLast,
-  DeclarationGives,
-  ObjectGives,
-  LookedAtGive,
-  CallGives,
+  AreDeclarationAttributes,
+  AreObjectAttributes,
+  AreClauseAttributes,
+  AreCallAttributes,
 }
-use Rattle.deno_graph_dep.specs.AttributeSteps.{known_object}
-use Rattle.deno_graph_dep.specs.Stated.{TypeGives}
+use Rattle.deno_graph_dep.specs.internal.AttributeSteps.{known_object}
+use Rattle.deno_graph_dep.specs.DescriptorOf.{AreTypeAttributes}
 use Rattle.deno_graph_dep.proofs.Inserted.{Puts-inserted}
 use Rattle.deno_graph_dep.proofs.LastClause.{
-  IsClause,
-  LookedAtBelow,
-  LookedAtBelow-skip,
-  LookedAtBelow-clause,
-  LookedAtGive-unknown,
-  LookedAtGive-none,
-  LookedAtGive-last,
+  IsClauseAfter,
+  ClausesBelow,
+  ClausesBelow-skip,
+  ClausesBelow-clause,
+  AreClauseAttributes-unknown,
+  AreClauseAttributes-none,
+  AreClauseAttributes-last,
 }
 use Rattle.deno_graph_dep.proofs.LastGiven.{HoldsLast-nil, HoldsLast-skip, HoldsLast-put}
 
--- What properties give last
+-- The entries that properties give last
 
 module _ (gives : Giving) where
   one_more : (xs : List Node) (y : Node) (entries : Entries) → HoldsLast gives xs entries
@@ -107,26 +107,27 @@ module _ (gives : Giving) where
 
 -- The attributes of a declaration, an object and an import type
 
-pub some_declared : (clause : Option Node) → (result : ImportAttributes) × DeclarationGives clause result
+pub some_declared : (clause : Option Node)
+    → (result : ImportAttributes) × AreDeclarationAttributes clause result
 some_declared None = (attributes.None, refl)
 some_declared (Some clause) =
     let held = some_held declared (children_of clause) in (attributes.Known held.0, held.1)
 
-some_object : (object : Node) → (result : ImportAttributes) × ObjectGives object result
+some_object : (object : Node) → (result : ImportAttributes) × AreObjectAttributes object result
 some_object object = by (has_static_keys object)
   where
     by : (b : Bool) → (result : ImportAttributes)
-        × MatchBool b (KnowsLast stated (children_of object) result) (result ≡ attributes.Unknown)
-    by true = let held = some_held stated (children_of object) in (attributes.Known held.0, held.1)
+        × MatchBool b (KnowsLast in_object (children_of object) result) (result ≡ attributes.Unknown)
+    by true = let held = some_held in_object (children_of object) in (attributes.Known held.0, held.1)
     by false = (attributes.Unknown, refl)
 
-pub some_type : (clause : Option Node) → (result : ImportAttributes) × TypeGives clause result
+pub some_type : (clause : Option Node) → (result : ImportAttributes) × AreTypeAttributes clause result
 some_type None = (attributes.None, refl)
 some_type (Some object) = some_object object
 
 -- The attributes of a call
 
--- whether a key is this one
+-- a key equals another or not
 abbrev is_key : Option (List ℕ) → List ℕ → Bool
 is_key None name = false
 is_key (Some key) name = bytes_eq key name
@@ -138,7 +139,7 @@ tested (Some key) name = (
   (λ e. (bytes_eq-Decides key name).1 (same_Some key name e)),
 )
 
-decide_clause : (y : Node) (after_with : Bool) → IsClause y after_with ⊎ (IsClause y after_with → ⊥)
+decide_clause : (y : Node) (after_with : Bool) → IsClauseAfter y after_with ⊎ (IsClauseAfter y after_with → ⊥)
 decide_clause y after_with =
     by (is_key (static_key y) (codes "with"))
     (is_key (static_key y) (codes "assert")) after_with refl refl refl
@@ -148,7 +149,7 @@ decide_clause y after_with =
 
     by : (a b c : Bool) → is_key (static_key y) (codes "with") ≡ a
         → is_key (static_key y) (codes "assert") ≡ b → after_with ≡ c
-        → IsClause y after_with ⊎ (IsClause y after_with → ⊥)
+        → IsClauseAfter y after_with ⊎ (IsClauseAfter y after_with → ⊥)
     by true b c e f g = inl (inl ((tested (static_key y) (codes "with")).0 e))
     by false true false e f g = inl (inr ((tested (static_key y) (codes "assert")).0 f, g))
     by false true true e f g =
@@ -164,19 +165,19 @@ past_end (x ∷ xs) (suc i) is = let h = past_end xs i is in omega arith
 
 module _ (xs : List Node) where
   abbrev Given : Type 0
-  Given = (result : ImportAttributes) × LookedAtGive xs result
+  Given = (result : ImportAttributes) × AreClauseAttributes xs result
 
   at_end : (i : ℕ) (after_with : Bool) (last : Option Node) → length xs ≤ i
-      → LookedAtBelow xs i after_with last → Given
+      → ClausesBelow xs i after_with last → Given
   at_end i after_with None end all =
-      (attributes.None, LookedAtGive-none xs i after_with None end refl all)
+      (attributes.None, AreClauseAttributes-none xs i after_with None end refl all)
   at_end i after_with (Some object) end all =
       let gives = some_object object in
-      (gives.0, LookedAtGive-last xs i after_with (Some object) object gives.0 end refl all gives.1)
+      (gives.0, AreClauseAttributes-last xs i after_with (Some object) object gives.0 end refl all gives.1)
 
   step : (i : ℕ) (y : Node) → slice_get xs i ≡ Some y → (after_with : Bool) (last : Option Node)
-      → LookedAtBelow xs i after_with last
-      → ((now : Bool) (found : Option Node) → LookedAtBelow xs (i + 1) now found → Given) → Given
+      → ClausesBelow xs i after_with last
+      → ((now : Bool) (found : Option Node) → ClausesBelow xs (i + 1) now found → Given) → Given
   step i y is after_with last so_far next =
       by_clause (decide_clause y after_with) (known_object y) refl
     where
@@ -186,25 +187,28 @@ module _ (xs : List Node) where
       at : y ≡ get_or xs i y
       at = sym (get_or_from_slice_get xs i y y is)
 
-      by_clause : IsClause y after_with ⊎ (IsClause y after_with → ⊥) → (o : Option Node)
+      by_clause : IsClauseAfter y after_with ⊎ (IsClauseAfter y after_with → ⊥) → (o : Option Node)
           → known_object y ≡ o → Given
       by_clause (inr none) o known =
-          next _ last (LookedAtBelow-skip xs i y within at after_with last so_far
+          next _ last (ClausesBelow-skip xs i y within at after_with last so_far
           (is_key (static_key y) (codes "with")) (tested (static_key y) (codes "with")) none)
-      by_clause (inl clause) None known =
-          (attributes.Unknown, LookedAtGive-unknown xs i y within at after_with last so_far clause known)
+      by_clause (inl clause) None known = (
+        attributes.Unknown,
+        AreClauseAttributes-unknown xs i y within at after_with last so_far clause
+            known,
+      )
       by_clause (inl clause) (Some object) known =
-          next _ (Some object) (LookedAtBelow-clause xs i y within at after_with last so_far
+          next _ (Some object) (ClausesBelow-clause xs i y within at after_with last so_far
           (is_key (static_key y) (codes "with")) (tested (static_key y) (codes "with")) object clause known)
 
   go : (left i : ℕ) (after_with : Bool) (last : Option Node) → length xs ≤ i + left
-      → LookedAtBelow xs i after_with last → Given
+      → ClausesBelow xs i after_with last → Given
   go zero i after_with last end so_far = at_end i after_with last (omega (arith, end)) so_far
   go (suc left) i after_with last end so_far =
       by (slice_get xs i) refl (λ now found more. go left (i + 1) now found (omega (arith, end)) more)
     where
       by : (o : Option Node) → slice_get xs i ≡ o
-          → ((now : Bool) (found : Option Node) → LookedAtBelow xs (i + 1) now found → Given) → Given
+          → ((now : Bool) (found : Option Node) → ClausesBelow xs (i + 1) now found → Given) → Given
       by None is next = at_end i after_with last (past_end xs i is) so_far
       by (Some y) is next = step i y is after_with last so_far next
 
@@ -216,12 +220,12 @@ module _ (xs : List Node) where
     last_is = λ index below looked. omega (arith, below);
   })
 
-pub some_call : (second : Option (Arg × Node)) → (result : ImportAttributes) × CallGives second result
+pub some_call : (second : Option (Arg × Node)) → (result : ImportAttributes) × AreCallAttributes second result
 some_call None = (attributes.None, refl)
 some_call (Some second) =
     by (not second.0.spread && is_object (kind_of second.1) && has_static_keys second.1)
   where
     by : (b : Bool) → (result : ImportAttributes)
-        × MatchBool b (LookedAtGive (children_of second.1) result) (result ≡ attributes.Unknown)
+        × MatchBool b (AreClauseAttributes (children_of second.1) result) (result ≡ attributes.Unknown)
     by true = some_looked_at (children_of second.1)
     by false = (attributes.Unknown, refl)

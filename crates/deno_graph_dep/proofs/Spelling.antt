@@ -32,7 +32,7 @@ use Rattle.deno_graph_source.specs.declared.tree.node.Kind.TheVariants.{Str, Tem
 use Rattle.deno_graph_source.specs.declared.tree.node.BinaryOp.{BinaryOp}
 use Rattle.deno_graph_source.specs.declared.tree.node.BinaryOp.TheVariants.{Add}
 use Rattle.deno_graph_source.specs.declared.tree.node.Node.{Node}
-use Rattle.deno_graph_text.specs.JsString.{lossy_text, IsReadable}
+use Rattle.deno_graph_base.specs.JsString.{lossy_text, IsReadable}
 use Rattle.deno_graph_source.specs.Node.{kind_of, children_of, HasCountOfKind}
 use Rattle.deno_graph_source.specs.NodePath.{NodePath}
 use Rattle.deno_graph_dep.specs.Argument.{
@@ -112,7 +112,7 @@ unknown_count-append [] qs = omega arith
 unknown_count-append (known t ∷ ps) qs = unknown_count-append ps qs
 unknown_count-append (unknown ∷ ps) qs = omega (arith, unknown_count-append ps qs)
 
--- one operand: its part, its path where it is unknown, and what it contributes
+-- one operand: its part, its path if it is unknown, and its text
 length-unknown_path : (path : NodePath) (node : Node) (kind : Kind) → kind_of node ≡ kind
     → unknown_count (part_of node ∷ []) ≡ length (unknown_path path node)
 unfolding unknown_count
@@ -134,7 +134,7 @@ count_paths path (step ∷ below) first =
           (unknown_path (path ++ 1 ∷ []) step.right),
     )
 
--- what a right operand contributes
+-- the text of a right operand
 contributes : (given : Assignment) (path : NodePath) (node : Node) (kind : Kind) → kind_of node ≡ kind
     → IsReadableAt kind
     → ContributesAt given path kind (joined (part_of node ∷ []) (map given (unknown_path path node)))
@@ -273,7 +273,7 @@ spells_at given node form (Binary op) is shape has readable =
     (list_all (λ (step : Step). is_add step.operator) has.0) is has.2 refl refl readable)
 spells_at given node form _ is shape has readable = subst (Spells given node) (sym has) tt
 
--- the form of a node spells its text, whatever the unknown parts are
+-- the form of a node spells its text under each assignment
 pub spells : (node : Node) (form : Form) → HasCountOfKind (kind_of node) (length (children_of node))
     → HasForm node form → SpellsItsText node form
 spells node form shape has given readable = spells_at given node form (kind_of node) refl shape has readable

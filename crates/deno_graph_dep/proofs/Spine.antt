@@ -1,4 +1,4 @@
--- Left spines: what the shape rules give, and how a descent along a spine joins what follows it.
+-- Left spines: their shape in a valid tree, and a descent joined with the spine below it.
 use Rattle.std.proofs.Common.{
   ◌≡◌,
   ℕ,
@@ -56,7 +56,7 @@ use Rattle.deno_graph_dep.specs.Argument.{
 }
 use Rattle.deno_graph_dep.proofs.Depth.{child_smaller}
 
--- a node of which all nodes, it and those below it, have the children that they need
+-- the node and all nodes below it have the children that their kinds need
 abbrev pub AllShaped : Node → Type 0
 AllShaped node = All IsShaped (nodes_in node)
 
@@ -91,14 +91,14 @@ pub string_is_no_binary : (kind : Kind) → is_string kind ≡ true → is_binar
 string_is_no_binary (Str points) is = refl
 string_is_no_binary _ is = cc
 
--- a list of two
+-- a list of length two has two members
 two_of : {A : Type 0} (xs : List A) → length xs ≡ 2 → (x : A) × (y : A) × (xs ≡ x ∷ y ∷ [])
 two_of [] two = absurd (omega arith)
 two_of (x ∷ []) two = absurd (omega arith)
 two_of (x ∷ y ∷ []) two = (x, y, refl)
 two_of (x ∷ y ∷ z ∷ xs) two = absurd (omega arith)
 
--- what a binary node that keeps the shape rules has below it
+-- the children of a binary node that keeps the shape rules
 pub children_of-binary : (node : Node) → is_binary (kind_of node) ≡ true → AllShaped node
     → (left : Node) × (right : Node) × (children_of node ≡ left ∷ right ∷ [])
 children_of-binary node binary shaped =
@@ -119,7 +119,7 @@ Descends node (step ∷ below) operand =
     (kind_of node ≡ Binary step.operator) × (is_add step.operator ≡ true)
     × ((left : Node) × (children_of node ≡ left ∷ step.right ∷ []) × Descends left below operand)
 
--- one step more
+-- a descent with one more step
 pub Descends-step : (node operand left : Node) (above : List Step) (step : Step) → Descends node above operand
     → kind_of operand ≡ Binary step.operator → is_add step.operator ≡ true
     → children_of operand ≡ left ∷ step.right ∷ []
@@ -132,7 +132,7 @@ Descends-step node operand left [] step d is plus at = (
 Descends-step node operand left (top ∷ above) step d is plus at =
     (d.0, d.1, (d.2.0, d.2.1, Descends-step d.2.0 operand left above step d.2.2 is plus at))
 
--- a descent, and then a spine
+-- a descent followed by a spine is a spine
 pub LeftSpine-join : (node operand first : Node) (above rest : List Step) → Descends node above operand
     → LeftSpine operand rest first → LeftSpine node (above ++ rest) first
 LeftSpine-join node operand first [] rest d spine = subst (λ n. LeftSpine n rest first) (sym d) spine

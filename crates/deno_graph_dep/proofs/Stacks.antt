@@ -1,4 +1,4 @@
--- What is still to come on the stack of a walk, when a node is entered and when one is left.
+-- The paths still to come on the stack of a walk, when a node is entered and when one is left.
 use Rattle.std.proofs.Common.{
   ◌≡◌,
   ℕ,
@@ -31,13 +31,13 @@ use Rattle.std.specs.Borrow.{Bor}
 use Rattle.deno_graph_source.specs.Node.{kind_of, children_of}
 use Rattle.deno_graph_source.specs.declared.tree.node.Node.{Node}
 use Rattle.deno_graph_dep.specs.DependencyRules.{children_to_visit, is_closed}
-use Rattle.deno_graph_dep.specs.ListedPaths.{under, here, paths_at}
+use Rattle.deno_graph_dep.specs.internal.ListingPaths.{under, here, paths_at}
 use Rattle.deno_graph_dep.specs.Listing.{Rules}
 use Rattle.deno_graph_source.specs.NodePath.{NodePath, node_below, node_at}
-use Rattle.deno_graph_dep.specs.Stack.{
+use Rattle.deno_graph_dep.specs.internal.Stack.{
   frame_of,
-  is_given_before,
-  is_given_after,
+  comes_before,
+  comes_after,
   once,
   index_of,
   frame_index,
@@ -47,7 +47,7 @@ use Rattle.deno_graph_dep.specs.Stack.{
   AreNested,
 }
 use Rattle.deno_graph_dep.specs.declared.stack.Frame.{Frame}
-use Rattle.deno_graph_dep.proofs.ListedPaths.{paths_at-is}
+use Rattle.deno_graph_dep.proofs.ListingPaths.{paths_at-is}
 
 pub under-same : (f g : ℕ → ℕ) → ((n : ℕ) → f n ≡ g n) → (pss : List (List NodePath))
     → under f pss ≡ under g pss
@@ -61,35 +61,35 @@ map-once : (n : ℕ) (b : Bool) (p : NodePath) → map (λ q. n ∷ q) (once b p
 map-once n true p = refl
 map-once n false p = refl
 
--- the paths of a node in three pieces, by whether it is given before its inside or after it
-pieces_by : (f : Node → List NodePath) (after closed listed : Bool) (nodes : List Node) →
-    cond after [] (here listed) ++ cond closed [] (under (λ n. n) (map f nodes))
-    ++ cond after (here listed) []
-    ≡ once (not after && listed) [] ++ under (λ n. n) (map f (cond closed [] nodes))
-    ++ once (after && listed) []
-pieces_by f true true listed nodes = refl
-pieces_by f true false listed nodes = refl
-pieces_by f false true listed nodes = refl
-pieces_by f false false listed nodes = refl
+-- the paths of a node in three pieces, by whether it comes before its inside or after it
+pieces_by : (f : Node → List NodePath) (after closed member : Bool) (nodes : List Node) →
+    cond after [] (here member) ++ cond closed [] (under (λ n. n) (map f nodes))
+    ++ cond after (here member) []
+    ≡ once (not after && member) [] ++ under (λ n. n) (map f (cond closed [] nodes))
+    ++ once (after && member) []
+pieces_by f true true member nodes = refl
+pieces_by f true false member nodes = refl
+pieces_by f false true member nodes = refl
+pieces_by f false false member nodes = refl
 
--- the rules close what the walk leaves unread
+-- a node that the rules close has no children to visit
 abbrev pub ClosesAsVisited : Rules → Type 0
 ClosesAsVisited rules = (node : Node)
     → cond (rules.is_closed node) [] (children_of node) ≡ children_to_visit node
 
 paths_at-pieces : (rules : Rules) → ClosesAsVisited rules → (node : Node) →
     paths_at rules node
-    ≡ once (is_given_before rules node) [] ++ under (λ n. n) (map (paths_at rules) (children_to_visit node))
-    ++ once (is_given_after rules node) []
+    ≡ once (comes_before rules node) [] ++ under (λ n. n) (map (paths_at rules) (children_to_visit node))
+    ++ once (comes_after rules node) []
 paths_at-pieces rules closes node =
-    let own = once (is_given_before rules node) [] in
-    let after = once (is_given_after rules node) [] in
+    let own = once (comes_before rules node) [] in
+    let after = once (comes_after rules node) [] in
     paths_at-is rules node ∙
-    pieces_by (paths_at rules) (rules.is_after_inside node) (rules.is_closed node) (rules.is_listed node)
+    pieces_by (paths_at rules) (rules.is_after_inside node) (rules.is_closed node) (rules.is_member node)
     (children_of node) ∙
     ap (λ nodes. own ++ under (λ n. n) (map (paths_at rules) nodes) ++ after) (closes node)
 
--- what comes first among the paths below a node comes first
+-- the first of the paths below a node
 first_out : (n : ℕ) (xs ys own rest : List NodePath) →
     map (λ p. n ∷ p) (xs ++ ys ++ own) ++ rest ≡ map (λ p. n ∷ p) xs ++ (map (λ p. n ∷ p) (ys ++ own) ++ rest)
 first_out n xs ys own rest =
@@ -104,27 +104,27 @@ once_out n b p ys own rest =
     first_out n (once b p) ys own rest ∙
     ap (λ zs. zs ++ (map (λ q. n ∷ q) (ys ++ own) ++ rest)) (map-once n b p)
 
--- when a node is entered, it comes first if it is given before its inside, and its inside comes next
+-- when a node is entered, it comes first if it comes before its inside, and then its inside
 pub paths_to_come-enter : (rules : Rules) → ClosesAsVisited rules
     → (level : List Node) (frames : List Frame) (node : Bor Node) (siblings : Bor (List Node)) →
     paths_to_come rules level frames (node.now ∷ siblings.now)
-    ≡ once (is_given_before rules node.now) (next_path level frames (node.now ∷ siblings.now))
+    ≡ once (comes_before rules node.now) (next_path level frames (node.now ∷ siblings.now))
     ++ paths_to_come rules level (frames ++ frame_of node siblings ∷ []) (children_to_visit node.now)
 paths_to_come-enter rules closes level [] node siblings =
     let k = index_of level (node.now ∷ siblings.now) in
     let inner = children_to_visit node.now in
-    let own = once (is_given_after rules node.now) [] in
-    let before = once (is_given_before rules node.now) [] in
+    let own = once (comes_after rules node.now) [] in
+    let before = once (comes_before rules node.now) [] in
     let below = map (paths_at rules) inner in
     let beside = map (paths_at rules) siblings.now in
     ap (λ j. map (λ p. j ∷ p) (paths_at rules node.now) ++ under (λ n. suc n + k) beside) (first_number k) ∙
     ap (λ ps. map (λ p. k ∷ p) ps ++ under (λ n. suc n + k) beside) (paths_at-pieces rules closes node.now) ∙
-    once_out k (is_given_before rules node.now) [] (under (λ n. n) below) own (under (λ n. suc n + k) beside)
+    once_out k (comes_before rules node.now) [] (under (λ n. n) below) own (under (λ n. suc n + k) beside)
     ∙
-    ap (λ ps. once (is_given_before rules node.now) (k ∷ [])
+    ap (λ ps. once (comes_before rules node.now) (k ∷ [])
     ++ (map (λ p. k ∷ p) (ps ++ own) ++ under (λ n. suc n + k) beside))
     (under-same (λ n. n) (λ n. n + index_of inner inner) (λ n. none_before inner n) below) ∙
-    ap (λ ps. once (is_given_before rules node.now) (k ∷ [])
+    ap (λ ps. once (comes_before rules node.now) (k ∷ [])
     ++ (map (λ p. k ∷ p) (under (λ n. n + index_of inner inner) below ++ own) ++ ps))
     (under-same (λ n. suc n + k) (λ n. n + suc k) (λ n. omega arith) beside)
   where
@@ -135,16 +135,16 @@ paths_to_come-enter rules closes level [] node siblings =
     none_before inner n = omega arith
 paths_to_come-enter rules closes level (frame ∷ frames) node siblings =
     let inner = children_to_visit frame.node.now in
-    let own = once (is_given_after rules frame.node.now) [] in
+    let own = once (comes_after rules frame.node.now) [] in
     let i = frame_index level frame in
     let beside = under (λ n. n + suc i) (map (paths_at rules) frame.siblings.now) in
     ap (λ ps. map (λ p. i ∷ p) (ps ++ own) ++ beside)
     (paths_to_come-enter rules closes inner frames node siblings) ∙
-    once_out i (is_given_before rules node.now) (next_path inner frames (node.now ∷ siblings.now))
+    once_out i (comes_before rules node.now) (next_path inner frames (node.now ∷ siblings.now))
     (paths_to_come rules inner (frames ++ frame_of node siblings ∷ [])
     (children_to_visit node.now)) own beside
 
--- the siblings of a node begin one after it
+-- the siblings of a node begin at the next index
 pub next_index : (level : List Node) (node : Node) (siblings : List Node) → AreLastOf level (node ∷ siblings)
     → suc (index_of level (node ∷ siblings)) ≡ index_of level siblings
 next_index level node siblings last =
@@ -152,27 +152,27 @@ next_index level node siblings last =
     let parts = length-append last.0 (node ∷ siblings) in
     omega arith
 
--- when a node is left, it comes first if it is given after its inside, and its siblings come next
+-- when a node is left, it comes first if it comes after its inside, and then its siblings
 pub paths_to_come-leave : (rules : Rules) (level : List Node) (frames : List Frame) (node : Bor Node)
     (siblings : Bor (List Node)) →
     AreNested level (frames ++ frame_of node siblings ∷ []) [] →
     paths_to_come rules level (frames ++ frame_of node siblings ∷ []) []
-    ≡ once (is_given_after rules node.now) (next_path level frames (node.now ∷ siblings.now))
+    ≡ once (comes_after rules node.now) (next_path level frames (node.now ∷ siblings.now))
     ++ paths_to_come rules level frames siblings.now
 paths_to_come-leave rules level [] node siblings nested =
     let k = index_of level (node.now ∷ siblings.now) in
     let beside = map (paths_at rules) siblings.now in
-    ap (λ ps. ps ++ under (λ n. n + suc k) beside) (map-once k (is_given_after rules node.now) []) ∙
-    ap (λ j. once (is_given_after rules node.now) (k ∷ []) ++ under (λ n. n + j) beside)
+    ap (λ ps. ps ++ under (λ n. n + suc k) beside) (map-once k (comes_after rules node.now) []) ∙
+    ap (λ j. once (comes_after rules node.now) (k ∷ []) ++ under (λ n. n + j) beside)
     (next_index level node.now siblings.now nested.0)
 paths_to_come-leave rules level (frame ∷ frames) node siblings nested =
     let inner = children_to_visit frame.node.now in
-    let own = once (is_given_after rules frame.node.now) [] in
+    let own = once (comes_after rules frame.node.now) [] in
     let i = frame_index level frame in
     let beside = under (λ n. n + suc i) (map (paths_at rules) frame.siblings.now) in
     ap (λ ps. map (λ p. i ∷ p) (ps ++ own) ++ beside)
     (paths_to_come-leave rules inner frames node siblings nested.1) ∙
-    once_out i (is_given_after rules node.now) (next_path inner frames (node.now ∷ siblings.now))
+    once_out i (comes_after rules node.now) (next_path inner frames (node.now ∷ siblings.now))
     (paths_to_come rules inner frames siblings.now) own beside
 
 -- the nodes on the stack stay in their levels
@@ -200,7 +200,7 @@ AreNested-left level [] node siblings nodes nested = nested.0
 AreNested-left level (frame ∷ frames) node siblings nodes nested =
     (nested.0, AreNested-left (children_to_visit frame.node.now) frames node siblings nodes nested.1)
 
--- the node that begins the last ones of a level
+-- the first of the last nodes of a level
 first_of_last : (level : List Node) (node : Node) (siblings : List Node) → AreLastOf level (node ∷ siblings)
     → slice_get level (index_of level (node ∷ siblings)) ≡ Some node
 first_of_last level node siblings last =

@@ -1,12 +1,19 @@
--- What entering a node and leaving one do to a stack, and what that says of the nodes that were entered.
+-- Entering a node and leaving one: the changes to the stack.
 use Rattle.std.proofs.Common.{◌≡◌, ◌+◌, ◌-◌, ◌^◌, ◌<◌, min, List, [], ◌∷◌, ◌++◌, sym, ap, ◌∙◌, subst, arith}
 use Rattle.std.specs.Borrow.{Bor}
 use Rattle.deno_graph_source.specs.declared.tree.node.Node.{Node}
 use Rattle.deno_graph_dep.specs.DependencyRules.{children_to_visit}
 use Rattle.deno_graph_dep.specs.Listing.{Rules}
 use Rattle.deno_graph_source.specs.NodePath.{NodePath}
-use Rattle.deno_graph_dep.specs.Stack.{frame_of, is_given_before, is_given_after, once, next_path, AreNested}
-use Rattle.deno_graph_dep.specs.Stack.{to_come}
+use Rattle.deno_graph_dep.specs.internal.Stack.{
+  frame_of,
+  comes_before,
+  comes_after,
+  once,
+  next_path,
+  AreNested,
+}
+use Rattle.deno_graph_dep.specs.internal.Stack.{to_come}
 use Rattle.deno_graph_dep.specs.declared.stack.Frame.{Frame}
 use Rattle.deno_graph_dep.specs.declared.stack.Stack.{Stack}
 use Rattle.deno_graph_dep.proofs.Rounds.{rounds, rounds_of, rounds_of-push, to_enter, to_enter-first}
@@ -31,7 +38,7 @@ pub record Left (old new : Stack) (node : Bor Node) (siblings : Bor (List Node))
   pub nodes : new.nodes.now ≡ siblings.now
   pub entered : new.entered ≡ old.entered
 
--- the path of the node that a frame is of, where the frames before it are these
+-- the path of a frame's node, by the frames before it
 abbrev pub path_of : List Node → List Frame → Bor Node → Bor (List Node) → NodePath
 path_of body frames node siblings = next_path body frames (node.now ∷ siblings.now)
 
@@ -39,7 +46,7 @@ pub to_come-enter : (rules : Rules) → ClosesAsVisited rules
     → (body : List Node) (old new : Stack) (node : Bor Node) (siblings : Bor (List Node)) →
     Enters old new node siblings →
     to_come rules body old
-    ≡ once (is_given_before rules node.now) (path_of body old.frames.items node siblings)
+    ≡ once (comes_before rules node.now) (path_of body old.frames.items node siblings)
     ++ to_come rules body new
 to_come-enter rules closes body old new node siblings step =
     rw (step.first, step.frames, step.nodes)
@@ -49,7 +56,7 @@ pub to_come-leave : (rules : Rules) (body : List Node) (old new : Stack) (node :
     (siblings : Bor (List Node)) →
     Left old new node siblings → AreNested body old.frames.items old.nodes.now →
     to_come rules body old
-    ≡ once (is_given_after rules node.now) (path_of body new.frames.items node siblings)
+    ≡ once (comes_after rules node.now) (path_of body new.frames.items node siblings)
     ++ to_come rules body new
 to_come-leave rules body old new node siblings step nested =
     let P : List Frame → Type 0 = λ fs. AreNested body fs old.nodes.now in
@@ -90,7 +97,7 @@ nested-leave body old new node siblings step nested =
     subst Q (sym step.nodes)
     (AreNested-leave body new.frames.items node siblings old.nodes.now (subst P step.frames nested))
 
--- each round is one less
+-- each round leaves one round less
 pub rounds-enter : (old new : Stack) (node : Bor Node) (siblings : Bor (List Node))
     → Enters old new node siblings → rounds new < rounds old
 rounds-enter old new node siblings step =

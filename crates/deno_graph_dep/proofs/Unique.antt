@@ -1,8 +1,8 @@
--- What a node states is unique.
+-- The descriptor of a node is unique.
 use Rattle.std.proofs.Common.{◌≡◌, Bool, false, not, List, [], ◌∷◌, Some, None, ap, sym, subst, ◌∙◌, refl}
 use Rattle.std.proofs.lemmas.Bool.{false≢true}
 use Rattle.std.proofs.lemmas.Option.{same_Some}
-use Rattle.deno_graph_source.specs.Comments.{FiledComments}
+use Rattle.deno_graph_source.specs.Comments.{FiledComments, leading_at}
 use Rattle.deno_graph_source.specs.Node.{kind_of, range_of, children_of}
 use Rattle.deno_graph_source.specs.declared.tree.node.Arg.{Arg}
 use Rattle.deno_graph_source.specs.declared.tree.node.BinaryOp.{BinaryOp}
@@ -22,12 +22,12 @@ use Rattle.deno_graph_source.specs.declared.tree.node.Kind.TheVariants.{
 }
 use Rattle.deno_graph_source.specs.declared.tree.node.Node.{Node}
 use Rattle.deno_graph_source.specs.declared.tree.node.StrLit.{StrLit}
-use Rattle.deno_graph_text.specs.declared.text.position.SourceRange.{SourceRange}
-use Rattle.deno_graph_dependency.specs.declared.import_attributes.ImportAttributes.{ImportAttributes}
-use Rattle.deno_graph_dependency.specs.declared.import_attributes.ImportAttributes.TheVariants as attributes
-use Rattle.deno_graph_dependency.specs.declared.static_dependency.StaticDependencyKind.{StaticDependencyKind}
-use Rattle.deno_graph_dependency.specs.declared.static_dependency.StaticDependencyKind.TheVariants as static_kind
-use Rattle.deno_graph_dependency.specs.declared.dynamic_dependency.DynamicDependencyKind.{
+use Rattle.deno_graph_base.specs.declared.text.position.SourceRange.{SourceRange}
+use Rattle.deno_graph_info.specs.declared.analysis.import_attributes.ImportAttributes.{ImportAttributes}
+use Rattle.deno_graph_info.specs.declared.analysis.import_attributes.ImportAttributes.TheVariants as attributes
+use Rattle.deno_graph_info.specs.declared.analysis.static_dependency.StaticDependencyKind.{StaticDependencyKind}
+use Rattle.deno_graph_info.specs.declared.analysis.static_dependency.StaticDependencyKind.TheVariants as static_kind
+use Rattle.deno_graph_info.specs.declared.analysis.dynamic_dependency.DynamicDependencyKind.{
   DynamicDependencyKind,
 }
 use Rattle.deno_graph_dep.specs.Argument.{
@@ -42,34 +42,33 @@ use Rattle.deno_graph_dep.specs.Argument.{
 }
 use Rattle.deno_graph_dep.specs.Dependencies.{AreDependencies}
 use Rattle.deno_graph_dep.specs.DependencyKind.{import_kind, export_kind, import_equals_kind}
-use Rattle.deno_graph_dep.specs.Item.{Item, dynamic_item, static_item}
-use Rattle.deno_graph_dep.specs.Stated.{
-  AllStated,
+use Rattle.deno_graph_dep.specs.Descriptor.{Descriptor, dynamic_descriptor, static_descriptor}
+use Rattle.deno_graph_dep.specs.DescriptorOf.{
+  AreDescriptorsOf,
   ArgumentHasForm,
-  NoneGiven,
-  States,
-  StatesAt,
-  StatesCall,
-  StatesSpecifier,
-  clause_of,
-  leading_at,
-  second_argument,
-  specified_item,
+  AreNoAttributes,
+  IsDescriptorOf,
+  IsDescriptorOfKind,
+  IsDynamicDescriptorOf,
+  IsStaticDescriptorOf,
+  argument_at,
+  specified_descriptor,
+  with_clause,
 }
-use Rattle.deno_graph_dep.proofs.Items.{AreListed-unique}
+use Rattle.deno_graph_dep.proofs.DependencyNodes.{AreDependencyNodes-unique}
 use Rattle.deno_graph_dep.proofs.Spine.{step_with}
 use Rattle.deno_graph_dep.proofs.UniqueAttributes.{
   IsUnique,
   unique_equal,
   unique_by,
-  DeclarationGives-unique,
-  TypeGives-unique,
-  CallGives-unique,
+  AreDeclarationAttributes-unique,
+  AreTypeAttributes-unique,
+  AreCallAttributes-unique,
 }
 
 -- The form of an argument
 
--- the ends of two spines of one node
+-- two spines have the same steps and the same first operand
 abbrev SameSpine : List Step → List Step → Node → Node → Type 0
 SameSpine steps others first other = (steps ≡ others) × (first ≡ other)
 
@@ -114,22 +113,25 @@ ArgumentHasForm-unique arg argument =
     unique_by arg.spread (λ form. form ≡ expression) (HasForm argument) (unique_equal expression)
     (HasFormAt-unique (kind_of argument) argument)
 
--- What is stated
+-- The descriptor of a node
 
-StatesSpecifier-unique : (comments : FiledComments) (node : Node) (kind : StaticDependencyKind)
+IsStaticDescriptorOf-unique : (comments : FiledComments) (node : Node) (kind : StaticDependencyKind)
     (range : SourceRange) (literal : StrLit) (is_side_effect : Bool)
-    (Gives : ImportAttributes → Type 0) → IsUnique Gives
-    → IsUnique (StatesSpecifier comments node kind range literal is_side_effect Gives)
-StatesSpecifier-unique comments node kind range literal is_side_effect Gives unique a b is also =
-    is.2 ∙ (ap (λ given. static_item (specified_item comments node kind range literal is_side_effect given))
+    (AreAttributes : ImportAttributes → Type 0) → IsUnique AreAttributes
+    → IsUnique (IsStaticDescriptorOf comments node kind range literal is_side_effect AreAttributes)
+IsStaticDescriptorOf-unique comments node kind range literal is_side_effect AreAttributes unique a b is also =
+    is.2 ∙ (ap (λ given. static_descriptor
+    (specified_descriptor comments node kind range literal is_side_effect given))
     (unique is.0 also.0 is.1 also.1) ∙ sym also.2)
 
-NoneGiven-unique : IsUnique NoneGiven
-NoneGiven-unique = unique_equal attributes.None
+AreNoAttributes-unique : IsUnique AreNoAttributes
+AreNoAttributes-unique = unique_equal attributes.None
 
-StatesCall-unique : (comments : FiledComments) (node : Node) (callee : Callee) (args : List Arg) (a b : Item)
-    → StatesCall comments node callee args a → StatesCall comments node callee args b → a ≡ b
-StatesCall-unique comments node callee args a b is also =
+IsDynamicDescriptorOf-unique : (comments : FiledComments) (node : Node) (callee : Callee) (args : List Arg)
+    (a b : Descriptor)
+    → IsDynamicDescriptorOf comments node callee args a → IsDynamicDescriptorOf comments node callee args b
+    → a ≡ b
+IsDynamicDescriptorOf-unique comments node callee args a b is also =
     let kinds = same_Some is.kind also.kind (sym is.is_kind ∙ also.is_kind) in
     let arg = same_Some is.arg also.arg (sym is.is_arg ∙ also.is_arg) in
     let argument = same_Some is.argument also.argument (sym is.is_argument ∙ also.is_argument) in
@@ -137,12 +139,12 @@ StatesCall-unique comments node callee args a b is also =
     subst (λ x. ArgumentHasForm x is.argument also.form) (sym arg)
     (subst (λ x. ArgumentHasForm also.arg x also.form) (sym argument) also.has_form) in
     let forms = ArgumentHasForm-unique is.arg is.argument is.form also.form is.has_form has in
-    let given = CallGives-unique
-    (second_argument callee args (children_of node)) is.given also.given is.gives also.gives in
+    let given = AreCallAttributes-unique
+    (argument_at callee args (children_of node) 1) is.given also.given is.gives also.gives in
     is.says ∙ (by_parts kinds forms arg given ∙ sym also.says)
   where
-    item : DynamicDependencyKind → Form → Arg → ImportAttributes → Item
-    item kind form arg given = dynamic_item (record {
+    descriptor : DynamicDependencyKind → Form → Arg → ImportAttributes → Descriptor
+    descriptor kind form arg given = dynamic_descriptor (record {
       kind = kind;
       leading_comments = leading_at comments (range_of node).start;
       range = range_of node;
@@ -153,58 +155,65 @@ StatesCall-unique comments node callee args a b is also =
 
     by_parts : {k l : DynamicDependencyKind} {f g : Form} {x y : Arg} {r s : ImportAttributes} → k ≡ l → f ≡ g
         → x ≡ y → r ≡ s
-        → item k f x r ≡ item l g y s
+        → descriptor k f x r ≡ descriptor l g y s
     by_parts {k} {l} {f} {g} {x} {y} {r} {s} kinds forms args given =
-        ap (λ v. item v f x r) kinds
-        ∙ (ap (λ v. item l v x r) forms ∙ (ap (λ v. item l g v r) args ∙ ap (λ v. item l g y v) given))
+        ap (λ v. descriptor v f x r) kinds
+        ∙ (ap (λ v. descriptor l v x r) forms ∙
+        (ap (λ v. descriptor l g v r) args ∙ ap (λ v. descriptor l g y v) given))
 
-StatesAt-unique : (comments : FiledComments) (node : Node) (kind : Kind) (a b : Item)
-    → StatesAt comments node kind a → StatesAt comments node kind b → a ≡ b
-StatesAt-unique comments node (ImportDecl type_only phase src has_specifiers has_with) a b is also =
-    StatesSpecifier-unique comments node (import_kind type_only phase) (range_of node) src
-    (not has_specifiers) _ (DeclarationGives-unique (clause_of has_with node)) a b is also
-StatesAt-unique comments node (NamedExport type_only None has_with) a b is also = absurd is
-StatesAt-unique comments node (NamedExport type_only (Some src) has_with) a b is also =
-    StatesSpecifier-unique comments node (export_kind type_only) (range_of node) src false _
-    (DeclarationGives-unique (clause_of has_with node)) a b is also
-StatesAt-unique comments node (ExportAll type_only src has_with) a b is also =
-    StatesSpecifier-unique comments node (export_kind type_only) (range_of node) src false _
-    (DeclarationGives-unique (clause_of has_with node)) a b is also
-StatesAt-unique comments node (ImportEquals type_only is_export None) a b is also = absurd is
-StatesAt-unique comments node (ImportEquals type_only is_export (Some external)) a b is also =
-    StatesSpecifier-unique comments node (import_equals_kind type_only is_export)
-    (range_of node) external false NoneGiven NoneGiven-unique a b is also
-StatesAt-unique comments node (ImportType arg has_with) a b is also =
-    StatesSpecifier-unique comments node static_kind.ImportType (range_of node) arg false _
-    (TypeGives-unique (clause_of has_with node)) a b is also
-StatesAt-unique comments node (ModuleDecl None) a b is also = absurd is
-StatesAt-unique comments node (ModuleDecl (Some name)) a b is also =
-    StatesSpecifier-unique comments node static_kind.MaybeTsModuleAugmentation name.range name false NoneGiven
-    NoneGiven-unique a b is.1 also.1
-StatesAt-unique comments node (Call callee args) a b is also =
-    StatesCall-unique comments node callee args a b is also
-StatesAt-unique comments node _ a b is also = absurd is
+IsDescriptorOfKind-unique : (comments : FiledComments) (node : Node) (kind : Kind) (a b : Descriptor)
+    → IsDescriptorOfKind comments node kind a → IsDescriptorOfKind comments node kind b → a ≡ b
+IsDescriptorOfKind-unique comments node (ImportDecl type_only phase src has_specifiers has_with) a b is also =
+    IsStaticDescriptorOf-unique comments node (import_kind type_only phase) (range_of node) src
+    (not has_specifiers) _ (AreDeclarationAttributes-unique (with_clause node)) a b is also
+IsDescriptorOfKind-unique comments node (NamedExport type_only None has_with) a b is also = absurd is
+IsDescriptorOfKind-unique comments node (NamedExport type_only (Some src) has_with) a b is also =
+    IsStaticDescriptorOf-unique comments node (export_kind type_only) (range_of node) src false _
+    (AreDeclarationAttributes-unique (with_clause node)) a b is also
+IsDescriptorOfKind-unique comments node (ExportAll type_only src has_with) a b is also =
+    IsStaticDescriptorOf-unique comments node (export_kind type_only) (range_of node) src false _
+    (AreDeclarationAttributes-unique (with_clause node)) a b is also
+IsDescriptorOfKind-unique comments node (ImportEquals type_only is_export None) a b is also = absurd is
+IsDescriptorOfKind-unique comments node (ImportEquals type_only is_export (Some external)) a b is also =
+    IsStaticDescriptorOf-unique comments node (import_equals_kind type_only is_export)
+    (range_of node) external false AreNoAttributes AreNoAttributes-unique a b is also
+IsDescriptorOfKind-unique comments node (ImportType arg has_with) a b is also =
+    IsStaticDescriptorOf-unique comments node static_kind.ImportType (range_of node) arg false _
+    (AreTypeAttributes-unique (with_clause node)) a b is also
+IsDescriptorOfKind-unique comments node (ModuleDecl None) a b is also = absurd is
+IsDescriptorOfKind-unique comments node (ModuleDecl (Some name)) a b is also =
+    IsStaticDescriptorOf-unique comments node static_kind.MaybeTsModuleAugmentation name.range name false
+    AreNoAttributes
+    AreNoAttributes-unique a b is.1 also.1
+IsDescriptorOfKind-unique comments node (Call callee args) a b is also =
+    IsDynamicDescriptorOf-unique comments node callee args a b is also
+IsDescriptorOfKind-unique comments node _ a b is also = absurd is
 
-pub States-unique : (comments : FiledComments) (node : Node) (a b : Item) → States comments node a
-    → States comments node b → a ≡ b
-unfolding States
-States-unique comments node a b is also = StatesAt-unique comments node (kind_of node) a b is also
+pub IsDescriptorOf-unique : (comments : FiledComments) (node : Node) (a b : Descriptor)
+    → IsDescriptorOf comments node a
+    → IsDescriptorOf comments node b → a ≡ b
+unfolding IsDescriptorOf
+IsDescriptorOf-unique comments node a b is also =
+    IsDescriptorOfKind-unique comments node (kind_of node) a b is also
 
-AllStated-unique : (comments : FiledComments) (nodes : List Node) (items others : List Item)
-    → AllStated comments nodes items → AllStated comments nodes others → items ≡ others
-AllStated-unique comments [] [] [] a b = refl
-AllStated-unique comments [] [] (other ∷ others) a b = absurd b
-AllStated-unique comments [] (item ∷ items) others a b = absurd a
-AllStated-unique comments (node ∷ nodes) [] others a b = absurd a
-AllStated-unique comments (node ∷ nodes) (item ∷ items) [] a b = absurd b
-AllStated-unique comments (node ∷ nodes) (item ∷ items) (other ∷ others) a b =
-    ap (λ i. i ∷ items) (States-unique comments node item other a.0 b.0)
-    ∙ ap (λ is. other ∷ is) (AllStated-unique comments nodes items others a.1 b.1)
+AreDescriptorsOf-unique : (comments : FiledComments) (nodes : List Node)
+    (descriptors others : List Descriptor)
+    → AreDescriptorsOf comments nodes descriptors → AreDescriptorsOf comments nodes others
+    → descriptors ≡ others
+AreDescriptorsOf-unique comments [] [] [] a b = refl
+AreDescriptorsOf-unique comments [] [] (other ∷ others) a b = absurd b
+AreDescriptorsOf-unique comments [] (descriptor ∷ descriptors) others a b = absurd a
+AreDescriptorsOf-unique comments (node ∷ nodes) [] others a b = absurd a
+AreDescriptorsOf-unique comments (node ∷ nodes) (descriptor ∷ descriptors) [] a b = absurd b
+AreDescriptorsOf-unique comments (node ∷ nodes) (descriptor ∷ descriptors) (other ∷ others) a b =
+    ap (λ i. i ∷ descriptors) (IsDescriptorOf-unique comments node descriptor other a.0 b.0)
+    ∙ ap (λ is. other ∷ is) (AreDescriptorsOf-unique comments nodes descriptors others a.1 b.1)
 
--- a body has one list of dependencies
-pub AreDependencies-unique : (comments : FiledComments) (body : List Node) (items others : List Item)
-    → AreDependencies comments body items → AreDependencies comments body others → items ≡ others
-AreDependencies-unique comments body items others a b =
-    let same = AreListed-unique body a.nodes b.nodes a.are_listed b.are_listed in
-    AllStated-unique comments b.nodes items others
-    (subst (λ nodes. AllStated comments nodes items) same a.stated) b.stated
+-- a body has one list of descriptors
+pub AreDependencies-unique : (comments : FiledComments) (body : List Node)
+    (descriptors others : List Descriptor)
+    → AreDependencies comments body descriptors → AreDependencies comments body others → descriptors ≡ others
+AreDependencies-unique comments body descriptors others a b =
+    let same = AreDependencyNodes-unique body a.nodes b.nodes a.are_nodes b.are_nodes in
+    AreDescriptorsOf-unique comments b.nodes descriptors others
+    (subst (λ nodes. AreDescriptorsOf comments nodes descriptors) same a.described) b.described

@@ -1,4 +1,4 @@
--- The attributes that a node gives are unique.
+-- The attributes of a node are unique.
 use Rattle.std.proofs.Common.{
   ◌≡◌,
   ℕ,
@@ -45,27 +45,27 @@ use Rattle.std.proofs.lemmas.Slice.Eq.{bytes_eq-Decides}
 use Rattle.deno_graph_source.specs.Node.{kind_of, children_of, is_object}
 use Rattle.deno_graph_source.specs.declared.tree.node.Arg.{Arg}
 use Rattle.deno_graph_source.specs.declared.tree.node.Node.{Node}
-use Rattle.deno_graph_text.specs.TextMap.{value_at, IsAscending}
-use Rattle.deno_graph_dependency.specs.declared.import_attributes.ImportAttributes.{ImportAttributes}
-use Rattle.deno_graph_dependency.specs.declared.import_attributes.ImportAttributes.TheVariants as attributes
+use Rattle.deno_graph_base.specs.TextMap.{value_at, IsAscending}
+use Rattle.deno_graph_info.specs.declared.analysis.import_attributes.ImportAttributes.{ImportAttributes}
+use Rattle.deno_graph_info.specs.declared.analysis.import_attributes.ImportAttributes.TheVariants as attributes
 use Rattle.deno_graph_dep.specs.Attributes.{
   value_node,
   has_static_keys,
   declared,
-  stated,
+  in_object,
   Entries,
   Giving,
   HoldsLast,
   KnowsLast,
-  DeclarationGives,
-  ObjectGives,
-  ValueGives,
-  IndexGives,
-  GreatestGives,
-  LookedAtGive,
-  CallGives,
+  AreDeclarationAttributes,
+  AreObjectAttributes,
+  AreValueAttributes,
+  AreAttributesAt,
+  IsOfLastClause,
+  AreClauseAttributes,
+  AreCallAttributes,
 }
-use Rattle.deno_graph_dep.specs.Stated.{TypeGives}
+use Rattle.deno_graph_dep.specs.DescriptorOf.{AreTypeAttributes}
 
 -- at most one value has the property
 abbrev pub IsUnique : {A : Type 0} → (A → Type 0) → Type 0
@@ -118,7 +118,7 @@ no_first name other value there es fs less below same =
     ∙ not_below name fs (below_all name other fs less below) in
     none-some value (sym nothing ∙ (sym same ∙ found_first name value es))
 
--- past an equal first key, two lists that have the same values have them still
+-- two lists with the same values and an equal first key have the same values after it
 module _ {V : Type 0} (name other : List ℕ) (value there : V) (es fs : List (List ℕ × V)) (one : name ≡ other)
     (a : AllByRecursion (λ k. slice_cmp nat_cmp name k ≡ Less) (keys_of es))
     (b : AllByRecursion (λ k. slice_cmp nat_cmp other k ≡ Less) (keys_of fs))
@@ -136,7 +136,7 @@ module _ {V : Type 0} (name other : List ℕ) (value there : V) (es fs : List (L
   same_rest : (key : List ℕ) → value_at es key ≡ value_at fs key
   same_rest key = same_rest_by key (cases_Bool (bytes_eq key name))
 
--- the first entries are equal, and so are the others
+-- the first entries are equal, and so are the rest
 module _ {V : Type 0} (name other : List ℕ) (value there : V) (es fs : List (List ℕ × V))
     (a : IsAscending ((name, value) ∷ es)) (b : IsAscending ((other, there) ∷ fs))
     (same : (key : List ℕ) → value_at ((name, value) ∷ es) key ≡ value_at ((other, there) ∷ fs) key)
@@ -175,7 +175,7 @@ same_option None None h = refl
 same_option None (Some y) h = (h y).1 refl
 same_option (Some x) p h = sym ((h x).0 refl)
 
--- The tables
+-- The attributes of declarations, objects and calls
 
 HoldsLast-unique : (gives : Giving) (properties : List Node) (es fs : Entries) → HoldsLast gives properties es
     → HoldsLast gives properties fs → es ≡ fs
@@ -195,51 +195,57 @@ KnowsLast-unique gives properties (attributes.Known es) attributes.None a b = ab
 KnowsLast-unique gives properties attributes.Unknown s a b = absurd a
 KnowsLast-unique gives properties attributes.None s a b = absurd a
 
-pub DeclarationGives-unique : (clause : Option Node) → IsUnique (DeclarationGives clause)
-DeclarationGives-unique None = unique_equal attributes.None
-DeclarationGives-unique (Some clause) = KnowsLast-unique declared (children_of clause)
+pub AreDeclarationAttributes-unique : (clause : Option Node) → IsUnique (AreDeclarationAttributes clause)
+AreDeclarationAttributes-unique None = unique_equal attributes.None
+AreDeclarationAttributes-unique (Some clause) = KnowsLast-unique declared (children_of clause)
 
-ObjectGives-unique : (object : Node) → IsUnique (ObjectGives object)
-ObjectGives-unique object =
-    unique_by (has_static_keys object) (KnowsLast stated (children_of object)) (λ r. r ≡ attributes.Unknown)
-    (KnowsLast-unique stated (children_of object)) (unique_equal attributes.Unknown)
+AreObjectAttributes-unique : (object : Node) → IsUnique (AreObjectAttributes object)
+AreObjectAttributes-unique object =
+    unique_by (has_static_keys object) (KnowsLast in_object (children_of object))
+    (λ r. r ≡ attributes.Unknown)
+    (KnowsLast-unique in_object (children_of object)) (unique_equal attributes.Unknown)
 
-pub TypeGives-unique : (clause : Option Node) → IsUnique (TypeGives clause)
-TypeGives-unique None = unique_equal attributes.None
-TypeGives-unique (Some object) = ObjectGives-unique object
+pub AreTypeAttributes-unique : (clause : Option Node) → IsUnique (AreTypeAttributes clause)
+AreTypeAttributes-unique None = unique_equal attributes.None
+AreTypeAttributes-unique (Some object) = AreObjectAttributes-unique object
 
-ValueGives-unique : (value : Option Node) → IsUnique (ValueGives value)
-ValueGives-unique None = unique_equal attributes.Unknown
-ValueGives-unique (Some value) =
-    unique_by (is_object (kind_of value)) (ObjectGives value) (λ r. r ≡ attributes.Unknown)
-    (ObjectGives-unique value) (unique_equal attributes.Unknown)
+AreValueAttributes-unique : (value : Option Node) → IsUnique (AreValueAttributes value)
+AreValueAttributes-unique None = unique_equal attributes.Unknown
+AreValueAttributes-unique (Some value) =
+    unique_by (is_object (kind_of value)) (AreObjectAttributes value) (λ r. r ≡ attributes.Unknown)
+    (AreObjectAttributes-unique value) (unique_equal attributes.Unknown)
 
-GreatestGives-unique : (properties : List Node) (r s : ImportAttributes) → GreatestGives properties r
-    → GreatestGives properties s → r ≡ s
-GreatestGives-unique properties r s a b =
-    ⊎_elim (λ less. absurd (a.none_greater b.greatest less b.looked_at))
-    (λ not_less. ⊎_elim (λ less. absurd (b.none_greater a.greatest less a.looked_at))
+IsOfLastClause-unique : (properties : List Node) (r s : ImportAttributes) → IsOfLastClause properties r
+    → IsOfLastClause properties s → r ≡ s
+IsOfLastClause-unique properties r s a b =
+    ⊎_elim (λ less. absurd (a.none_greater b.greatest less b.is_clause))
+    (λ not_less. ⊎_elim (λ less. absurd (b.none_greater a.greatest less a.is_clause))
     (λ also. let same : b.greatest ≡ a.greatest = omega arith in
-    ValueGives-unique (option_and_then value_node (slice_get properties a.greatest)) r s a.given
-    (subst (λ index. IndexGives properties index s) same b.given))
+    AreValueAttributes-unique (option_and_then value_node (slice_get properties a.greatest)) r s a.given
+    (subst (λ index. AreAttributesAt properties index s) same b.given))
     (cases_lt b.greatest a.greatest)) (cases_lt a.greatest b.greatest)
 
-LookedAtGive-unique : (properties : List Node) (r s : ImportAttributes) → LookedAtGive properties r
-    → LookedAtGive properties s → r ≡ s
-LookedAtGive-unique properties attributes.None attributes.None a b = refl
-LookedAtGive-unique properties attributes.None attributes.Unknown a b = absurd (a b.0 b.1)
-LookedAtGive-unique properties attributes.None (attributes.Known fs) a b = absurd (a b.greatest b.looked_at)
-LookedAtGive-unique properties attributes.Unknown attributes.None a b = absurd (b a.0 a.1)
-LookedAtGive-unique properties attributes.Unknown attributes.Unknown a b = refl
-LookedAtGive-unique properties attributes.Unknown (attributes.Known fs) a b = absurd (b.known a.0 a.1 a.2)
-LookedAtGive-unique properties (attributes.Known es) attributes.None a b = absurd (b a.greatest a.looked_at)
-LookedAtGive-unique properties (attributes.Known es) attributes.Unknown a b = absurd (a.known b.0 b.1 b.2)
-LookedAtGive-unique properties (attributes.Known es) (attributes.Known fs) a b =
-    GreatestGives-unique properties (attributes.Known es) (attributes.Known fs) a b
+AreClauseAttributes-unique : (properties : List Node) (r s : ImportAttributes)
+    → AreClauseAttributes properties r
+    → AreClauseAttributes properties s → r ≡ s
+AreClauseAttributes-unique properties attributes.None attributes.None a b = refl
+AreClauseAttributes-unique properties attributes.None attributes.Unknown a b = absurd (a b.0 b.1)
+AreClauseAttributes-unique properties attributes.None (attributes.Known fs) a b =
+    absurd (a b.greatest b.is_clause)
+AreClauseAttributes-unique properties attributes.Unknown attributes.None a b = absurd (b a.0 a.1)
+AreClauseAttributes-unique properties attributes.Unknown attributes.Unknown a b = refl
+AreClauseAttributes-unique properties attributes.Unknown (attributes.Known fs) a b =
+    absurd (b.known a.0 a.1 a.2)
+AreClauseAttributes-unique properties (attributes.Known es) attributes.None a b =
+    absurd (b a.greatest a.is_clause)
+AreClauseAttributes-unique properties (attributes.Known es) attributes.Unknown a b =
+    absurd (a.known b.0 b.1 b.2)
+AreClauseAttributes-unique properties (attributes.Known es) (attributes.Known fs) a b =
+    IsOfLastClause-unique properties (attributes.Known es) (attributes.Known fs) a b
 
-pub CallGives-unique : (second : Option (Arg × Node)) → IsUnique (CallGives second)
-CallGives-unique None = unique_equal attributes.None
-CallGives-unique (Some second) =
+pub AreCallAttributes-unique : (second : Option (Arg × Node)) → IsUnique (AreCallAttributes second)
+AreCallAttributes-unique None = unique_equal attributes.None
+AreCallAttributes-unique (Some second) =
     unique_by (not second.0.spread && is_object (kind_of second.1) && has_static_keys second.1)
-    (LookedAtGive (children_of second.1)) (λ r. r ≡ attributes.Unknown)
-    (LookedAtGive-unique (children_of second.1)) (unique_equal attributes.Unknown)
+    (AreClauseAttributes (children_of second.1)) (λ r. r ≡ attributes.Unknown)
+    (AreClauseAttributes-unique (children_of second.1)) (unique_equal attributes.Unknown)

@@ -39,7 +39,7 @@ use Rattle.deno_graph_source.specs.NodePath.{NodePath}
 use Rattle.deno_graph_dep.specs.DependencyRules.{dependency_rules}
 use Rattle.deno_graph_dep.specs.Entered.{IsCountOf}
 use Rattle.deno_graph_dep.specs.Listing.{IsReachable}
-use Rattle.deno_graph_dep.specs.Walk.{AreSteps, Gives, WalkState}
+use Rattle.deno_graph_dep.specs.Walk.{AreSteps, IsStep, WalkState}
 use Rattle.deno_graph_dep.proofs.Ascending.{
   Member,
   Ascending,
@@ -51,7 +51,7 @@ use Rattle.deno_graph_dep.proofs.Ascending.{
   Ascending-from_AllPairs,
 }
 
--- a property has one count
+-- two counts of one property are equal
 
 cut_at : {X : Type 0} (ys : List X) (x : X) → Member ys x
     → (front : List X) × (back : List X) × (ys ≡ front ++ x ∷ back)
@@ -92,9 +92,9 @@ one_count P count other is also =
     let same : length is.paths ≡ length also.paths = omega (arith, there, back) in
     is.length_is ∙ ap (λ n. min n (2 ^ 64 - 1)) same ∙ sym also.length_is
 
--- nothing is still to come from then on
+-- after the end no path is still to come
 pub stays : (old end new : WalkState) (found : Option (Bor Node)) → end.program ≡ old.program
-    → new.program ≡ end.program → Gives old end None → Gives end new found → (found ≡ None) × (new ≡ end)
+    → new.program ≡ end.program → IsStep old end None → IsStep end new found → (found ≡ None) × (new ≡ end)
 stays old end new None same again none gives =
     let reached : IsCountOf (IsReachable dependency_rules end.program.body) end.entered =
     subst (λ (p : Program). IsCountOf (IsReachable dependency_rules p.body) end.entered) (sym same)
@@ -107,11 +107,11 @@ stays old end new (Some node) same again none gives =
     let both : [] ≡ gives.path ∷ new.to_come = sym none.after ∙ gives.first in
     absurd (cc)
 
--- one for a step that gives a node
+-- the count of nodes that a step returns: one or none
 abbrev count : Option (Bor Node) → ℕ
 count found = cond (is_some found) 1 0
 
--- what was given and what is still to come are as many as before
+-- the nodes returned and the paths still to come are as many as the paths before
 pub taken : (old new : WalkState) (found : List (Option (Bor Node))) → AreSteps old found new
     → count_by is_some found + length new.to_come ≡ length old.to_come
 taken old new [] are = omega (arith, ap (λ (w : WalkState). length w.to_come) are)

@@ -28,21 +28,28 @@ use Rattle.std.specs.Borrow.{Bor}
 use Rattle.deno_graph_source.specs.declared.tree.node.Node.{Node}
 use Rattle.deno_graph_source.specs.declared.tree.node.Program.{Program}
 use Rattle.deno_graph_dep.specs.DependencyRules.{dependency_rules}
-use Rattle.deno_graph_dep.specs.Stack.{entry_rules, index_of, paths_to_come, to_come, AreNested, IsStackOf}
-use Rattle.deno_graph_dep.specs.ListedPaths.{listed_paths, paths_at}
+use Rattle.deno_graph_dep.specs.internal.Stack.{
+  entry_rules,
+  index_of,
+  paths_to_come,
+  to_come,
+  AreNested,
+  IsStackOf,
+}
+use Rattle.deno_graph_dep.specs.internal.ListingPaths.{listing_paths, paths_at}
 use Rattle.deno_graph_dep.specs.Listing.{Rules, IsListing}
 use Rattle.deno_graph_source.specs.NodePath.{NodePath}
-use Rattle.deno_graph_dep.specs.Walk.{Gives}
-use Rattle.deno_graph_dep.specs.WalkSteps.{IsWalkOf, state_of}
+use Rattle.deno_graph_dep.specs.Walk.{IsStep}
+use Rattle.deno_graph_dep.specs.internal.WalkSteps.{IsWalkOf, state_of}
 use Rattle.deno_graph_dep.specs.declared.stack.Frame.{Frame}
 use Rattle.deno_graph_dep.specs.declared.stack.Stack.{Stack}
 use Rattle.deno_graph_dep.proofs.Ascending.{Member-from_Contains}
-use Rattle.deno_graph_dep.proofs.Listings.{IsListing-listed_paths}
+use Rattle.deno_graph_dep.proofs.Listings.{IsListing-listing_paths}
 use Rattle.deno_graph_dep.proofs.Stacks.{under-same}
 
 -- at the start all paths are still to come
-starts : (rules : Rules) (body : List Node) → listed_paths rules body ≡ paths_to_come rules body [] body
-unfolding listed_paths
+starts : (rules : Rules) (body : List Node) → listing_paths rules body ≡ paths_to_come rules body [] body
+unfolding listing_paths
 starts rules body = under-same (λ n. n) (λ n. n + index_of body body) (λ n. first n)
     (map (paths_at rules) body)
   where
@@ -51,7 +58,7 @@ starts rules body = under-same (λ n. n) (λ n. n + index_of body body) (λ n. f
 
 pub to_come-new : (rules : Rules) (body : List Node) (stack : Stack) → stack.frames.items ≡ []
     → stack.nodes.now ≡ body
-    → listed_paths rules body ≡ to_come rules body stack
+    → listing_paths rules body ≡ to_come rules body stack
 to_come-new rules body stack frames nodes = rw (frames, nodes) (starts rules body)
 
 pub IsWalkOf-new : (body : List Node) (stack : Stack) → stack.frames.items ≡ [] → stack.nodes.now ≡ body
@@ -78,36 +85,36 @@ pub listing-new : (body : List Node) (stack : Stack) → stack.frames.items ≡ 
 listing-new body stack frames nodes =
     let P : List NodePath → Type 0 = λ ps. IsListing dependency_rules body ps in
     subst P (to_come-new dependency_rules body stack frames nodes)
-    (IsListing-listed_paths dependency_rules body)
+    (IsListing-listing_paths dependency_rules body)
 
--- what was given until now, and what is still to come after a step
+-- the paths returned so far and those still to come after a step are the listing
 given_by : {E : Type 0} (program : Program) (old new : Stack) (answer : Result (Option (Bor Node)) E)
-    → IfOk answer (Gives (state_of program old) (state_of program new))
+    → IfOk answer (IsStep (state_of program old) (state_of program new))
     → OnErr answer (to_come dependency_rules program.body new ≡ to_come dependency_rules program.body old)
     → (given : List NodePath)
-    → listed_paths dependency_rules program.body ≡ given ++ to_come dependency_rules program.body old
+    → listing_paths dependency_rules program.body ≡ given ++ to_come dependency_rules program.body old
     → (again : List NodePath)
-    × (listed_paths dependency_rules program.body ≡ again ++ to_come dependency_rules program.body new)
-given_by program old new (Ok None) gives refused given rest =
+    × (listing_paths dependency_rules program.body ≡ again ++ to_come dependency_rules program.body new)
+given_by program old new (Ok None) gives failed given rest =
     (given, rest ∙ ap (λ ps. given ++ ps) (gives.before ∙ sym gives.after))
-given_by program old new (Ok (Some node)) gives refused given rest = (
+given_by program old new (Ok (Some node)) gives failed given rest = (
   given ++ gives.path ∷ [],
   rest ∙ ap (λ ps. given ++ ps) gives.first
       ∙ sym (append_assoc given (gives.path ∷ []) (to_come dependency_rules program.body new)),
 )
-given_by program old new (Err error) gives refused given rest =
-    (given, rest ∙ ap (λ ps. given ++ ps) (sym refused))
+given_by program old new (Err error) gives failed given rest =
+    (given, rest ∙ ap (λ ps. given ++ ps) (sym failed))
 
 pub IsWalkOf-step : {E : Type 0} (program : Program) (old new : Stack) (answer : Result (Option (Bor Node)) E)
-    → IfOk answer (Gives (state_of program old) (state_of program new))
+    → IfOk answer (IsStep (state_of program old) (state_of program new))
     → OnErr answer (to_come dependency_rules program.body new ≡ to_come dependency_rules program.body old)
     → IsStackOf program.body new → IsWalkOf program.body old → IsWalkOf program.body new
-IsWalkOf-step program old new answer gives refused stack walk =
-    let then = given_by program old new answer gives refused walk.given walk.rest in
+IsWalkOf-step program old new answer gives failed stack walk =
+    let then = given_by program old new answer gives failed walk.given walk.rest in
     record { is_stack = stack; given = then.0; rest = then.1 }
 
 pub listing-of_walk : (body : List Node) (stack : Stack) → IsWalkOf body stack
     → (given : List NodePath) × IsListing dependency_rules body (given ++ to_come dependency_rules body stack)
 listing-of_walk body stack walk =
     let P : List NodePath → Type 0 = λ ps. IsListing dependency_rules body ps in
-    (walk.given, subst P walk.rest (IsListing-listed_paths dependency_rules body))
+    (walk.given, subst P walk.rest (IsListing-listing_paths dependency_rules body))

@@ -1,4 +1,5 @@
--- What an object literal says of the attributes of an import, by the indices of its properties.
+-- The import attributes of a declaration, an import type or a call, by the properties of an object
+-- literal.
 use Rattle.std.specs.Prelude.{
   ◌≡◌,
   ◌≢◌,
@@ -29,13 +30,13 @@ use Rattle.deno_graph_source.specs.declared.tree.node.Kind.TheVariants.{Str, Key
 use Rattle.deno_graph_source.specs.declared.tree.node.Node.{Node}
 use Rattle.deno_graph_source.specs.declared.tree.node.PropKey.{PropKey}
 use Rattle.deno_graph_source.specs.declared.tree.node.PropKey.TheVariants as key
-use Rattle.deno_graph_text.specs.JsString.{readable_text}
+use Rattle.deno_graph_base.specs.JsString.{readable_text}
 use Rattle.deno_graph_source.specs.Node.{kind_of, children_of, is_object}
-use Rattle.deno_graph_text.specs.TextMap.{value_at, IsAscending}
-use Rattle.deno_graph_dependency.specs.declared.import_attributes.ImportAttribute.{ImportAttribute}
-use Rattle.deno_graph_dependency.specs.declared.import_attributes.ImportAttribute.TheVariants as attribute
-use Rattle.deno_graph_dependency.specs.declared.import_attributes.ImportAttributes.{ImportAttributes}
-use Rattle.deno_graph_dependency.specs.declared.import_attributes.ImportAttributes.TheVariants as attributes
+use Rattle.deno_graph_base.specs.TextMap.{value_at, IsAscending}
+use Rattle.deno_graph_info.specs.declared.analysis.import_attributes.ImportAttribute.{ImportAttribute}
+use Rattle.deno_graph_info.specs.declared.analysis.import_attributes.ImportAttribute.TheVariants as attribute
+use Rattle.deno_graph_info.specs.declared.analysis.import_attributes.ImportAttributes.{ImportAttributes}
+use Rattle.deno_graph_info.specs.declared.analysis.import_attributes.ImportAttributes.TheVariants as attributes
 
 -- a static key: an identifier, or a string without lone surrogates
 abbrev pub key_text : PropKey → Option (List ℕ)
@@ -47,7 +48,7 @@ abbrev pub key_of_kind : Kind → Option (List ℕ)
 key_of_kind (KeyValue key) = key_text key
 key_of_kind _ = None
 
--- the static key of a property: anything but a `key: value` has none
+-- the static key of a property: only a property `key: value` has one
 abbrev pub static_key : Node → Option (List ℕ)
 static_key property = key_of_kind (kind_of property)
 
@@ -65,36 +66,36 @@ abbrev pub static_value : Node → Option (List ℕ)
 static_value property =
     option_and_then (λ value. text_of_kind (kind_of value)) (value_node property)
 
--- each property of an object literal has a static key
+-- whether each property of an object literal has a static key
 abbrev pub has_static_keys : Node → Bool
 has_static_keys object = list_all (λ property. is_some (static_key property)) (children_of object)
 
--- attributes by their keys, in the order of the keys' bytes
+-- attributes with their keys, in the order of the keys' bytes
 abbrev pub Entries : Type 0
 Entries = List (List ℕ × ImportAttribute)
 
--- what a property gives: a key, and what is known of its value
+-- the key and the attribute that a property gives, if it gives one
 abbrev pub Giving : Type 0
 Giving = Node → Option (List ℕ × ImportAttribute)
 
--- in a declaration a static key with a static value gives it, and other properties give nothing
+-- in a declaration a property with a static key and a static value gives them; others give nothing
 abbrev pub declared : Giving
 declared property =
     option_and_then (λ name.
     option_map (λ value. (name, attribute.Known value)) (static_value property))
     (static_key property)
 
--- what is known of a value: the text of a static one
+-- the attribute of a value: known if the value is static
 abbrev pub attribute_of : Option (List ℕ) → ImportAttribute
 attribute_of (Some value) = attribute.Known value
 attribute_of None = attribute.Unknown
 
--- in an object a static key gives what is known of its value
-abbrev pub stated : Giving
-stated property =
+-- in any other object literal a property with a static key gives it, with a known or unknown value
+abbrev pub in_object : Giving
+in_object property =
     option_map (λ name. (name, attribute_of (static_value property))) (static_key property)
 
--- of the properties that give this key, the one with the greatest index gives this value
+-- of the properties that give this key, the last one gives this value
 pub record GivesLast (gives : Giving) (properties : List Node)
     (name : List ℕ) (value : ImportAttribute) : Type 0 where
   pub index : ℕ
@@ -104,81 +105,81 @@ pub record GivesLast (gives : Giving) (properties : List Node)
   pub last : (greater : ℕ) (other : Node) (other_value : ImportAttribute) → index < greater
       → slice_get properties greater ≡ Some other → gives other ≢ Some (name, other_value)
 
--- each key has the value that is given last, and no other key has one
+-- the entries have each key with the value that is given last, and no other key
 pub record HoldsLast (gives : Giving) (properties : List Node) (entries : Entries) : Type 0 where
   pub ascending : IsAscending entries
   pub values : (name : List ℕ) (value : ImportAttribute)
       → (value_at entries name ≡ Some value) ↔ GivesLast gives properties name value
 
--- known attributes, which are those that are given last
+-- the attributes are known, and are those that are given last
 abbrev pub KnowsLast : Giving → List Node → ImportAttributes → Type 0
 KnowsLast gives properties (attributes.Known entries) = HoldsLast gives properties entries
 KnowsLast gives properties attributes.Unknown = ⊥
 KnowsLast gives properties attributes.None = ⊥
 
--- the attributes of a declaration, by its clause
-abbrev pub DeclarationGives : Option Node → ImportAttributes → Type 0
-DeclarationGives None result = result ≡ attributes.None
-DeclarationGives (Some clause) result = KnowsLast declared (children_of clause) result
+-- the attributes of an import or export declaration with this clause
+abbrev pub AreDeclarationAttributes : Option Node → ImportAttributes → Type 0
+AreDeclarationAttributes None result = result ≡ attributes.None
+AreDeclarationAttributes (Some clause) result = KnowsLast declared (children_of clause) result
 
 -- the attributes of an object literal
-abbrev pub ObjectGives : Node → ImportAttributes → Type 0
-ObjectGives object result =
+abbrev pub AreObjectAttributes : Node → ImportAttributes → Type 0
+AreObjectAttributes object result =
     MatchBool (has_static_keys object)
-    (KnowsLast stated (children_of object) result)
+    (KnowsLast in_object (children_of object) result)
     (result ≡ attributes.Unknown)
 
--- the attributes of the value of a property, which are unknown where it is no object literal
-abbrev pub ValueGives : Option Node → ImportAttributes → Type 0
-ValueGives None result = result ≡ attributes.Unknown
-ValueGives (Some value) result =
-    MatchBool (is_object (kind_of value)) (ObjectGives value result) (result ≡ attributes.Unknown)
+-- the attributes of a property's value, which are unknown if the value is no object literal
+abbrev pub AreValueAttributes : Option Node → ImportAttributes → Type 0
+AreValueAttributes None result = result ≡ attributes.Unknown
+AreValueAttributes (Some value) result =
+    MatchBool (is_object (kind_of value)) (AreObjectAttributes value result) (result ≡ attributes.Unknown)
 
--- the same of the property with this index
-abbrev pub IndexGives : List Node → ℕ → ImportAttributes → Type 0
-IndexGives properties index result =
-    ValueGives (option_and_then value_node (slice_get properties index)) result
+-- the attributes of the value of the property with this index
+abbrev pub AreAttributesAt : List Node → ℕ → ImportAttributes → Type 0
+AreAttributesAt properties index result =
+    AreValueAttributes (option_and_then value_node (slice_get properties index)) result
 
 -- the static key of the property with this index
 abbrev pub key_at : List Node → ℕ → Option (List ℕ)
 key_at properties index = option_and_then static_key (slice_get properties index)
 
--- no smaller index has this key
+-- no property before this index has this key
 abbrev pub IsNoneBefore : List Node → ℕ → List ℕ → Type 0
 IsNoneBefore properties index name =
     (smaller : ℕ) → smaller < index → key_at properties smaller ≢ Some name
 
--- an index is looked at when its key is `with`, or is `assert` and no smaller index has `with`
-abbrev pub IsLookedAt : List Node → ℕ → Type 0
-IsLookedAt properties index =
+-- the property with this index is a clause: its key is `with`, or is `assert` with no `with` before
+abbrev pub IsClause : List Node → ℕ → Type 0
+IsClause properties index =
     (key_at properties index ≡ Some (codes "with"))
     ⊎ ((key_at properties index ≡ Some (codes "assert"))
     × IsNoneBefore properties index (codes "with"))
 
--- no looked-at value is unknown, and that of the greatest looked-at index gives this
-pub record GreatestGives (properties : List Node) (result : ImportAttributes) : Type 0 where
-  pub known : (index : ℕ) → IsLookedAt properties index
-      → ¬ (IndexGives properties index attributes.Unknown)
+-- the value of no clause is unknown, and these are the attributes of the last clause
+pub record IsOfLastClause (properties : List Node) (result : ImportAttributes) : Type 0 where
+  pub known : (index : ℕ) → IsClause properties index
+      → ¬ (AreAttributesAt properties index attributes.Unknown)
   pub greatest : ℕ
-  pub looked_at : IsLookedAt properties greatest
-  pub none_greater : (greater : ℕ) → greatest < greater → ¬ (IsLookedAt properties greater)
-  pub given : IndexGives properties greatest result
+  pub is_clause : IsClause properties greatest
+  pub none_greater : (greater : ℕ) → greatest < greater → ¬ (IsClause properties greater)
+  pub given : AreAttributesAt properties greatest result
 
--- the attributes of a call by the properties of its second argument: none where no index is looked
--- at, unknown where a looked-at value is, and else those of the greatest looked-at index
-abbrev pub LookedAtGive : List Node → ImportAttributes → Type 0
-LookedAtGive properties attributes.None = (index : ℕ) → ¬ (IsLookedAt properties index)
-LookedAtGive properties attributes.Unknown =
-    (index : ℕ) × (IsLookedAt properties index)
-    × (IndexGives properties index attributes.Unknown)
-LookedAtGive properties (attributes.Known entries) =
-    GreatestGives properties (attributes.Known entries)
+-- the attributes of a call by the properties of its second argument: none without a clause, unknown
+-- if the value of a clause is, and otherwise those of the last clause
+abbrev pub AreClauseAttributes : List Node → ImportAttributes → Type 0
+AreClauseAttributes properties attributes.None = (index : ℕ) → ¬ (IsClause properties index)
+AreClauseAttributes properties attributes.Unknown =
+    (index : ℕ) × (IsClause properties index)
+    × (AreAttributesAt properties index attributes.Unknown)
+AreClauseAttributes properties (attributes.Known entries) =
+    IsOfLastClause properties (attributes.Known entries)
 
--- the attributes of a call, by its second argument: unknown unless that is an object literal with
--- static keys alone, and not spread
-abbrev pub CallGives : Option (Arg × Node) → ImportAttributes → Type 0
-CallGives None result = result ≡ attributes.None
-CallGives (Some second) result =
+-- the attributes of a call with this second argument: unknown unless the argument is an object
+-- literal with static keys only, and is not spread
+abbrev pub AreCallAttributes : Option (Arg × Node) → ImportAttributes → Type 0
+AreCallAttributes None result = result ≡ attributes.None
+AreCallAttributes (Some second) result =
     MatchBool (not second.0.spread && is_object (kind_of second.1) && has_static_keys second.1)
-    (LookedAtGive (children_of second.1) result)
+    (AreClauseAttributes (children_of second.1) result)
     (result ≡ attributes.Unknown)

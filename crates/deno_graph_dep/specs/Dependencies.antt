@@ -1,14 +1,14 @@
--- The dependencies of a body.
+-- The descriptors of the dependencies of a body.
 use Rattle.std.specs.Prelude.{List}
 use Rattle.deno_graph_source.specs.Comments.{FiledComments}
 use Rattle.deno_graph_source.specs.declared.tree.node.Node.{Node}
-use Rattle.deno_graph_dep.specs.Item.{Item}
-use Rattle.deno_graph_dep.specs.Stated.{AllStated}
-use Rattle.deno_graph_dep.specs.ListedNodes.{AreListed}
+use Rattle.deno_graph_dep.specs.Descriptor.{Descriptor}
+use Rattle.deno_graph_dep.specs.DescriptorOf.{AreDescriptorsOf}
+use Rattle.deno_graph_dep.specs.DependencyNodes.{AreDependencyNodes}
 
--- each item is what the node in its place in the listing states
+-- the descriptors are those of the dependencies of the body, in tree order
 pub record AreDependencies (comments : FiledComments)
-    (body : List Node) (items : List Item) : Type 0 where
+    (body : List Node) (descriptors : List Descriptor) : Type 0 where
   pub nodes : List Node
-  pub are_listed : AreListed body nodes
-  pub stated : AllStated comments nodes items
+  pub are_nodes : AreDependencyNodes body nodes
+  pub described : AreDescriptorsOf comments nodes descriptors

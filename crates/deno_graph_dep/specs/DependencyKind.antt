@@ -1,4 +1,4 @@
--- What kind of dependency a node states.
+-- The kind of the dependency that a node is.
 use Rattle.std.specs.Prelude.{
   List,
   Bool,
@@ -17,22 +17,22 @@ use Rattle.deno_graph_source.specs.declared.tree.node.Callee.TheVariants as call
 use Rattle.deno_graph_source.specs.declared.tree.node.ImportPhase.{ImportPhase}
 use Rattle.deno_graph_source.specs.declared.tree.node.ImportPhase.TheVariants.{Evaluation, Source, Defer}
 use Rattle.deno_graph_source.specs.declared.tree.node.Node.{Node}
-use Rattle.deno_graph_dependency.specs.declared.dynamic_dependency.DynamicDependencyKind.{
+use Rattle.deno_graph_info.specs.declared.analysis.dynamic_dependency.DynamicDependencyKind.{
   DynamicDependencyKind,
 }
-use Rattle.deno_graph_dependency.specs.declared.dynamic_dependency.DynamicDependencyKind.TheVariants as dynamic_kind
-use Rattle.deno_graph_dependency.specs.declared.static_dependency.StaticDependencyKind.{StaticDependencyKind}
-use Rattle.deno_graph_dependency.specs.declared.static_dependency.StaticDependencyKind.TheVariants as static_kind
+use Rattle.deno_graph_info.specs.declared.analysis.dynamic_dependency.DynamicDependencyKind.TheVariants as dynamic_kind
+use Rattle.deno_graph_info.specs.declared.analysis.static_dependency.StaticDependencyKind.{StaticDependencyKind}
+use Rattle.deno_graph_info.specs.declared.analysis.static_dependency.StaticDependencyKind.TheVariants as static_kind
 use Rattle.deno_graph_dep.specs.DependencyRules.{is_require}
 
--- what an import by this phase is, as a call
+-- the kind of a call of `import` with this phase
 abbrev pub phase_kind : ImportPhase → DynamicDependencyKind
 phase_kind Evaluation = dynamic_kind.Import
 phase_kind Source = dynamic_kind.ImportSource
 phase_kind Defer = dynamic_kind.ImportDefer
 
--- what a call with this callee is, where the first of the children is the callee if that is an
--- expression
+-- the kind of a call with this callee and these children, if it calls `import` or `require`; a callee
+-- that is an expression is the first child
 abbrev pub call_kind : Callee → List Node → Option DynamicDependencyKind
 call_kind (callee.Import phase) children = Some (phase_kind phase)
 call_kind callee.Expr children =
@@ -40,19 +40,19 @@ call_kind callee.Expr children =
     else None
 call_kind callee.Super children = None
 
--- what an import declaration is
+-- the kind of an import declaration, by whether it is of types only and by its phase
 abbrev pub import_kind : Bool → ImportPhase → StaticDependencyKind
 import_kind true phase = static_kind.ImportType
 import_kind false Evaluation = static_kind.Import
 import_kind false Source = static_kind.ImportSource
 import_kind false Defer = static_kind.ImportDefer
 
--- what an export from a source is
+-- the kind of an export with a specifier, by whether it is of types only
 abbrev pub export_kind : Bool → StaticDependencyKind
 export_kind true = static_kind.ExportType
 export_kind false = static_kind.Export
 
--- what an import-equals is, by whether it is of types and whether it is exported
+-- the kind of an `import name = require(..)`, by whether it is of types only and whether it is exported
 abbrev pub import_equals_kind : Bool → Bool → StaticDependencyKind
 import_equals_kind true is_export = static_kind.ImportType
 import_equals_kind false true = static_kind.ExportEquals

@@ -1,4 +1,4 @@
--- Which nodes of a tree are dependencies, and where they are listed.
+-- Which nodes of a tree are dependencies, and which come after the dependencies inside them.
 use Rattle.std.specs.Prelude.{
   ℕ,
   List,
@@ -22,7 +22,7 @@ use Rattle.std.specs.Prelude.{
 }
 use Rattle.std.specs.List.{list_any, starts_with}
 use Rattle.std.specs.Str.{bytes_eq}
-use Rattle.deno_graph_text.specs.JsString.{lossy_text}
+use Rattle.deno_graph_base.specs.JsString.{lossy_text}
 use Rattle.deno_graph_source.specs.Node.{kind_of, children_of}
 use Rattle.deno_graph_source.specs.declared.tree.node.Callee.{Callee}
 use Rattle.deno_graph_source.specs.declared.tree.node.Callee.TheVariants as callee
@@ -40,7 +40,7 @@ use Rattle.deno_graph_source.specs.declared.tree.node.Kind.TheVariants.{
 use Rattle.deno_graph_source.specs.declared.tree.node.Node.{Node}
 use Rattle.deno_graph_dep.specs.Listing.{Rules}
 
--- nothing inside these kinds is read
+-- the kinds of closed nodes: nothing inside them is read
 abbrev pub is_closed : Kind → Bool
 is_closed (ImportDecl type_only phase src has_specifiers has_with) = true
 is_closed (NamedExport type_only src has_with) = true
@@ -48,11 +48,11 @@ is_closed (ExportAll type_only src has_with) = true
 is_closed (ImportEquals type_only is_export external) = true
 is_closed _ = false
 
--- the nodes directly inside, unless these are left unread
+-- the children of a node, or none if the node is closed
 unfoldable pub children_to_visit : Node → List Node
 children_to_visit node = if is_closed (kind_of node) then [] else children_of node
 
--- a name that is a relative path
+-- whether a name begins like a path
 abbrev pub is_relative : List ℕ → Bool
 is_relative name =
     starts_with nat_eq name (codes "./")
@@ -63,49 +63,49 @@ is_relative name =
 abbrev pub star : ℕ
 star = 42
 
--- a module declaration of this name may add to a module: a name with `*` is a pattern, unless it is
--- a relative path
+-- whether a module declaration with this name may add to a module; a name with `*` is a pattern for
+-- many modules, unless it begins like a path
 abbrev pub may_name_module : List ℕ → Bool
 may_name_module name = not (list_any (λ byte. byte == star) name) || is_relative name
 
--- the identifier `require`
+-- whether the kind is that of the identifier `require`
 abbrev pub is_require : Option Kind → Bool
 is_require (Some (Ident name)) = bytes_eq name (codes "require")
 is_require _ = false
 
--- a call of `import`, or of `require`, where the first of the children is the callee if that is an
--- expression
+-- whether a call with this callee and these children calls `import` or `require`; a callee that is an
+-- expression is the first child
 abbrev pub is_module_call : Callee → List Node → Bool
 is_module_call (callee.Import phase) children = true
 is_module_call callee.Expr children = is_require (option_map kind_of (slice_get children 0))
 is_module_call callee.Super children = false
 
--- The kinds that are dependencies, with these children: imports, exports from a source,
--- `require("..")` by an import-equals, module declarations whose name may be a module's, and calls
--- of `import` and `require` with an argument.
-abbrev pub is_dependency : Kind → List Node → Bool
-is_dependency (ImportDecl type_only phase src has_specifiers has_with) children = true
-is_dependency (NamedExport type_only src has_with) children = is_some src
-is_dependency (ExportAll type_only src has_with) children = true
-is_dependency (ImportEquals type_only is_export external) children = is_some external
-is_dependency (ImportType arg has_with) children = true
-is_dependency (ModuleDecl None) children = false
-is_dependency (ModuleDecl (Some name)) children = may_name_module (lossy_text name.value)
-is_dependency (Call callee args) children =
+-- Whether a node of this kind with these children is a dependency: an import declaration, an import
+-- type, an export with a specifier, an `import name = require("..")`, a module declaration that may
+-- add to a module, or a call of `import` or `require` with an argument.
+abbrev pub is_dependency_kind : Kind → List Node → Bool
+is_dependency_kind (ImportDecl type_only phase src has_specifiers has_with) children = true
+is_dependency_kind (NamedExport type_only src has_with) children = is_some src
+is_dependency_kind (ExportAll type_only src has_with) children = true
+is_dependency_kind (ImportEquals type_only is_export external) children = is_some external
+is_dependency_kind (ImportType arg has_with) children = true
+is_dependency_kind (ModuleDecl None) children = false
+is_dependency_kind (ModuleDecl (Some name)) children = may_name_module (lossy_text name.value)
+is_dependency_kind (Call callee args) children =
     is_module_call callee children && is_some (slice_get args 0)
-is_dependency _ children = false
+is_dependency_kind _ children = false
 
--- the kinds that are listed after what is inside them: calls
-abbrev pub is_listed_after_inside : Kind → Bool
-is_listed_after_inside (Call callee args) = true
-is_listed_after_inside _ = false
+-- whether a node of this kind comes after the dependencies inside it
+abbrev pub is_after_inside : Kind → Bool
+is_after_inside (Call callee args) = true
+is_after_inside _ = false
 
-unfoldable pub is_listed : Node → Bool
-is_listed node = is_dependency (kind_of node) (children_of node)
+unfoldable pub is_dependency : Node → Bool
+is_dependency node = is_dependency_kind (kind_of node) (children_of node)
 
 abbrev pub dependency_rules : Rules
 dependency_rules = record {
   is_closed = λ node. is_closed (kind_of node);
-  is_listed = is_listed;
-  is_after_inside = λ node. is_listed_after_inside (kind_of node);
+  is_member = is_dependency;
+  is_after_inside = λ node. is_after_inside (kind_of node);
 }

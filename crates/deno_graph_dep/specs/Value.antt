@@ -1,11 +1,11 @@
--- The text that an expression evaluates to, as far as the language says: of string literals,
--- templates, and sums that begin with a string, given the texts that the other operands contribute.
+-- The text that an expression evaluates to in JavaScript: of a string literal, a template, or a sum
+-- that begins with a string, for given texts of the other operands.
 use Rattle.std.specs.Prelude.{◌≡◌, ℕ, ◌+◌, if◌then◌else◌, List, [], ◌∷◌, ◌++◌, length, map, All}
 use Rattle.deno_graph_source.specs.declared.tree.node.Kind.{Kind}
 use Rattle.deno_graph_source.specs.declared.tree.node.Kind.TheVariants.{Str, Template, Binary}
 use Rattle.deno_graph_source.specs.declared.tree.node.BinaryOp.TheVariants.{Add}
 use Rattle.deno_graph_source.specs.declared.tree.node.Node.{Node}
-use Rattle.deno_graph_text.specs.JsString.{lossy_text, IsReadable}
+use Rattle.deno_graph_base.specs.JsString.{lossy_text, IsReadable}
 use Rattle.deno_graph_source.specs.Node.{kind_of, children_of}
 use Rattle.deno_graph_source.specs.NodePath.{NodePath}
 use Rattle.deno_graph_dep.specs.Argument.{
@@ -22,28 +22,26 @@ use Rattle.deno_graph_dep.specs.Argument.{
   operands_of,
 }
 
--- an assignment: the text that the expression at each path below an argument contributes
+-- an assignment: a text for the expression at each path below an argument
 abbrev pub Assignment : Type 0
 Assignment = NodePath → List ℕ
 
--- a template's text: its first quasi, the text given to its first child, its second quasi, and so
--- on, where the next child has the index n
+-- the text of a template: its first quasi, the text of its first child, its second quasi, and so on,
+-- where the next child has the index n
 abbrev pub template_text : Assignment → NodePath → ℕ → List (List ℕ) → List ℕ
 template_text given path n [] = []
 template_text given path n (quasi ∷ []) = lossy_text quasi
 template_text given path n (quasi ∷ next ∷ rest) =
     lossy_text quasi ++ (given (path ++ n ∷ []) ++ template_text given path (n + 1) (next ∷ rest))
 
--- what an operand contributes: a readable string literal its own text, any other the text given to
--- it
+-- the text of an operand: a readable string literal has its own, any other operand the assigned one
 abbrev pub ContributesAt : Assignment → NodePath → Kind → List ℕ → Type 0
 ContributesAt given path (Str points) contributed =
     IsReadable points × (contributed ≡ lossy_text points)
 ContributesAt given path _ contributed = contributed ≡ given path
 
--- The expression at a path has this text: a readable string literal; a template with readable
--- quasis; and a sum whose left child has a text, followed by what the right child contributes.
--- Nothing else has one.
+-- The expression at a path has this text. Expressions with a text are a readable string literal, a
+-- template with readable quasis, and a sum whose left child has a text.
 pub data HasText (given : Assignment) : NodePath → Node → List ℕ → Type 0 where
   of_string : (path : NodePath) (node : Node) (points : List ℕ)
       → kind_of node ≡ Str points → IsReadable points
@@ -57,7 +55,7 @@ pub data HasText (given : Assignment) : NodePath → Node → List ℕ → Type 
       → ContributesAt given (path ++ 1 ∷ []) (kind_of right) back
       → HasText given path node (front ++ back)
 
--- the parts joined, with the k-th unknown replaced by the k-th of the texts
+-- the parts joined, with the k-th of the texts in place of the k-th unknown
 abbrev pub joined : List ArgumentPart → List (List ℕ) → List ℕ
 joined [] texts = []
 joined (known known_text ∷ ps) texts = known_text ++ joined ps texts
@@ -69,7 +67,7 @@ abbrev pub child_paths : ℕ → List Node → List NodePath
 child_paths n [] = []
 child_paths n (child ∷ children) = (n ∷ []) ∷ child_paths (n + 1) children
 
--- the path of an operand that is unknown
+-- the path of an operand if it is unknown, as a list of one or none
 abbrev pub unknown_path : NodePath → Node → List NodePath
 unknown_path path node = if is_string (kind_of node) then [] else path ∷ []
 
@@ -79,8 +77,8 @@ unknown_operands path [] first = unknown_path path first
 unknown_operands path (step ∷ below) first =
     unknown_operands (path ++ 0 ∷ []) below first ++ unknown_path (path ++ 1 ∷ []) step.right
 
--- the unknowns of a node of a kind: a template's children, or the operands of a sum that are no
--- string literals
+-- the paths of the unknowns of a node of this kind: the children of a template, or the operands of a
+-- sum that are no string literals
 abbrev pub AreUnknownsAt : Kind → Node → List NodePath → Type 0
 AreUnknownsAt (Template quasis) node paths = paths ≡ child_paths 0 (children_of node)
 AreUnknownsAt (Binary op) node paths =
@@ -91,12 +89,12 @@ AreUnknownsAt _ node paths = paths ≡ []
 abbrev pub AreUnknowns : Node → List NodePath → Type 0
 AreUnknowns node paths = AreUnknownsAt (kind_of node) node paths
 
--- a node that is a string literal is a readable one
+-- the kind is no string literal, or a readable one
 abbrev pub IsReadableAt : Kind → Type 0
 IsReadableAt (Str points) = IsReadable points
 IsReadableAt _ = Unit {0}
 
--- the literals of an argument of a kind are readable: its own text, its quasis, or its operands
+-- the literals of an argument of this kind are readable: its own text, its quasis, or its operands
 abbrev pub HasReadableLiteralsAt : Kind → Node → Type 0
 HasReadableLiteralsAt (Str points) node = IsReadable points
 HasReadableLiteralsAt (Template quasis) node = All IsReadable quasis
@@ -108,15 +106,15 @@ HasReadableLiteralsAt _ node = Unit {0}
 abbrev pub HasReadableLiterals : Node → Type 0
 HasReadableLiterals node = HasReadableLiteralsAt (kind_of node) node
 
--- how many of the parts are unknown
+-- the count of unknown parts
 unfoldable pub unknown_count : List ArgumentPart → ℕ
 unknown_count [] = 0
 unknown_count (known known_text ∷ ps) = unknown_count ps
 unknown_count (unknown ∷ ps) = unknown_count ps + 1
 
--- Under an assignment, a form spells a text of the node: its own text, or its parts joined, with the
--- texts of the node's unknowns in place of the unknown parts. There are as many unknown parts as
--- unknowns. A form that says nothing of the argument spells each node's text.
+-- Under an assignment, a form spells the text of a node: the node has the form's text, or the form's
+-- parts joined, with the texts of the node's unknowns in place of the unknown parts. There are as many
+-- unknown parts as unknowns. A form with nothing known spells the text of every node.
 abbrev pub Spells : Assignment → Node → Form → Type 0
 Spells given node (text known_text) = HasText given [] node known_text
 Spells given node (parts ps) =
@@ -124,7 +122,6 @@ Spells given node (parts ps) =
     × (HasText given [] node (joined ps (map given unknowns)))
 Spells given node expression = Unit {0}
 
--- whatever texts the unknown parts have: if the node's literals are readable, the form spells the node's
--- text
+-- under each assignment, if the node's literals are readable, the form spells the node's text
 abbrev pub SpellsItsText : Node → Form → Type 0
 SpellsItsText node form = (given : Assignment) → HasReadableLiterals node → Spells given node form

@@ -1,4 +1,4 @@
--- A walk over a program: what is still to come, and how many nodes it has entered.
+-- A walk over a program: the paths still to come, and the count of entered nodes.
 use Rattle.std.specs.Prelude.{◌≡◌, ℕ, List, [], ◌∷◌, Option, Some, None}
 use Rattle.std.specs.Borrow.{Bor}
 use Rattle.deno_graph_source.specs.declared.tree.node.Node.{Node}
@@ -11,32 +11,33 @@ use Rattle.deno_graph_source.specs.NodePath.{NodePath, node_at}
 pub record WalkState : Type 0 where
   -- the program that is walked
   pub program : Program
-  -- the paths of the listed nodes that are still to come, in tree order
+  -- the paths of the dependencies still to come, in tree order
   pub to_come : List NodePath
-  -- how many nodes were entered, up to the largest u64
+  -- the count of entered nodes, or the largest u64 if that is less
   pub entered : ℕ
 
--- nothing is still to come, and every node that is reachable is entered
-pub record GivesNone (old new : WalkState) : Type 0 where
+-- the step returns `None`: no path is still to come, and every reachable node is entered
+pub record ReturnsNone (old new : WalkState) : Type 0 where
   pub before : old.to_come ≡ []
   pub after : new.to_come ≡ []
   pub entered : IsCountOf (IsReachable dependency_rules old.program.body) new.entered
 
--- The node is the first still to come, and is so no more. By then exactly those nodes are entered
--- that are before it or round it, the node itself, and what is inside it if it comes after that.
-pub record GivesNode (old new : WalkState) (node : Node) : Type 0 where
+-- The step returns a node: that at the first of the paths still to come. Exactly these nodes are
+-- entered: those before the node or around it, the node itself, and the nodes inside it if it comes
+-- after them.
+pub record ReturnsNode (old new : WalkState) (node : Node) : Type 0 where
   pub path : NodePath
   pub at_path : node_at old.program.body path ≡ Some node
   pub first : old.to_come ≡ path ∷ new.to_come
   pub entered : IsCountOf (EnteredBy dependency_rules old.program.body path) new.entered
 
--- a step gives the first node still to come, or none where nothing is still to come
-abbrev pub Gives : WalkState → WalkState → Option (Bor Node) → Type 0
-Gives old new None = GivesNone old new
-Gives old new (Some node) = GivesNode old new node.now
+-- the result of one step
+abbrev pub IsStep : WalkState → WalkState → Option (Bor Node) → Type 0
+IsStep old new None = ReturnsNone old new
+IsStep old new (Some node) = ReturnsNode old new node.now
 
--- steps one after another over one program, and what each of them gives
+-- steps one after another over one program, and the result of each
 abbrev pub AreSteps : WalkState → List (Option (Bor Node)) → WalkState → Type 0
 AreSteps old [] new = new ≡ old
 AreSteps old (found ∷ more) new =
-    (next : WalkState) × (next.program ≡ old.program) × Gives old next found × AreSteps next more new
+    (next : WalkState) × (next.program ≡ old.program) × IsStep old next found × AreSteps next more new

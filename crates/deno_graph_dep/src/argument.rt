@@ -1,13 +1,13 @@
-#![tactic(auto, unfolding(deno_graph_source::specs::Node::kind_of, deno_graph_source::specs::Node::children_of))]
+#![tactic(auto, unfolding(crate::proofs::Unfolded::node_parts))]
 
 ghost use Rattle.std.specs.Prelude.{◌≡◌, ◌<◌, ◌∷◌, IfOk, IsTrue, OnOk, true, length, map, ◌++◌, [], All};
 ghost use Rattle.deno_graph_source.specs.Node.{kind_of, children_of, nodes_in, IsShaped};
 ghost use Rattle.deno_graph_dep.specs.Argument.{HasForm, form_seen, part_seen, part_of, quasi_part, template_form, template_parts, is_sum, is_binary, is_string};
 ghost use Rattle.deno_graph_dep.specs.Value.{SpellsItsText};
 
+use deno_graph_base::text::JsString;
+use deno_graph_base::values::Items;
 use deno_graph_source::tree::{BinaryOp, Kind, Node};
-use deno_graph_text::text::JsString;
-use deno_graph_text::values::Items;
 use std::alloc::{AllocError, Global};
 
 /// A part of a template or of a sum of strings.
@@ -28,8 +28,8 @@ pub enum DynamicArgument<'a> {
 }
 
 impl<'a> DynamicArgument<'a> {
-    /// An argument that says the same and borrows the same texts, or an error where memory was
-    /// refused.
+    /// Returns an equal argument that borrows the same texts. The only error is that memory ran
+    /// out.
     pub fn try_clone(&self, alloc: Global) -> Result<DynamicArgument<'a>, AllocError>
         ensures { IfOk result (λ copy. form_seen copy ≡ form_seen self.now) }
     {
@@ -43,16 +43,18 @@ impl<'a> DynamicArgument<'a> {
     }
 }
 
-/// What is known of the text that an argument evaluates to.
+/// Returns what is known of the text that an argument evaluates to.
 ///
-/// A string literal, and a template without expressions, is its text. A template, and a sum that
-/// begins with a string literal, is its parts in turn: literals as they are (of a template the
-/// empty ones are left out), and `Expr` for every other expression. Anything else is `Expr`.
+/// A string literal, or a template without expressions, is `String` with its text. A template with
+/// expressions is `Template`: its texts that are not empty, and `Expr` for each expression. A sum
+/// that begins with a string literal is `Template` too: each string literal, even an empty one, and
+/// `Expr` for each other operand. Any other expression is `Expr`. The only error is that memory ran
+/// out.
 pub fn argument_of<'a>(alloc: Global, node: &'a Node) -> Result<DynamicArgument<'a>, AllocError>
     requires { All IsShaped (nodes_in node.now) }
     ensures form { IfOk result (λ argument. HasForm node.now (form_seen argument)) }
 
-    // Whatever texts the unknown expressions have, the parts spell the text of the whole.
+    // For any texts of the unknown expressions, the parts spell the text of the whole.
     ensures spells { IfOk result (λ argument. SpellsItsText node.now (form_seen argument)) }
 {
     match &node.kind {
@@ -63,6 +65,7 @@ pub fn argument_of<'a>(alloc: Global, node: &'a Node) -> Result<DynamicArgument<
     }
 }
 
+/// Returns the argument that a template with these quasis is.
 fn template_argument<'a>(
     alloc: Global,
     quasis: &'a [JsString],
@@ -77,7 +80,7 @@ fn template_argument<'a>(
     Ok(DynamicArgument::Template(template_parts(alloc, first, rest)?))
 }
 
-/// The first quasi, and then each further one after the unknown before it.
+/// Returns the parts of a template: its first quasi, then an unknown before each further quasi.
 fn template_parts<'a>(
     alloc: Global,
     first: &'a JsString,
@@ -95,7 +98,7 @@ fn template_parts<'a>(
     Ok(parts.into_vec())
 }
 
-/// Adds a quasi, unless it is empty.
+/// Appends a quasi, unless the quasi is empty.
 fn push_quasi<'a>(
     parts: &mut Items<DynamicTemplatePart<'a>>,
     quasi: &'a JsString,
@@ -109,7 +112,7 @@ fn push_quasi<'a>(
     Ok(())
 }
 
-/// What an operand contributes to a sum.
+/// Returns the part that an operand contributes to a sum.
 fn operand_part(operand: &Node) -> DynamicTemplatePart<'_>
     ensures { part_seen result ≡ part_of operand.now }
 {
@@ -119,19 +122,21 @@ fn operand_part(operand: &Node) -> DynamicTemplatePart<'_>
     }
 }
 
+/// Whether a node is an expression `left + right`.
 fn is_sum(node: &Node) -> bool
     ensures { result ≡ is_sum (kind_of node.now) }
 {
     matches!(node.kind, Kind::Binary(BinaryOp::Add))
 }
 
+/// Whether a node is a string literal.
 fn is_string(node: &Node) -> bool
     ensures { result ≡ is_string (kind_of node.now) }
 {
     matches!(node.kind, Kind::Str(_))
 }
 
-/// The left and the right child of a binary node.
+/// Returns the left and the right child of a binary node.
 fn operands(node: &Node) -> (&Node, &Node)
     requires binary { is_binary (kind_of node.now) ≡ true }
     requires shaped { All IsShaped (nodes_in node.now) }
@@ -141,6 +146,8 @@ fn operands(node: &Node) -> (&Node, &Node)
     (&children[0], &children[1])
 }
 
+/// Returns the argument that a binary node is: the parts of a sum whose first operand is a string
+/// literal, or else `Expr`.
 fn sum_argument<'a>(alloc: Global, node: &'a Node) -> Result<DynamicArgument<'a>, AllocError>
     requires binary { is_binary (kind_of node.now) ≡ true }
     requires shaped { All IsShaped (nodes_in node.now) }

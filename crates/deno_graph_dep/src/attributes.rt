@@ -1,27 +1,27 @@
-#![tactic(auto, unfolding(deno_graph_source::specs::Node::kind_of, deno_graph_source::specs::Node::children_of))]
+#![tactic(auto, unfolding(crate::proofs::Unfolded::node_parts))]
 
 ghost use Rattle.std.specs.Prelude.{◌≡◌, ◌↔◌, ◌⊎◌, IfOk, OnOk, IsTrue, Some, false, codes, is_some, option_map};
 ghost use Rattle.std.specs.Option.{option_copied};
 ghost use Rattle.deno_graph_source.specs.Node.{kind_of, children_of, is_object};
-ghost use Rattle.deno_graph_dep.specs.Attributes.{static_key, static_value, text_of_kind, has_static_keys, declared, attribute_of, DeclarationGives, ObjectGives, LookedAtGive, CallGives};
-ghost use Rattle.deno_graph_dep.specs.AttributeSteps.{known_object, Puts};
+ghost use Rattle.deno_graph_dep.specs.Attributes.{static_key, static_value, text_of_kind, has_static_keys, declared, attribute_of, AreDeclarationAttributes, AreObjectAttributes, AreClauseAttributes, AreCallAttributes};
+ghost use Rattle.deno_graph_dep.specs.internal.AttributeSteps.{known_object, Puts};
 
-use deno_graph_dependency::{ImportAttribute, ImportAttributes};
+use deno_graph_base::values::{Text, TextMap};
+use deno_graph_info::analysis::{ImportAttribute, ImportAttributes};
 use deno_graph_source::tree::{Arg, Kind, Node, PropKey};
-use deno_graph_text::values::{Text, TextMap};
 use std::alloc::{AllocError, Global};
 
-/// The attributes of an import or export declaration, whose clause is the object literal after
+/// Returns the attributes of an import or export declaration. `clause` is the object literal after
 /// `with`.
 ///
-/// `None` without a clause. Else each static key with a static value; other properties are skipped,
-/// and a later property takes the place of an earlier one with its key. Fails only where memory is
-/// refused.
+/// Returns `None` without a clause. Otherwise `Known` holds each static key with a static value;
+/// other properties are skipped, and of two properties with one key the later counts. The only
+/// error is that memory ran out.
 pub fn parse_import_attributes(
     alloc: Global,
     clause: Option<&Node>,
 ) -> Result<ImportAttributes, AllocError>
-    ensures { IfOk result (DeclarationGives (option_copied clause.entry)) }
+    ensures { IfOk result (AreDeclarationAttributes (option_copied clause.entry)) }
 {
     let Some(object) = clause else {
         return Ok(ImportAttributes::None);
@@ -35,19 +35,20 @@ pub fn parse_import_attributes(
     Ok(ImportAttributes::Known(attributes))
 }
 
-/// The attributes of a dynamic import, whose second argument is an object literal with the clause
-/// `with`, or `assert` as it was once called.
+/// Returns the attributes of a dynamic import. `argument` is its second argument: an object literal
+/// with a clause `with`, or `assert` as the clause was once called. An `assert` after a `with` is
+/// no clause.
 ///
-/// `None` without a second argument, or without such a clause. `Unknown` where the argument is
-/// spread or no object literal, or has a property without a static key, and where the value of a
-/// clause is no object literal or unknown by `parse_import_attributes_from_object_lit`. Else what
-/// that says of the last clause. An `assert` after a `with` is no clause. Fails only where memory
-/// is refused.
+/// Returns `None` without a second argument, and without a clause. Returns `Unknown` where the
+/// argument is spread, is no object literal, or has a property without a static key, and where the
+/// value of a clause is no object literal or has a property without a static key. Otherwise returns
+/// the attributes of the last clause, by `parse_import_attributes_from_object_lit`. The only error
+/// is that memory ran out.
 pub fn parse_dynamic_import_attributes(
     alloc: Global,
     argument: Option<(&Arg, &Node)>,
 ) -> Result<ImportAttributes, AllocError>
-    ensures { IfOk result (CallGives
+    ensures { IfOk result (AreCallAttributes
         (option_map (λ second. (second.0.now, second.1.now)) argument.entry)) }
 {
     let Some((argument, node)) = argument else {
@@ -59,16 +60,16 @@ pub fn parse_dynamic_import_attributes(
     last_clause_attributes(alloc, node.children.as_slice())
 }
 
-/// The attributes that an object literal states, such as the one in an import type.
+/// Returns the attributes of an object literal, such as the one in an import type.
 ///
-/// `Unknown` where a property has no static key. Else each key, `Known` with a static value and
-/// `Unknown` with another; a later property takes the place of an earlier one with its key. Fails
-/// only where memory is refused.
+/// Returns `Unknown` where a property has no static key. Otherwise `Known` holds each key, with a
+/// `Known` value where the value is static and an `Unknown` one where not; of two properties with
+/// one key the later counts. The only error is that memory ran out.
 pub fn parse_import_attributes_from_object_lit(
     alloc: Global,
     object: &Node,
 ) -> Result<ImportAttributes, AllocError>
-    ensures { IfOk result (ObjectGives object.now) }
+    ensures { IfOk result (AreObjectAttributes object.now) }
 {
     let mut attributes = TextMap::new(alloc);
     for property in object.children.as_slice() {
@@ -80,13 +81,13 @@ pub fn parse_import_attributes_from_object_lit(
     Ok(ImportAttributes::Known(attributes))
 }
 
-/// The attributes of the last clause among properties with static keys, if the values of all are
-/// known.
+/// Returns the attributes of the last clause among properties with static keys, or `Unknown` where
+/// the value of a clause is unknown.
 fn last_clause_attributes(
     alloc: Global,
     properties: &[Node],
 ) -> Result<ImportAttributes, AllocError>
-    ensures { IfOk result (LookedAtGive properties.now) }
+    ensures { IfOk result (AreClauseAttributes properties.now) }
 {
     let mut last = None;
     let mut after_with = false;
@@ -105,7 +106,7 @@ fn last_clause_attributes(
     }
 }
 
-/// Whether a property is a clause with attributes, which an `assert` after a `with` isn't.
+/// Whether a property is a clause with attributes. An `assert` after a `with` is none.
 fn is_clause(property: &Node, after_with: bool) -> bool
     ensures { IsTrue result ↔ ((static_key property.now ≡ Some (codes "with"))
         ⊎ ((static_key property.now ≡ Some (codes "assert")) × (after_with ≡ false))) }
@@ -113,8 +114,8 @@ fn is_clause(property: &Node, after_with: bool) -> bool
     has_key(property, "with") || (!after_with && has_key(property, "assert"))
 }
 
-/// The object literal that is the value of a property, where each of its properties has a static
-/// key.
+/// Returns the object literal that is the value of a property, if each property of the literal has
+/// a static key.
 fn known_object(property: &Node) -> Option<&Node>
     ensures { option_copied result ≡ known_object property.now }
 {
@@ -126,7 +127,7 @@ fn known_object(property: &Node) -> Option<&Node>
     }
 }
 
-/// Puts what is known of a value at `key`, in the place of what was there.
+/// Puts what is known of a value at `key`, and drops what was there.
 fn put_attribute(
     alloc: Global,
     attributes: &mut TextMap<ImportAttribute>,
@@ -144,28 +145,31 @@ fn put_attribute(
     Ok(())
 }
 
+/// Whether each property of an object literal has a static key.
 fn has_static_keys(object: &Node) -> bool
     ensures { result ≡ has_static_keys object.now }
 {
     object.children.as_slice().iter().all(has_static_key)
 }
 
+/// Whether a property has a static key.
 fn has_static_key(property: &Node) -> bool
     ensures { result ≡ is_some (static_key property.now) }
 {
     static_key(property).is_some()
 }
 
+/// Whether a property has this static key.
 fn has_key(property: &Node, key: &str) -> bool
     ensures { IsTrue result ↔ (static_key property.now ≡ Some key.now) }
 {
     match static_key(property) {
-        Some(found) => found == key,
+        Some(name) => name == key,
         None => false,
     }
 }
 
-/// The static key and the static value of a property that has both.
+/// Returns the static key and the static value of a property that has both.
 fn static_entry(property: &Node) -> Option<(&str, &str)>
     ensures { option_map (λ entry. (entry.0.now, ImportAttribute.Known entry.1.now)) result
         ≡ declared property.now }
@@ -173,7 +177,7 @@ fn static_entry(property: &Node) -> Option<(&str, &str)>
     Some((static_key(property)?, static_value(property)?))
 }
 
-/// The text of a static key: an identifier, or a string without lone surrogates.
+/// Returns the text of a static key: an identifier, or a string without lone surrogates.
 fn static_key(property: &Node) -> Option<&str>
     ensures { option_copied result ≡ static_key property.now }
 {
@@ -184,13 +188,14 @@ fn static_key(property: &Node) -> Option<&str>
     }
 }
 
-/// The text of a static value: a string literal without lone surrogates.
+/// Returns the text of a static value: a string literal without lone surrogates.
 fn static_value(property: &Node) -> Option<&str>
     ensures { option_copied result ≡ static_value property.now }
 {
     literal_text(property.children.last()?)
 }
 
+/// Returns the text of a string literal without lone surrogates.
 fn literal_text(node: &Node) -> Option<&str>
     ensures { option_copied result ≡ text_of_kind (kind_of node.now) }
 {

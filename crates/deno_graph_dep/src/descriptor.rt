@@ -1,32 +1,32 @@
 ghost use Rattle.std.specs.Prelude.{◌≡◌, IfOk};
-ghost use Rattle.deno_graph_dep.specs.Item.{dynamic_item_of, item_of, static_item_of};
+ghost use Rattle.deno_graph_dep.specs.Descriptor.{dynamic_descriptor_seen, descriptor_seen, static_descriptor_seen};
 
 use crate::argument::DynamicArgument;
-use deno_graph_dependency::{DynamicDependencyKind, ImportAttributes, StaticDependencyKind};
+use deno_graph_base::text::SourceRange;
+use deno_graph_base::values::TryClone;
+use deno_graph_info::analysis::{DynamicDependencyKind, ImportAttributes, StaticDependencyKind};
 use deno_graph_source::tree::DependencyComment;
-use deno_graph_text::text::SourceRange;
-use deno_graph_text::values::TryClone;
 use std::alloc::{AllocError, Global};
 
-/// A dependency with its specifier in the source, such as an import or an export. Borrows from the
-/// tree.
+/// The descriptor of a dependency whose specifier is a string literal, such as an import or an
+/// export. Borrows from the tree.
 #[derive(Debug, PartialEq, Eq, Drop)]
 pub struct StaticDependencyDescriptor<'a> {
     pub kind: StaticDependencyKind,
     /// The comments that are filed as leading at the node's start, in the order of filing.
     pub leading_comments: &'a [DependencyComment],
-    /// Range of the node, or of the name of a module declaration, in bytes from zero.
+    /// Range of the node, or of a module declaration's name, in bytes from zero.
     pub range: SourceRange,
     /// The specifier, with U+FFFD for each lone surrogate.
     pub specifier: &'a str,
     /// Range of the specifier with its quotes, in bytes from zero.
     pub specifier_range: SourceRange,
-    /// Whether it is an import without specifiers, as `import "./load.js"`.
+    /// Whether the node is an import declaration without specifiers, as `import "./load.js"`.
     pub is_side_effect: bool,
     pub import_attributes: ImportAttributes,
 }
 
-/// A dependency by a call of `import` or `require`. Borrows from the tree.
+/// The descriptor of a dependency by a call of `import` or `require`. Borrows from the tree.
 #[derive(Debug, PartialEq, Eq, Drop)]
 pub struct DynamicDependencyDescriptor<'a> {
     pub kind: DynamicDependencyKind,
@@ -41,7 +41,7 @@ pub struct DynamicDependencyDescriptor<'a> {
     pub import_attributes: ImportAttributes,
 }
 
-/// A dependency of a module.
+/// The descriptor of a dependency of a module.
 #[derive(Debug, PartialEq, Eq, Drop)]
 pub enum DependencyDescriptor<'a> {
     Static(StaticDependencyDescriptor<'a>),
@@ -52,7 +52,8 @@ impl<'a> StaticDependencyDescriptor<'a> {
     /// Returns an equal descriptor that borrows from the same tree. The only error is that memory
     /// ran out.
     pub fn try_clone(&self, alloc: Global) -> Result<StaticDependencyDescriptor<'a>, AllocError>
-        ensures { IfOk result (λ copy. static_item_of copy ≡ static_item_of self.now) }
+        ensures { IfOk result (λ copy.
+            static_descriptor_seen copy ≡ static_descriptor_seen self.now) }
     {
         Ok(StaticDependencyDescriptor {
             kind: self.kind,
@@ -70,7 +71,8 @@ impl<'a> DynamicDependencyDescriptor<'a> {
     /// Returns an equal descriptor that borrows from the same tree. The only error is that memory
     /// ran out.
     pub fn try_clone(&self, alloc: Global) -> Result<DynamicDependencyDescriptor<'a>, AllocError>
-        ensures { IfOk result (λ copy. dynamic_item_of copy ≡ dynamic_item_of self.now) }
+        ensures { IfOk result (λ copy.
+            dynamic_descriptor_seen copy ≡ dynamic_descriptor_seen self.now) }
     {
         Ok(DynamicDependencyDescriptor {
             kind: self.kind,
@@ -87,11 +89,11 @@ impl<'a> DependencyDescriptor<'a> {
     /// Returns an equal descriptor that borrows from the same tree. The only error is that memory
     /// ran out.
     pub fn try_clone(&self, alloc: Global) -> Result<DependencyDescriptor<'a>, AllocError>
-        ensures { IfOk result (λ copy. item_of copy ≡ item_of self.now) }
+        ensures { IfOk result (λ copy. descriptor_seen copy ≡ descriptor_seen self.now) }
     {
         match self {
-            DependencyDescriptor::Static(found) => Ok(found.try_clone(alloc)?.into()),
-            DependencyDescriptor::Dynamic(found) => Ok(found.try_clone(alloc)?.into()),
+            DependencyDescriptor::Static(descriptor) => Ok(descriptor.try_clone(alloc)?.into()),
+            DependencyDescriptor::Dynamic(descriptor) => Ok(descriptor.try_clone(alloc)?.into()),
         }
     }
 }

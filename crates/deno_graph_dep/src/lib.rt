@@ -1,15 +1,15 @@
-//! The dependencies of a module, found in its syntax tree: the walk over it, and what its nodes state.
+//! The dependencies of a module: which nodes of the syntax tree are dependencies, the walk over
+//! these nodes, and their descriptors.
 #![tactic(auto)]
 
 pub mod argument;
 pub mod attributes;
-pub mod dependencies;
-mod describe;
+mod collector;
 pub mod descriptor;
-pub mod listed;
-pub mod listing;
+mod descriptor_of;
+pub mod is_dependency;
+pub mod laws;
 mod stack;
-pub mod stated;
 pub mod walk;
 
 pub use argument::{DynamicArgument, DynamicTemplatePart, argument_of};
@@ -17,8 +17,7 @@ pub use attributes::{
     parse_dynamic_import_attributes, parse_import_attributes,
     parse_import_attributes_from_object_lit,
 };
-pub use dependencies::analyze_program_dependencies;
-pub use describe::leading_comments;
+pub use collector::analyze_program_dependencies;
 pub use descriptor::{
     DependencyDescriptor, DynamicDependencyDescriptor, StaticDependencyDescriptor,
 };

@@ -1,15 +1,15 @@
 //! The nodes that a walk has entered and not left yet.
-#![tactic(auto, unfolding(deno_graph_source::specs::Node::kind_of, deno_graph_source::specs::Node::children_of, crate::specs::DependencyRules::children_to_visit))]
+#![tactic(auto, unfolding(crate::proofs::Unfolded::node_meaning))]
 
 ghost use Rattle.std.specs.Prelude.{◌≡◌, ◌+◌, ◌-◌, ◌^◌, ◌≤◌, ◌++◌, ◌∷◌, [], min, IfOk, OnOk, OnErr, MatchOption, List};
 ghost use Rattle.deno_graph_source.specs.declared.tree.node.Node.{Node};
 ghost use Rattle.deno_graph_source.specs.declared.tree.node.Program.{Program};
 ghost use Rattle.deno_graph_dep.specs.DependencyRules.{children_to_visit, dependency_rules};
-ghost use Rattle.deno_graph_dep.specs.Walk.{Gives};
-ghost use Rattle.deno_graph_dep.specs.WalkSteps.{state_of};
-ghost use Rattle.deno_graph_dep.specs.Stack.{frame_of, Leaves, IsStackOf, is_given_after, is_given_before, to_come};
+ghost use Rattle.deno_graph_dep.specs.Walk.{IsStep};
+ghost use Rattle.deno_graph_dep.specs.internal.WalkSteps.{state_of};
+ghost use Rattle.deno_graph_dep.specs.internal.Stack.{frame_of, Leaves, IsStackOf, comes_after, comes_before, to_come};
 
-use crate::listed::{is_closed, is_listed, is_listed_after_inside};
+use crate::is_dependency::{is_after_inside, is_closed, is_dependency};
 use deno_graph_source::tree::Node;
 use std::alloc::{AllocError, Global};
 
@@ -20,7 +20,7 @@ pub(crate) struct Frame<'a> {
     pub(crate) siblings: &'a [Node],
 }
 
-/// The entered nodes that are not left yet, from the outermost in, and the nodes to enter next.
+/// The entered nodes that are not left yet, the outermost first, and the nodes to enter next.
 #[derive(Drop)]
 pub(crate) struct Stack<'a> {
     pub(crate) frames: Vec<Frame<'a>>,
@@ -30,6 +30,7 @@ pub(crate) struct Stack<'a> {
 }
 
 impl<'a> Stack<'a> {
+    /// Makes a stack with no entered node. Takes no memory.
     pub(crate) fn new(alloc: Global, body: &'a [Node]) -> Stack<'a>
         ensures frames { result.frames.items ≡ [] }
         ensures nodes { result.nodes.now ≡ body.now }
@@ -42,16 +43,17 @@ impl<'a> Stack<'a> {
         }
     }
 
-    /// Enters a node, so that what is inside it comes next. A refusal leaves all as it was.
+    /// Enters a node, so that the nodes inside the node come next. An error leaves the stack
+    /// unchanged.
     pub(crate) fn enter(&mut self, node: &'a Node, siblings: &'a [Node]) -> Result<(), AllocError>
         ensures frames { OnOk result (self.new.frames.items
             ≡ self.old.frames.items ++ frame_of node.entry siblings.entry ∷ []) }
         ensures nodes { OnOk result (self.new.nodes.now ≡ children_to_visit node.now) }
         ensures entered { OnOk result
             (self.new.entered ≡ min (self.old.entered + 1) (2 ^ 64 - 1)) }
-        ensures refused_frames { OnErr result (self.new.frames.items ≡ self.old.frames.items) }
-        ensures refused_nodes { OnErr result (self.new.nodes.now ≡ self.old.nodes.now) }
-        ensures refused_entered { OnErr result (self.new.entered ≡ self.old.entered) }
+        ensures err_frames { OnErr result (self.new.frames.items ≡ self.old.frames.items) }
+        ensures err_nodes { OnErr result (self.new.nodes.now ≡ self.old.nodes.now) }
+        ensures err_entered { OnErr result (self.new.entered ≡ self.old.entered) }
     {
         self.frames.push(Frame { node, siblings })?;
         self.entered = self.entered.saturating_add(1);
@@ -59,8 +61,8 @@ impl<'a> Stack<'a> {
         Ok(())
     }
 
-    /// Leaves the innermost node, so that the siblings after it come next. `None` where no node
-    /// is left to leave.
+    /// Leaves the innermost node, so that the siblings after the node come next. Returns `None` if
+    /// no node is entered.
     pub(crate) fn leave(&mut self) -> Option<&'a Node>
         ensures leaves { Leaves self.old self.new result }
         ensures entered { self.new.entered ≡ self.old.entered }
@@ -70,13 +72,13 @@ impl<'a> Stack<'a> {
         Some(node)
     }
 
-    /// The next listed node, each before what is inside it or after that as the listing wants.
-    /// `None` at the end. A refusal leaves what is still to come as it was.
-    pub(crate) fn next_listed(&mut self) -> Result<Option<&'a Node>, AllocError>
+    /// Returns the next dependency in tree order, or `None` at the end. After an error the same
+    /// dependencies are still to come.
+    pub(crate) fn next_dependency(&mut self) -> Result<Option<&'a Node>, AllocError>
         ensures stays { (body : List Node) → IsStackOf body self.old → IsStackOf body self.new }
-        ensures gives { (program : Program) → IsStackOf program.body self.old
-            → IfOk result (Gives (state_of program self.old) (state_of program self.new)) }
-        ensures refused { (body : List Node) → IsStackOf body self.old
+        ensures step { (program : Program) → IsStackOf program.body self.old
+            → IfOk result (IsStep (state_of program self.old) (state_of program self.new)) }
+        ensures err { (body : List Node) → IsStackOf body self.old
             → OnErr result (to_come dependency_rules body self.new
             ≡ to_come dependency_rules body self.old) }
         ensures rises { (body : List Node) → IsStackOf body self.old
@@ -85,14 +87,14 @@ impl<'a> Stack<'a> {
         'nodes: loop {
             if let Some((node, siblings)) = self.nodes.split_first() {
                 self.enter(node, siblings)?;
-                if is_given_before_inside(node) {
+                if comes_before_inside(node) {
                     return Ok(Some(node));
                 }
             } else {
                 let Some(node) = self.leave() else {
                     return Ok(None);
                 };
-                if is_given_after_inside(node) {
+                if comes_after_inside(node) {
                     return Ok(Some(node));
                 }
             }
@@ -100,7 +102,7 @@ impl<'a> Stack<'a> {
     }
 }
 
-/// The nodes directly inside a node, unless these are left unread.
+/// Returns the nodes directly inside a node, or none if they are left unread.
 fn inside(node: &Node) -> &[Node]
     ensures { result.now ≡ children_to_visit node.now }
 {
@@ -111,16 +113,16 @@ fn inside(node: &Node) -> &[Node]
     }
 }
 
-/// Whether a node is listed, and before what is inside it.
-fn is_given_before_inside(node: &Node) -> bool
-    ensures { result ≡ is_given_before dependency_rules node.now }
+/// Whether a node is a dependency that comes before the dependencies inside it.
+fn comes_before_inside(node: &Node) -> bool
+    ensures { result ≡ comes_before dependency_rules node.now }
 {
-    !is_listed_after_inside(&node.kind) && is_listed(node)
+    !is_after_inside(&node.kind) && is_dependency(node)
 }
 
-/// Whether a node is listed, and after what is inside it.
-fn is_given_after_inside(node: &Node) -> bool
-    ensures { result ≡ is_given_after dependency_rules node.now }
+/// Whether a node is a dependency that comes after the dependencies inside it.
+fn comes_after_inside(node: &Node) -> bool
+    ensures { result ≡ comes_after dependency_rules node.now }
 {
-    is_listed_after_inside(&node.kind) && is_listed(node)
+    is_after_inside(&node.kind) && is_dependency(node)
 }

@@ -1,4 +1,4 @@
-//! The walk over the dependencies of a program, which can stop at each of them and go on.
+//! The walk over the dependencies of a program, which can stop at each dependency and go on.
 
 ghost use Rattle.std.specs.Borrow.{Bor};
 ghost use Rattle.std.specs.List.{count_by};
@@ -8,7 +8,7 @@ ghost use Rattle.deno_graph_dep.specs.DependencyRules.{dependency_rules};
 ghost use Rattle.deno_graph_dep.specs.Listing.{IsListing};
 ghost use Rattle.deno_graph_source.specs.NodePath.{NodePath};
 ghost use Rattle.deno_graph_source.specs.declared.tree.node.Node.{Node};
-ghost use Rattle.deno_graph_dep.specs.Walk.{AreSteps, Gives, WalkState};
+ghost use Rattle.deno_graph_dep.specs.Walk.{AreSteps, IsStep, WalkState};
 
 use crate::stack::Stack;
 use deno_graph_source::tree::{Node, Program};
@@ -31,7 +31,7 @@ impl<'a> Model for Walk<'a> {
     ghost use Rattle.std.specs.Coded.{codes};
     ghost use Rattle.deno_graph_source.specs.contracts.tree.node.Node as node;
     ghost use Rattle.deno_graph_dep.specs.Walk.{WalkState};
-    ghost use Rattle.deno_graph_dep.specs.WalkSteps.{IsWalkOf, state_of};
+    ghost use Rattle.deno_graph_dep.specs.internal.WalkSteps.{IsWalkOf, state_of};
 
     ghost Value = { WalkState };
 
@@ -62,11 +62,11 @@ impl<'a> Walk<'a> {
     /// can be tried again, and `entered` may have risen.
     pub fn step(&mut self) -> Result<Option<&'a Node>, AllocError>
         ensures program { self.new.program ≡ self.old.program }
-        ensures gives { IfOk result (Gives self.old self.new) }
-        ensures refused { OnErr result (self.new.to_come ≡ self.old.to_come) }
+        ensures step { IfOk result (IsStep self.old self.new) }
+        ensures err { OnErr result (self.new.to_come ≡ self.old.to_come) }
         ensures rises { self.old.entered ≤ self.new.entered }
     {
-        self.stack.next_listed()
+        self.stack.next_dependency()
     }
 
     /// Returns how many nodes were entered so far, or `u64::MAX` if they are more. Nodes inside an
@@ -84,8 +84,8 @@ impl<'a> Walk<'a> {
         self.program
     }
 
-    /// A law for those who stop: what is still to come is an end of the listing, so that what was
-    /// given until then is its beginning, and the walk goes on with the rest.
+    /// A law: the paths still to come are the end of the listing. So the paths that the walk has
+    /// returned are its beginning.
     pub fn goes_on_with_the_rest(&self)
         ensures { (given : List NodePath)
             × IsListing dependency_rules self.now.program.body (given ++ self.now.to_come) }
@@ -93,18 +93,16 @@ impl<'a> Walk<'a> {
         let _ = &self.program;
     }
 
-    /// A law: a walk that gave `None` gives `None` at each step from then on, and enters no node
-    /// more. This call does nothing: what it ensures holds of every walk, and a caller learns it by
-    /// the call.
+    /// A law: after a step that returned `None`, each step returns `None` and enters no node. This
+    /// call does nothing; its contract holds of every walk.
     pub fn stays_at_its_end()
         ensures { (old end new : WalkState) (found : Option (Bor Node))
             → end.program ≡ old.program → new.program ≡ end.program
-            → Gives old end None → Gives end new found → (found ≡ None) × (new ≡ end) }
+            → IsStep old end None → IsStep end new found → (found ≡ None) × (new ≡ end) }
     {}
 
-    /// A law: a walk ends. Each step that gives a node takes one of the paths that are still to
-    /// come, of which there are finitely many. This call does nothing: what it ensures holds of
-    /// every walk, and a caller learns it by the call.
+    /// A law: a walk ends. Each step that returns a node takes one of the paths still to come, and
+    /// these are finitely many. This call does nothing; its contract holds of every walk.
     pub fn ends()
         ensures { (old new : WalkState) (found : List (Option (Bor Node)))
             → AreSteps old found new

@@ -1,4 +1,4 @@
--- Dependencies that are converted one by one, and what conversion leaves when it is done again.
+-- Conversion of the dependencies one by one, and conversion of a converted value.
 use Rattle.std.proofs.Common.{◌≡◌, ℕ, codes, List, [], ◌∷◌, ◌++◌, map, Option, Some, None, option_map, IsSome}
 use Rattle.std.proofs.Common.{IfSome, Result, Ok, Err, OnOk, OnErr, String, Global, string_bytes, string_cmp}
 use Rattle.std.proofs.Common.{true≢false, inl, inr, refl, sym, ap, subst, ◌∙◌}
@@ -23,8 +23,8 @@ use Rattle.serde_json.specs.Data.{
 use Rattle.serde_json.specs.Find.{as_array, get_member}
 use Rattle.serde_json.specs.View.{view, items_of, items_view, members_view}
 use Rattle.serde_json.specs.declared.value.Value.{Value}
-use Rattle.deno_graph_dependency.specs.Read.Partial.{◌>>=◌, member_at, reads_array}
-use Rattle.deno_graph_dependency.specs.declared.specifier_with_range.SpecifierWithRange.{SpecifierWithRange}
+use Rattle.deno_graph_json.specs.Read.Partial.{◌>>=◌, member_at, reads_array}
+use Rattle.deno_graph_info.specs.declared.analysis.specifier_with_range.SpecifierWithRange.{SpecifierWithRange}
 use Rattle.deno_graph_info.proofs.MembersLemmas.{TextEntry, has_key, get_member-without, put_again}
 use Rattle.deno_graph_info.specs.Comment.{reads_stored_comment}
 use Rattle.deno_graph_info.specs.Conversion.{
@@ -51,7 +51,7 @@ AreConverted-push [] (x ∷ es) d e so_far h = absurd so_far
 AreConverted-push (x ∷ ds) [] d e so_far h = absurd so_far
 AreConverted-push (x ∷ ds) (y ∷ es) d e so_far h = (so_far.0, AreConverted-push ds es d e so_far.1 h)
 
--- one dependency more is converted
+-- after one more dependency
 pub converted_more : (passed new newer : List Value) (v w : Value)
     → AreConverted (items_view passed) (items_view new) → IsConvertedDependency (view v) (view w)
     → newer ≡ new ++ w ∷ [] → AreConverted (items_view (passed ++ v ∷ [])) (items_view newer)
@@ -61,19 +61,19 @@ converted_more passed new newer v w so_far h pushed =
     rw (map-append view passed (v ∷ []), made)
     (AreConverted-push (map view passed) (map view new) (view v) (view w) so_far h)
 
--- one value more is passed
+-- after one more value
 pub passed_more : {A : Type 0} (all passed rest left : List A) (x : A) → all ≡ passed ++ rest
     → rest ≡ x ∷ left → all ≡ (passed ++ x ∷ []) ++ left
 passed_more all passed rest left x so_far next =
     so_far ∙ ap (λ r. passed ++ r) next ∙ sym (append_assoc passed (x ∷ []) left)
 
--- a dependency that overflows is among them
+-- a dependency that overflows is one of all
 pub overflow_among : (passed : List Value) (v : Value) (rest : List Value) → DependencyOverflows (view v)
     → AnyOverflows (items_view (passed ++ v ∷ rest))
 overflow_among [] v rest h = inl h
 overflow_among (x ∷ passed) v rest h = inr (overflow_among passed v rest h)
 
--- ---- in the place of the old ones
+-- ---- the converted dependencies replace the old ones
 
 absent_key : (key : List ℕ) (es : List TextEntry) → lookup (has_key key) es ≡ None
     → get_member key (members_view es) ≡ None
@@ -97,7 +97,7 @@ dependencies_stay old key named present none =
     absurd (not_there old present (absent_key (codes "dependencies") old
     (subst (λ k. lookup (has_key k) old ≡ None) named none)))
 
--- an insertion at a key that is there doesn't fail
+-- an insertion at a key that is present doesn't fail
 pub dependencies_left : {A E : Type 0} (answer : Result A E) (old new : List TextEntry) (key : String Global)
     (v : Value) → string_bytes key ≡ codes "dependencies"
     → IsSome (dependencies_in (object (members_view old)))
@@ -110,7 +110,7 @@ dependencies_left (Ok x) old new key v named present made absent =
 dependencies_left (Err e) old new key v named present made absent =
     dependencies_stay old key named present absent
 
--- the dependencies are what was there as an array
+-- the dependencies are the array at their key
 pub dependencies_taken : (old : List TextEntry) (key : String Global) (v : Value)
     → string_bytes key ≡ codes "dependencies" → Some v ≡ lookup (has_key (string_bytes key)) old
     → dependencies_in (object (members_view old)) ≡ as_array (view v)
@@ -127,7 +127,7 @@ converted_members_at ms after None made is present h put_there = absurd (true≢
 converted_members_at ms after (Some old) made is present h put_there =
     rw is (h.0, h.1, ap object (put_there ∙ ap (λ d. put (codes "dependencies") d ms) h.2))
 
--- what the dependencies are converted to is put in their place
+-- the converted dependencies are put at their key
 pub converted_members : (ms left after : Members) (found emptied made : Data)
     → IsSome (dependencies_in (object ms)) → dependencies_in (object ms) ≡ as_array found
     → left ≡ put (codes "dependencies") emptied ms
@@ -138,7 +138,7 @@ converted_members ms left after found emptied made present is was h put_there =
     (put_there ∙ ap (put (codes "dependencies") made) was
     ∙ put_again (codes "dependencies") made emptied ms)
 
--- ---- again
+-- ---- conversion of a converted value
 
 without_comments : (d : Data) → comments_in (without_value_at (codes "leadingComments") d) ≡ None
 unfolding comments_in member_at
@@ -169,7 +169,7 @@ all_again no_items (item e es) h = absurd h
 all_again (item d ds) no_items h = absurd h
 all_again (item d ds) (item e es) h = (dependency_again d e h.0, all_again ds es h.1)
 
--- dependencies that were put are found, and put again change nothing
+-- dependencies that were put are found, and putting them again changes nothing
 put_found : (v : Data) (old new : Items) → dependencies_in v ≡ Some old
     → dependencies_in (with_value_at (codes "dependencies") (array new) v) ≡ Some new
 unfolding dependencies_in member_at
@@ -205,6 +205,6 @@ again_at v after (Some old) is h =
     ∙ ap (with_value_at (codes "dependencies") (array changed.0)) (sym changed.2) in
     rw found (changed.0, all_again old changed.0 changed.1, kept)
 
--- conversion of what is converted changes nothing
+-- conversion of a converted value changes nothing
 pub converted_again : (v after : Data) → IsConverted v after → IsConverted after after
 converted_again v after h = again_at v after (dependencies_in v) refl h

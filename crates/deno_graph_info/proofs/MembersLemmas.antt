@@ -1,4 +1,4 @@
--- Members that are put into an object, and taken out of it.
+-- Members that are put into an object, and removed from it.
 use Rattle.std.proofs.Common.{
   ◌≡◌,
   ℕ,
@@ -76,7 +76,7 @@ without-removed_at key e es false is later none =
     ap (member (string_bytes e.0) (view e.1))
     (later (rest_absent key e (remove_entry (has_key key) es) is none))
 
--- what is left of a map once the key is removed
+-- the map without the key
 pub without-removed : (key : List ℕ) (es : List TextEntry)
     → lookup (has_key key) (remove_entry (has_key key) es) ≡ None
     → members_view (remove_entry (has_key key) es) ≡ without key (members_view es)
@@ -100,7 +100,7 @@ absent_later key k d ms true is none = none
 absent_later key k d ms false is none =
     either (slice_cmp nat_cmp key k) _ _ (is_eq-slice_cmp key k ∙ is) ∙ none
 
--- a key that was taken out isn't found
+-- a removed key isn't found
 pub get_member-without : (key : List ℕ) (ms : Members) → get_member key (without key ms) ≡ None
 get_member-without key no_members = refl
 get_member-without key (member k d ms) =
@@ -118,7 +118,7 @@ put_again_at Less k l d e f ms is later = rw same_text
 put_again_at Equal k l d e f ms is later = rw is
 put_again_at Greater k l d e f ms is later = rw is (ap (member l f) later)
 
--- what is put at a key twice is what was put last
+-- a value that is put at a key replaces the one that was put before
 pub put_again : (k : List ℕ) (d e : Data) (ms : Members) → put k d (put k e ms) ≡ put k d ms
 put_again k d e no_members = rw same_text
 put_again k d e (member l f ms) = put_again_at (slice_cmp nat_cmp k l) k l d e f ms refl (put_again k d e ms)

@@ -1,4 +1,4 @@
--- A value is converted to one value at most, and to none where a column overflows.
+-- A value is converted to at most one value, and to none if a column overflows.
 use Rattle.std.proofs.Common.{
   ◌≡◌,
   ℕ,
@@ -17,7 +17,7 @@ use Rattle.std.proofs.Common.{
   ◌∙◌,
 }
 use Rattle.serde_json.specs.Data.{Data, array, Items, no_items, item}
-use Rattle.deno_graph_dependency.specs.declared.specifier_with_range.SpecifierWithRange.{SpecifierWithRange}
+use Rattle.deno_graph_info.specs.declared.analysis.specifier_with_range.SpecifierWithRange.{SpecifierWithRange}
 use Rattle.deno_graph_pragmas.specs.Finders.{deno_types_pattern, quoteless_deno_types_pattern}
 use Rattle.deno_graph_pragmas.specs.Split.{TextPart, HasOnePart}
 use Rattle.deno_graph_info.specs.Conversion.{
@@ -96,6 +96,12 @@ module _ (quoted : HasOnePart deno_types_pattern) (bare : HasOnePart quoteless_d
       let q : HasNoColumn comments = rw is at b in
       column_or_none comments p.0 p.1 q
 
+  -- a dependency whose comments name types that fit, or none, doesn't overflow
+  pub typed_fits : (d : Data) (comments : List Comment) (types : Option SpecifierWithRange)
+      → comments_in d ≡ Some comments → AreTypes comments types → ¬ DependencyOverflows d
+  typed_fits d comments types is are h =
+      let q : HasNoColumn comments = rw is at h in column_or_none comments types are q
+
   -- ---- each dependency
 
   one_each : (ds es fs : Items) → AreConverted ds es → AreConverted ds fs → es ≡ fs
@@ -115,7 +121,7 @@ module _ (quoted : HasOnePart deno_types_pattern) (bare : HasOnePart quoteless_d
   no_each (item d ds) (item e es) a (inl h) = no_dependency_at d e (comments_in d) refl a.0 h
   no_each (item d ds) (item e es) a (inr h) = no_each ds es a.1 h
 
-  -- ---- the whole
+  -- ---- all dependencies
 
   one_at : (v one other : Data) (found : Option Items) → dependencies_in v ≡ found → IsConverted v one
       → IsConverted v other → one ≡ other
@@ -137,10 +143,10 @@ module _ (quoted : HasOnePart deno_types_pattern) (bare : HasOnePart quoteless_d
       let q : AnyOverflows old = rw is at b in
       no_each old p.0 p.1 q
 
-  -- a value is converted to one at most
+  -- a value is converted to at most one value
   pub converted_once : (v one other : Data) → IsConverted v one → IsConverted v other → one ≡ other
   converted_once v one other a b = one_at v one other (dependencies_in v) refl a b
 
-  -- and to none where a column overflows
+  -- a value isn't converted if a column overflows
   pub converted_or_overflows : (v one : Data) → IsConverted v one → ¬ Overflows v
   converted_or_overflows v one a b = none_at v one (dependencies_in v) refl a b

@@ -1,4 +1,4 @@
--- How a part of the conversion ends.
+-- Results of the parts of the conversion.
 use Rattle.std.proofs.Common.{
   ◌≡◌,
   ◌+◌,
@@ -26,7 +26,7 @@ use Rattle.std.proofs.Common.{
 use Rattle.std.proofs.lemmas.Result.{err_from_is_err_and}
 use Rattle.serde_json.specs.Data.{Data}
 use Rattle.std.specs.Prelude.{codes, List}
-use Rattle.deno_graph_dependency.specs.declared.specifier_with_range.SpecifierWithRange.{SpecifierWithRange}
+use Rattle.deno_graph_info.specs.declared.analysis.specifier_with_range.SpecifierWithRange.{SpecifierWithRange}
 use Rattle.deno_graph_info.specs.Conversion.{
   without_value_at,
   with_types,
@@ -34,8 +34,8 @@ use Rattle.deno_graph_info.specs.Conversion.{
   IsConvertedDependency,
   DependencyOverflows,
 }
-use Rattle.deno_graph_info.specs.ConvertFault.{IsColumnFault}
-use Rattle.deno_graph_text.specs.declared.text.position.PositionRange.{PositionRange}
+use Rattle.deno_graph_info.specs.internal.ConvertFault.{IsColumnFault}
+use Rattle.deno_graph_base.specs.declared.text.position.PositionRange.{PositionRange}
 use Rattle.deno_graph_pragmas.specs.Finders.{deno_types_pattern, quoteless_deno_types_pattern}
 use Rattle.deno_graph_pragmas.specs.Match.{pragma_part_of}
 use Rattle.deno_graph_pragmas.specs.Split.{HasSplit, IsCaptured}
@@ -49,7 +49,7 @@ use Rattle.deno_graph_info.specs.declared.conversion.fault.ConvertFault.TheVaria
   OutOfMemory,
 }
 
--- a fault of a part is one of the whole
+-- a fault of a part is a fault of the whole
 pub column_fault-on : (P Q : Type 0) (fault : ConvertFault) → (P → Q) → IsColumnFault P fault
     → IsColumnFault Q fault
 column_fault-on P Q ColumnOverflow on h = on h
@@ -77,7 +77,7 @@ pub overflows_with : (d : Data) (comments : List Comment) → comments_in d ≡ 
     → HasNoColumn comments → DependencyOverflows d
 overflows_with d comments is h = rw is h
 
--- ---- what the finder finds
+-- ---- the result of the finder
 
 names_types : (text : List ℕ) (found : DenoTypesPragmaMatch) (quoteless : Bool)
     → found.is_quoteless ≡ quoteless
@@ -128,7 +128,7 @@ types_found comments comment found text copy range last same in_quotes bare fits
   },
 )
 
--- types whose end has no column are found
+-- types that end beyond the largest column are found
 pub no_column_found : {A : Type 0} (comments : List Comment) (comment : Comment)
     (found : DenoTypesPragmaMatch) (text : List ℕ) (fault : ConvertFault) (answer : Result A ConvertFault)
     → slice_get comments (length comments - 1) ≡ Some comment → text ≡ comment.text

@@ -1,4 +1,4 @@
--- The search of `reach`: each step, and where it ends.
+-- The search of `reach`: each step, and the result.
 use Rattle.std.proofs.Common.{
   ◌≡◌,
   ◌⊎◌,
@@ -62,10 +62,17 @@ use Rattle.std.proofs.lemmas.List.Elements.{
 use Rattle.std.proofs.lemmas.Slice.Eq.{bytes_eq-Decides}
 use Rattle.std.specs.Borrow.{Bor}
 use Rattle.std.specs.Map.{keys_of}
-use Rattle.deno_graph_text.specs.TextMap.{value_at, IsAscending}
-use Rattle.deno_graph_dependency.specs.declared.dependency.DependencyDescriptor.{DependencyDescriptor}
+use Rattle.deno_graph_base.specs.TextMap.{value_at, IsAscending}
+use Rattle.deno_graph_info.specs.declared.analysis.dependency.DependencyDescriptor.{DependencyDescriptor}
 use Rattle.deno_graph_info.specs.Reach.{IsModuleKey, IsClosedUnderDependencies, IsReach, named_specifier}
-use Rattle.deno_graph_info.specs.ReachSteps.{infos_of, NamesIn, IsReached, one_unless, unreached, Grows}
+use Rattle.deno_graph_info.specs.internal.ReachSteps.{
+  infos_of,
+  NamesIn,
+  IsReached,
+  one_unless,
+  unreached,
+  Grows,
+}
 use Rattle.deno_graph_info.specs.declared.analysis.module_info.ModuleInfo.{ModuleInfo}
 
 abbrev pub Modules : Type 0
@@ -117,7 +124,7 @@ pub none_there : {A : Type 0} (r : Option (Bor A)) (o : Option A) → option_cop
 none_there None o is none = sym is
 none_there (Some x) o is none = absurd (true≢false none)
 
--- one key more is copied
+-- after one more key was copied
 pub keys_more : {V : Type 0} (keys new : List (String Global)) (left rest : List (List ℕ × V))
     (all : List (List ℕ)) (key : List ℕ) (v : V) (copy : String Global) → map string_bytes keys
     ++ keys_of left ≡ all → left ≡ (key, v) ∷ rest → string_bytes copy ≡ key → new ≡ keys ++ copy ∷ []
@@ -167,7 +174,7 @@ module _ {V : Type 0} where
       let rest = later known in
       omega (arith, one, rest)
 
-  -- a key that is reached newly is one less
+  -- each key that is reached newly leaves one less to reach
   unreached-less : (ms : Modules) (old new : List (List ℕ × V)) (key : List ℕ)
       → ((k : List ℕ) → IsReached old k → IsReached new k) → IsModuleKey ms key → value_at old key ≡ None
       → IsReached new key → suc (unreached ms new) ≤ unreached ms old
@@ -178,7 +185,7 @@ module _ {V : Type 0} where
 
   -- ---- one step
 
-  -- nothing is done for a key that is none, or was reached
+  -- the step does nothing if there is no such key, or it was reached
   pub grows-not : (ms : Modules) (key : List ℕ) (old new : List (List ℕ × V)) (before after : List ModuleInfo)
       → (IsModuleKey ms key → IsReached old key) → new ≡ old → after ≡ before
       → Grows ms (λ k. k ≡ key) old new before after
@@ -245,9 +252,9 @@ module _ {V : Type 0} where
       one_value ms key k info other is found same =
           let both : Some info ≡ Some other = sym is ∙ ap (value_at ms) same ∙ found in cc
 
-  -- ---- steps in turn
+  -- ---- several steps
 
-  -- one step, and then another
+  -- one step after another is a step
   pub grows-then : (ms : Modules) (First Second Both : List ℕ → Type 0) (old mid new : List (List ℕ × V))
       (before between after : List ModuleInfo)
       → Grows ms First old mid before between → Grows ms Second mid new between after
@@ -279,7 +286,7 @@ module _ {V : Type 0} where
     work = omega (arith, one.work, two.work);
   }
 
-  -- the same step under another description of the names
+  -- a step with another description of the same names
   pub grows-as : (ms : Modules) (First Both : List ℕ → Type 0) (old new : List (List ℕ × V))
       (before after : List ModuleInfo) → Grows ms First old new before after
       → ((k : List ℕ) → Both k → First k) → ((k : List ℕ) → First k → Both k)
@@ -294,7 +301,7 @@ module _ {V : Type 0} where
     work = one.work;
   }
 
-  -- no dependency was visited
+  -- before the first dependency
   pub grows-none : (ms : Modules) (reached : List (List ℕ × V)) (pending : List ModuleInfo)
       → Grows ms (NamesIn []) reached reached pending pending
   grows-none ms reached pending = record {
@@ -307,7 +314,7 @@ module _ {V : Type 0} where
     work = omega arith;
   }
 
-  -- ---- the dependencies of a module, in turn
+  -- ---- the dependencies of a module, one by one
 
   -- a dependency with a specifier is visited
   pub dependency_visited : (ms : Modules) (ds : List DependencyDescriptor) (i : ℕ) (d : DependencyDescriptor)
@@ -324,7 +331,7 @@ module _ {V : Type 0} where
       (names_first (take i ds) d)
       (λ k same. (d, Contains-push (take i ds) d, specifier ∙ ap Some (sym same))))
 
-  -- a dependency without one is passed over
+  -- a dependency without a specifier is skipped
   pub dependency_passed : (ms : Modules) (ds : List DependencyDescriptor) (i : ℕ) (d : DependencyDescriptor)
       (old new : List (List ℕ × V)) (before after : List ModuleInfo)
       → i < length ds → d ≡ get_or ds i d → named_specifier d ≡ None
@@ -339,7 +346,7 @@ module _ {V : Type 0} where
 
   -- ---- the search
 
-  -- What is reached is in each closed set, and is closed but for the modules that are pending.
+  -- The reached keys are in each closed set, and are closed except for the pending modules.
   pub record IsUnderway (ms : Modules) (root : List ℕ) (reached : List (List ℕ × V))
       (pending : List ModuleInfo) : Type 0 where
     pub has_root : IsModuleKey ms root → IsReached reached root
@@ -480,7 +487,7 @@ module _ {V : Type 0} where
         (All-contains_itself (keys_of reached));
   }
 
-  -- what is answered once no module is pending
+  -- the result when no module is pending
   pub reach_answered : {E : Type 0} (ms : Modules) (root : List ℕ) (reached : List (List ℕ × V))
       (pending : List (Bor ModuleInfo)) (answer : Result (Vec (String Global) Global) E)
       → IsUnderway ms root reached (infos_of pending) → length pending ≡ 0

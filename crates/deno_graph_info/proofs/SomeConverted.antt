@@ -27,7 +27,7 @@ use Rattle.serde_json.specs.Data.{Data, array, Items, no_items, item}
 use Rattle.deno_graph_pragmas.specs.Finders.{deno_types_pattern, quoteless_deno_types_pattern}
 use Rattle.deno_graph_pragmas.specs.Split.{TextPart, HasSplit, IsCaptured}
 use Rattle.deno_graph_pragmas.proofs.SomeSplit.{some_part}
-use Rattle.deno_graph_dependency.specs.declared.specifier_with_range.SpecifierWithRange.{SpecifierWithRange}
+use Rattle.deno_graph_info.specs.declared.analysis.specifier_with_range.SpecifierWithRange.{SpecifierWithRange}
 use Rattle.deno_graph_info.specs.Conversion.{
   comments_in,
   dependencies_in,
@@ -44,7 +44,7 @@ use Rattle.deno_graph_info.specs.Conversion.{
 use Rattle.deno_graph_info.specs.Types.{end_column, types_in, AreTypes, HasNoColumn, LastNames, NamesTypesAt}
 use Rattle.deno_graph_info.specs.declared.conversion.comment.Comment.{Comment}
 
--- what a text names as types, if it names any
+-- the types that a text names, if any
 named_at : (text : List ℕ)
     → ((part : TextPart) × NamesTypesAt text part) ⊎ ((part : TextPart) → NamesTypesAt text part → ⊥)
 named_at text = by_quotes (some_part deno_types_pattern text)

@@ -1,9 +1,9 @@
--- Why no `ModuleInfo` was read.
+-- Why a `ModuleInfo` can't be read.
 use Rattle.std.specs.Prelude.{◌≡◌, false, true, None}
 use Rattle.serde_json.specs.Data.{Data}
 use Rattle.serde_json.specs.Written.{has_float}
-use Rattle.deno_graph_dependency.specs.declared.json_form.error.ReadError.{ReadError}
-use Rattle.deno_graph_dependency.specs.declared.json_form.error.ReadError.TheVariants as read
+use Rattle.deno_graph_json.specs.declared.error.ReadError.{ReadError}
+use Rattle.deno_graph_json.specs.declared.error.ReadError.TheVariants as read
 use Rattle.deno_graph_info.specs.declared.analysis.fault.InfoFault.{InfoFault}
 use Rattle.deno_graph_info.specs.declared.analysis.fault.InfoFault.TheVariants.{Shape, Float, OutOfMemory}
 use Rattle.deno_graph_info.specs.Json.ModuleInfo.{reads_info}
@@ -13,8 +13,8 @@ abbrev pub fault_of : ReadError → InfoFault
 fault_of (read.Mismatch _) = Shape
 fault_of read.OutOfMemory = OutOfMemory
 
--- why nothing is read of the data: they have a float; they have none, and not the form that is read; or
--- they have none, and memory was refused
+-- why the data can't be read: they have a float; or they have no float, and aren't the JSON of a
+-- `ModuleInfo`; or they have no float, and an allocation failed
 abbrev pub IsInfoFault : Data → InfoFault → Type 0
 IsInfoFault d Shape = (has_float d ≡ false) × (reads_info d ≡ None)
 IsInfoFault d Float = has_float d ≡ true

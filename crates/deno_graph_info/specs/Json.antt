@@ -1,5 +1,11 @@
--- The JSON form, a file for each type.
+-- The JSON of a type: one file per type.
+pub mod Dependency
+pub mod DynamicArgument
+pub mod DynamicDependency
+pub mod ImportAttributes
 pub mod JsDocImportInfo
 pub mod ModuleInfo
 pub mod SpecifierWithMode
+pub mod SpecifierWithRange
+pub mod StaticDependency
 pub mod TypeScriptReference

@@ -1,8 +1,10 @@
 pub mod Comment
 pub mod Conversion
-pub mod ConvertFault
+pub mod Dependency
+pub mod DynamicDependency
+pub mod ImportAttributes
 pub mod InfoFault
 pub mod Json
 pub mod Reach
-pub mod ReachSteps
 pub mod Types
+pub mod internal

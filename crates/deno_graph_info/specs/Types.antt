@@ -17,10 +17,10 @@ use Rattle.std.specs.Prelude.{
 }
 use Rattle.deno_graph_pragmas.specs.Finders.{deno_types_pattern, quoteless_deno_types_pattern}
 use Rattle.deno_graph_pragmas.specs.Split.{TextPart, HasSplit, IsCaptured}
-use Rattle.deno_graph_dependency.specs.declared.specifier_with_range.SpecifierWithRange.{SpecifierWithRange}
+use Rattle.deno_graph_info.specs.declared.analysis.specifier_with_range.SpecifierWithRange.{SpecifierWithRange}
 use Rattle.deno_graph_info.specs.declared.conversion.comment.Comment.{Comment}
 
--- the text names types: between quotes, or else without
+-- the text names types: between quotes, or if there are none, without quotes
 abbrev pub NamesTypesAt : List ℕ → TextPart → Type 0
 NamesTypesAt text part =
     IsCaptured deno_types_pattern text part
@@ -31,9 +31,9 @@ pub record LastNames (comments : List Comment) (comment : Comment) (part : TextP
   pub last : slice_get comments (length comments - 1) ≡ Some comment
   pub names : NamesTypesAt comment.text part
 
--- The columns of the types are the comment's, and the bytes before the part in its text, with two
--- for the comment's marker. One less at the start and one more at the end take in quotes, whether
--- there are any or not, as stored data has it.
+-- The columns of the types: the column of the comment, the bytes before the part in its text, and two for
+-- the characters that begin the comment. One less at the start and one more at the end include quotes,
+-- whether there are any or not, as in stored data.
 abbrev pub start_column : Comment → TextPart → ℕ
 start_column comment part = comment.range.start.character + part.start + 1
 
@@ -57,7 +57,7 @@ AreTypes comments (Some types) =
     (comment : Comment) × (part : TextPart) × LastNames comments comment part
     × (end_column comment part < 2 ^ 64) × (types ≡ types_in comment part)
 
--- the last comment names types whose end has no column
+-- the last comment names types that end beyond the largest column
 abbrev pub HasNoColumn : List Comment → Type 0
 HasNoColumn comments =
     (comment : Comment) × (part : TextPart) × LastNames comments comment part

@@ -1,5 +1,5 @@
-//! What the analysis of one module finds, its JSON form, the conversion from version 1, and which
-//! modules one reaches.
+//! The result of analyzing a module, its JSON, the conversion from version 1 of that JSON, and the
+//! modules that a module reaches.
 #![tactic(auto)]
 
 pub mod analysis;

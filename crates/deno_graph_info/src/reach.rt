@@ -1,21 +1,23 @@
-//! Which modules one reaches by its dependencies.
+//! The modules that a module reaches by its dependencies.
 
 ghost use Rattle.std.specs.Prelude.{◌≡◌, map, IfOk, OnOk, option_map};
 ghost use Rattle.std.specs.Map.{keys_of};
 ghost use Rattle.std.specs.String.{string_bytes};
-ghost use Rattle.deno_graph_text.specs.TextMap.{entries_of, IsAscending};
+ghost use Rattle.deno_graph_base.specs.TextMap.{entries_of, IsAscending};
 ghost use Rattle.deno_graph_info.specs.Reach.{IsReach, named_specifier};
-ghost use Rattle.deno_graph_info.specs.ReachSteps.{Grows, NamesIn, infos_of};
+ghost use Rattle.deno_graph_info.specs.internal.ReachSteps.{Grows, NamesIn, infos_of};
 
 use crate::analysis::{DependencyDescriptor, DynamicArgument, ModuleInfo};
-use deno_graph_text::values::{Text, TextMap};
+use deno_graph_base::values::{Text, TextMap};
 use std::alloc::{AllocError, Global};
 use std::collections::BTreeMap;
 
-/// The keys of the modules that the module at `root` reaches, itself among them, in ascending
-/// order: with each key, every key that is the specifier of one of its static dependencies or the
-/// string argument of one of its dynamic ones. Empty where the root is no key. Specifiers that are
-/// no keys are left out; nothing is resolved.
+/// Returns the keys of the modules that the module at `root` reaches, in ascending order, `root`
+/// included. Returns none if `root` is no key.
+///
+/// A module reaches the keys that are specifiers of its static dependencies or string arguments of
+/// its dynamic dependencies, and what these modules reach. Ignores specifiers that are no keys, and
+/// resolves nothing. The only error is that an allocation fails.
 pub fn reach(
     alloc: Global,
     modules: &BTreeMap<String, ModuleInfo>,
@@ -35,7 +37,7 @@ pub fn reach(
     }
 }
 
-/// Visits each module that is a dependency of this one and wasn't reached before.
+/// Visits each module that is a dependency of this module and wasn't reached before.
 fn visit_dependencies<'a>(
     alloc: Global,
     modules: &'a BTreeMap<String, ModuleInfo>,
@@ -55,8 +57,8 @@ fn visit_dependencies<'a>(
     Ok(())
 }
 
-/// Marks the module at `key` as reached, and as one whose dependencies are still to be visited,
-/// if there is one and it wasn't reached before.
+/// Marks the module at `key`, if there is one, as reached, and adds it to the pending modules unless
+/// it was reached before.
 fn visit<'a>(
     alloc: Global,
     modules: &'a BTreeMap<String, ModuleInfo>,
@@ -79,7 +81,7 @@ fn visit<'a>(
     }
 }
 
-/// The specifier of a static dependency, or the string argument of a dynamic one.
+/// Returns the specifier of a static dependency, or the string argument of a dynamic one.
 fn specifier_of(dependency: &DependencyDescriptor) -> Option<&str>
     ensures { option_map (λ s. s.now) result ≡ named_specifier dependency.now }
 {
@@ -92,7 +94,7 @@ fn specifier_of(dependency: &DependencyDescriptor) -> Option<&str>
     }
 }
 
-/// The keys, in ascending order.
+/// Copies the keys, in ascending order.
 fn keys_reached(alloc: Global, reached: &TextMap<()>) -> Result<Vec<String>, AllocError>
     ensures keys { IfOk result (λ keys. map string_bytes keys.items ≡ keys_of reached.now) }
     ensures ascending { OnOk result (IsAscending reached.now) }

@@ -23,8 +23,8 @@ quads = refl
 
 in_range : (low count c : ℕ) → none_from low count → low ≤ c → c < low + count → is_alphabetic c ≡ false
 in_range low count c none from below =
-    let place : low + (c - low) ≡ c = omega arith in
-    subst (λ n. is_alphabetic n ≡ false) place
+    let sum : low + (c - low) ≡ c = omega arith in
+    subst (λ n. is_alphabetic n ≡ false) sum
     (agree_below_at (λ k. is_alphabetic (low + k)) (λ _. false) count (c - low) none (omega arith))
 
 between : (low count c : ℕ) → none_from (low + 1) count
@@ -64,7 +64,7 @@ not_alphabetic c is =
     ⊎_elim (white c) (or_exactly _ 45 c refl (exactly 58 c refl))
     (or_cases (is_whitespace c) (eqb c 58 || eqb c 45) is)
 
--- so an Alphabetic character ends no identifier, and is no white space
+-- an Alphabetic character ends no identifier, and is no white space
 pub Alphabetic-ends_ident : (c : ℕ) → is_alphabetic c ≡ true → ends_ident c ≡ false
 Alphabetic-ends_ident c is =
     false_from_ne_true (ends_ident c) (λ ends. both_ways (is_alphabetic c) (not_alphabetic c ends) is)
@@ -73,7 +73,7 @@ pub Alphabetic-is_whitespace : (c : ℕ) → is_alphabetic c ≡ true → is_whi
 Alphabetic-is_whitespace c is =
     false_from_ne_true (is_whitespace c) (λ space. both_ways (is_alphabetic c) (white c space) is)
 
--- nor are a quote and a brace
+-- quotes and braces are not Alphabetic
 pub double_quote_no_letter : is_alphabetic double_quote ≡ false
 unfolding is_alphabetic alphabetic_ranges in_ranges
 double_quote_no_letter = refl

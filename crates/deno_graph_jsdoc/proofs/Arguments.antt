@@ -10,51 +10,52 @@ use denote.Ref.{Bor}
 use Rattle.deno_graph_jsdoc.specs.Characters.{opening_brace, closing_brace}
 use Rattle.deno_graph_jsdoc.specs.JsDocGrammar.{◌·◌, Is, IsSpace, IsModeBlock, IsOptions, IsSecond, IsUpTo}
 use Rattle.deno_graph_jsdoc.specs.JsDocGrammar.{Lacks, Begins, Anything, NoSpace}
-use Rattle.deno_graph_jsdoc.specs.JsDocReading.{ReadsImport, HasArguments, IsDynamicEnd, EndsArguments, Reads}
-use Rattle.deno_graph_jsdoc.specs.JsDocReading.{rest_and_mode}
+use Rattle.deno_graph_jsdoc.specs.internal.Reading.{ReadsImport, HasArguments, IsDynamicEnd}
+use Rattle.deno_graph_jsdoc.specs.internal.Reading.{EndsArguments, Reads}
+use Rattle.deno_graph_jsdoc.specs.internal.Reading.{rest_and_mode}
 use Rattle.deno_graph_jsdoc.specs.JsDocImport.{Mode, Import, IsDynamicImport, EndsDynamicImport, byte_count}
 use Rattle.deno_graph_jsdoc.specs.JsDocImport.{moved}
 use Rattle.deno_graph_jsdoc.proofs.Blocks.{IsSolid-block, IsSolid-front, Closed-solid}
-use Rattle.deno_graph_jsdoc.proofs.Imports.{no_first, behind_first, no_tail_at_all, longer}
+use Rattle.deno_graph_jsdoc.proofs.Imports.{no_first, after_first, no_tail_at_all, longer}
 use Rattle.deno_graph_jsdoc.proofs.Readings.{Begins-split, Begins-join, Begins-as, IsSolid, IsSolid-word}
 use Rattle.deno_graph_jsdoc.proofs.Readings.{space_read, space_then, then_none, then_some, value_none}
-use Rattle.deno_graph_jsdoc.proofs.Readings.{value_then, lexeme_none, lexeme_then, behind_space, before_space}
+use Rattle.deno_graph_jsdoc.proofs.Readings.{value_then, lexeme_none, lexeme_then, after_space, before_space}
 use Rattle.deno_graph_jsdoc.proofs.Readings.{one_space, same_first, regroup, ungroup, regroup_4, ungroup_4}
 use Rattle.deno_graph_jsdoc.proofs.Readings.{textwise}
 use Rattle.deno_graph_jsdoc.proofs.Runs.{front_of_front, same_space, space_ends, Lacks-not_inside}
 
--- the text up to the first of a word is one text
+-- a text begins with only one text up to the first of a word
 module _ (word : List ℕ) where
-  same_front : (front rest other behind : List ℕ)
-      → ((before after : List ℕ) → other ++ word ≡ before ++ (word ++ after) → after ≡ [])
-      → front ++ (word ++ rest) ≡ other ++ (word ++ behind) → length front ≤ length other → front ≡ other
-  same_front front rest other behind first same fits =
-      let longer = front_of_front (front ++ word) rest (other ++ word) behind
-      (append_assoc front word rest ∙ same ∙ sym (append_assoc other word behind))
+  same_front : (front rest other after : List ℕ)
+      → ((before beyond : List ℕ) → other ++ word ≡ before ++ (word ++ beyond) → beyond ≡ [])
+      → front ++ (word ++ rest) ≡ other ++ (word ++ after) → length front ≤ length other → front ≡ other
+  same_front front rest other after first same fits =
+      let longer = front_of_front (front ++ word) rest (other ++ word) after
+      (append_assoc front word rest ∙ same ∙ sym (append_assoc other word after))
       (omega (arith, length-append front word, length-append other word)) in
       let none = first front longer.0 (longer.1 ∙ append_assoc front word longer.0) in
       append_cancel_right front other word
       (sym (longer.1 ∙ ap (λ t. (front ++ word) ++ t) none ∙ append-nil (front ++ word)))
 
-  one_front : (front rest other behind : List ℕ)
-      → ((before after : List ℕ) → front ++ word ≡ before ++ (word ++ after) → after ≡ [])
-      → ((before after : List ℕ) → other ++ word ≡ before ++ (word ++ after) → after ≡ [])
-      → front ++ (word ++ rest) ≡ other ++ (word ++ behind) → front ≡ other
-  one_front front rest other behind first second same =
-      ⊎_elim (λ less. same_front front rest other behind second same (omega (arith, less)))
-      (λ more. sym (same_front other behind front rest first (sym same) more))
+  one_front : (front rest other after : List ℕ)
+      → ((before beyond : List ℕ) → front ++ word ≡ before ++ (word ++ beyond) → beyond ≡ [])
+      → ((before beyond : List ℕ) → other ++ word ≡ before ++ (word ++ beyond) → beyond ≡ [])
+      → front ++ (word ++ rest) ≡ other ++ (word ++ after) → front ≡ other
+  one_front front rest other after first second same =
+      ⊎_elim (λ less. same_front front rest other after second same (omega (arith, less)))
+      (λ more. sym (same_front other after front rest first (sym same) more))
       (cases_lt (length front) (length other))
 
   -- the parts of such a text
   pub parts_of : {input rest : List ℕ} → Begins (IsUpTo word) input rest
       → (front : List ℕ) × (input ≡ front ++ (word ++ rest)) × Lacks closing_brace front
-      × ((before after : List ℕ) → front ++ word ≡ before ++ (word ++ after) → after ≡ [])
+      × ((before beyond : List ℕ) → front ++ word ≡ before ++ (word ++ beyond) → beyond ≡ [])
   parts_of {input} {rest} b =
       let is = b.is in (
         is.front,
         b.whole ∙ ap (λ t. t ++ rest) is.whole ∙ append_assoc is.front word rest,
         is.unclosed,
-        λ before after same. is.first before after (is.whole ∙ same),
+        λ before beyond same. is.first before beyond (is.whole ∙ same),
       )
 
   pub up_to_none : (input : List ℕ) → ((front rest : List ℕ) → input ≢ front ++ (word ++ rest))
@@ -64,16 +65,16 @@ module _ (word : List ℕ) where
       none parts.0 rest parts.1
 
   module _ (input front rest : List ℕ) (whole : input ≡ front ++ (word ++ rest))
-      (first : (before after : List ℕ) → front ++ word ≡ before ++ (word ++ after) → after ≡ []) where
-    same_parts : {behind : List ℕ} (b : Begins (IsUpTo word) input behind) → front ≡ (parts_of b).0
-    same_parts {behind} b =
+      (first : (before beyond : List ℕ) → front ++ word ≡ before ++ (word ++ beyond) → beyond ≡ []) where
+    same_parts : {after : List ℕ} (b : Begins (IsUpTo word) input after) → front ≡ (parts_of b).0
+    same_parts {after} b =
         let parts = parts_of b in
-        one_front front rest parts.0 behind first parts.3 (sym whole ∙ parts.1)
+        one_front front rest parts.0 after first parts.3 (sym whole ∙ parts.1)
 
-    pub up_to_closed : (inside after : List ℕ) → front ≡ inside ++ closing_brace ∷ after
+    pub up_to_closed : (inside beyond : List ℕ) → front ≡ inside ++ closing_brace ∷ beyond
         → Reads Anything (λ (_ : Unit {0}). IsUpTo word) input None
-    up_to_closed inside after closed _ behind _ b =
-        Lacks-not_inside closing_brace inside after
+    up_to_closed inside beyond closed _ after _ b =
+        Lacks-not_inside closing_brace inside beyond
         (subst (Lacks closing_brace) (sym (same_parts b) ∙ closed) (parts_of b).2)
 
     pub up_to_read : Lacks closing_brace front
@@ -84,28 +85,28 @@ module _ (word : List ℕ) where
         whole = whole ∙ sym (append_assoc front word rest);
         is = record { front = front; whole = refl; unclosed = lacks; first = first };
       },
-      λ other behind _ b.
+      λ other after _ b.
           let parts = parts_of b in
-          let same : front ++ (word ++ behind) ≡ front ++ (word ++ rest) =
-          ap (λ t. t ++ (word ++ behind)) (same_parts b) ∙ sym parts.1 ∙ whole in (
+          let same : front ++ (word ++ after) ≡ front ++ (word ++ rest) =
+          ap (λ t. t ++ (word ++ after)) (same_parts b) ∙ sym parts.1 ∙ whole in (
             refl,
-            append_cancel_left word behind rest
-                (append_cancel_left front (word ++ behind) (word ++ rest) same),
+            append_cancel_left word after rest
+                (append_cancel_left front (word ++ after) (word ++ rest) same),
           ),
     )
 
 -- a text up to a mark has all of a front that lacks the mark
-pub unclosed_front : (mark : ℕ) (front rest unclosed behind : List ℕ) → Lacks mark front
-    → front ++ rest ≡ unclosed ++ mark ∷ behind → (middle : List ℕ) × (unclosed ≡ front ++ middle)
-unclosed_front mark front rest unclosed behind lacks same =
+pub unclosed_front : (mark : ℕ) (front rest unclosed after : List ℕ) → Lacks mark front
+    → front ++ rest ≡ unclosed ++ mark ∷ after → (middle : List ℕ) × (unclosed ≡ front ++ middle)
+unclosed_front mark front rest unclosed after lacks same =
     by_length (cases_lt (length unclosed) (length front))
   where
     by_length : (length unclosed < length front) ⊎ (length front ≤ length unclosed)
         → (middle : List ℕ) × (unclosed ≡ front ++ middle)
-    by_length (inr fits) = front_of_front front rest unclosed (mark ∷ behind) same fits
+    by_length (inr fits) = front_of_front front rest unclosed (mark ∷ after) same fits
     by_length (inl longer) =
-        let middle = front_of_front (unclosed ++ mark ∷ []) behind front rest
-        (append_assoc unclosed (mark ∷ []) behind ∙ sym same)
+        let middle = front_of_front (unclosed ++ mark ∷ []) after front rest
+        (append_assoc unclosed (mark ∷ []) after ∙ sym same)
         (omega (arith, length-append unclosed (mark ∷ []))) in
         absurd (Lacks-not_inside mark unclosed middle.0
         (subst (Lacks mark) (middle.1 ∙ append_assoc unclosed (mark ∷ []) middle.0) lacks))
@@ -120,33 +121,33 @@ Lacks-front mark (x ∷ xs) ys all = (all.0, Lacks-front mark xs ys all.1)
 
 -- where the text up to the first mark has no such word, no text up to the first of the word begins it
 pub up_to_none_unclosed : (word input unclosed : List ℕ) → Lacks closing_brace word
-    → (input ≡ unclosed) ⊎ ((behind : List ℕ) × (input ≡ unclosed ++ closing_brace ∷ behind))
+    → (input ≡ unclosed) ⊎ ((after : List ℕ) × (input ≡ unclosed ++ closing_brace ∷ after))
     → ((front rest : List ℕ) → unclosed ≢ front ++ (word ++ rest))
     → Reads Anything (λ (_ : Unit {0}). IsUpTo word) input None
 up_to_none_unclosed word input unclosed lacks (inl same) none other rest follow b =
-    up_to_none word input (λ front after whole. none front after (sym same ∙ whole)) other rest follow b
-up_to_none_unclosed word input unclosed lacks (inr (behind, closed)) none other rest follow b =
+    up_to_none word input (λ front beyond whole. none front beyond (sym same ∙ whole)) other rest follow b
+up_to_none_unclosed word input unclosed lacks (inr (after, closed)) none other rest follow b =
     let parts = parts_of word b in
-    let middle = unclosed_front closing_brace (parts.0 ++ word) rest unclosed behind
+    let middle = unclosed_front closing_brace (parts.0 ++ word) rest unclosed after
     (Lacks-append closing_brace parts.0 word parts.2 lacks)
     (append_assoc parts.0 word rest ∙ sym parts.1 ∙ closed) in
     none parts.0 middle.0 (middle.1 ∙ append_assoc parts.0 word middle.0)
 
--- and where it has one, the first in the whole text is before the first mark
+-- where the text up to the first mark has the word, the first word of the whole text is before the mark
 pub up_to_read_unclosed : (word input unclosed front rest : List ℕ) → Lacks closing_brace unclosed
-    → (input ≡ unclosed) ⊎ ((behind : List ℕ) × (input ≡ unclosed ++ closing_brace ∷ behind))
-    → (some after : List ℕ) → unclosed ≡ some ++ (word ++ after)
+    → (input ≡ unclosed) ⊎ ((after : List ℕ) × (input ≡ unclosed ++ closing_brace ∷ after))
+    → (some beyond : List ℕ) → unclosed ≡ some ++ (word ++ beyond)
     → input ≡ front ++ (word ++ rest)
-    → ((before after : List ℕ) → front ++ word ≡ before ++ (word ++ after) → after ≡ [])
+    → ((before beyond : List ℕ) → front ++ word ≡ before ++ (word ++ beyond) → beyond ≡ [])
     → Reads Anything (λ (_ : Unit {0}). IsUpTo word) input (Some (rest, tt))
-up_to_read_unclosed word input unclosed front rest lacks form some after has whole first =
+up_to_read_unclosed word input unclosed front rest lacks form some beyond has whole first =
     up_to_read word input front rest whole first
     (Lacks-front closing_brace front middle.0 (subst (Lacks closing_brace) middle.1 lacks))
   where
-    tail_of : (input ≡ unclosed) ⊎ ((behind : List ℕ) × (input ≡ unclosed ++ closing_brace ∷ behind))
+    tail_of : (input ≡ unclosed) ⊎ ((after : List ℕ) × (input ≡ unclosed ++ closing_brace ∷ after))
         → (tail : List ℕ) × (input ≡ unclosed ++ tail)
     tail_of (inl same) = ([], same ∙ sym (append-nil unclosed))
-    tail_of (inr (behind, closed)) = (closing_brace ∷ behind, closed)
+    tail_of (inr (after, closed)) = (closing_brace ∷ after, closed)
 
     tail : (tail : List ℕ) × (input ≡ unclosed ++ tail)
     tail = tail_of form
@@ -157,12 +158,12 @@ up_to_read_unclosed word input unclosed front rest lacks form some after has who
         by_length : (length some < length front) ⊎ (length front ≤ length some) → length front ≤ length some
         by_length (inr fits) = fits
         by_length (inl longer) =
-            let all : some ++ (word ++ (after ++ tail.0)) ≡ front ++ (word ++ rest) =
-            ap (λ t. some ++ t) (sym (append_assoc word after tail.0))
-            ∙ sym (append_assoc some (word ++ after) tail.0) ∙ ap (λ t. t ++ tail.0) (sym has)
+            let all : some ++ (word ++ (beyond ++ tail.0)) ≡ front ++ (word ++ rest) =
+            ap (λ t. some ++ t) (sym (append_assoc word beyond tail.0))
+            ∙ sym (append_assoc some (word ++ beyond) tail.0) ∙ ap (λ t. t ++ tail.0) (sym has)
             ∙ sym tail.1 ∙ whole in
-            let more = front_of_front (some ++ word) (after ++ tail.0) (front ++ word) rest
-            (append_assoc some word (after ++ tail.0) ∙ all ∙ sym (append_assoc front word rest))
+            let more = front_of_front (some ++ word) (beyond ++ tail.0) (front ++ word) rest
+            (append_assoc some word (beyond ++ tail.0) ∙ all ∙ sym (append_assoc front word rest))
             (omega (arith, length-append some word, length-append front word)) in
             let none = first some more.0 (more.1 ∙ append_assoc some word more.0) in
             omega (
@@ -177,7 +178,7 @@ up_to_read_unclosed word input unclosed front rest lacks form some after has who
     middle : (middle : List ℕ) × (unclosed ≡ front ++ middle)
     middle =
         front_of_front front (word ++ rest) unclosed tail.0 (sym whole ∙ tail.1)
-        (omega (arith, sooner, ap length has, length-append some (word ++ after)))
+        (omega (arith, sooner, ap length has, length-append some (word ++ beyond)))
 
 -- options: a comma, a brace, `with`, a colon, a block and a brace
 abbrev BlockEnd : Mode → List ℕ → Type 0
@@ -254,18 +255,18 @@ module _ (a : List ℕ) where
           options_no_block none = from_colon None
               (value_none Anything Anything IsModeBlock (IsSpace · Is (codes "}")) (λ _ _ _ _. tt) e none)
 
-          pub options_read : (behind : List ℕ) (mode : Mode) (o : Option (List ℕ × Unit {0}))
-              → Reads Anything IsModeBlock e (Some (behind, mode))
-              → Reads Anything (λ (_ : Unit {0}). Is (codes "}")) (skip_leading_whitespace behind) o
+          pub options_read : (after : List ℕ) (mode : Mode) (o : Option (List ℕ × Unit {0}))
+              → Reads Anything IsModeBlock e (Some (after, mode))
+              → Reads Anything (λ (_ : Unit {0}). Is (codes "}")) (skip_leading_whitespace after) o
               → Reads Anything IsOptions a (option_map (λ x. (x.0, mode)) o)
-          options_read behind mode o block closed =
+          options_read after mode o block closed =
               from_colon (option_map (λ x. (x.0, mode)) o)
               (value_then Anything Anything IsModeBlock (IsSpace · Is (codes "}"))
-              (λ _ _ _ _. tt) e behind mode o block
+              (λ _ _ _ _. tt) e after mode o block
               (space_then Anything (λ (_ : Unit {0}). Is (codes "}"))
-              (λ _ text is. Closed-solid text is) behind o closed))
+              (λ _ text is. Closed-solid text is) after o closed))
 
--- what is behind the specifier: maybe options, and the closing parenthesis
+-- what is after the specifier: maybe options, and the closing parenthesis
 abbrev pub Paren : List ℕ → Type 0
 Paren = Is (codes ")")
 
@@ -276,66 +277,66 @@ abbrev Close : Unit {0} → List ℕ → Type 0
 Close _ = IsSpace · Paren
 
 -- with options, or without
-pub tail_apart : {behind rest : List ℕ} {mode : Mode} → EndsArguments behind mode rest
-    → Begins (IsOptions mode · IsSpace · Paren) (skip_leading_whitespace behind) rest
-    ⊎ ((mode ≡ None) × Begins Paren (skip_leading_whitespace behind) rest)
+pub tail_apart : {after rest : List ℕ} {mode : Mode} → EndsArguments after mode rest
+    → Begins (IsOptions mode · IsSpace · Paren) (skip_leading_whitespace after) rest
+    ⊎ ((mode ≡ None) × Begins Paren (skip_leading_whitespace after) rest)
 tail_apart b =
     let parts = Begins-split b in
     let second = Begins-split parts.2 in
     by_form parts.1 second.1.is second.1.whole second.2
   where
-    by_form : {behind middle last rest piece : List ℕ} {mode : Mode} → Begins IsSpace behind middle
+    by_form : {after middle last rest piece : List ℕ} {mode : Mode} → Begins IsSpace after middle
         → IsSecond mode piece → middle ≡ piece ++ last → Begins (IsSpace · Paren) last rest
-        → Begins (IsOptions mode · IsSpace · Paren) (skip_leading_whitespace behind) rest
-        ⊎ ((mode ≡ None) × Begins Paren (skip_leading_whitespace behind) rest)
+        → Begins (IsOptions mode · IsSpace · Paren) (skip_leading_whitespace after) rest
+        ⊎ ((mode ≡ None) × Begins Paren (skip_leading_whitespace after) rest)
     by_form {piece = piece} {mode = mode} space (inl is) whole close =
-        inl (behind_space (IsSolid-front (Options-solid mode))
+        inl (after_space (IsSolid-front (Options-solid mode))
         (Begins-join space (Begins-join (record { piece = piece; whole = whole; is = is }) close)))
-    by_form {behind} {middle} {last} {rest} {piece} space (inr none) whole close =
+    by_form {after} {middle} {last} {rest} {piece} space (inr none) whole close =
         let same : middle ≡ last = whole ∙ ap (λ t. t ++ last) none.0 in
         inr (
           none.1,
-          behind_space Paren-solid
+          after_space Paren-solid
               (one_space (Begins-join space (subst (λ m. Begins (IsSpace · Paren) m rest) (sym same) close))),
         )
 
-tail_with : {behind rest : List ℕ} {mode : Mode} → Begins (IsOptions mode · IsSpace · Paren)
-    (skip_leading_whitespace behind) rest → EndsArguments behind mode rest
-tail_with {behind} b =
+tail_with : {after rest : List ℕ} {mode : Mode} → Begins (IsOptions mode · IsSpace · Paren)
+    (skip_leading_whitespace after) rest → EndsArguments after mode rest
+tail_with {after} b =
     let parts = Begins-split b in
-    Begins-join (space_read behind).0 (Begins-join (Begins-as (λ text is. inl is) parts.1) parts.2)
+    Begins-join (space_read after).0 (Begins-join (Begins-as (λ text is. inl is) parts.1) parts.2)
 
-tail_without : {behind rest : List ℕ} → Begins Paren (skip_leading_whitespace behind) rest
-    → EndsArguments behind None rest
-tail_without {behind} b =
-    Begins-join (space_read behind).0
+tail_without : {after rest : List ℕ} → Begins Paren (skip_leading_whitespace after) rest
+    → EndsArguments after None rest
+tail_without {after} b =
+    Begins-join (space_read after).0
     (Begins-join (record { piece = []; whole = refl; is = inr (refl, refl) })
     (Begins-join (record { piece = []; whole = refl; is = tt }) b))
 
--- the only end of the arguments, or that there is none
+-- the only end of the arguments, or a proof that there is none
 abbrev pub OnlyEnd : List ℕ → Mode → Option (List ℕ × Unit {0}) → Type 0
-OnlyEnd behind chosen None = (mode : Mode) (rest : List ℕ) → EndsArguments behind mode rest → ⊥
-OnlyEnd behind chosen (Some x) =
-    EndsArguments behind chosen x.0
-    × ((mode : Mode) (rest : List ℕ) → EndsArguments behind mode rest → (mode ≡ chosen) × (rest ≡ x.0))
+OnlyEnd after chosen None = (mode : Mode) (rest : List ℕ) → EndsArguments after mode rest → ⊥
+OnlyEnd after chosen (Some x) =
+    EndsArguments after chosen x.0
+    × ((mode : Mode) (rest : List ℕ) → EndsArguments after mode rest → (mode ≡ chosen) × (rest ≡ x.0))
 
-pub options_apart : {input rest behind : List ℕ} {mode : Mode} → Begins (IsOptions mode) input rest
-    → Begins Paren input behind → ⊥
+pub options_apart : {input rest after : List ℕ} {mode : Mode} → Begins (IsOptions mode) input rest
+    → Begins Paren input after → ⊥
 options_apart options paren =
     let heads : ◌≡◌ {A = ℕ} 44 41 = same_first (Begins-split options).1 paren in
     omega (arith, heads)
 
-module _ (behind : List ℕ) where
+module _ (after : List ℕ) where
   pub with_options : (middle : List ℕ) (mode : Mode)
-      → Reads Anything IsOptions (skip_leading_whitespace behind) (Some (middle, mode))
+      → Reads Anything IsOptions (skip_leading_whitespace after) (Some (middle, mode))
       → (o : Option (List ℕ × Unit {0})) → Reads Anything (λ (_ : Unit {0}). Paren)
-      (skip_leading_whitespace middle) o → OnlyEnd behind mode o
+      (skip_leading_whitespace middle) o → OnlyEnd after mode o
   with_options middle mode found None none = λ other rest b. elim (tail_apart b) [
     | inl options ↦
         let parts = Begins-split options in
         let same = found.1 other parts.0 tt parts.1 in
         none tt rest tt
-        (behind_space Paren-solid (subst (λ m. Begins (IsSpace · Paren) m rest) same.1 parts.2))
+        (after_space Paren-solid (subst (λ m. Begins (IsSpace · Paren) m rest) same.1 parts.2))
     | inr no_options ↦ options_apart found.0 no_options.1
   ]
   with_options middle mode found (Some x) paren = (
@@ -346,15 +347,15 @@ module _ (behind : List ℕ) where
           let same = found.1 other parts.0 tt parts.1 in (
             same.0,
             (paren.1 tt rest tt
-                (behind_space Paren-solid (subst (λ m. Begins (IsSpace · Paren) m rest) same.1 parts.2))).1,
+                (after_space Paren-solid (subst (λ m. Begins (IsSpace · Paren) m rest) same.1 parts.2))).1,
           )
       | inr no_options ↦ absurd (options_apart found.0 no_options.1)
     ],
   )
 
-  pub without_options : Reads Anything IsOptions (skip_leading_whitespace behind) None
+  pub without_options : Reads Anything IsOptions (skip_leading_whitespace after) None
       → (o : Option (List ℕ × Unit {0})) → Reads Anything (λ (_ : Unit {0}). Paren)
-      (skip_leading_whitespace behind) o → OnlyEnd behind None o
+      (skip_leading_whitespace after) o → OnlyEnd after None o
   without_options no_options None none = λ other rest b. elim (tail_apart b) [
     | inl options ↦
         let parts = Begins-split options in
@@ -371,28 +372,28 @@ module _ (behind : List ℕ) where
     ],
   )
 
-  -- the options that a parser gives, or none and all that is behind white space
+  -- the options that a parser reads, or none and the text after white space
   pub arguments_end : (found : Option (Bor (List ℕ) × Mode)) (all : Bor (List ℕ))
-      (chosen : Bor (List ℕ) × Mode) → chars all.now ≡ skip_leading_whitespace behind
+      (chosen : Bor (List ℕ) × Mode) → chars all.now ≡ skip_leading_whitespace after
       → Reads Anything IsOptions (chars all.now) (rest_and_mode found) → chosen ≡ unwrap_or found (all, None)
       → (o : Option (List ℕ × Unit {0})) → Reads Anything (λ (_ : Unit {0}). Paren)
-      (skip_leading_whitespace (chars chosen.0.now)) o → OnlyEnd behind chosen.1 o
+      (skip_leading_whitespace (chars chosen.0.now)) o → OnlyEnd after chosen.1 o
   arguments_end None all chosen skipped reads is o paren =
-      let none : Reads Anything IsOptions (skip_leading_whitespace behind) None =
+      let none : Reads Anything IsOptions (skip_leading_whitespace after) None =
       subst (λ t. Reads Anything IsOptions t None) skipped reads in
-      let again : skip_leading_whitespace (chars chosen.0.now) ≡ skip_leading_whitespace behind =
+      let again : skip_leading_whitespace (chars chosen.0.now) ≡ skip_leading_whitespace after =
       ap (λ (c : Bor (List ℕ) × Mode). skip_leading_whitespace (chars c.0.now)) is
       ∙ ap skip_leading_whitespace skipped ∙ skip_twice in
-      subst (λ (m : Mode). OnlyEnd behind m o) (sym (ap (λ (c : Bor (List ℕ) × Mode). c.1) is))
+      subst (λ (m : Mode). OnlyEnd after m o) (sym (ap (λ (c : Bor (List ℕ) × Mode). c.1) is))
       (without_options none o (subst (λ t. Reads Anything (λ (_ : Unit {0}). Paren) t o) again paren))
     where
-      skip_twice : skip_leading_whitespace (skip_leading_whitespace behind) ≡ skip_leading_whitespace behind
-      skip_twice = sym (same_space (skip_leading_whitespace behind) [] (skip_leading_whitespace behind) tt
-          (space_ends behind) refl)
+      skip_twice : skip_leading_whitespace (skip_leading_whitespace after) ≡ skip_leading_whitespace after
+      skip_twice = sym (same_space (skip_leading_whitespace after) [] (skip_leading_whitespace after) tt
+          (space_ends after) refl)
   arguments_end (Some x) all chosen skipped reads is o paren =
-      let found : Reads Anything IsOptions (skip_leading_whitespace behind) (Some (chars x.0.now, x.1)) =
+      let found : Reads Anything IsOptions (skip_leading_whitespace after) (Some (chars x.0.now, x.1)) =
       subst (λ t. Reads Anything IsOptions t (Some (chars x.0.now, x.1))) skipped reads in
-      subst (λ (m : Mode). OnlyEnd behind m o) (sym (ap (λ (c : Bor (List ℕ) × Mode). c.1) is))
+      subst (λ (m : Mode). OnlyEnd after m o) (sym (ap (λ (c : Bor (List ℕ) × Mode). c.1) is))
       (with_options (chars x.0.now) x.1 found o
       (subst (λ (c : Bor (List ℕ) × Mode). Reads Anything (λ (_ : Unit {0}). Paren)
       (skip_leading_whitespace (chars c.0.now)) o) is paren))
@@ -442,13 +443,13 @@ whole_apart = textwise (λ input rest b. regroup b)
 whole_together : (text : List ℕ) → (First tt · Open) text → Whole text
 whole_together = textwise (λ input rest b. ungroup b)
 
-pub end_apart : (behind : List ℕ) (mode : Mode) (rest : List ℕ) → EndsDynamicImport behind mode rest
-    → (middle : List ℕ) × EndsArguments behind mode middle × Begins Through middle rest
-end_apart behind mode rest b = Begins-split (regroup_4 b)
+pub end_apart : (after : List ℕ) (mode : Mode) (rest : List ℕ) → EndsDynamicImport after mode rest
+    → (middle : List ℕ) × EndsArguments after mode middle × Begins Through middle rest
+end_apart after mode rest b = Begins-split (regroup_4 b)
 
-end_together : (behind : List ℕ) (mode : Mode) (middle rest : List ℕ) → EndsArguments behind mode middle
-    → Begins Through middle rest → EndsDynamicImport behind mode rest
-end_together behind mode middle rest arguments b = ungroup_4 (Begins-join arguments b)
+end_together : (after : List ℕ) (mode : Mode) (middle rest : List ℕ) → EndsArguments after mode middle
+    → Begins Through middle rest → EndsDynamicImport after mode rest
+end_together after mode middle rest arguments b = ungroup_4 (Begins-join arguments b)
 
 pub no_import : (input : List ℕ) → Reads Anything First input None → ReadsImport IsDynamicImport input None
 no_import input none = no_first Anything (First tt) Open Whole EndsDynamicImport whole_apart whole_together
@@ -457,7 +458,7 @@ no_import input none = no_first Anything (First tt) Open Whole EndsDynamicImport
 pub from_import : (input middle : List ℕ) (first : Reads Anything First input (Some (middle, tt)))
     (o : Option (List ℕ × Import)) → ReadsImport IsDynamicEnd middle o
     → ReadsImport IsDynamicImport input (option_map (λ x. (x.0, moved (byte_count first.0.piece) x.1)) o)
-from_import input middle first o found = behind_first Anything (First tt) Open Whole EndsDynamicImport
+from_import input middle first o found = after_first Anything (First tt) Open Whole EndsDynamicImport
     whole_apart whole_together (λ _ _ _ _. tt) input middle first o found
 
 pub no_arguments : (middle : List ℕ) → ReadsImport HasArguments middle None
@@ -465,20 +466,20 @@ pub no_arguments : (middle : List ℕ) → ReadsImport HasArguments middle None
 no_arguments middle none =
     no_tail_at_all Open EndsArguments EndsDynamicImport Through end_apart end_together middle none
 
-pub behind_arguments : (middle behind : List ℕ) (import : Import) (o : Option (List ℕ × Unit {0}))
-    → ReadsImport HasArguments middle (Some (behind, import))
-    → Reads Anything (λ (_ : Unit {0}). Through) behind o
+pub after_arguments : (middle after : List ℕ) (import : Import) (o : Option (List ℕ × Unit {0}))
+    → ReadsImport HasArguments middle (Some (after, import))
+    → Reads Anything (λ (_ : Unit {0}). Through) after o
     → ReadsImport IsDynamicEnd middle (option_map (λ (x : List ℕ × Unit {0}). (x.0, import)) o)
-behind_arguments middle behind import o found more = longer Open EndsArguments EndsDynamicImport Through
-    end_apart end_together middle behind import o found more
+after_arguments middle after import o found more = longer Open EndsArguments EndsDynamicImport Through
+    end_apart end_together middle after import o found more
 
 -- where the arguments of a dynamic import end, its text goes on to the end of the text
-pub HasArguments-back : (middle : List ℕ) (import : Import) (behind : List ℕ)
-    → HasArguments middle import behind → (front : List ℕ) × (middle ≡ front ++ behind)
-HasArguments-back middle import behind s =
+pub HasArguments-back : (middle : List ℕ) (import : Import) (after : List ℕ)
+    → HasArguments middle import after → (front : List ℕ) × (middle ≡ front ++ after)
+HasArguments-back middle import after s =
     let tail = s.tail in (
       s.before ++ (s.quote ++ tail.piece),
       s.whole ∙ ap (λ t. s.before ++ (s.quote ++ t)) tail.whole
-          ∙ ap (λ t. s.before ++ t) (sym (append_assoc s.quote tail.piece behind))
-          ∙ sym (append_assoc s.before (s.quote ++ tail.piece) behind),
+          ∙ ap (λ t. s.before ++ t) (sym (append_assoc s.quote tail.piece after))
+          ∙ sym (append_assoc s.before (s.quote ++ tail.piece) after),
     )

@@ -1,4 +1,4 @@
--- A list that ascends, with one more element in its place.
+-- A list that ascends, with one more element inserted.
 use Rattle.std.proofs.Common.{◌≡◌, ℕ, zero, suc, ◌+◌, ◌-◌, ◌<◌, ◌≤◌, ◌⊎◌, inl, inr, Bool, true, false, nat_lt}
 use Rattle.std.proofs.Common.{◌≢◌, List, [], ◌∷◌, ◌++◌, length, take, drop, get_or, map, refl, sym, ap, ◌∙◌}
 use Rattle.std.proofs.Common.{subst, arith}
@@ -11,7 +11,7 @@ use Rattle.std.proofs.lemmas.List.Sorted.{Contains-permutation, IsPermutation-in
 use Rattle.std.specs.List.{AllPairs, Contains, insert}
 use Rattle.std.specs.List.Sorted.{IsPartitionedBy, IsPartitionPoint}
 use Rattle.deno_graph_jsdoc.specs.JsDocImport.{Import, import_of}
-use Rattle.deno_graph_jsdoc.specs.JsDocPass.{GainsImport}
+use Rattle.deno_graph_jsdoc.specs.internal.Pass.{GainsImport}
 use Rattle.deno_graph_jsdoc.specs.declared.import.JsDocImport.{JsDocImport}
 
 module _ {X : Type 0} (R : X → X → Type 0) (xs : List X) (at : ℕ) (y : X) (fits : at ≤ length xs)
@@ -21,8 +21,8 @@ module _ {X : Type 0} (R : X → X → Type 0) (xs : List X) (at : ℕ) (y : X) 
   before_at : (k : ℕ) (d : X) → k < at → get_or (insert xs at y) k d ≡ get_or xs k d
   before_at k d less = get_or-insert_below xs at y d k less fits
 
-  behind_at : (k : ℕ) (d : X) → at < k → get_or (insert xs at y) k d ≡ get_or xs (k - 1) d
-  behind_at k d more =
+  after_at : (k : ℕ) (d : X) → at < k → get_or (insert xs at y) k d ≡ get_or xs (k - 1) d
+  after_at k d more =
       let again : k - 1 + 1 ≡ k = omega arith in
       ap (λ n. get_or (insert xs at y) n d) (sym again)
       ∙ get_or-insert_above xs at y d (k - 1) (omega arith) fits
@@ -40,7 +40,7 @@ module _ {X : Type 0} (R : X → X → Type 0) (xs : List X) (at : ℕ) (y : X) 
           → R (get_or (insert xs at y) i d) (get_or (insert xs at y) j d)
       by_places (inl first) (inl second) =
           subst (λ a. R a (get_or (insert xs at y) j d)) (sym (before_at i d first))
-          (subst (R (get_or xs i d)) (sym (behind_at j d second))
+          (subst (R (get_or xs i d)) (sym (after_at j d second))
           (pairs i (j - 1) d (omega arith) (omega (arith, size))))
       by_places (inl first) (inr second) =
           subst (λ a. R a (get_or (insert xs at y) j d)) (sym (before_at i d first)) (by_last (cases_lt j at))
@@ -50,10 +50,10 @@ module _ {X : Type 0} (R : X → X → Type 0) (xs : List X) (at : ℕ) (y : X) 
               subst (R (get_or xs i d)) (sym (before_at j d less)) (pairs i j d order (omega arith))
           by_last (inr same) = subst (R (get_or xs i d)) (sym (at_at j d (omega arith))) (below i d first)
       by_places (inr first) (inl second) =
-          subst (R (get_or (insert xs at y) i d)) (sym (behind_at j d second)) (by_first (cases_lt at i))
+          subst (R (get_or (insert xs at y) i d)) (sym (after_at j d second)) (by_first (cases_lt at i))
         where
           by_first : (at < i) ⊎ (i ≤ at) → R (get_or (insert xs at y) i d) (get_or xs (j - 1) d)
-          by_first (inl more) = subst (λ a. R a (get_or xs (j - 1) d)) (sym (behind_at i d more))
+          by_first (inl more) = subst (λ a. R a (get_or xs (j - 1) d)) (sym (after_at i d more))
               (pairs (i - 1) (j - 1) d (omega arith) (omega (arith, size)))
           by_first (inr same) = subst (λ a. R a (get_or xs (j - 1) d)) (sym (at_at i d (omega arith)))
               (above (j - 1) d (omega arith) (omega (arith, size)))
@@ -68,7 +68,7 @@ map-insert f xs at y =
 abbrev Ascends : Import → Import → Type 0
 Ascends import later = import.start < later.start
 
--- an import that is put into its place
+-- an import that is inserted
 pub GainsImport-insert : (old : List Import) (import : Import) (at : ℕ)
     → at ≤ length old → AllPairs Ascends old
     → ((k : ℕ) (d : Import) → k < at → (get_or old k d).start < import.start)
@@ -79,7 +79,7 @@ GainsImport-insert old import at fits pairs below above = record {
   only = λ other has. by_head other (Contains-permutation (insert old at import) (import ∷ old) other
       (IsPermutation-sym (import ∷ old) (insert old at import) (IsPermutation-insert old at import)) has);
   kept = λ other has. Contains-permutation (import ∷ old) (insert old at import) other
-      (IsPermutation-insert old at import) (behind_head other has);
+      (IsPermutation-insert old at import) (after_head other has);
   there = (
     import,
     Contains-permutation (import ∷ old) (insert old at import) import
@@ -96,8 +96,8 @@ GainsImport-insert old import at fits pairs below above = record {
         by_place zero inside is = inr is
         by_place (suc k) inside is = inl (k, omega arith, is)
 
-    behind_head : (other : Import) → Contains old other → Contains (import ∷ old) other
-    behind_head other (k, inside, is) = (suc k, omega arith, is)
+    after_head : (other : Import) → Contains old other → Contains (import ∷ old) other
+    after_head other (k, inside, is) = (suc k, omega arith, is)
 
 -- an import whose start is there already
 pub GainsImport-same : (old : List Import) (import : Import) → AllPairs Ascends old → (k : ℕ) → k < length old
@@ -110,7 +110,7 @@ GainsImport-same old import pairs k inside same = record {
   there = (get_or old k import, Contains-get_or old k import inside, same import);
 }
 
--- the same of values of the program, by the place that a search gives
+-- inserted values of the program, by the index that a search returns
 abbrev pub is_before : ℕ → JsDocImport → Bool
 is_before start other = nat_lt other.specifier_range.start start
 
@@ -222,8 +222,8 @@ same_ascending (x ∷ xs) (y ∷ ys) up rise to from =
         by_places : (y ≡ x) ⊎ Contains ys x → (x ≡ y) ⊎ Contains xs y → x ≡ y
         by_places (inl same) other = sym same
         by_places (inr later) (inl same) = same
-        by_places (inr later) (inr behind) =
-            absurd (omega (arith, head_below y ys rise x later, head_below x xs up y behind))
+        by_places (inr later) (inr after) =
+            absurd (omega (arith, head_below y ys rise x later, head_below x xs up y after))
 
     to_tail : (z : Import) → Contains xs z → Contains ys z
     to_tail z has = by_place (head_or_tail y ys z (to z (in_tail x xs z has)))

@@ -1,4 +1,4 @@
--- What the parsers of attributes answer.
+-- The results of the parsers of attributes.
 use Rattle.std.proofs.Common.{◌≡◌, ℕ, inl, inr, true, false, Option, Some, None, List, [], ◌∷◌, ◌++◌, refl}
 use Rattle.std.proofs.Common.{sym, ap, ◌∙◌, subst, codes, option_map, arith}
 use Rattle.std.proofs.lemmas.Bool.{both_ways, or_left}
@@ -8,13 +8,13 @@ use Rattle.std.specs.Str.{skip_leading_whitespace}
 use Rattle.deno_graph_jsdoc.specs.Characters.{double_quote, apostrophe, closing_brace}
 use Rattle.deno_graph_jsdoc.specs.JsDocGrammar.{◌·◌, Is, IsSpace, IsQuote, IsIdent, IsKey, IsAttribute}
 use Rattle.deno_graph_jsdoc.specs.JsDocGrammar.{Begins, Anything, NoSpace}
-use Rattle.deno_graph_jsdoc.specs.JsDocReading.{EndOfIdent, Reads}
+use Rattle.deno_graph_jsdoc.specs.internal.Reading.{EndOfIdent, Reads}
 use Rattle.deno_graph_jsdoc.proofs.Alphabetic.{double_quote_no_letter, apostrophe_no_letter}
 use Rattle.deno_graph_jsdoc.proofs.Alphabetic.{closing_brace_no_letter}
 use Rattle.deno_graph_jsdoc.proofs.Readings.{Begins-split, IsSolid, IsSolid-word, both_none, both_then}
 use Rattle.deno_graph_jsdoc.proofs.Readings.{space_then, lexeme_none, lexeme_then}
 
--- what a quote and an identifier begin with
+-- the first characters of quotes and identifiers
 begins_quoted : (inside text rest : List ℕ) → IsQuote inside text → (c : ℕ) × (cs : List ℕ)
     × (text ++ rest ≡ c ∷ cs) × (is_alphabetic c ≡ false) × (is_whitespace c ≡ false)
 begins_quoted inside text rest (inl (_, is)) = (
@@ -32,11 +32,11 @@ pub begins_alphabetic : (text rest : List ℕ) → IsIdent text → (c : ℕ) ×
 begins_alphabetic [] rest is = absurd is
 begins_alphabetic (c ∷ cs) rest is = (c, cs ++ rest, refl, is.0)
 
-pub apart : (inside : List ℕ) {input rest behind : List ℕ} → Begins (IsQuote inside) input rest
-    → Begins IsIdent input behind → ⊥
-apart inside {input} {rest} {behind} quoted named =
+pub apart : (inside : List ℕ) {input rest after : List ℕ} → Begins (IsQuote inside) input rest
+    → Begins IsIdent input after → ⊥
+apart inside {input} {rest} {after} quoted named =
     let quote = begins_quoted inside quoted.piece rest quoted.is in
-    let ident = begins_alphabetic named.piece behind named.is in
+    let ident = begins_alphabetic named.piece after named.is in
     let same : quote.0 ∷ quote.1 ≡ ident.0 ∷ ident.1 =
     sym quote.2 ∙ sym quoted.whole ∙ named.whole ∙ ident.2 in
     let first : quote.0 ≡ ident.0 = cc in
@@ -70,8 +70,8 @@ pub key_quoted : (input rest inside : List ℕ) → Reads Anything IsQuote input
     → Reads EndOfIdent IsKey input (Some (rest, inside))
 key_quoted input rest inside found = (
   record { piece = found.0.piece; whole = found.0.whole; is = inl found.0.is },
-  λ other behind end b. elim b.is [
-    | inl is ↦ found.1 other behind tt (record { piece = b.piece; whole = b.whole; is = is })
+  λ other after end b. elim b.is [
+    | inl is ↦ found.1 other after tt (record { piece = b.piece; whole = b.whole; is = is })
     | inr is ↦ absurd (apart inside found.0 (record { piece = b.piece; whole = b.whole; is = is.0 }))
   ],
 )
@@ -84,9 +84,9 @@ key_named input None no_quote none = λ key rest end b. elim b.is [
 ]
 key_named input (Some x) no_quote found = (
   record { piece = found.0.piece; whole = found.0.whole; is = inr found.0.is },
-  λ other behind end b. elim b.is [
-    | inl is ↦ absurd (no_quote other behind tt (record { piece = b.piece; whole = b.whole; is = is }))
-    | inr is ↦ found.1 other behind end (record { piece = b.piece; whole = b.whole; is = is })
+  λ other after end b. elim b.is [
+    | inl is ↦ absurd (no_quote other after tt (record { piece = b.piece; whole = b.whole; is = is }))
+    | inr is ↦ found.1 other after end (record { piece = b.piece; whole = b.whole; is = is })
   ],
 )
 
@@ -97,10 +97,10 @@ EndOfIdent-colon {Q} input rest b =
     let parts = Begins-split b in
     by_space parts.1.piece parts.0 parts.1.is parts.1.whole (Begins-split parts.2).1
   where
-    by_space : (space middle : List ℕ) → IsSpace space → input ≡ space ++ middle → {behind : List ℕ}
-        → Begins (Is (codes ":")) middle behind → EndOfIdent input
-    by_space [] middle white whole {behind} colon =
-        subst EndOfIdent (sym (whole ∙ colon.whole ∙ ap (λ t. t ++ behind) colon.is)) refl
+    by_space : (space middle : List ℕ) → IsSpace space → input ≡ space ++ middle → {after : List ℕ}
+        → Begins (Is (codes ":")) middle after → EndOfIdent input
+    by_space [] middle white whole {after} colon =
+        subst EndOfIdent (sym (whole ∙ colon.whole ∙ ap (λ t. t ++ after) colon.is)) refl
     by_space (c ∷ cs) middle white whole colon =
         subst EndOfIdent (sym whole) (or_left (is_whitespace c) _ white.0)
 
@@ -131,10 +131,10 @@ module _ (input middle key : List ℕ) (found : Reads EndOfIdent IsKey input (So
   attribute_no_colon none = with_value None
       (lexeme_none Anything IsQuote IsSolid-quote (Is (codes ":")) (skip_leading_whitespace middle) none)
 
-  pub attribute_read : (behind : List ℕ) → Reads NoSpace (λ (_ : Unit {0}). Is (codes ":") · IsSpace)
-      (skip_leading_whitespace middle) (Some (behind, tt))
-      → (o : Option (List ℕ × List ℕ)) → Reads Anything IsQuote behind o
+  pub attribute_read : (after : List ℕ) → Reads NoSpace (λ (_ : Unit {0}). Is (codes ":") · IsSpace)
+      (skip_leading_whitespace middle) (Some (after, tt))
+      → (o : Option (List ℕ × List ℕ)) → Reads Anything IsQuote after o
       → Reads Anything IsAttribute input (option_map (λ x. (x.0, record { key = key; value = x.1 })) o)
-  attribute_read behind colon o value =
+  attribute_read after colon o value =
       with_value o (lexeme_then Anything IsQuote IsSolid-quote (Is (codes ":"))
-      (skip_leading_whitespace middle) behind o colon value)
+      (skip_leading_whitespace middle) after o colon value)

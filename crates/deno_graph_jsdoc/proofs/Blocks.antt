@@ -7,16 +7,16 @@ use Rattle.deno_graph_jsdoc.specs.Characters.{opening_brace, closing_brace}
 use Rattle.deno_graph_jsdoc.specs.JsDocGrammar.{◌·◌, Is, IsSpace, IsIdent, IsKey, Attribute, IsAttribute}
 use Rattle.deno_graph_jsdoc.specs.JsDocGrammar.{AreFurther, AreAttributes, IsBlock, IsModeBlock, IsWith}
 use Rattle.deno_graph_jsdoc.specs.JsDocGrammar.{resolution_mode_value, mode_of, Begins, Anything, NoSpace}
-use Rattle.deno_graph_jsdoc.specs.JsDocReading.{IsModeBlockEnd, Reads}
-use Rattle.deno_graph_text.specs.ResolutionMode.{mode_named}
-use Rattle.deno_graph_text.specs.declared.values.resolution_mode.TypeScriptTypesResolutionMode.{
+use Rattle.deno_graph_jsdoc.specs.internal.Reading.{IsModeBlockEnd, Reads}
+use Rattle.deno_graph_base.specs.ResolutionMode.{mode_named}
+use Rattle.deno_graph_base.specs.declared.values.resolution_mode.TypeScriptTypesResolutionMode.{
   TypeScriptTypesResolutionMode,
 }
 use Rattle.deno_graph_jsdoc.proofs.Alphabetic.{Alphabetic-is_whitespace}
 use Rattle.deno_graph_jsdoc.proofs.Attributes.{IsSolid-quote, key_no_brace}
 use Rattle.deno_graph_jsdoc.proofs.Readings.{Begins-split, Begins-join, IsSolid, IsSolid-append, IsSolid-word}
 use Rattle.deno_graph_jsdoc.proofs.Readings.{NoSpace-before, regroup, ungroup, regroup_4, ungroup_4}
-use Rattle.deno_graph_jsdoc.proofs.Readings.{one_space, behind_space, before_space, behind_nothing}
+use Rattle.deno_graph_jsdoc.proofs.Readings.{one_space, after_space, before_space, after_nothing}
 use Rattle.deno_graph_jsdoc.proofs.Readings.{before_nothing, lexeme_none, lexeme_then, same_first}
 
 -- an attribute begins with no white space
@@ -59,19 +59,19 @@ Follows (a ∷ others) input rest = Begins (More (a ∷ others)) (skip_leading_w
 
 pub further_apart : (others : List Attribute) {input rest : List ℕ}
     → Begins (AreFurther others · IsSpace · Closed) input rest → Follows others input rest
-further_apart [] b = behind_space Closed-solid (behind_nothing b)
-further_apart (a ∷ others) b = behind_space (IsSolid-word 44 [] refl) (ungroup_4 b)
+further_apart [] b = after_space Closed-solid (after_nothing b)
+further_apart (a ∷ others) b = after_space (IsSolid-word 44 [] refl) (ungroup_4 b)
 
 further_together : (others : List Attribute) (input : List ℕ) {rest : List ℕ} → Follows others input rest
     → Begins (AreFurther others · IsSpace · Closed) input rest
 further_together [] input b = before_nothing (before_space input b)
 further_together (a ∷ others) input b = regroup_4 (before_space input b)
 
--- the attribute with which a text begins is the first of any attributes with which it begins
-module _ (rest behind : List ℕ) (a : Attribute)
-    (found : Reads Anything IsAttribute rest (Some (behind, a))) where
+-- if a text begins with attributes, the attribute at its start is the first of them
+module _ (rest after : List ℕ) (a : Attribute)
+    (found : Reads Anything IsAttribute rest (Some (after, a))) where
   first_apart : (all : List Attribute) {end : List ℕ} → 0 < length all → Begins (Through all) rest end
-      → (others : List Attribute) × (all ≡ a ∷ others) × Follows others behind end
+      → (others : List Attribute) × (all ≡ a ∷ others) × Follows others after end
   first_apart [] some b = absurd (omega arith)
   first_apart (b ∷ others) {end} some begins =
       let parts = Begins-split (ungroup begins) in
@@ -82,9 +82,9 @@ module _ (rest behind : List ℕ) (a : Attribute)
             (further_apart others parts.2),
       )
 
-  first_together : (others : List Attribute) {end : List ℕ} → Follows others behind end
+  first_together : (others : List Attribute) {end : List ℕ} → Follows others after end
       → Begins (Through (a ∷ others)) rest end
-  first_together others follows = regroup (Begins-join found.0 (further_together others behind follows))
+  first_together others follows = regroup (Begins-join found.0 (further_together others after follows))
 
 -- what has been read of a block: some attributes, whatever follows them
 pub record SoFar (input rest : List ℕ) (name : Option (List ℕ)) : Type 0 where
@@ -103,7 +103,7 @@ SoFar-start input = record {
   complete = λ all end some b. (all, some, refl, b);
 }
 
--- no attribute comes
+-- no attribute follows
 pub block_no_attribute : (input rest : List ℕ) (name : Option (List ℕ)) → SoFar input rest name
     → Reads Anything IsAttribute rest None → Reads Anything IsModeBlockEnd input None
 block_no_attribute input rest name so_far none mode end _ b =
@@ -118,7 +118,7 @@ block_no_attribute input rest name so_far none mode end _ b =
         let parts = Begins-split (ungroup begins) in
         none a parts.0 tt parts.1
 
--- what is left is known
+-- what is left is cached
 module _ (input rest : List ℕ) (name : Option (List ℕ)) (so_far : SoFar input rest name) where
   left_of : {mode : Option TypeScriptTypesResolutionMode} {end : List ℕ}
       → Begins (IsModeBlockEnd mode) input end
@@ -137,12 +137,12 @@ module _ (input rest : List ℕ) (name : Option (List ℕ)) (so_far : SoFar inpu
       let left = left_of b in
       none (mode_of left.0) end tt left.2
 
-  pub block_known : (end : List ℕ) (mode whole_mode : Option TypeScriptTypesResolutionMode)
+  pub block_cached : (end : List ℕ) (mode whole_mode : Option TypeScriptTypesResolutionMode)
       → Reads Anything IsModeBlockEnd rest (Some (end, mode))
       → ((before others : List Attribute) → name ≡ resolution_mode_value before → mode ≡ mode_of others
       → whole_mode ≡ mode_of (before ++ others))
       → Reads Anything IsModeBlockEnd input (Some (end, whole_mode))
-  block_known end mode whole_mode found named =
+  block_cached end mode whole_mode found named =
       let more = found.0.is in
       let all : List Attribute = so_far.before ++ more.0 in
       let some : 0 < length all = omega (arith, length-append so_far.before more.0, more.1) in
@@ -153,21 +153,21 @@ module _ (input rest : List ℕ) (name : Option (List ℕ)) (so_far : SoFar inpu
           whole = begins.whole;
           is = (all, some, named so_far.before more.0 so_far.named more.2, begins.is);
         },
-        λ other behind _ b.
+        λ other after _ b.
             let left = left_of b in
-            let same = found.1 (mode_of left.0) behind tt left.2 in
+            let same = found.1 (mode_of left.0) after tt left.2 in
             (left.1 ∙ sym (named so_far.before left.0 so_far.named (sym same.0)), same.1),
       )
 
 -- one attribute more
-module _ (input rest behind : List ℕ) (name next : Option (List ℕ)) (a : Attribute)
+module _ (input rest after : List ℕ) (name next : Option (List ℕ)) (a : Attribute)
     (so_far : SoFar input rest name)
-    (found : Reads Anything IsAttribute rest (Some (behind, a)))
+    (found : Reads Anything IsAttribute rest (Some (after, a)))
     (named : (before : List Attribute) → name ≡ resolution_mode_value before
     → next ≡ resolution_mode_value (before ++ a ∷ [])) where
-  -- behind which a comma leads on
+  -- after which a comma leads on
   pub SoFar-more : (later : List ℕ) → Reads NoSpace (λ (_ : Unit {0}). Is (codes ",") · IsSpace)
-      (skip_leading_whitespace behind) (Some (later, tt)) → SoFar input later next
+      (skip_leading_whitespace after) (Some (later, tt)) → SoFar input later next
   SoFar-more later comma = record {
     before = so_far.before ++ a ∷ [];
     named = named so_far.before so_far.named;
@@ -182,9 +182,9 @@ module _ (input rest behind : List ℕ) (name next : Option (List ℕ)) (a : Att
           subst (λ all. Begins (Through all) input end)
           (sym (append_assoc so_far.before (a ∷ []) (x ∷ others)))
           (so_far.sound (a ∷ x ∷ others) end (omega arith)
-          (first_together rest behind a found (x ∷ others) (ungroup (Begins-join comma.0 b))))
+          (first_together rest after a found (x ∷ others) (ungroup (Begins-join comma.0 b))))
 
-      later_of : (others : List Attribute) {end : List ℕ} → Follows others behind end
+      later_of : (others : List Attribute) {end : List ℕ} → Follows others after end
           → (0 < length others) × Begins (Through others) later end
       later_of [] b = absurd
           (let heads : ◌≡◌ {A = ℕ} 44 125 = same_first (Begins-split comma.0).1 b in omega (arith, heads))
@@ -200,7 +200,7 @@ module _ (input rest behind : List ℕ) (name next : Option (List ℕ)) (a : Att
           × Begins (Through more) later end
       complete all end some b =
           let left = so_far.complete all end some b in
-          let first = first_apart rest behind a found left.0 left.1 left.3 in
+          let first = first_apart rest after a found left.0 left.1 left.3 in
           let more = later_of first.0 first.2 in (
             first.0,
             more.0,
@@ -209,9 +209,9 @@ module _ (input rest behind : List ℕ) (name next : Option (List ℕ)) (a : Att
             more.1,
           )
 
-  -- behind which the block is closed
+  -- after which the block is closed
   pub block_closed : (closed : List ℕ) (mode : Option TypeScriptTypesResolutionMode)
-      → Reads Anything (λ (_ : Unit {0}). Closed) (skip_leading_whitespace behind) (Some (closed, tt))
+      → Reads Anything (λ (_ : Unit {0}). Closed) (skip_leading_whitespace after) (Some (closed, tt))
       → mode ≡ option_and_then mode_named next → Reads Anything IsModeBlockEnd input (Some (closed, mode))
   block_closed closed mode brace names =
       let all : List Attribute = so_far.before ++ a ∷ [] in
@@ -219,12 +219,12 @@ module _ (input rest behind : List ℕ) (name next : Option (List ℕ)) (a : Att
       names ∙ ap (option_and_then mode_named) (named so_far.before so_far.named) in
       let some : 0 < length all = omega (arith, length-append so_far.before (a ∷ [])) in
       let begins =
-      so_far.sound (a ∷ []) closed (omega arith) (first_together rest behind a found [] brace.0) in (
+      so_far.sound (a ∷ []) closed (omega arith) (first_together rest after a found [] brace.0) in (
         record { piece = begins.piece; whole = begins.whole; is = (all, some, is_mode, begins.is) },
         λ other end _ b.
             let left = so_far.complete b.is.0 end b.is.1
             (record { piece = b.piece; whole = b.whole; is = b.is.3 }) in
-            let first = first_apart rest behind a found left.0 left.1 left.3 in
+            let first = first_apart rest after a found left.0 left.1 left.3 in
             let last = only first.0 first.2 in (
               b.is.2 ∙ ap mode_of (left.2 ∙ ap (λ t. so_far.before ++ t) (first.1 ∙ ap (λ t. a ∷ t) last.0))
                   ∙ sym is_mode,
@@ -232,23 +232,23 @@ module _ (input rest behind : List ℕ) (name next : Option (List ℕ)) (a : Att
             ),
       )
     where
-      only : (others : List Attribute) {end : List ℕ} → Follows others behind end
+      only : (others : List Attribute) {end : List ℕ} → Follows others after end
           → (others ≡ []) × (end ≡ closed)
       only [] {end} b = (refl, (brace.1 tt end tt b).1)
       only (x ∷ others) b = absurd
           (let heads : ◌≡◌ {A = ℕ} 44 125 = same_first (Begins-split b).1 brace.0 in omega (arith, heads))
 
-  -- behind which neither comes
-  pub block_broken : Reads Anything (λ (_ : Unit {0}). Closed) (skip_leading_whitespace behind) None
-      → Reads NoSpace (λ (_ : Unit {0}). Is (codes ",") · IsSpace) (skip_leading_whitespace behind) None
+  -- after which neither a comma nor a brace follows
+  pub block_broken : Reads Anything (λ (_ : Unit {0}). Closed) (skip_leading_whitespace after) None
+      → Reads NoSpace (λ (_ : Unit {0}). Is (codes ",") · IsSpace) (skip_leading_whitespace after) None
       → Reads Anything IsModeBlockEnd input None
   block_broken no_brace no_comma other end _ b =
       let left =
       so_far.complete b.is.0 end b.is.1 (record { piece = b.piece; whole = b.whole; is = b.is.3 }) in
-      let first = first_apart rest behind a found left.0 left.1 left.3 in
+      let first = first_apart rest after a found left.0 left.1 left.3 in
       neither first.0 first.2
     where
-      neither : (others : List Attribute) → Follows others behind end → ⊥
+      neither : (others : List Attribute) → Follows others after end → ⊥
       neither [] b = no_brace tt end tt b
       neither (x ∷ others) b =
           let parts = Begins-split (regroup b) in
@@ -269,7 +269,7 @@ pub block_apart : (attributes : List Attribute) {input rest : List ℕ} → Begi
 block_apart [] b =
     let open_at = Begins-split b in
     let inside = Begins-split
-    (one_space (Begins-join (Begins-split open_at.2).1 (behind_nothing (Begins-split open_at.2).2))) in
+    (one_space (Begins-join (Begins-split open_at.2).1 (after_nothing (Begins-split open_at.2).2))) in
     (inside.0, Begins-join open_at.1 inside.1, inside.2)
 block_apart (a ∷ others) b =
     let parts = Begins-split (regroup b) in
@@ -283,14 +283,14 @@ block_together [] {input} {middle} {rest} opens inside =
     (before_nothing (Begins-join (record { piece = []; whole = refl; is = tt }) inside)))
 block_together (a ∷ others) opens inside = ungroup (Begins-join opens inside)
 
-pub brace_apart : (attributes : List Attribute) {input rest behind : List ℕ} → 0 < length attributes
-    → Begins (Through attributes) input rest → Begins Closed input behind → ⊥
+pub brace_apart : (attributes : List Attribute) {input rest after : List ℕ} → 0 < length attributes
+    → Begins (Through attributes) input rest → Begins Closed input after → ⊥
 brace_apart [] some b closed = absurd (omega arith)
-brace_apart (a ∷ others) {input} {rest} {behind} some b closed =
+brace_apart (a ∷ others) {input} {rest} {after} some b closed =
     let first = Begins-split (Begins-split (ungroup b)).1 in
-    let whole : first.1.piece ++ first.0 ≡ closing_brace ∷ behind =
-    sym first.1.whole ∙ closed.whole ∙ ap (λ t. t ++ behind) closed.is in
-    key_no_brace a.key first.1.piece first.0 behind first.1.is whole
+    let whole : first.1.piece ++ first.0 ≡ closing_brace ∷ after =
+    sym first.1.whole ∙ closed.whole ∙ ap (λ t. t ++ after) closed.is in
+    key_no_brace a.key first.1.piece first.0 after first.1.is whole
 
 pub block_unopened : (input : List ℕ) → Reads NoSpace (λ (_ : Unit {0}). Is (codes "{") · IsSpace) input None
     → Reads Anything IsModeBlock input None

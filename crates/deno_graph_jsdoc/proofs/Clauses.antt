@@ -1,4 +1,4 @@
--- What the parsers of a declaration's clause answer.
+-- The results of the parsers of a declaration's clause.
 use Rattle.std.proofs.Common.{◌≡◌, ℕ, ◌<◌, ◌⊎◌, inl, inr, true, false, Option, Some, None, List, [], ◌∷◌}
 use Rattle.std.proofs.Common.{◌++◌, length, refl, sym, ap, ◌∙◌, subst, codes, option_map, append_assoc}
 use Rattle.std.proofs.Common.{length-append, arith}
@@ -9,7 +9,7 @@ use Rattle.std.specs.Str.{skip_leading_whitespace}
 use Rattle.deno_graph_jsdoc.specs.Characters.{opening_brace, closing_brace}
 use Rattle.deno_graph_jsdoc.specs.JsDocGrammar.{◌·◌, Is, IsSpace, IsGap, IsIdent, Lacks, IsNames, IsNamespace}
 use Rattle.deno_graph_jsdoc.specs.JsDocGrammar.{IsName, IsClause, Begins, Anything, NoSpace}
-use Rattle.deno_graph_jsdoc.specs.JsDocReading.{EndOfIdent, Reads}
+use Rattle.deno_graph_jsdoc.specs.internal.Reading.{EndOfIdent, Reads}
 use Rattle.deno_graph_jsdoc.proofs.Alphabetic.{opening_brace_no_letter, star_no_letter}
 use Rattle.deno_graph_jsdoc.proofs.Attributes.{begins_alphabetic}
 use Rattle.deno_graph_jsdoc.proofs.Blocks.{IsSolid-ident, IsSolid-front}
@@ -26,8 +26,8 @@ ident_alone input None none =
     λ _ rest end b. none b.piece rest end (record { piece = b.piece; whole = b.whole; is = (b.is, refl) })
 ident_alone input (Some x) found = (
   Begins-as (λ text is. is.0) found.0,
-  λ _ behind end b.
-      (refl, (found.1 b.piece behind end (record { piece = b.piece; whole = b.whole; is = (b.is, refl) })).1),
+  λ _ after end b.
+      (refl, (found.1 b.piece after end (record { piece = b.piece; whole = b.whole; is = (b.is, refl) })).1),
 )
 
 -- white space ends an identifier
@@ -70,23 +70,23 @@ module _ (input : List ℕ) where
       → Reads NoSpace (λ (_ : Unit {0}). IsNamespace) input None
   namespace_no_star none = lexeme_none NoSpace AsName AsName-solid (Is (codes "*")) input none
 
-  module _ (behind : List ℕ)
-      (star : Reads NoSpace (λ (_ : Unit {0}). Is (codes "*") · IsSpace) input (Some (behind, tt))) where
-    from_star : (o : Option (List ℕ × Unit {0})) → Reads NoSpace AsName behind o
+  module _ (after : List ℕ)
+      (star : Reads NoSpace (λ (_ : Unit {0}). Is (codes "*") · IsSpace) input (Some (after, tt))) where
+    from_star : (o : Option (List ℕ × Unit {0})) → Reads NoSpace AsName after o
         → Reads NoSpace (λ (_ : Unit {0}). IsNamespace) input o
-    from_star o found = lexeme_then NoSpace AsName AsName-solid (Is (codes "*")) input behind o star found
+    from_star o found = lexeme_then NoSpace AsName AsName-solid (Is (codes "*")) input after o star found
 
-    pub namespace_no_as : Reads Anything (λ (_ : Unit {0}). Is (codes "as")) behind None
+    pub namespace_no_as : Reads Anything (λ (_ : Unit {0}). Is (codes "as")) after None
         → Reads NoSpace (λ (_ : Unit {0}). IsNamespace) input None
     namespace_no_as none = from_star None
-        (then_none Anything NoSpace (Is (codes "as")) (λ _. IsGap · IsName) (λ _ _ _ _ _. tt) behind none)
+        (then_none Anything NoSpace (Is (codes "as")) (λ _. IsGap · IsName) (λ _ _ _ _ _. tt) after none)
 
     module _ (next : List ℕ)
-        (as_word : Reads Anything (λ (_ : Unit {0}). Is (codes "as")) behind (Some (next, tt))) where
+        (as_word : Reads Anything (λ (_ : Unit {0}). Is (codes "as")) after (Some (next, tt))) where
       from_as : (o : Option (List ℕ × Unit {0})) → Reads NoSpace (λ (_ : Unit {0}). IsGap · IsName) next o
           → Reads NoSpace (λ (_ : Unit {0}). IsNamespace) input o
       from_as o found = from_star o (then_some Anything NoSpace (Is (codes "as")) (λ _. IsGap · IsName)
-          (λ _ _ _ _ _. tt) behind next o as_word found)
+          (λ _ _ _ _ _. tt) after next o as_word found)
 
       pub namespace_no_gap : Reads NoSpace (λ (_ : Unit {0}). IsGap) next None
           → Reads NoSpace (λ (_ : Unit {0}). IsNamespace) input None
@@ -119,14 +119,14 @@ module _ (input : List ℕ) where
         → Reads NoSpace (λ (_ : Unit {0}). IsNames · IsSpace) input None
     names_unclosed none = spaced_none (λ (_ : Unit {0}). IsNames) input (from_brace None none)
 
-    pub names_read : (behind : List ℕ)
-        → Reads Anything (λ (_ : Unit {0}). Lacks closing_brace · Is (codes "}")) middle (Some (behind, tt))
+    pub names_read : (after : List ℕ)
+        → Reads Anything (λ (_ : Unit {0}). Lacks closing_brace · Is (codes "}")) middle (Some (after, tt))
         → Reads NoSpace (λ (_ : Unit {0}). IsNames · IsSpace) input
-        (Some (skip_leading_whitespace behind, tt))
-    names_read behind found =
-        spaced (λ (_ : Unit {0}). IsNames) input behind tt (from_brace (Some (behind, tt)) found)
+        (Some (skip_leading_whitespace after, tt))
+    names_read after found =
+        spaced (λ (_ : Unit {0}). IsNames) input after tt (from_brace (Some (after, tt)) found)
 
--- white space behind what ends in white space
+-- white space after what ends in white space
 abbrev TakesSpace : (List ℕ → Type 0) → Type 0
 TakesSpace P = (text space : List ℕ) → P text → IsSpace space → P (text ++ space)
 
@@ -134,8 +134,8 @@ TakesSpace-gap : TakesSpace IsGap
 TakesSpace-gap text space is white =
     (IsSpace-append text space is.0 white, (let some = is.1 in omega (arith, length-append text space)))
 
-TakesSpace-behind : {P Q : List ℕ → Type 0} → TakesSpace Q → TakesSpace (P · Q)
-TakesSpace-behind takes text space is white = record {
+TakesSpace-after : {P Q : List ℕ → Type 0} → TakesSpace Q → TakesSpace (P · Q)
+TakesSpace-after takes text space is white = record {
   front = is.front;
   back = is.back ++ space;
   whole = ap (λ t. t ++ space) is.whole ∙ append_assoc is.front is.back space;
@@ -151,14 +151,14 @@ with_space {P} takes b =
 no_space : {P : List ℕ → Type 0} {input rest : List ℕ} → Begins P input rest → Begins (P · IsSpace) input rest
 no_space {P} {input} {rest} b = Begins-join b (record { piece = []; whole = refl; is = tt })
 
--- what the three forms begin with
-first_of_name : {input rest behind : List ℕ} (c : ℕ) {cs : List ℕ} → is_alphabetic c ≡ false
-    → Begins IsName input rest → Begins (Is (c ∷ cs)) input behind → ⊥
-first_of_name {input} {rest} {behind} c {cs} not b word =
+-- the first characters of the three forms
+first_of_name : {input rest after : List ℕ} (c : ℕ) {cs : List ℕ} → is_alphabetic c ≡ false
+    → Begins IsName input rest → Begins (Is (c ∷ cs)) input after → ⊥
+first_of_name {input} {rest} {after} c {cs} not b word =
     let first = (Begins-split b).1 in
     let ident = begins_alphabetic first.piece (Begins-split b).0 first.is in
-    let same : ident.0 ∷ ident.1 ≡ c ∷ (cs ++ behind) =
-    sym ident.2 ∙ sym first.whole ∙ word.whole ∙ ap (λ t. t ++ behind) word.is in
+    let same : ident.0 ∷ ident.1 ≡ c ∷ (cs ++ after) =
+    sym ident.2 ∙ sym first.whole ∙ word.whole ∙ ap (λ t. t ++ after) word.is in
     let heads : ident.0 ≡ c = cc in
     both_ways (is_alphabetic c) not (subst (λ d. is_alphabetic d ≡ true) heads ident.3)
 
@@ -178,36 +178,36 @@ clause_apart b =
     by_form {piece = piece} (inl is) whole space =
         inl (Begins-join (record { piece = piece; whole = whole; is = is }) space)
     by_form {piece = piece} (inr (inl is)) whole space =
-        inr (inl (with_space (TakesSpace-behind
-        (TakesSpace-behind (TakesSpace-behind (TakesSpace-behind (TakesSpace-behind TakesSpace-gap)))))
+        inr (inl (with_space (TakesSpace-after
+        (TakesSpace-after (TakesSpace-after (TakesSpace-after (TakesSpace-after TakesSpace-gap)))))
         (Begins-join (record { piece = piece; whole = whole; is = is }) space)))
     by_form {piece = piece} (inr (inr is)) whole space =
-        inr (inr (with_space (TakesSpace-behind TakesSpace-gap)
+        inr (inr (with_space (TakesSpace-after TakesSpace-gap)
         (Begins-join (record { piece = piece; whole = whole; is = is }) space)))
 
--- a text doesn't begin with two of them
-pub names_or_namespace : {input rest behind : List ℕ} → Begins (IsNames · IsSpace) input rest
-    → Begins IsNamespace input behind → ⊥
+-- a text doesn't begin with two of the forms
+pub names_or_namespace : {input rest after : List ℕ} → Begins (IsNames · IsSpace) input rest
+    → Begins IsNamespace input after → ⊥
 names_or_namespace names namespace =
     let heads : ◌≡◌ {A = ℕ} 123 42 =
     same_first (Begins-split (Begins-split names).1).1 (Begins-split namespace).1 in
     omega (arith, heads)
 
-pub names_or_name : {input rest behind : List ℕ} → Begins (IsNames · IsSpace) input rest
-    → Begins IsName input behind → ⊥
+pub names_or_name : {input rest after : List ℕ} → Begins (IsNames · IsSpace) input rest
+    → Begins IsName input after → ⊥
 names_or_name names name =
     first_of_name opening_brace opening_brace_no_letter name (Begins-split (Begins-split names).1).1
 
-pub namespace_or_name : {input rest behind : List ℕ} → Begins IsNamespace input rest
-    → Begins IsName input behind → ⊥
+pub namespace_or_name : {input rest after : List ℕ} → Begins IsNamespace input rest
+    → Begins IsName input after → ⊥
 namespace_or_name namespace name = first_of_name 42 star_no_letter name (Begins-split namespace).1
 
 pub clause_names : (input rest : List ℕ) → Reads NoSpace (λ (_ : Unit {0}). IsNames · IsSpace) input
     (Some (rest, tt)) → Reads NoSpace Clause input (Some (rest, tt))
 clause_names input rest found = (
   (let parts = Begins-split found.0 in Begins-join (Begins-as (λ text is. inl is) parts.1) parts.2),
-  λ other behind stop b. elim (clause_apart b) [
-    | inl names ↦ found.1 other behind stop names
+  λ other after stop b. elim (clause_apart b) [
+    | inl names ↦ found.1 other after stop names
     | inr others ↦ elim others [
       | inl namespace ↦ absurd (names_or_namespace found.0 namespace)
       | inr name ↦ absurd (names_or_name found.0 name)
@@ -218,8 +218,8 @@ clause_names input rest found = (
 -- a brace begins only names
 pub clause_unclosed : (input inside : List ℕ) → Begins (Is (codes "{")) input inside
     → Reads NoSpace (λ (_ : Unit {0}). IsNames · IsSpace) input None → Reads NoSpace Clause input None
-clause_unclosed input inside brace none = λ other behind stop b. elim (clause_apart b) [
-  | inl names ↦ none other behind stop names
+clause_unclosed input inside brace none = λ other after stop b. elim (clause_apart b) [
+  | inl names ↦ none other after stop names
   | inr others ↦ elim others [
     | inl namespace ↦
         let heads : ◌≡◌ {A = ℕ} 123 42 = same_first brace (Begins-split namespace).1 in
@@ -233,10 +233,10 @@ module _ (input : List ℕ) (no_names : Reads NoSpace (λ (_ : Unit {0}). IsName
       (Some (rest, tt)) → Reads NoSpace Clause input (Some (rest, tt))
   clause_namespace rest found = (
     no_space (Begins-as (λ text is. inr (inl is)) found.0),
-    λ other behind stop b. elim (clause_apart b) [
-      | inl names ↦ absurd (no_names other behind stop names)
+    λ other after stop b. elim (clause_apart b) [
+      | inl names ↦ absurd (no_names other after stop names)
       | inr others ↦ elim others [
-        | inl namespace ↦ found.1 other behind stop namespace
+        | inl namespace ↦ found.1 other after stop namespace
         | inr name ↦ absurd (namespace_or_name found.0 name)
       ]
     ],
@@ -245,20 +245,20 @@ module _ (input : List ℕ) (no_names : Reads NoSpace (λ (_ : Unit {0}). IsName
   pub clause_name : (o : Option (List ℕ × Unit {0})) → Reads NoSpace
       (λ (_ : Unit {0}). IsNamespace) input None → Reads NoSpace (λ (_ : Unit {0}). IsName) input o
       → Reads NoSpace Clause input o
-  clause_name None no_namespace none = λ other behind stop b. elim (clause_apart b) [
-    | inl names ↦ no_names other behind stop names
+  clause_name None no_namespace none = λ other after stop b. elim (clause_apart b) [
+    | inl names ↦ no_names other after stop names
     | inr others ↦ elim others [
-      | inl namespace ↦ no_namespace other behind stop namespace
-      | inr name ↦ none other behind stop name
+      | inl namespace ↦ no_namespace other after stop namespace
+      | inr name ↦ none other after stop name
     ]
   ]
   clause_name (Some x) no_namespace found = (
     no_space (Begins-as (λ text is. inr (inr is)) found.0),
-    λ other behind stop b. elim (clause_apart b) [
-      | inl names ↦ absurd (no_names other behind stop names)
+    λ other after stop b. elim (clause_apart b) [
+      | inl names ↦ absurd (no_names other after stop names)
       | inr others ↦ elim others [
-        | inl namespace ↦ absurd (no_namespace other behind stop namespace)
-        | inr name ↦ found.1 other behind stop name
+        | inl namespace ↦ absurd (no_namespace other after stop namespace)
+        | inr name ↦ found.1 other after stop name
       ]
     ],
   )
@@ -273,7 +273,7 @@ pub gap_before_clause : (_ : Unit {0}) (middle rest : List ℕ) → NoSpace rest
     → Begins (IsClause · IsSpace) middle rest → NoSpace middle
 gap_before_clause _ middle rest _ b = NoSpace-before (IsSolid-front IsSolid-clause) b
 
--- what is behind `@import`, up to the `from`
+-- the text after `@import`, up to the `from`
 abbrev pub Head : Unit {0} → List ℕ → Type 0
 Head _ = IsGap · IsClause · IsSpace
 
@@ -281,8 +281,8 @@ module _ (input : List ℕ) where
   pub head_no_gap : Reads NoSpace (λ (_ : Unit {0}). IsGap) input None → Reads NoSpace Head input None
   head_no_gap none = then_none NoSpace NoSpace IsGap Clause gap_before_clause input none
 
-  pub head_read : (behind : List ℕ) (o : Option (List ℕ × Unit {0}))
-      → Reads NoSpace (λ (_ : Unit {0}). IsGap) input (Some (behind, tt)) → Reads NoSpace Clause behind o
+  pub head_read : (after : List ℕ) (o : Option (List ℕ × Unit {0}))
+      → Reads NoSpace (λ (_ : Unit {0}). IsGap) input (Some (after, tt)) → Reads NoSpace Clause after o
       → Reads NoSpace Head input o
-  head_read behind o gap found =
-      then_some NoSpace NoSpace IsGap Clause gap_before_clause input behind o gap found
+  head_read after o gap found =
+      then_some NoSpace NoSpace IsGap Clause gap_before_clause input after o gap found

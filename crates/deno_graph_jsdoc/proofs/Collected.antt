@@ -1,30 +1,30 @@
--- A list of all imports of a text, from one place of it to the next.
+-- A list of all imports in a text, from one offset to the next.
 use Rattle.std.proofs.Common.{◌≡◌, ℕ, zero, suc, ◌+◌, ◌<◌, ◌≤◌, ◌⊎◌, inl, inr, Option, Some, None, List, []}
 use Rattle.std.proofs.Common.{◌∷◌, ◌++◌, length, get_or, refl, sym, ap, ◌∙◌, subst, append_assoc}
 use Rattle.std.proofs.Common.{length-append, arith}
 use Rattle.std.proofs.lemmas.Bool.{cases_lt}
 use Rattle.std.specs.List.{Contains, insert}
-use Rattle.deno_graph_jsdoc.specs.JsDocReading.{ReadsImport}
+use Rattle.deno_graph_jsdoc.specs.internal.Reading.{ReadsImport}
 use Rattle.deno_graph_jsdoc.specs.JsDocImport.{Import, IsDeclaration, IsDynamicImport, moved, byte_count}
-use Rattle.deno_graph_jsdoc.specs.JsDocHits.{Ascend, AreHits, IsHit}
-use Rattle.deno_graph_jsdoc.specs.JsDocPass.{GainsImport}
+use Rattle.deno_graph_jsdoc.specs.JsDocImports.{Ascend, AreImportsIn, IsImportIn}
+use Rattle.deno_graph_jsdoc.specs.internal.Pass.{GainsImport}
 use Rattle.deno_graph_jsdoc.proofs.Ascending.{GainsImport-insert, GainsImport-same, tail_pairs}
 use Rattle.deno_graph_jsdoc.proofs.ExistenceOfDeclarations.{read_declaration}
 use Rattle.deno_graph_jsdoc.proofs.ExistenceOfDynamicImports.{read_dynamic}
 use Rattle.deno_graph_jsdoc.proofs.Passes.{gained, gained_sound}
-use Rattle.deno_graph_jsdoc.proofs.Sites.{same_front, same_behind}
+use Rattle.deno_graph_jsdoc.proofs.Sites.{same_front, same_after}
 
--- the place of a start in a list that ascends: an import has it, or it lies between two of them
-abbrev Place : List Import → ℕ → Type 0
-Place old start =
+-- the index of a start in a list that ascends: an import has this start, or the start is between two imports
+abbrev Index : List Import → ℕ → Type 0
+Index old start =
     ((k : ℕ) × (k < length old) × ((d : Import) → (get_or old k d).start ≡ start))
     ⊎ ((at : ℕ) × (at ≤ length old) × ((k : ℕ) (d : Import) → k < at → (get_or old k d).start < start)
     × ((k : ℕ) (d : Import) → at ≤ k → k < length old → start < (get_or old k d).start))
 
-place : (old : List Import) (start : ℕ) → Ascend old → Place old start
-place [] start up =
+index_of : (old : List Import) (start : ℕ) → Ascend old → Index old start
+index_of [] start up =
     inr (0, omega arith, (λ k d less. absurd (omega arith)), λ k d more inside. absurd (omega arith))
-place (x ∷ xs) start up = by_first (cases_lt x.start start) (place xs start (tail_pairs x xs up))
+index_of (x ∷ xs) start up = by_first (cases_lt x.start start) (index_of xs start (tail_pairs x xs up))
   where
     above : start < x.start → (k : ℕ) (d : Import) → k < length (x ∷ xs) → start < (get_or (x ∷ xs) k d).start
     above less zero d inside = less
@@ -36,65 +36,65 @@ place (x ∷ xs) start up = by_first (cases_lt x.start start) (place xs start (t
     first less below zero d inside = less
     first less below (suc k) d inside = below k d (omega arith)
 
-    behind : {at : ℕ} → ((k : ℕ) (d : Import) → at ≤ k → k < length xs → start < (get_or xs k d).start)
+    after : {at : ℕ} → ((k : ℕ) (d : Import) → at ≤ k → k < length xs → start < (get_or xs k d).start)
         → (k : ℕ) (d : Import) → at + 1 ≤ k → k < length (x ∷ xs)
         → start < (get_or (x ∷ xs) k d).start
-    behind over zero d more inside = absurd (omega arith)
-    behind over (suc k) d more inside = over k d (omega arith) (omega arith)
+    after over zero d more inside = absurd (omega arith)
+    after over (suc k) d more inside = over k d (omega arith) (omega arith)
 
-    by_same : (start < x.start) ⊎ (x.start ≤ start) → start ≤ x.start → Place (x ∷ xs) start
+    by_same : (start < x.start) ⊎ (x.start ≤ start) → start ≤ x.start → Index (x ∷ xs) start
     by_same (inl less) least =
         inr (0, omega arith, (λ k d below. absurd (omega arith)), λ k d more inside. above less k d inside)
     by_same (inr more) least = inl (0, omega arith, λ d. omega (arith, more, least))
 
-    by_rest : x.start < start → Place xs start → Place (x ∷ xs) start
+    by_rest : x.start < start → Index xs start → Index (x ∷ xs) start
     by_rest less (inl (k, inside, is)) = inl (suc k, omega arith, is)
-    by_rest less (inr (at, fits, below, over)) = inr (at + 1, omega arith, first less below, behind over)
+    by_rest less (inr (at, fits, below, over)) = inr (at + 1, omega arith, first less below, after over)
 
-    by_first : (x.start < start) ⊎ (start ≤ x.start) → Place xs start → Place (x ∷ xs) start
+    by_first : (x.start < start) ⊎ (start ≤ x.start) → Index xs start → Index (x ∷ xs) start
     by_first (inl less) rest = by_rest less rest
     by_first (inr least) rest = by_same (cases_lt start x.start) least
 
 pub gain : (old : List Import) (import : Import) → Ascend old → (new : List Import)
     × GainsImport old import new
-gain old import up = by_place (place old import.start up)
+gain old import up = by_index (index_of old import.start up)
   where
-    by_place : Place old import.start → (new : List Import) × GainsImport old import new
-    by_place (inl (k, inside, is)) = (old, GainsImport-same old import up k inside is)
-    by_place (inr (at, fits, below, over)) =
+    by_index : Index old import.start → (new : List Import) × GainsImport old import new
+    by_index (inl (k, inside, is)) = (old, GainsImport-same old import up k inside is)
+    by_index (inr (at, fits, below, over)) =
         (insert old at import, GainsImport-insert old import at fits up below over)
 
 -- all imports whose front is shorter
 pub record Collected (text : List ℕ) (limit : ℕ) (imports : List Import) : Type 0 where
   pub ascending : Ascend imports
-  pub sound : (import : Import) → Contains imports import → IsHit text import
-  pub complete : (import : Import) (hit : IsHit text import) → length hit.front < limit
+  pub sound : (import : Import) → Contains imports import → IsImportIn text import
+  pub complete : (import : Import) (is_in : IsImportIn text import) → length is_in.front < limit
       → Contains imports import
 
 module _ (text front back : List ℕ) (whole : text ≡ front ++ back) where
-  -- what is at one place, as a parser gives it
+  -- the import at one offset, as a parser reads it
   abbrev At : (List ℕ → Import → List ℕ → Type 0) → List Import → Type 0
   At G imports = (here : Import) (rest : List ℕ) → G back here rest
       → Contains imports (moved (byte_count front) here)
 
   take : (G : List ℕ → Import → List ℕ → Type 0)
-      → ((here : Import) (rest : List ℕ) → G back here rest → IsHit text (moved (byte_count front) here))
-      → (old : List Import) → Ascend old → ((import : Import) → Contains old import → IsHit text import)
+      → ((here : Import) (rest : List ℕ) → G back here rest → IsImportIn text (moved (byte_count front) here))
+      → (old : List Import) → Ascend old → ((import : Import) → Contains old import → IsImportIn text import)
       → (o : Option (List ℕ × Import)) → ReadsImport G back o
-      → (new : List Import) × Ascend new × ((import : Import) → Contains new import → IsHit text import)
+      → (new : List Import) × Ascend new × ((import : Import) → Contains new import → IsImportIn text import)
       × ((import : Import) → Contains old import → Contains new import) × At G new
-  take G hits old up sound None none =
+  take G imports_in old up sound None none =
       (old, up, sound, (λ import has. has), λ here rest is. absurd (none here rest is))
-  take G hits old up sound (Some x) found =
+  take G imports_in old up sound (Some x) found =
       let import = moved (byte_count front) x.1 in
-      let hit = hits x.1 x.0 found.0 in
+      let is_in = imports_in x.1 x.0 found.0 in
       let new = gain old import up in (
         new.0,
         new.1.ascending,
-        gained_sound text old new.0 import sound hit new.1,
+        gained_sound text old new.0 import sound is_in new.1,
         new.1.kept,
         λ here rest is. subst (λ i. Contains new.0 (moved (byte_count front) i))
-            (sym (found.1 here rest is).0) (gained text old new.0 import sound hit new.1),
+            (sym (found.1 here rest is).0) (gained text old new.0 import sound is_in new.1),
       )
 
   pub step : (old : List Import) → Collected text (length front) old
@@ -110,7 +110,7 @@ module _ (text front back : List ℕ) (whole : text ≡ front ++ back) where
         here = here;
         whole = whole;
         states = inl is;
-        place = refl;
+        is_moved = refl;
       })
       old so_far.ascending so_far.sound dynamic.0 dynamic.1 in
       let second = take IsDeclaration
@@ -121,50 +121,54 @@ module _ (text front back : List ℕ) (whole : text ≡ front ++ back) where
         here = here;
         whole = whole;
         states = inr is;
-        place = refl;
+        is_moved = refl;
       })
       first.0 first.1 first.2 declaration.0 declaration.1 in (
         second.0,
         record {
           ascending = second.1;
           sound = second.2;
-          complete = λ import hit short.
-              by_length old first.0 second.0 import hit short (cases_lt (length hit.front) (length front))
+          complete = λ import is_in short.
+              by_length old first.0 second.0 import is_in short (cases_lt (length is_in.front) (length front))
               (λ has. second.3 import (first.3 import has)) (second.3 import) first.4 second.4
-              (so_far.complete import hit);
+              (so_far.complete import is_in);
         },
       )
     where
-      by_length : (old middle new : List Import) (import : Import) (hit : IsHit text import)
-          → length hit.front < length front + 1
-          → (length hit.front < length front) ⊎ (length front ≤ length hit.front)
+      by_length : (old middle new : List Import) (import : Import) (is_in : IsImportIn text import)
+          → length is_in.front < length front + 1
+          → (length is_in.front < length front) ⊎ (length front ≤ length is_in.front)
           → (Contains old import → Contains new import) → (Contains middle import → Contains new import)
           → At IsDynamicImport middle → At IsDeclaration new
-          → (length hit.front < length front → Contains old import) → Contains new import
-      by_length old middle new import hit short (inl sooner) kept keeps dynamics declarations all =
+          → (length is_in.front < length front → Contains old import) → Contains new import
+      by_length old middle new import is_in short (inl sooner) kept keeps dynamics declarations all =
           kept (all sooner)
-      by_length old middle new import hit short (inr later) kept keeps dynamics declarations all =
-          by_form hit.states
+      by_length old middle new import is_in short (inr later) kept keeps dynamics declarations all =
+          by_form is_in.states
         where
-          fronts : hit.front ≡ front
-          fronts = same_front text hit.front front (hit.back, hit.whole) (back, whole)
+          fronts : is_in.front ≡ front
+          fronts = same_front text is_in.front front (is_in.back, is_in.whole) (back, whole)
               (omega (arith, short, later))
 
-          backs : hit.back ≡ back
+          backs : is_in.back ≡ back
           backs =
-              same_behind text front hit.back back (subst (λ f. text ≡ f ++ hit.back) fronts hit.whole) whole
+              same_after text front is_in.back back (subst (λ f. text ≡ f ++ is_in.back) fronts is_in.whole)
+              whole
 
-          is : moved (byte_count front) hit.here ≡ import
-          is = ap (λ f. moved (byte_count f) hit.here) (sym fronts) ∙ sym hit.place
+          is : moved (byte_count front) is_in.here ≡ import
+          is = ap (λ f. moved (byte_count f) is_in.here) (sym fronts) ∙ sym is_in.is_moved
 
-          by_form : IsDynamicImport hit.back hit.here hit.rest ⊎ IsDeclaration hit.back hit.here hit.rest
+          by_form : IsDynamicImport is_in.back is_in.here is_in.rest
+              ⊎ IsDeclaration is_in.back is_in.here is_in.rest
               → Contains new import
           by_form (inl states) = keeps (subst (Contains middle) is
-              (dynamics hit.here hit.rest (subst (λ b. IsDynamicImport b hit.here hit.rest) backs states)))
+              (dynamics is_in.here is_in.rest
+              (subst (λ b. IsDynamicImport b is_in.here is_in.rest) backs states)))
           by_form (inr states) = subst (Contains new) is
-              (declarations hit.here hit.rest (subst (λ b. IsDeclaration b hit.here hit.rest) backs states))
+              (declarations is_in.here is_in.rest
+              (subst (λ b. IsDeclaration b is_in.here is_in.rest) backs states))
 
--- from one place to the next, up to the end
+-- from one offset to the next, up to the end
 collect : (text front back : List ℕ) → text ≡ front ++ back → (old : List Import)
     → Collected text (length front) old → (imports : List Import) × Collected text (length text + 1) imports
 collect text front [] whole old so_far =
@@ -177,13 +181,13 @@ collect text front (c ∷ cs) whole old so_far =
     collect text (front ++ c ∷ []) cs (whole ∙ sym (append_assoc front (c ∷ []) cs)) next.0
     (subst (λ n. Collected text n next.0) size next.1)
 
-pub hits_of : (text : List ℕ) → (imports : List Import) × AreHits text imports
-hits_of text =
+pub all_imports : (text : List ℕ) → (imports : List Import) × AreImportsIn text imports
+all_imports text =
     let all = collect text [] text refl []
     (record {
       ascending = λ i j d order inside. absurd (omega arith);
       sound = λ import has. absurd (omega (arith, has.1));
-      complete = λ import hit short. absurd (omega arith);
+      complete = λ import is_in short. absurd (omega arith);
     }) in
     let found = all.1 in (
       all.0,
@@ -191,8 +195,8 @@ hits_of text =
         ascending = found.ascending;
         exact = λ import. (
           found.sound import,
-          λ hit. found.complete import hit
-              (omega (arith, ap length hit.whole, length-append hit.front hit.back)),
+          λ is_in. found.complete import is_in
+              (omega (arith, ap length is_in.whole, length-append is_in.front is_in.back)),
         );
       },
     )

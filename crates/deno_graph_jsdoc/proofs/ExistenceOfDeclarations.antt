@@ -4,13 +4,13 @@ use Rattle.std.specs.Str.{skip_leading_whitespace}
 use Rattle.deno_graph_jsdoc.specs.Characters.{closing_brace}
 use Rattle.deno_graph_jsdoc.specs.JsDocGrammar.{◌·◌, Is, IsSpace, IsGap, IsQuote, IsIdent, IsWith, IsClause}
 use Rattle.deno_graph_jsdoc.specs.JsDocGrammar.{IsNames, IsNamespace, IsName, Lacks, Anything, NoSpace}
-use Rattle.deno_graph_jsdoc.specs.JsDocReading.{IsDeclarationEnd, IsSource, EndOfIdent, Reads}
+use Rattle.deno_graph_jsdoc.specs.internal.Reading.{IsDeclarationEnd, IsSource, EndOfIdent, Reads}
 use Rattle.deno_graph_jsdoc.specs.JsDocImport.{Mode, IsDeclaration, EndsDeclaration, moved, byte_count}
 use Rattle.deno_graph_jsdoc.proofs.Clauses.{Head, name_none, name_read, namespace_no_star, namespace_no_as}
 use Rattle.deno_graph_jsdoc.proofs.Clauses.{namespace_no_gap, namespace_read, names_unopened, names_unclosed}
 use Rattle.deno_graph_jsdoc.proofs.Clauses.{names_read, clause_names, clause_namespace, clause_name}
 use Rattle.deno_graph_jsdoc.proofs.Clauses.{head_no_gap, head_read}
-use Rattle.deno_graph_jsdoc.proofs.Declarations.{AtWord, no_clause, behind_clause, no_word, behind_word}
+use Rattle.deno_graph_jsdoc.proofs.Declarations.{AtWord, no_clause, after_clause, no_word, after_word}
 use Rattle.deno_graph_jsdoc.proofs.Imports.{no_head, no_quote, stated, ends_with, ends_without}
 use Rattle.deno_graph_jsdoc.proofs.ExistenceOfParts.{Answer, read_word, read_token, read_gap, read_quote}
 use Rattle.deno_graph_jsdoc.proofs.ExistenceOfParts.{read_ident, read_through, read_with, Parsed, placed}
@@ -134,7 +134,7 @@ read_declaration input = by_word (read_word (codes "@import") input).0 (read_wor
     by_head middle None none = (None, no_clause middle none)
     by_head middle (Some x) head = (
       option_map (λ y. (y.0, moved (byte_count head.0.piece) y.1)) (read_source x.0).0,
-      behind_clause middle x.0 head (read_source x.0).0 (read_source x.0).1,
+      after_clause middle x.0 head (read_source x.0).0 (read_source x.0).1,
     )
 
     by_word : (o : Option (List ℕ × Unit {0})) → Reads Anything AtWord input o → Parsed IsDeclaration input
@@ -142,5 +142,5 @@ read_declaration input = by_word (read_word (codes "@import") input).0 (read_wor
     by_word (Some x) word =
         let end = by_head x.0 (read_head x.0).0 (read_head x.0).1 in (
           option_map (λ y. (y.0, moved (byte_count word.0.piece) y.1)) end.0,
-          behind_word input x.0 word end.0 end.1,
+          after_word input x.0 word end.0 end.1,
         )

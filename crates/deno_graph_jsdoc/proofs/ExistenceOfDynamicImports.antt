@@ -5,13 +5,14 @@ use Rattle.std.specs.Str.{skip_leading_whitespace}
 use Rattle.deno_graph_jsdoc.specs.Characters.{closing_brace}
 use Rattle.deno_graph_jsdoc.specs.JsDocGrammar.{◌·◌, Is, IsSpace, IsQuote, IsModeBlock, IsOptions, IsUpTo}
 use Rattle.deno_graph_jsdoc.specs.JsDocGrammar.{Anything, NoSpace}
-use Rattle.deno_graph_jsdoc.specs.JsDocReading.{ReadsImport, IsDynamicEnd, HasArguments, EndsArguments, Reads}
+use Rattle.deno_graph_jsdoc.specs.internal.Reading.{ReadsImport, IsDynamicEnd, HasArguments}
+use Rattle.deno_graph_jsdoc.specs.internal.Reading.{EndsArguments, Reads}
 use Rattle.deno_graph_jsdoc.specs.JsDocImport.{Mode, Import, IsDynamicImport, moved, byte_count}
 use Rattle.deno_graph_jsdoc.proofs.Arguments.{open_none, open_read, options_no_comma, options_no_brace}
 use Rattle.deno_graph_jsdoc.proofs.Arguments.{options_no_with, options_no_colon, options_no_block}
 use Rattle.deno_graph_jsdoc.proofs.Arguments.{options_read, with_options, without_options, OnlyEnd}
 use Rattle.deno_graph_jsdoc.proofs.Arguments.{first_unopened, first_read, no_import, from_import}
-use Rattle.deno_graph_jsdoc.proofs.Arguments.{no_arguments, behind_arguments, up_to_none, up_to_closed}
+use Rattle.deno_graph_jsdoc.proofs.Arguments.{no_arguments, after_arguments, up_to_none, up_to_closed}
 use Rattle.deno_graph_jsdoc.proofs.Arguments.{up_to_read, First as DynamicFirst}
 use Rattle.deno_graph_jsdoc.proofs.Braces.{FirstMark, first_mark}
 use Rattle.deno_graph_jsdoc.proofs.Imports.{no_head, no_quote, no_tail, stated}
@@ -24,7 +25,7 @@ Word = codes "import"
 abbrev FirstWord : List ℕ → Type 0
 FirstWord input =
     ((front : List ℕ) × (rest : List ℕ) × (input ≡ front ++ (Word ++ rest))
-    × ((before after : List ℕ) → front ++ Word ≡ before ++ (Word ++ after) → after ≡ []))
+    × ((before beyond : List ℕ) → front ++ Word ≡ before ++ (Word ++ beyond) → beyond ≡ []))
     ⊎ ((front rest : List ℕ) → input ≢ front ++ (Word ++ rest))
 
 first_word : (input : List ℕ) → FirstWord input
@@ -42,14 +43,14 @@ first_word (c ∷ cs) = by_start (starts Word (c ∷ cs)) (first_word cs)
             none front rest tails
     later not_here (inl (front, rest, whole, first)) = inl (c ∷ front, rest, ap (λ t. c ∷ t) whole, again)
       where
-        again : (before after : List ℕ) → c ∷ (front ++ Word) ≡ before ++ (Word ++ after) → after ≡ []
-        again [] after is =
-            absurd (not_here (after ++ rest)
+        again : (before beyond : List ℕ) → c ∷ (front ++ Word) ≡ before ++ (Word ++ beyond) → beyond ≡ []
+        again [] beyond is =
+            absurd (not_here (beyond ++ rest)
             (ap (λ t. c ∷ t) (whole ∙ sym (append_assoc front Word rest)) ∙ ap (λ t. t ++ rest) is
-            ∙ append_assoc Word after rest))
-        again (b ∷ before) after is =
-            let tails : front ++ Word ≡ before ++ (Word ++ after) = cc in
-            first before after tails
+            ∙ append_assoc Word beyond rest))
+        again (b ∷ before) beyond is =
+            let tails : front ++ Word ≡ before ++ (Word ++ beyond) = cc in
+            first before beyond tails
 
     by_start : Starts Word (c ∷ cs) → FirstWord cs → FirstWord (c ∷ cs)
     by_start (inl (rest, is)) _ = inl ([], rest, is, here)
@@ -58,21 +59,21 @@ first_word (c ∷ cs) = by_start (starts Word (c ∷ cs)) (first_word cs)
         none [] is = refl
         none (x ∷ t) is = absurd (omega arith)
 
-        here : (before after : List ℕ) → Word ≡ before ++ (Word ++ after) → after ≡ []
-        here before after same = none after
-            (omega (arith, ap length same, length-append before (Word ++ after), length-append Word after))
+        here : (before beyond : List ℕ) → Word ≡ before ++ (Word ++ beyond) → beyond ≡ []
+        here before beyond same = none beyond
+            (omega (arith, ap length same, length-append before (Word ++ beyond), length-append Word beyond))
     by_start (inr none) more = later none more
 
 read_up_to : (input : List ℕ) → Answer Anything (λ (_ : Unit {0}). IsUpTo Word) input
 read_up_to input = by_place (first_word input)
   where
-    by_mark : (front rest : List ℕ) → input ≡ front ++ (Word ++ rest) → ((before after : List ℕ)
-        → front ++ Word ≡ before ++ (Word ++ after) → after ≡ []) → FirstMark closing_brace front
+    by_mark : (front rest : List ℕ) → input ≡ front ++ (Word ++ rest) → ((before beyond : List ℕ)
+        → front ++ Word ≡ before ++ (Word ++ beyond) → beyond ≡ []) → FirstMark closing_brace front
         → Answer Anything (λ (_ : Unit {0}). IsUpTo Word) input
     by_mark front rest whole first (inl lacks) =
         (Some (rest, tt), up_to_read Word input front rest whole first lacks)
-    by_mark front rest whole first (inr (inside, behind, lacks, closed)) =
-        (None, up_to_closed Word input front rest whole first inside behind closed)
+    by_mark front rest whole first (inr (inside, after, lacks, closed)) =
+        (None, up_to_closed Word input front rest whole first inside after closed)
 
     by_place : FirstWord input → Answer Anything (λ (_ : Unit {0}). IsUpTo Word) input
     by_place (inr none) = (None, up_to_none Word input none)
@@ -138,18 +139,18 @@ read_open input = by_token (read_token (codes "(") (skip_leading_whitespace inpu
     by_token (Some x) found = (Some (x.0, tt), open_read input x.0 found)
 
 -- how the arguments end
-read_end : (behind : List ℕ) → (mode : Mode) × (o : Option (List ℕ × Unit {0})) × OnlyEnd behind mode o
-read_end behind = by_options (read_options (skip_leading_whitespace behind)).0
-    (read_options (skip_leading_whitespace behind)).1
+read_end : (after : List ℕ) → (mode : Mode) × (o : Option (List ℕ × Unit {0})) × OnlyEnd after mode o
+read_end after = by_options (read_options (skip_leading_whitespace after)).0
+    (read_options (skip_leading_whitespace after)).1
   where
-    by_options : (o : Option (List ℕ × Mode)) → Reads Anything IsOptions (skip_leading_whitespace behind) o
-        → (mode : Mode) × (o : Option (List ℕ × Unit {0})) × OnlyEnd behind mode o
+    by_options : (o : Option (List ℕ × Mode)) → Reads Anything IsOptions (skip_leading_whitespace after) o
+        → (mode : Mode) × (o : Option (List ℕ × Unit {0})) × OnlyEnd after mode o
     by_options (Some m) found =
         let paren = read_word (codes ")") (skip_leading_whitespace m.0) in
-        (m.1, paren.0, with_options behind m.0 m.1 found paren.0 paren.1)
+        (m.1, paren.0, with_options after m.0 m.1 found paren.0 paren.1)
     by_options None none =
-        let paren = read_word (codes ")") (skip_leading_whitespace behind) in
-        (None, paren.0, without_options behind none paren.0 paren.1)
+        let paren = read_word (codes ")") (skip_leading_whitespace after) in
+        (None, paren.0, without_options after none paren.0 paren.1)
 
 read_arguments : (input : List ℕ) → Parsed HasArguments input
 read_arguments input = by_open (read_open input).0 (read_open input).1
@@ -195,7 +196,7 @@ read_dynamic input = by_first (read_first input).0 (read_first input).1
     by_arguments middle (Some x) found =
         let close = read_through x.0 in (
           option_map (λ (y : List ℕ × Unit {0}). (y.0, x.1)) close.0,
-          behind_arguments middle x.0 x.1 close.0 found close.1,
+          after_arguments middle x.0 x.1 close.0 found close.1,
         )
 
     by_first : (o : Option (List ℕ × Unit {0})) → Reads Anything DynamicFirst input o

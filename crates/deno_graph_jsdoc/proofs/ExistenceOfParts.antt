@@ -1,4 +1,4 @@
--- Each part of the grammar is there, and read in one way, or it isn't: so there is an answer for each text.
+-- Each part of the grammar is at the start of a text in one way, or isn't there: each text has a result.
 use Rattle.std.proofs.Common.{◌≡◌, ◌≢◌, ℕ, zero, suc, ◌+◌, ◌<◌, ◌==◌, ◌⊎◌, inl, inr, Bool, true, false}
 use Rattle.std.proofs.Common.{Option, Some, None, List, [], ◌∷◌, ◌++◌, length, refl, sym, ap, ◌∙◌, cond}
 use Rattle.std.proofs.Common.{codes, option_map, length-append, arith}
@@ -6,12 +6,13 @@ use Rattle.std.proofs.lemmas.Bool.{eqb-true, eqb-false}
 use Rattle.std.proofs.lemmas.List.{append_cancel_left}
 use Rattle.std.specs.Option.{option_and_then}
 use Rattle.std.specs.Str.{bytes_eq, skip_leading_whitespace}
-use Rattle.deno_graph_text.specs.ResolutionMode.{mode_named}
+use Rattle.deno_graph_base.specs.ResolutionMode.{mode_named}
 use Rattle.deno_graph_jsdoc.specs.Characters.{double_quote, apostrophe, closing_brace}
 use Rattle.deno_graph_jsdoc.specs.JsDocGrammar.{◌·◌, Is, IsSpace, IsGap, IsBetween, IsQuote, IsIdent, IsKey}
 use Rattle.deno_graph_jsdoc.specs.JsDocGrammar.{Attribute, IsAttribute, IsModeBlock, IsWith, Lacks}
 use Rattle.deno_graph_jsdoc.specs.JsDocGrammar.{ends_ident, resolution_mode_value, Anything, NoSpace}
-use Rattle.deno_graph_jsdoc.specs.JsDocReading.{IsModeBlockEnd, begins_ident, ReadsImport, EndOfIdent, Reads}
+use Rattle.deno_graph_jsdoc.specs.internal.Reading.{IsModeBlockEnd, begins_ident, ReadsImport}
+use Rattle.deno_graph_jsdoc.specs.internal.Reading.{EndOfIdent, Reads}
 use Rattle.deno_graph_jsdoc.specs.JsDocImport.{Mode, Import, byte_count}
 use Rattle.deno_graph_jsdoc.proofs.Attributes.{attribute_no_key, attribute_no_colon, attribute_read}
 use Rattle.deno_graph_jsdoc.proofs.Attributes.{key_quoted, key_named}
@@ -58,8 +59,8 @@ read_word w input = by_start (starts w input)
       Some (rest, tt),
       (
         record { piece = w; whole = is; is = refl },
-        λ _ behind _ b.
-            (refl, append_cancel_left w behind rest (ap (λ t. t ++ behind) (sym b.is) ∙ sym b.whole ∙ is)),
+        λ _ after _ b.
+            (refl, append_cancel_left w after rest (ap (λ t. t ++ after) (sym b.is) ∙ sym b.whole ∙ is)),
       ),
     )
     by_start (inr none) = (None, λ _ rest _ b. none rest (b.whole ∙ ap (λ t. t ++ rest) b.is))
@@ -89,7 +90,7 @@ read_gap input = by_space (space_whole input).0 (space_whole input).1 (space_who
       Some (skip_leading_whitespace input, tt),
       (
         record { piece = c ∷ cs; whole = whole; is = (white, omega arith) },
-        λ _ behind stop b. (refl, same_space input b.piece behind b.is.0 stop b.whole),
+        λ _ after stop b. (refl, same_space input b.piece after b.is.0 stop b.whole),
       ),
     )
 
@@ -101,9 +102,9 @@ read_between mark (c ∷ cs) = by_mark (c == mark) refl (first_mark mark cs)
     by_mark : (b : Bool) → (c == mark) ≡ b → FirstMark mark cs → Answer Anything (IsBetween mark) (c ∷ cs)
     by_mark true is (inl lacks) =
         (None, unclosed_read mark (c ∷ cs) cs (ap (λ d. d ∷ cs) (eqb-true c mark is)) lacks)
-    by_mark true is (inr (inside, behind, lacks, whole)) = (
-      Some (behind, inside),
-      between_read mark (c ∷ cs) cs inside behind
+    by_mark true is (inr (inside, after, lacks, whole)) = (
+      Some (after, inside),
+      between_read mark (c ∷ cs) cs inside after
           (ap (λ d. d ∷ cs) (eqb-true c mark is)) lacks whole,
     )
     by_mark false is _ = (
@@ -152,8 +153,8 @@ read_through input = by_mark (first_mark closing_brace input)
     by_mark : FirstMark closing_brace input
         → Answer Anything (λ (_ : Unit {0}). Lacks closing_brace · Is (codes "}")) input
     by_mark (inl lacks) = (None, brace_none input lacks)
-    by_mark (inr (inside, behind, lacks, whole)) =
-        (Some (behind, tt), brace_read input inside behind lacks whole)
+    by_mark (inr (inside, after, lacks, whole)) =
+        (Some (after, tt), brace_read input inside after lacks whole)
 
 -- attributes
 read_key : (input : List ℕ) → Answer EndOfIdent IsKey input
@@ -262,7 +263,7 @@ read_with input = by_word (read_token (codes "with") input).0 (read_token (codes
     by_word (Some x) word =
         ((read_block x.0).0, with_read input x.0 (read_block x.0).0 word (read_block x.0).1)
 
--- the import that a text states, if it states one
+-- the import at the start of a text, if there is one
 abbrev pub Parsed : (List ℕ → Import → List ℕ → Type 0) → List ℕ → Type 0
 Parsed G input = (o : Option (List ℕ × Import)) × ReadsImport G input o
 

@@ -1,4 +1,4 @@
--- Imports by what is before their specifier, the specifier and what is behind it.
+-- Imports in three parts: the head before the specifier, the specifier in quotes, and the tail.
 use Rattle.std.proofs.Common.{◌≡◌, ℕ, suc, ◌+◌, ◌-◌, ◌≤◌, inl, inr, Option, Some, None, List, [], ◌∷◌, ◌++◌}
 use Rattle.std.proofs.Common.{length, refl, sym, ap, ◌∙◌, subst, codes, option_map, append_assoc}
 use Rattle.std.proofs.Common.{length-append, arith}
@@ -10,15 +10,15 @@ use denote.Ref.{Bor}
 use lib.Utf8.{encode, encodes}
 use Rattle.deno_graph_jsdoc.specs.Characters.{double_quote, apostrophe}
 use Rattle.deno_graph_jsdoc.specs.JsDocGrammar.{◌·◌, IsQuote, IsWith, Begins, Anything, NoSpace}
-use Rattle.deno_graph_jsdoc.specs.JsDocReading.{ReadsImport, Reads, rest_and_mode}
+use Rattle.deno_graph_jsdoc.specs.internal.Reading.{ReadsImport, Reads, rest_and_mode}
 use Rattle.deno_graph_jsdoc.specs.JsDocImport.{Mode, Import, StatesImport, EndsDeclaration, byte_count, moved}
 use Rattle.deno_graph_jsdoc.proofs.Attributes.{IsSolid-quote}
 use Rattle.deno_graph_jsdoc.proofs.Readings.{IsSolid, IsSolid-append, IsSolid-word, NoSpace-solid, space_read}
-use Rattle.deno_graph_jsdoc.proofs.Readings.{behind_space, before_space}
+use Rattle.deno_graph_jsdoc.proofs.Readings.{after_space, before_space}
 use Rattle.deno_graph_jsdoc.proofs.Runs.{space_ends}
 use Rattle.deno_graph_jsdoc.proofs.Texts.{bytes_from_chars}
 
--- the bytes before a place
+-- the bytes before an offset
 pub byte_count_before : (input rest front : List ℕ) → IsUtf8 input → IsUtf8 rest
     → chars input ≡ front ++ chars rest → byte_count front + length rest ≡ length input
 byte_count_before input rest front utf8 utf8_rest whole =
@@ -51,7 +51,7 @@ module _ (Head : List ℕ → Type 0) (Tail : List ℕ → Mode → List ℕ →
       → StatesImport Head Tail (chars input) import rest
       → (import.start ≤ import.end) × (import.end ≤ length input)
   StatesImport-within input import rest utf8 s =
-      let bytes : byte_count (s.before ++ (s.quote ++ s.behind)) ≡ length input =
+      let bytes : byte_count (s.before ++ (s.quote ++ s.after)) ≡ length input =
       ap byte_count (sym s.whole) ∙ ap length (encodes-chars input utf8) in
       let start = s.start in
       let end = s.end in (
@@ -59,32 +59,32 @@ module _ (Head : List ℕ → Type 0) (Tail : List ℕ → Mode → List ℕ →
         omega (
           arith,
           bytes,
-          byte_count-append s.before (s.quote ++ s.behind),
-          byte_count-append s.quote s.behind,
+          byte_count-append s.before (s.quote ++ s.after),
+          byte_count-append s.quote s.after,
           byte_count_quote import.specifier s.quote s.quoted,
         ),
       )
 
   module _ (input : List ℕ) where
     head_of : {import : Import} {rest : List ℕ} (s : StatesImport Head Tail input import rest)
-        → Begins Head input (s.quote ++ s.behind)
+        → Begins Head input (s.quote ++ s.after)
     head_of s = record { piece = s.before; whole = s.whole; is = s.head }
 
     solid_quote : {import : Import} {rest : List ℕ} (s : StatesImport Head Tail input import rest)
-        → NoSpace (s.quote ++ s.behind)
-    solid_quote {import} s = NoSpace-solid (s.quote ++ s.behind)
-        (IsSolid-append s.quote s.behind (IsSolid-quote import.specifier s.quote s.quoted))
+        → NoSpace (s.quote ++ s.after)
+    solid_quote {import} s = NoSpace-solid (s.quote ++ s.after)
+        (IsSolid-append s.quote s.after (IsSolid-quote import.specifier s.quote s.quoted))
 
     pub no_head : Reads NoSpace (λ (_ : Unit {0}). Head) input None
         → ReadsImport (StatesImport Head Tail) input None
-    no_head none import rest s = none tt (s.quote ++ s.behind) (solid_quote s) (head_of s)
+    no_head none import rest s = none tt (s.quote ++ s.after) (solid_quote s) (head_of s)
 
     module _ (quoted : List ℕ) (head : Reads NoSpace (λ (_ : Unit {0}). Head) input (Some (quoted, tt))) where
       quote_of : {import : Import} {rest : List ℕ} (s : StatesImport Head Tail input import rest)
-          → Begins (IsQuote import.specifier) quoted s.behind
+          → Begins (IsQuote import.specifier) quoted s.after
       quote_of s = record {
         piece = s.quote;
-        whole = sym (head.1 tt (s.quote ++ s.behind) (solid_quote s) (head_of s)).1;
+        whole = sym (head.1 tt (s.quote ++ s.after) (solid_quote s) (head_of s)).1;
         is = s.quoted;
       }
 
@@ -92,33 +92,33 @@ module _ (Head : List ℕ → Type 0) (Tail : List ℕ → Mode → List ℕ →
           → s.before ≡ head.0.piece
       same_before s =
           append_cancel_right s.before head.0.piece quoted
-          (ap (λ t. s.before ++ t) (sym (head.1 tt (s.quote ++ s.behind) (solid_quote s) (head_of s)).1)
+          (ap (λ t. s.before ++ t) (sym (head.1 tt (s.quote ++ s.after) (solid_quote s) (head_of s)).1)
           ∙ sym s.whole ∙ head.0.whole)
 
       pub no_quote : Reads Anything IsQuote quoted None → ReadsImport (StatesImport Head Tail) input None
-      no_quote none import rest s = none import.specifier s.behind tt (quote_of s)
+      no_quote none import rest s = none import.specifier s.after tt (quote_of s)
 
-      module _ (behind specifier : List ℕ)
-          (quote : Reads Anything IsQuote quoted (Some (behind, specifier))) where
+      module _ (after specifier : List ℕ)
+          (quote : Reads Anything IsQuote quoted (Some (after, specifier))) where
         tail_of : {import : Import} {rest : List ℕ} (s : StatesImport Head Tail input import rest)
-            → Tail behind import.mode rest
+            → Tail after import.mode rest
         tail_of {import} {rest} s =
-            subst (λ b. Tail b import.mode rest) (quote.1 import.specifier s.behind tt (quote_of s)).1 s.tail
+            subst (λ b. Tail b import.mode rest) (quote.1 import.specifier s.after tt (quote_of s)).1 s.tail
 
-        pub no_tail : ((mode : Mode) (rest : List ℕ) → Tail behind mode rest → ⊥)
+        pub no_tail : ((mode : Mode) (rest : List ℕ) → Tail after mode rest → ⊥)
             → ReadsImport (StatesImport Head Tail) input None
         no_tail none import rest s = none import.mode rest (tail_of s)
 
         pub stated : (import : Import) (rest : List ℕ) → import.specifier ≡ specifier
             → import.start ≡ byte_count head.0.piece + 1 → import.end ≡ import.start + byte_count specifier
-            → Tail behind import.mode rest → ((mode : Mode) (other : List ℕ) → Tail behind mode other
+            → Tail after import.mode rest → ((mode : Mode) (other : List ℕ) → Tail after mode other
             → (mode ≡ import.mode) × (other ≡ rest))
             → ReadsImport (StatesImport Head Tail) input (Some (rest, import))
         stated import rest is start end tail only = (
           record {
             before = head.0.piece;
             quote = quote.0.piece;
-            behind = behind;
+            after = after;
             whole = head.0.whole ∙ ap (λ t. head.0.piece ++ t) quote.0.whole;
             head = head.0.is;
             quoted = subst (λ t. IsQuote t quote.0.piece) (sym is) quote.0.is;
@@ -129,7 +129,7 @@ module _ (Head : List ℕ → Type 0) (Tail : List ℕ → Mode → List ℕ →
           λ other others_rest s.
               let last = only other.mode others_rest (tail_of s) in
               let text : other.specifier ≡ import.specifier =
-              (quote.1 other.specifier s.behind tt (quote_of s)).0 ∙ sym is in
+              (quote.1 other.specifier s.after tt (quote_of s)).0 ∙ sym is in
               let first : other.start ≡ import.start =
               s.start ∙ ap (λ t. byte_count t + 1) (same_before s) ∙ sym start in
               let final : other.end ≡ import.end = s.end ∙ (λ i. first i + byte_count (text i))
@@ -137,57 +137,57 @@ module _ (Head : List ℕ → Type 0) (Tail : List ℕ → Mode → List ℕ →
               ((λ i. record { specifier = text i; start = first i; end = final i; mode = last.0 i }), last.1),
         )
 
--- what is behind the specifier of a declaration
-module _ (behind : List ℕ) where
+-- the tail of a declaration
+module _ (after : List ℕ) where
   pub with_solid : (mode : Mode) (text : List ℕ) → IsWith mode text → IsSolid text
   with_solid mode text is = IsSolid-word 119 (codes "ith") refl text is
 
   pub ends_with : (mode : Mode) (rest : List ℕ)
-      → Reads Anything IsWith (skip_leading_whitespace behind) (Some (rest, mode))
-      → EndsDeclaration behind mode rest × ((other : Mode) (others_rest : List ℕ)
-      → EndsDeclaration behind other others_rest → (other ≡ mode) × (others_rest ≡ rest))
-  ends_with mode rest found = (inl (before_space behind found.0), only)
+      → Reads Anything IsWith (skip_leading_whitespace after) (Some (rest, mode))
+      → EndsDeclaration after mode rest × ((other : Mode) (others_rest : List ℕ)
+      → EndsDeclaration after other others_rest → (other ≡ mode) × (others_rest ≡ rest))
+  ends_with mode rest found = (inl (before_space after found.0), only)
     where
-      only : (other : Mode) (others_rest : List ℕ) → EndsDeclaration behind other others_rest
+      only : (other : Mode) (others_rest : List ℕ) → EndsDeclaration after other others_rest
           → (other ≡ mode) × (others_rest ≡ rest)
-      only other others_rest (inl b) = found.1 other others_rest tt (behind_space (with_solid other) b)
-      only other others_rest (inr none) = absurd (none.1 mode rest (before_space behind found.0))
+      only other others_rest (inl b) = found.1 other others_rest tt (after_space (with_solid other) b)
+      only other others_rest (inr none) = absurd (none.1 mode rest (before_space after found.0))
 
-  pub ends_without : Reads Anything IsWith (skip_leading_whitespace behind) None
-      → EndsDeclaration behind None (skip_leading_whitespace behind)
-      × ((other : Mode) (others_rest : List ℕ) → EndsDeclaration behind other others_rest
-      → (other ≡ None) × (others_rest ≡ skip_leading_whitespace behind))
+  pub ends_without : Reads Anything IsWith (skip_leading_whitespace after) None
+      → EndsDeclaration after None (skip_leading_whitespace after)
+      × ((other : Mode) (others_rest : List ℕ) → EndsDeclaration after other others_rest
+      → (other ≡ None) × (others_rest ≡ skip_leading_whitespace after))
   ends_without none = (
     inr (
       refl,
-      (λ other others_rest b. none other others_rest tt (behind_space (with_solid other) b)),
-      (space_read behind).0,
-      space_ends behind,
+      (λ other others_rest b. none other others_rest tt (after_space (with_solid other) b)),
+      (space_read after).0,
+      space_ends after,
     ),
     only,
   )
     where
-      only : (other : Mode) (others_rest : List ℕ) → EndsDeclaration behind other others_rest
-          → (other ≡ None) × (others_rest ≡ skip_leading_whitespace behind)
-      only other others_rest (inl b) = absurd (none other others_rest tt (behind_space (with_solid other) b))
-      only other others_rest (inr ends) = (ends.0, ((space_read behind).1 tt others_rest ends.3 ends.2).1)
+      only : (other : Mode) (others_rest : List ℕ) → EndsDeclaration after other others_rest
+          → (other ≡ None) × (others_rest ≡ skip_leading_whitespace after)
+      only other others_rest (inl b) = absurd (none other others_rest tt (after_space (with_solid other) b))
+      only other others_rest (inr ends) = (ends.0, ((space_read after).1 tt others_rest ends.3 ends.2).1)
 
   abbrev OnlyEnd : Bor (List ℕ) × Mode → Type 0
-  OnlyEnd c = EndsDeclaration behind c.1 (chars c.0.now)
-      × ((other : Mode) (others_rest : List ℕ) → EndsDeclaration behind other others_rest
+  OnlyEnd c = EndsDeclaration after c.1 (chars c.0.now)
+      × ((other : Mode) (others_rest : List ℕ) → EndsDeclaration after other others_rest
       → (other ≡ c.1) × (others_rest ≡ chars c.0.now))
 
-  -- the mode and the rest that a parser of attributes gives, or none and all that is behind white space
+  -- the mode and the rest that a parser of attributes returns, or no mode and the text after white space
   pub ends_at : (found : Option (Bor (List ℕ) × Mode)) (all : Bor (List ℕ)) (chosen : Bor (List ℕ) × Mode)
-      → chars all.now ≡ skip_leading_whitespace behind
+      → chars all.now ≡ skip_leading_whitespace after
       → Reads Anything IsWith (chars all.now) (rest_and_mode found)
       → chosen ≡ unwrap_or found (all, None) → OnlyEnd chosen
   ends_at None all chosen skipped reads is =
-      let none : Reads Anything IsWith (skip_leading_whitespace behind) None =
+      let none : Reads Anything IsWith (skip_leading_whitespace after) None =
       subst (λ t. Reads Anything IsWith t None) skipped reads in
       subst OnlyEnd (sym is)
-      (subst (λ t. EndsDeclaration behind None t × ((other : Mode) (others_rest : List ℕ)
-      → EndsDeclaration behind other others_rest → (other ≡ None) × (others_rest ≡ t)))
+      (subst (λ t. EndsDeclaration after None t × ((other : Mode) (others_rest : List ℕ)
+      → EndsDeclaration after other others_rest → (other ≡ None) × (others_rest ≡ t)))
       (sym skipped) (ends_without none))
   ends_at (Some x) all chosen skipped reads is =
       subst OnlyEnd (sym is) (ends_with x.1 (chars x.0.now)
@@ -219,16 +219,16 @@ module _ (F First Head Whole : List ℕ → Type 0) (Tail : List ℕ → Mode �
       let final : import.end ≡ byte_count parts.back + 1 + byte_count import.specifier
       + byte_count parts.front = omega arith in
       record {
-        middle = parts.back ++ (s.quote ++ s.behind);
+        middle = parts.back ++ (s.quote ++ s.after);
         first = record {
           piece = parts.front;
-          whole = s.whole ∙ ap (λ t. t ++ (s.quote ++ s.behind)) parts.whole
-              ∙ append_assoc parts.front parts.back (s.quote ++ s.behind);
+          whole = s.whole ∙ ap (λ t. t ++ (s.quote ++ s.after)) parts.whole
+              ∙ append_assoc parts.front parts.back (s.quote ++ s.after);
           is = parts.is_front;
         };
-        ready = follows (parts.back ++ (s.quote ++ s.behind)) (s.quote ++ s.behind)
-            (NoSpace-solid (s.quote ++ s.behind)
-            (IsSolid-append s.quote s.behind (IsSolid-quote import.specifier s.quote s.quoted)))
+        ready = follows (parts.back ++ (s.quote ++ s.after)) (s.quote ++ s.after)
+            (NoSpace-solid (s.quote ++ s.after)
+            (IsSolid-append s.quote s.after (IsSolid-quote import.specifier s.quote s.quoted)))
             (record { piece = parts.back; whole = refl; is = parts.is_back });
         later = record {
           specifier = import.specifier;
@@ -239,7 +239,7 @@ module _ (F First Head Whole : List ℕ → Type 0) (Tail : List ℕ → Mode �
         states = record {
           before = parts.back;
           quote = s.quote;
-          behind = s.behind;
+          after = s.after;
           whole = refl;
           head = parts.is_back;
           quoted = s.quoted;
@@ -263,9 +263,9 @@ module _ (F First Head Whole : List ℕ → Type 0) (Tail : List ℕ → Mode �
   joined middle first s = record {
     before = first.piece ++ s.before;
     quote = s.quote;
-    behind = s.behind;
+    after = s.after;
     whole = first.whole ∙ ap (λ t. first.piece ++ t) s.whole
-        ∙ sym (append_assoc first.piece s.before (s.quote ++ s.behind));
+        ∙ sym (append_assoc first.piece s.before (s.quote ++ s.after));
     head = together (first.piece ++ s.before) (record
         { front = first.piece; back = s.before; whole = refl; is_front = first.is; is_back = s.head });
     quoted = s.quoted;
@@ -274,15 +274,15 @@ module _ (F First Head Whole : List ℕ → Type 0) (Tail : List ℕ → Mode �
     tail = s.tail;
   }
 
-  pub behind_first : (middle : List ℕ) (first : Reads F (λ (_ : Unit {0}). First) input (Some (middle, tt)))
+  pub after_first : (middle : List ℕ) (first : Reads F (λ (_ : Unit {0}). First) input (Some (middle, tt)))
       (o : Option (List ℕ × Import))
       → ReadsImport (StatesImport Head Tail) middle o → ReadsImport (StatesImport Whole Tail) input
       (option_map (λ x. (x.0, moved (byte_count first.0.piece) x.1)) o)
-  behind_first middle first None none = λ import rest s.
+  after_first middle first None none = λ import rest s.
       let parts = parts_of s in
       none parts.later rest (subst (λ m. StatesImport Head Tail m parts.later rest)
       (first.1 tt parts.middle parts.ready parts.first).1 parts.states)
-  behind_first middle first (Some x) found = (
+  after_first middle first (Some x) found = (
     joined middle first.0 found.0,
     λ other others_rest s.
         let parts = parts_of s in
@@ -295,22 +295,22 @@ module _ (F First Head Whole : List ℕ → Type 0) (Tail : List ℕ → Mode �
         (parts.same ∙ (λ i. moved (byte_count (pieces i)) (same.0 i)), same.1),
   )
 
--- an import whose tail goes on
+-- an import with a longer tail
 module _ (Head : List ℕ → Type 0) (Tail Longer : List ℕ → Mode → List ℕ → Type 0) (P : List ℕ → Type 0)
-    (apart : (behind : List ℕ) (mode : Mode) (rest : List ℕ) → Longer behind mode rest
-    → (middle : List ℕ) × Tail behind mode middle × Begins P middle rest)
-    (together : (behind : List ℕ) (mode : Mode) (middle rest : List ℕ) → Tail behind mode middle
-    → Begins P middle rest → Longer behind mode rest)
+    (apart : (after : List ℕ) (mode : Mode) (rest : List ℕ) → Longer after mode rest
+    → (middle : List ℕ) × Tail after mode middle × Begins P middle rest)
+    (together : (after : List ℕ) (mode : Mode) (middle rest : List ℕ) → Tail after mode middle
+    → Begins P middle rest → Longer after mode rest)
     (input : List ℕ) where
   shorter : {import : Import} {rest : List ℕ} → StatesImport Head Longer input import rest
       → (middle : List ℕ) × StatesImport Head Tail input import middle × Begins P middle rest
   shorter {import} {rest} s =
-      let parts = apart s.behind import.mode rest s.tail in (
+      let parts = apart s.after import.mode rest s.tail in (
         parts.0,
         record {
           before = s.before;
           quote = s.quote;
-          behind = s.behind;
+          after = s.after;
           whole = s.whole;
           head = s.head;
           quoted = s.quoted;
@@ -338,13 +338,13 @@ module _ (Head : List ℕ → Type 0) (Tail Longer : List ℕ → Mode → List 
     record {
       before = found.0.before;
       quote = found.0.quote;
-      behind = found.0.behind;
+      after = found.0.after;
       whole = found.0.whole;
       head = found.0.head;
       quoted = found.0.quoted;
       start = found.0.start;
       end = found.0.end;
-      tail = together found.0.behind import.mode middle x.0 found.0.tail more.0;
+      tail = together found.0.after import.mode middle x.0 found.0.tail more.0;
     },
     λ other rest s.
         let parts = shorter s in
@@ -352,7 +352,8 @@ module _ (Head : List ℕ → Type 0) (Tail Longer : List ℕ → Mode → List 
         (same.0, (more.1 tt rest tt (subst (λ m. Begins P m rest) same.1 parts.2)).1),
   )
 
--- an import whose places are counted from `rest`, which is behind `piece`, with places counted from `text`
+-- an import with a range from the start of `rest`, which follows `piece`, as one with a range from the start
+-- of `text`
 pub counted_from : (G : List ℕ → Import → List ℕ → Type 0) (text rest piece last : List ℕ)
     (import result : Import) → byte_count piece + length rest ≡ length text
     → result ≡ moved (length text - length rest) import → ReadsImport G (chars text)

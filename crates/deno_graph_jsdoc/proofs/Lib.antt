@@ -5,7 +5,8 @@ pub mod Blocks
 pub mod Clauses
 pub mod Declarations
 pub mod Imports
-pub mod Known
+pub mod Cached
+pub mod Counted
 pub mod Braces
 pub mod Parts
 pub mod Readings
@@ -16,7 +17,7 @@ pub mod Unique
 pub mod UniqueImports
 pub mod Sites
 pub mod Occurrences
-pub mod Hits
+pub mod ImportsIn
 pub mod ExistenceOfParts
 pub mod ExistenceOfDeclarations
 pub mod ExistenceOfDynamicImports

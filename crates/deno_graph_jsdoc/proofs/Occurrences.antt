@@ -1,6 +1,6 @@
--- How often a word begins in a text, and in what is behind one of its occurrences.
+-- The number of occurrences of a word in a text, and after one of the occurrences.
 use Rattle.std.proofs.Common.{◌≡◌, ℕ, ◌+◌, ◌≤◌, List, [], ◌∷◌, ◌++◌, ap, arith}
-use Rattle.deno_graph_jsdoc.specs.JsDocHits.{occurrences}
+use Rattle.deno_graph_jsdoc.specs.JsDocImports.{occurrences}
 use Rattle.deno_graph_jsdoc.proofs.Sites.{word}
 
 occurrences-append : (front back : List ℕ) → occurrences word back ≤ occurrences word (front ++ back)
@@ -11,8 +11,8 @@ occurrences-append (c ∷ front) back =
 occurrences-word : (back : List ℕ) → 1 + occurrences word back ≤ occurrences word (word ++ back)
 occurrences-word back = omega arith
 
-pub occurrences-behind : (text before behind : List ℕ) → text ≡ before ++ (word ++ behind)
-    → 1 + occurrences word behind ≤ occurrences word text
-occurrences-behind text before behind is =
+pub occurrences-after : (text before after : List ℕ) → text ≡ before ++ (word ++ after)
+    → 1 + occurrences word after ≤ occurrences word text
+occurrences-after text before after is =
     omega
-    (arith, ap (occurrences word) is, occurrences-append before (word ++ behind), occurrences-word behind)
+    (arith, ap (occurrences word) is, occurrences-append before (word ++ after), occurrences-word after)

@@ -1,4 +1,4 @@
--- What the parsers of the smallest parts answer.
+-- The results of the parsers of the smallest parts.
 use Rattle.std.proofs.Common.{◌≡◌, ◌≢◌, ℕ, ◌-◌, ◌<◌, ◌≤◌, inl, inr, true, false, Option, Some, None, List, []}
 use Rattle.std.proofs.Common.{◌∷◌, ◌++◌, length, take, drop, refl, sym, ap, ◌∙◌, subst, arith, append_assoc}
 use Rattle.std.proofs.Common.{codes, length-append, slice_range}
@@ -10,13 +10,13 @@ use lib.Utf8.{encodes}
 use Rattle.deno_graph_jsdoc.specs.Characters.{double_quote, apostrophe, closing_brace}
 use Rattle.deno_graph_jsdoc.specs.JsDocGrammar.{◌·◌, Is, IsSpace, IsGap, IsBetween, IsQuote, IsIdent, Lacks}
 use Rattle.deno_graph_jsdoc.specs.JsDocGrammar.{ends_ident, Begins, Anything, NoSpace}
-use Rattle.deno_graph_jsdoc.specs.JsDocReading.{begins_ident, Reads, EndOfIdent}
+use Rattle.deno_graph_jsdoc.specs.internal.Reading.{begins_ident, Reads, EndOfIdent}
 use Rattle.deno_graph_jsdoc.proofs.Alphabetic.{Alphabetic-ends_ident}
 use Rattle.deno_graph_jsdoc.proofs.Runs.{same_run, space_whole, same_space, same_before_mark}
 use Rattle.deno_graph_jsdoc.proofs.Runs.{Lacks-not_inside}
 use Rattle.deno_graph_jsdoc.proofs.Texts.{bytes_from_chars}
 
--- what is left of a text is shorter where white space was skipped
+-- the rest of a text is shorter if white space was skipped
 module _ (input rest : List ℕ) (utf8 : IsUtf8 input) (utf8_rest : IsUtf8 rest)
     (skips : chars rest ≡ skip_leading_whitespace (chars input)) where
   some_space : (space : List ℕ) → IsSpace space → chars input ≡ space ++ chars rest
@@ -33,45 +33,45 @@ module _ (input rest : List ℕ) (utf8 : IsUtf8 input) (utf8_rest : IsUtf8 rest)
       let own = space_whole (chars input) in
       let whole : chars input ≡ own.0 ++ chars rest = own.2 ∙ ap (λ t. own.0 ++ t) (sym skips) in (
         record { piece = own.0; whole = whole; is = some_space own.0 own.1 whole shorter },
-        λ other behind stop begins.
-            (refl, same_space (chars input) begins.piece behind begins.is.0 stop begins.whole ∙ sym skips),
+        λ other after stop begins.
+            (refl, same_space (chars input) begins.piece after begins.is.0 stop begins.whole ∙ sym skips),
       )
 
   pub gap_none : length input ≤ length rest → Reads NoSpace (λ (_ : Unit {0}). IsGap) (chars input) None
-  gap_none longer other behind stop begins =
-      let same : behind ≡ chars rest =
-      same_space (chars input) begins.piece behind begins.is.0 stop begins.whole ∙ sym skips in
-      let bytes : input ≡ encodes begins.piece ++ encodes behind =
-      bytes_from_chars input begins.piece behind utf8 begins.whole in
-      let left : encodes behind ≡ rest = ap encodes same ∙ encodes-chars rest utf8_rest in
+  gap_none longer other after stop begins =
+      let same : after ≡ chars rest =
+      same_space (chars input) begins.piece after begins.is.0 stop begins.whole ∙ sym skips in
+      let bytes : input ≡ encodes begins.piece ++ encodes after =
+      bytes_from_chars input begins.piece after utf8 begins.whole in
+      let left : encodes after ≡ rest = ap encodes same ∙ encodes-chars rest utf8_rest in
       let some = begins.is.1 in
       omega (
         arith,
         ap length bytes,
-        length-append (encodes begins.piece) (encodes behind),
+        length-append (encodes begins.piece) (encodes after),
         ap length left,
         length-le-encodes begins.piece,
       )
 
 -- a text between marks
 module _ (mark : ℕ) where
-  pub marked : (inside behind : List ℕ)
-      → (mark ∷ inside ++ mark ∷ []) ++ behind ≡ mark ∷ (inside ++ mark ∷ behind)
-  marked inside behind = ap (λ t. mark ∷ t) (append_assoc inside (mark ∷ []) behind)
+  pub marked : (inside after : List ℕ)
+      → (mark ∷ inside ++ mark ∷ []) ++ after ≡ mark ∷ (inside ++ mark ∷ after)
+  marked inside after = ap (λ t. mark ∷ t) (append_assoc inside (mark ∷ []) after)
 
   pub unmarked_read : (input : List ℕ) → ((rest : List ℕ) → input ≢ mark ∷ rest)
       → Reads Anything (IsBetween mark) input None
-  unmarked_read input no_mark inside behind _ begins =
-      no_mark (inside ++ mark ∷ behind)
-      (begins.whole ∙ ap (λ piece. piece ++ behind) begins.is.1 ∙ marked inside behind)
+  unmarked_read input no_mark inside after _ begins =
+      no_mark (inside ++ mark ∷ after)
+      (begins.whole ∙ ap (λ piece. piece ++ after) begins.is.1 ∙ marked inside after)
 
   pub unclosed_read : (input rest : List ℕ) → input ≡ mark ∷ rest → Lacks mark rest
       → Reads Anything (IsBetween mark) input None
-  unclosed_read input rest opens lacks inside behind _ begins =
-      let all : mark ∷ rest ≡ mark ∷ (inside ++ mark ∷ behind) =
-      sym opens ∙ begins.whole ∙ ap (λ piece. piece ++ behind) begins.is.1 ∙ marked inside behind in
-      let same : rest ≡ inside ++ mark ∷ behind = cc in
-      Lacks-not_inside mark inside behind (subst (Lacks mark) same lacks)
+  unclosed_read input rest opens lacks inside after _ begins =
+      let all : mark ∷ rest ≡ mark ∷ (inside ++ mark ∷ after) =
+      sym opens ∙ begins.whole ∙ ap (λ piece. piece ++ after) begins.is.1 ∙ marked inside after in
+      let same : rest ≡ inside ++ mark ∷ after = cc in
+      Lacks-not_inside mark inside after (subst (Lacks mark) same lacks)
 
   pub between_read : (input opened text rest : List ℕ) → input ≡ mark ∷ opened → Lacks mark text
       → opened ≡ text ++ mark ∷ rest
@@ -82,26 +82,26 @@ module _ (mark : ℕ) where
       whole = opens ∙ ap (λ t. mark ∷ t) closes ∙ sym (marked text rest);
       is = (lacks, refl);
     },
-    λ inside behind _ begins.
-        let all : mark ∷ (text ++ mark ∷ rest) ≡ mark ∷ (inside ++ mark ∷ behind) =
-        ap (λ t. mark ∷ t) (sym closes) ∙ sym opens ∙ begins.whole ∙ ap (λ piece. piece ++ behind) begins.is.1
-        ∙ marked inside behind in
-        let same : text ++ mark ∷ rest ≡ inside ++ mark ∷ behind = cc in
-        let found = same_before_mark mark text inside rest behind lacks begins.is.0 same in
+    λ inside after _ begins.
+        let all : mark ∷ (text ++ mark ∷ rest) ≡ mark ∷ (inside ++ mark ∷ after) =
+        ap (λ t. mark ∷ t) (sym closes) ∙ sym opens ∙ begins.whole ∙ ap (λ piece. piece ++ after) begins.is.1
+        ∙ marked inside after in
+        let same : text ++ mark ∷ rest ≡ inside ++ mark ∷ after = cc in
+        let found = same_before_mark mark text inside rest after lacks begins.is.0 same in
         (sym found.0, sym found.1),
   )
 
 -- a quoted text has marks of one kind
-pub marks_apart : (input inside other rest behind : List ℕ)
+pub marks_apart : (input inside other rest after : List ℕ)
     → Begins (IsBetween double_quote inside) input rest
-    → Begins (IsBetween apostrophe other) input behind → ⊥
-marks_apart input inside other rest behind double single =
+    → Begins (IsBetween apostrophe other) input after → ⊥
+marks_apart input inside other rest after double single =
     let first : input ≡ double_quote ∷ (inside ++ double_quote ∷ rest) =
     double.whole ∙ ap (λ piece. piece ++ rest) double.is.1
     ∙ marked double_quote inside rest in
-    let second : input ≡ apostrophe ∷ (other ++ apostrophe ∷ behind) =
-    single.whole ∙ ap (λ piece. piece ++ behind) single.is.1 ∙ marked apostrophe other behind in
-    let same : double_quote ∷ (inside ++ double_quote ∷ rest) ≡ apostrophe ∷ (other ++ apostrophe ∷ behind) =
+    let second : input ≡ apostrophe ∷ (other ++ apostrophe ∷ after) =
+    single.whole ∙ ap (λ piece. piece ++ after) single.is.1 ∙ marked apostrophe other after in
+    let same : double_quote ∷ (inside ++ double_quote ∷ rest) ≡ apostrophe ∷ (other ++ apostrophe ∷ after) =
     sym first ∙ second in
     let heads : ◌≡◌ {A = ℕ} 34 39 = cc in
     absurd (omega (arith, heads))
@@ -111,9 +111,9 @@ pub quote_double : (input rest inside : List ℕ)
     → Reads Anything IsQuote input (Some (rest, inside))
 quote_double input rest inside found = (
   record { piece = found.0.piece; whole = found.0.whole; is = inl found.0.is },
-  λ other behind _ begins. elim begins.is [
-    | inl is ↦ found.1 other behind tt (record { piece = begins.piece; whole = begins.whole; is = is })
-    | inr is ↦ absurd (marks_apart input inside other rest behind found.0
+  λ other after _ begins. elim begins.is [
+    | inl is ↦ found.1 other after tt (record { piece = begins.piece; whole = begins.whole; is = is })
+    | inr is ↦ absurd (marks_apart input inside other rest after found.0
         (record { piece = begins.piece; whole = begins.whole; is = is }))
   ],
 )
@@ -127,24 +127,24 @@ quote_single input None none other = λ inside rest _ begins. elim begins.is [
 ]
 quote_single input (Some answer) none found = (
   record { piece = found.0.piece; whole = found.0.whole; is = inr found.0.is },
-  λ other behind _ begins. elim begins.is [
-    | inl is ↦ absurd (none other behind tt (record { piece = begins.piece; whole = begins.whole; is = is }))
-    | inr is ↦ found.1 other behind tt (record { piece = begins.piece; whole = begins.whole; is = is })
+  λ other after _ begins. elim begins.is [
+    | inl is ↦ absurd (none other after tt (record { piece = begins.piece; whole = begins.whole; is = is }))
+    | inr is ↦ found.1 other after tt (record { piece = begins.piece; whole = begins.whole; is = is })
   ],
 )
 
 -- the text up to a closing brace
-braced : (front behind : List ℕ) → (front ++ closing_brace ∷ []) ++ behind ≡ front ++ closing_brace ∷ behind
-braced front behind = append_assoc front (closing_brace ∷ []) behind
+braced : (front after : List ℕ) → (front ++ closing_brace ∷ []) ++ after ≡ front ++ closing_brace ∷ after
+braced front after = append_assoc front (closing_brace ∷ []) after
 
 pub brace_none : (input : List ℕ) → Lacks closing_brace input
     → Reads Anything (λ (_ : Unit {0}). Lacks closing_brace · Is (codes "}")) input None
-brace_none input lacks other behind _ begins =
+brace_none input lacks other after _ begins =
     let parts = begins.is in
-    let same : input ≡ parts.front ++ closing_brace ∷ behind =
-    begins.whole ∙ ap (λ piece. piece ++ behind)
-    (parts.whole ∙ ap (λ brace. parts.front ++ brace) parts.is_back) ∙ braced parts.front behind in
-    Lacks-not_inside closing_brace parts.front behind (subst (Lacks closing_brace) same lacks)
+    let same : input ≡ parts.front ++ closing_brace ∷ after =
+    begins.whole ∙ ap (λ piece. piece ++ after)
+    (parts.whole ∙ ap (λ brace. parts.front ++ brace) parts.is_back) ∙ braced parts.front after in
+    Lacks-not_inside closing_brace parts.front after (subst (Lacks closing_brace) same lacks)
 
 pub brace_read : (input text rest : List ℕ) → Lacks closing_brace text → input ≡ text ++ closing_brace ∷ rest
     → Reads Anything (λ (_ : Unit {0}). Lacks closing_brace · Is (codes "}")) input (Some (rest, tt))
@@ -154,13 +154,13 @@ brace_read input text rest lacks whole = (
     whole = whole ∙ sym (braced text rest);
     is = record { front = text; back = closing_brace ∷ []; whole = refl; is_front = lacks; is_back = refl };
   },
-  λ other behind _ begins.
+  λ other after _ begins.
       let parts = begins.is in
-      let same : input ≡ parts.front ++ closing_brace ∷ behind =
-      begins.whole ∙ ap (λ piece. piece ++ behind)
-      (parts.whole ∙ ap (λ brace. parts.front ++ brace) parts.is_back) ∙ braced parts.front behind in (
+      let same : input ≡ parts.front ++ closing_brace ∷ after =
+      begins.whole ∙ ap (λ piece. piece ++ after)
+      (parts.whole ∙ ap (λ brace. parts.front ++ brace) parts.is_back) ∙ braced parts.front after in (
         refl,
-        sym (same_before_mark closing_brace text parts.front rest behind lacks parts.is_front
+        sym (same_before_mark closing_brace text parts.front rest after lacks parts.is_front
             (sym whole ∙ same)).1,
       ),
 )
@@ -190,25 +190,25 @@ ident_of_run [] all first = absurd (false≢true first)
 ident_of_run (c ∷ cs) all first = (first, all.1)
 
 module _ (input name rest : List ℕ) (run : IsNameRun input name rest) where
-  the_run : (other behind : List ℕ) → IsIdent other → EndOfIdent behind → input ≡ other ++ behind
-      → (name ≡ other) × (rest ≡ behind)
-  the_run other behind is end whole =
+  the_run : (other after : List ℕ) → IsIdent other → EndOfIdent after → input ≡ other ++ after
+      → (name ≡ other) × (rest ≡ after)
+  the_run other after is end whole =
       same_run (λ c. ends_ident c ≡ false) (λ c. ends_ident c ≡ true)
-      (λ c not is. both_ways (ends_ident c) not is) name other rest behind
+      (λ c not is. both_ways (ends_ident c) not is) name other rest after
       run.1 (run_of_ident other is).0 run.2 end (sym run.0 ∙ whole)
 
   pub ident_read : begins_ident name ≡ true
       → Reads EndOfIdent (λ name text. IsIdent text × (name ≡ text)) input (Some (rest, name))
   ident_read first = (
     record { piece = name; whole = run.0; is = (ident_of_run name run.1 first, refl) },
-    λ other behind end begins.
-        let same = the_run begins.piece behind begins.is.0 end begins.whole in
+    λ other after end begins.
+        let same = the_run begins.piece after begins.is.0 end begins.whole in
         (begins.is.1 ∙ sym same.0, sym same.1),
   )
 
   pub ident_none : begins_ident name ≡ false
       → Reads {V = List ℕ} EndOfIdent (λ name text. IsIdent text × (name ≡ text)) input None
-  ident_none first other behind end begins =
-      let same = the_run begins.piece behind begins.is.0 end begins.whole in
+  ident_none first other after end begins =
+      let same = the_run begins.piece after begins.is.0 end begins.whole in
       both_ways (begins_ident name) first
       (subst (λ t. begins_ident t ≡ true) (sym same.0) (run_of_ident begins.piece begins.is.0).1)

@@ -7,42 +7,44 @@ use Rattle.std.proofs.lemmas.List.{append_cancel_left, append_cancel_right, appe
 use Rattle.std.specs.List.{AllPairs, Contains}
 use Rattle.std.specs.Option.{MatchOption}
 use Rattle.deno_graph_jsdoc.specs.Characters.{at_sign, opening_brace}
-use Rattle.deno_graph_jsdoc.specs.JsDocReading.{ReadsImport, IsDeclarationEnd, IsDynamicEnd}
+use Rattle.deno_graph_jsdoc.specs.internal.Reading.{ReadsImport, IsDeclarationEnd, IsDynamicEnd}
 use Rattle.deno_graph_jsdoc.specs.JsDocImport.{Import, moved, byte_count}
-use Rattle.deno_graph_jsdoc.specs.JsDocHits.{AreHits, HasFronts, IsHit, IsFront, EndsAtDynamicImport}
-use Rattle.deno_graph_jsdoc.specs.JsDocHits.{EndsAtDeclaration}
-use Rattle.deno_graph_jsdoc.specs.JsDocPass.{EndsWithAt, GainsImport, LeavesOpen}
-use Rattle.deno_graph_jsdoc.proofs.Hits.{IsStated, IsDynamicHit, IsDeclarationHit, hit_stated, dynamic_hit}
-use Rattle.deno_graph_jsdoc.proofs.Hits.{declaration_hit, dynamic_ends, declaration_ends, stated_none}
-use Rattle.deno_graph_jsdoc.proofs.Hits.{stated_only, stated_some, one_hit}
+use Rattle.deno_graph_jsdoc.specs.JsDocImports.{AreImportsIn, HasFronts, IsImportIn, IsFront}
+use Rattle.deno_graph_jsdoc.specs.JsDocImports.{EndsAtDynamicImport}
+use Rattle.deno_graph_jsdoc.specs.JsDocImports.{EndsAtDeclaration}
+use Rattle.deno_graph_jsdoc.specs.internal.Pass.{EndsWithAt, GainsImport, LeavesOpen}
+use Rattle.deno_graph_jsdoc.proofs.ImportsIn.{IsStated, IsDynamicImportIn, IsDeclarationIn}
+use Rattle.deno_graph_jsdoc.proofs.ImportsIn.{import_stated, dynamic_in}
+use Rattle.deno_graph_jsdoc.proofs.ImportsIn.{declaration_in, dynamic_ends, declaration_ends, stated_none}
+use Rattle.deno_graph_jsdoc.proofs.ImportsIn.{stated_only, stated_some, one_import_in}
 use Rattle.deno_graph_jsdoc.proofs.Runs.{front_of_front}
 use Rattle.deno_graph_jsdoc.proofs.Sites.{word, EndsIn, IsCut, Skips, same_front, skips_to, no_further}
 use Rattle.deno_graph_jsdoc.proofs.Sites.{Counted, Counted-start, Counted-skip, Counted-more, Counted-all}
 
 -- no part of the word is a brace
-no_brace : (middle rest behind : List ℕ)
-    → word ++ rest ≡ middle ++ opening_brace ∷ behind → length middle < 6 → ⊥
-no_brace [] rest behind same short =
+no_brace : (middle rest after : List ℕ)
+    → word ++ rest ≡ middle ++ opening_brace ∷ after → length middle < 6 → ⊥
+no_brace [] rest after same short =
     let heads : ◌≡◌ {A = ℕ} 105 opening_brace = cc in
     omega (arith, heads)
-no_brace (a ∷ []) rest behind same short =
+no_brace (a ∷ []) rest after same short =
     let heads : ◌≡◌ {A = ℕ} 109 opening_brace = cc in
     omega (arith, heads)
-no_brace (a ∷ b ∷ []) rest behind same short =
+no_brace (a ∷ b ∷ []) rest after same short =
     let heads : ◌≡◌ {A = ℕ} 112 opening_brace = cc in
     omega (arith, heads)
-no_brace (a ∷ b ∷ c ∷ []) rest behind same short =
+no_brace (a ∷ b ∷ c ∷ []) rest after same short =
     let heads : ◌≡◌ {A = ℕ} 111 opening_brace = cc in
     omega (arith, heads)
-no_brace (a ∷ b ∷ c ∷ d ∷ []) rest behind same short =
+no_brace (a ∷ b ∷ c ∷ d ∷ []) rest after same short =
     let heads : ◌≡◌ {A = ℕ} 114 opening_brace = cc in
     omega (arith, heads)
-no_brace (a ∷ b ∷ c ∷ d ∷ e ∷ []) rest behind same short =
+no_brace (a ∷ b ∷ c ∷ d ∷ e ∷ []) rest after same short =
     let heads : ◌≡◌ {A = ℕ} 116 opening_brace = cc in
     omega (arith, heads)
-no_brace (a ∷ b ∷ c ∷ d ∷ e ∷ f ∷ more) rest behind same short = omega arith
+no_brace (a ∷ b ∷ c ∷ d ∷ e ∷ f ∷ more) rest after same short = omega arith
 
--- two texts that end with the same have the same last character
+-- two texts with the same end have the same last character
 same_last : (a b : ℕ) (xs ys : List ℕ) → xs ++ a ∷ [] ≡ ys ++ b ∷ [] → a ≡ b
 same_last a b [] [] same = cc
 same_last a b [] (y ∷ ys) same = absurd (omega (arith, ap length same, length-append ys (b ∷ [])))
@@ -51,23 +53,23 @@ same_last a b (x ∷ xs) (y ∷ ys) same =
     let tails : xs ++ a ∷ [] ≡ ys ++ b ∷ [] = cc in
     same_last a b xs ys tails
 
--- the next `import` behind a cut
-module _ (text front before behind : List ℕ) (cut : IsCut front)
-    (whole : text ≡ front ++ (before ++ (word ++ behind)))
-    (first : (sooner after : List ℕ) → before ++ word ≡ sooner ++ (word ++ after) → after ≡ []) where
+-- the next `import` after a cut
+module _ (text front before after : List ℕ) (cut : IsCut front)
+    (whole : text ≡ front ++ (before ++ (word ++ after)))
+    (first : (sooner reached : List ℕ) → before ++ word ≡ sooner ++ (word ++ reached) → reached ≡ []) where
   abbrev pub next : List ℕ
   next = front ++ (before ++ word)
 
-  pub next_whole : text ≡ next ++ behind
+  pub next_whole : text ≡ next ++ after
   next_whole =
-      whole ∙ ap (λ t. front ++ t) (sym (append_assoc before word behind))
-      ∙ sym (append_assoc front (before ++ word) behind)
+      whole ∙ ap (λ t. front ++ t) (sym (append_assoc before word after))
+      ∙ sym (append_assoc front (before ++ word) after)
 
   pub next_cut : IsCut next
   next_cut = inr (front ++ before, sym (append_assoc front before word))
 
   pub next_front : IsFront text next
-  next_front = (behind, next_whole)
+  next_front = (after, next_whole)
 
   pub next_longer : length front < length next
   next_longer = omega (arith, length-append front (before ++ word), length-append before word)
@@ -75,9 +77,9 @@ module _ (text front before behind : List ℕ) (cut : IsCut front)
   pub next_skips : Skips text front next
   next_skips =
       subst (λ t. Skips t front next) (sym whole)
-      (skips_to front (before ++ (word ++ behind)) cut before behind refl first)
+      (skips_to front (before ++ (word ++ after)) cut before after refl first)
 
-  -- it is a site of a declaration where an `@` is before it
+  -- it is a site of a declaration if an `@` is before it
   pub declaration_here : EndsWithAt before → EndsAtDeclaration next
   declaration_here ends = record {
     front = front ++ ends.front;
@@ -136,7 +138,7 @@ module _ (text front before behind : List ℕ) (cut : IsCut front)
             is_back = refl;
           }
 
-  -- and of a dynamic import where a brace is open
+  -- it is a site of a dynamic import if a brace is open
   pub dynamic_here : LeavesOpen before → EndsAtDynamicImport next
   dynamic_here opens =
       let brace = opens.is_back in
@@ -158,11 +160,11 @@ module _ (text front before behind : List ℕ) (cut : IsCut front)
             front = brace.back;
             whole = refl;
             unclosed = brace.is_back;
-            first = λ sooner after same.
-                first (opens.front ++ opening_brace ∷ sooner) after
+            first = λ sooner reached same.
+                first (opens.front ++ opening_brace ∷ sooner) reached
                 (ap (λ t. t ++ word) is ∙ append_assoc opens.front (opening_brace ∷ brace.back) word
                 ∙ ap (λ t. opens.front ++ opening_brace ∷ t) same
-                ∙ sym (append_assoc opens.front (opening_brace ∷ sooner) (word ++ after)));
+                ∙ sym (append_assoc opens.front (opening_brace ∷ sooner) (word ++ reached)));
           };
         };
       }
@@ -243,7 +245,7 @@ module _ (text front before behind : List ℕ) (cut : IsCut front)
             };
           }
 
--- the imports of one form that are behind fronts up to a length
+-- the imports of one form that are after fronts up to a length
 module _ (P : List ℕ → Type 0) (ends : (front : List ℕ) → P front → EndsIn front)
     (G : List ℕ → Import → List ℕ → Type 0) (text : List ℕ) where
   abbrev pub Complete : ℕ → List Import → Type 0
@@ -259,24 +261,24 @@ module _ (P : List ℕ → Type 0) (ends : (front : List ℕ) → P front → En
       → Contains more import) → Complete limit imports → Complete limit more
   Complete-grow limit imports more kept all front import s fits = kept import (all front import s fits)
 
-  module _ (last after : List ℕ) (here : IsFront text after) (skips : Skips text last after)
+  module _ (last reached : List ℕ) (here : IsFront text reached) (skips : Skips text last reached)
       (imports : List Import) (all : Complete (length last) imports) where
-    pub Complete-next : ((import : Import) → IsStated P G text after import → Contains imports import)
-        → Complete (length after) imports
+    pub Complete-next : ((import : Import) → IsStated P G text reached import → Contains imports import)
+        → Complete (length reached) imports
     Complete-next new front import s fits = by_length (cases_lt (length last) (length front))
       where
         by_length : (length last < length front) ⊎ (length front ≤ length last) → Contains imports import
         by_length (inr old) = all front import s old
         by_length (inl longer) =
-            let far = skips front (s.behind, s.whole) (ends front s.site) longer in
+            let far = skips front (s.after, s.whole) (ends front s.site) longer in
             new import (subst (λ f. IsStated P G text f import)
-            (same_front text front after (s.behind, s.whole) here (omega (arith, far))) s)
+            (same_front text front reached (s.after, s.whole) here (omega (arith, far))) s)
 
--- what a pass has found: the imports, and how many sites there are, behind fronts up to two lengths
+-- what a pass has found: the imports, and how many sites there are, after fronts up to two lengths
 pub record Found (text : List ℕ) (imports : List Import) (dynamics decls : ℕ)
     (dynamic_front decl_front : List ℕ) : Type 0 where
   pub ascending : AllPairs (λ (import later : Import). import.start < later.start) imports
-  pub sound : (import : Import) → Contains imports import → IsHit text import
+  pub sound : (import : Import) → Contains imports import → IsImportIn text import
   pub dynamic : Complete EndsAtDynamicImport dynamic_ends IsDynamicEnd text (length dynamic_front) imports
   pub decl : Complete EndsAtDeclaration declaration_ends IsDeclarationEnd text (length decl_front) imports
   pub dynamic_count : Counted EndsAtDynamicImport dynamic_ends text (length dynamic_front) dynamics
@@ -296,107 +298,108 @@ Found-start text = record {
   few_decls = omega arith;
 }
 
--- the new list has the import that it gains, where all are hits
+-- the new list has the import that it gains, if all elements are imports in the text
 pub gained : (text : List ℕ) (old new : List Import) (import : Import)
-    → ((other : Import) → Contains old other → IsHit text other) → IsHit text import
+    → ((other : Import) → Contains old other → IsImportIn text other) → IsImportIn text import
     → GainsImport old import new
     → Contains new import
-gained text old new import sound hit gains =
+gained text old new import sound is_in gains =
     let there = gains.there in
     subst (Contains new)
-    (one_hit text there.0 import (by_place there.0 (gains.only there.0 there.1)) hit there.2) there.1
+    (one_import_in text there.0 import (by_place there.0 (gains.only there.0 there.1)) is_in there.2) there.1
   where
-    by_place : (other : Import) → Contains old other ⊎ (import ≡ other) → IsHit text other
+    by_place : (other : Import) → Contains old other ⊎ (import ≡ other) → IsImportIn text other
     by_place other (inl has) = sound other has
-    by_place other (inr is) = subst (IsHit text) is hit
+    by_place other (inr is) = subst (IsImportIn text) is is_in
 
 pub gained_sound : (text : List ℕ) (old new : List Import) (import : Import)
-    → ((other : Import) → Contains old other → IsHit text other) → IsHit text import
+    → ((other : Import) → Contains old other → IsImportIn text other) → IsImportIn text import
     → GainsImport old import new
-    → (other : Import) → Contains new other → IsHit text other
-gained_sound text old new import sound hit gains other has = by_place (gains.only other has)
+    → (other : Import) → Contains new other → IsImportIn text other
+gained_sound text old new import sound is_in gains other has = by_place (gains.only other has)
   where
-    by_place : Contains old other ⊎ (import ≡ other) → IsHit text other
+    by_place : Contains old other ⊎ (import ≡ other) → IsImportIn text other
     by_place (inl old) = sound other old
-    by_place (inr is) = subst (IsHit text) is hit
+    by_place (inr is) = subst (IsImportIn text) is is_in
 
 -- the list after a start of a parser at the end of `after`
 abbrev pub Takes : List ℕ → List Import → Option (List ℕ × Import) → List Import → Type 0
-Takes after old answer new =
-    MatchOption answer (new ≡ old) (λ found. GainsImport old (moved (byte_count after) found.1) new)
+Takes reached old answer new =
+    MatchOption answer (new ≡ old) (λ found. GainsImport old (moved (byte_count reached) found.1) new)
 
-module _ (text last after behind : List ℕ) (whole : text ≡ after ++ behind) (skips : Skips text last after)
-    (longer : length last < length after) where
+module _ (text last reached after : List ℕ) (whole : text ≡ reached ++ after)
+    (skips : Skips text last reached) (longer : length last < length reached) where
   pub dynamic_skip : {imports : List Import} {dynamics decls : ℕ} {other : List ℕ}
-      → Found text imports dynamics decls last other → (EndsAtDynamicImport after → ⊥)
-      → Found text imports dynamics decls after other
+      → Found text imports dynamics decls last other → (EndsAtDynamicImport reached → ⊥)
+      → Found text imports dynamics decls reached other
   dynamic_skip {imports} {dynamics} found none = record {
     ascending = found.ascending;
     sound = found.sound;
-    dynamic = Complete-next EndsAtDynamicImport dynamic_ends IsDynamicEnd text last after
-        (behind, whole) skips imports found.dynamic (λ import s. absurd (none s.site));
+    dynamic = Complete-next EndsAtDynamicImport dynamic_ends IsDynamicEnd text last reached
+        (after, whole) skips imports found.dynamic (λ import s. absurd (none s.site));
     decl = found.decl;
-    dynamic_count = Counted-skip EndsAtDynamicImport dynamic_ends text last after
-        (behind, whole) skips dynamics found.dynamic_count none (omega arith);
+    dynamic_count = Counted-skip EndsAtDynamicImport dynamic_ends text last reached
+        (after, whole) skips dynamics found.dynamic_count none (omega arith);
     decl_count = found.decl_count;
     few_dynamics = (let few = found.few_dynamics in omega arith);
     few_decls = found.few_decls;
   }
 
   pub decl_skip : {imports : List Import} {dynamics decls : ℕ} {other : List ℕ}
-      → Found text imports dynamics decls other last → (EndsAtDeclaration after → ⊥)
-      → Found text imports dynamics decls other after
+      → Found text imports dynamics decls other last → (EndsAtDeclaration reached → ⊥)
+      → Found text imports dynamics decls other reached
   decl_skip {imports} {dynamics} {decls} found none = record {
     ascending = found.ascending;
     sound = found.sound;
     dynamic = found.dynamic;
-    decl = Complete-next EndsAtDeclaration declaration_ends IsDeclarationEnd text last after
-        (behind, whole) skips imports found.decl (λ import s. absurd (none s.site));
+    decl = Complete-next EndsAtDeclaration declaration_ends IsDeclarationEnd text last reached
+        (after, whole) skips imports found.decl (λ import s. absurd (none s.site));
     dynamic_count = found.dynamic_count;
-    decl_count = Counted-skip EndsAtDeclaration declaration_ends text last after
-        (behind, whole) skips decls found.decl_count none (omega arith);
+    decl_count = Counted-skip EndsAtDeclaration declaration_ends text last reached
+        (after, whole) skips decls found.decl_count none (omega arith);
     few_dynamics = found.few_dynamics;
     few_decls = (let few = found.few_decls in omega arith);
   }
 
   pub dynamic_take : {imports : List Import} {dynamics decls : ℕ} {other : List ℕ} (more : List Import)
       (answer : Option (List ℕ × Import)) → Found text imports dynamics decls last other
-      → EndsAtDynamicImport after → ReadsImport IsDynamicEnd behind answer → Takes after imports answer more
-      → Found text more (dynamics + 1) decls after other
+      → EndsAtDynamicImport reached → ReadsImport IsDynamicEnd after answer
+      → Takes reached imports answer more
+      → Found text more (dynamics + 1) decls reached other
   dynamic_take {imports} {dynamics} {decls} {other} more None found site none same =
-      subst (λ is. Found text is (dynamics + 1) decls after other) (sym same)
+      subst (λ is. Found text is (dynamics + 1) decls reached other) (sym same)
       (record {
         ascending = found.ascending;
         sound = found.sound;
-        dynamic = Complete-next EndsAtDynamicImport dynamic_ends IsDynamicEnd text last after
-            (behind, whole) skips imports found.dynamic
+        dynamic = Complete-next EndsAtDynamicImport dynamic_ends IsDynamicEnd text last reached
+            (after, whole) skips imports found.dynamic
             (λ import s. absurd
-            (stated_none EndsAtDynamicImport IsDynamicEnd text after behind whole none import s));
+            (stated_none EndsAtDynamicImport IsDynamicEnd text reached after whole none import s));
         decl = found.decl;
-        dynamic_count = Counted-more EndsAtDynamicImport dynamic_ends text last after
-            (behind, whole) skips dynamics found.dynamic_count site longer;
+        dynamic_count = Counted-more EndsAtDynamicImport dynamic_ends text last reached
+            (after, whole) skips dynamics found.dynamic_count site longer;
         decl_count = found.decl_count;
         few_dynamics = (let few = found.few_dynamics in omega arith);
         few_decls = found.few_decls;
       })
   dynamic_take {imports} {dynamics} {decls} {other} more (Some answer) found site parses gains =
-      let import = moved (byte_count after) answer.1 in
-      let hit = dynamic_hit text after import
-      (stated_some EndsAtDynamicImport IsDynamicEnd text after behind whole answer parses site) in
-      let has = gained text imports more import found.sound hit gains in
+      let import = moved (byte_count reached) answer.1 in
+      let is_in = dynamic_in text reached import
+      (stated_some EndsAtDynamicImport IsDynamicEnd text reached after whole answer parses site) in
+      let has = gained text imports more import found.sound is_in gains in
       record {
         ascending = gains.ascending;
-        sound = gained_sound text imports more import found.sound hit gains;
-        dynamic = Complete-next EndsAtDynamicImport dynamic_ends IsDynamicEnd text last after
-            (behind, whole) skips more
+        sound = gained_sound text imports more import found.sound is_in gains;
+        dynamic = Complete-next EndsAtDynamicImport dynamic_ends IsDynamicEnd text last reached
+            (after, whole) skips more
             (Complete-grow EndsAtDynamicImport dynamic_ends IsDynamicEnd text
             (length last) imports more gains.kept found.dynamic)
-            (λ i s. subst (Contains more) (sym (stated_only EndsAtDynamicImport IsDynamicEnd text after behind
-            whole answer parses i s)) has);
+            (λ i s. subst (Contains more) (sym (stated_only EndsAtDynamicImport IsDynamicEnd text reached
+            after whole answer parses i s)) has);
         decl = Complete-grow EndsAtDeclaration declaration_ends IsDeclarationEnd text
             (length other) imports more gains.kept found.decl;
-        dynamic_count = Counted-more EndsAtDynamicImport dynamic_ends text last after
-            (behind, whole) skips dynamics found.dynamic_count site longer;
+        dynamic_count = Counted-more EndsAtDynamicImport dynamic_ends text last reached
+            (after, whole) skips dynamics found.dynamic_count site longer;
         decl_count = found.decl_count;
         few_dynamics = (let few = found.few_dynamics in omega arith);
         few_decls = found.few_decls;
@@ -404,50 +407,51 @@ module _ (text last after behind : List ℕ) (whole : text ≡ after ++ behind) 
 
   pub decl_take : {imports : List Import} {dynamics decls : ℕ} {other : List ℕ} (more : List Import)
       (answer : Option (List ℕ × Import)) → Found text imports dynamics decls other last
-      → EndsAtDeclaration after → ReadsImport IsDeclarationEnd behind answer → Takes after imports answer more
-      → Found text more dynamics (decls + 1) other after
+      → EndsAtDeclaration reached → ReadsImport IsDeclarationEnd after answer
+      → Takes reached imports answer more
+      → Found text more dynamics (decls + 1) other reached
   decl_take {imports} {dynamics} {decls} {other} more None found site none same =
-      subst (λ is. Found text is dynamics (decls + 1) other after) (sym same)
+      subst (λ is. Found text is dynamics (decls + 1) other reached) (sym same)
       (record {
         ascending = found.ascending;
         sound = found.sound;
         dynamic = found.dynamic;
-        decl = Complete-next EndsAtDeclaration declaration_ends IsDeclarationEnd text last after
-            (behind, whole) skips imports found.decl
+        decl = Complete-next EndsAtDeclaration declaration_ends IsDeclarationEnd text last reached
+            (after, whole) skips imports found.decl
             (λ import s. absurd
-            (stated_none EndsAtDeclaration IsDeclarationEnd text after behind whole none import s));
+            (stated_none EndsAtDeclaration IsDeclarationEnd text reached after whole none import s));
         dynamic_count = found.dynamic_count;
-        decl_count = Counted-more EndsAtDeclaration declaration_ends text last after
-            (behind, whole) skips decls found.decl_count site longer;
+        decl_count = Counted-more EndsAtDeclaration declaration_ends text last reached
+            (after, whole) skips decls found.decl_count site longer;
         few_dynamics = found.few_dynamics;
         few_decls = (let few = found.few_decls in omega arith);
       })
   decl_take {imports} {dynamics} {decls} {other} more (Some answer) found site parses gains =
-      let import = moved (byte_count after) answer.1 in
-      let hit = declaration_hit text after import
-      (stated_some EndsAtDeclaration IsDeclarationEnd text after behind whole answer parses site) in
-      let has = gained text imports more import found.sound hit gains in
+      let import = moved (byte_count reached) answer.1 in
+      let is_in = declaration_in text reached import
+      (stated_some EndsAtDeclaration IsDeclarationEnd text reached after whole answer parses site) in
+      let has = gained text imports more import found.sound is_in gains in
       record {
         ascending = gains.ascending;
-        sound = gained_sound text imports more import found.sound hit gains;
+        sound = gained_sound text imports more import found.sound is_in gains;
         dynamic = Complete-grow EndsAtDynamicImport dynamic_ends IsDynamicEnd text
             (length other) imports more gains.kept found.dynamic;
-        decl = Complete-next EndsAtDeclaration declaration_ends IsDeclarationEnd text last after
-            (behind, whole) skips more
+        decl = Complete-next EndsAtDeclaration declaration_ends IsDeclarationEnd text last reached
+            (after, whole) skips more
             (Complete-grow EndsAtDeclaration declaration_ends IsDeclarationEnd text
             (length last) imports more gains.kept found.decl)
-            (λ i s. subst (Contains more) (sym (stated_only EndsAtDeclaration IsDeclarationEnd text after
-            behind whole answer parses i s)) has);
+            (λ i s. subst (Contains more) (sym (stated_only EndsAtDeclaration IsDeclarationEnd text reached
+            after whole answer parses i s)) has);
         dynamic_count = found.dynamic_count;
-        decl_count = Counted-more EndsAtDeclaration declaration_ends text last after
-            (behind, whole) skips decls found.decl_count site longer;
+        decl_count = Counted-more EndsAtDeclaration declaration_ends text last reached
+            (after, whole) skips decls found.decl_count site longer;
         few_dynamics = found.few_dynamics;
         few_decls = (let few = found.few_decls in omega arith);
       }
 
 -- at the end of a pass
 module _ (text front rest : List ℕ) (cut : IsCut front) (whole : text ≡ front ++ rest)
-    (none : (sooner after : List ℕ) → rest ≢ sooner ++ (word ++ after))
+    (none : (sooner reached : List ℕ) → rest ≢ sooner ++ (word ++ reached))
     (imports : List Import) (dynamics decls : ℕ) (found : Found text imports dynamics decls front front) where
   no_more : (other : List ℕ) → IsFront text other → EndsIn other → length other ≤ length front
   no_more other is ends = no_further front rest cut none other (is.0, sym whole ∙ is.1) ends
@@ -460,15 +464,15 @@ module _ (text front rest : List ℕ) (cut : IsCut front) (whole : text ≡ fron
   Found-decls = Counted-all EndsAtDeclaration declaration_ends text
       (length front) decls found.decl_count no_more
 
-  pub Found-hits : AreHits text imports
-  Found-hits = record {
+  pub Found-imports : AreImportsIn text imports
+  Found-imports = record {
     ascending = found.ascending;
-    exact = λ import. (found.sound import, λ hit. by_form import (hit_stated text import hit));
+    exact = λ import. (found.sound import, λ is_in. by_form import (import_stated text import is_in));
   }
     where
-      by_form : (import : Import) → ((f : List ℕ) × IsDynamicHit text f import)
-          ⊎ ((f : List ℕ) × IsDeclarationHit text f import) → Contains imports import
+      by_form : (import : Import) → ((f : List ℕ) × IsDynamicImportIn text f import)
+          ⊎ ((f : List ℕ) × IsDeclarationIn text f import) → Contains imports import
       by_form import (inl (f, s)) =
-          found.dynamic f import s (no_more f (s.behind, s.whole) (dynamic_ends f s.site))
+          found.dynamic f import s (no_more f (s.after, s.whole) (dynamic_ends f s.site))
       by_form import (inr (f, s)) =
-          found.decl f import s (no_more f (s.behind, s.whole) (declaration_ends f s.site))
+          found.decl f import s (no_more f (s.after, s.whole) (declaration_ends f s.site))

@@ -1,11 +1,11 @@
--- Texts that begin with one thing and then another, and parsers one after another.
+-- Texts of one set followed by texts of another, and parsers one after another.
 use Rattle.std.proofs.Common.{◌≡◌, ℕ, false, Option, Some, None, List, [], ◌∷◌, ◌++◌, refl, sym, ap, ◌∙◌}
 use Rattle.std.proofs.Common.{subst, append_assoc, option_map, ◌<◌, ◌≤◌, length, length-append, arith}
 use Rattle.std.proofs.lemmas.List.{append-nil}
 use Rattle.std.specs.Char.{is_whitespace}
 use Rattle.std.specs.Str.{skip_leading_whitespace}
 use Rattle.deno_graph_jsdoc.specs.JsDocGrammar.{◌·◌, Is, IsSpace, Attribute, Begins, Anything, NoSpace}
-use Rattle.deno_graph_jsdoc.specs.JsDocReading.{Reads}
+use Rattle.deno_graph_jsdoc.specs.internal.Reading.{Reads}
 use Rattle.deno_graph_jsdoc.proofs.Runs.{space_whole, same_space, IsSpace-append}
 
 -- where one text ends, the other begins
@@ -38,7 +38,7 @@ Begins-join {P} {Q} {input} {middle} {rest} first second = record {
   };
 }
 
--- the same text as one of another set
+-- a text of one set as a text of another set
 pub Begins-as : {P Q : List ℕ → Type 0} {input rest : List ℕ} → ((text : List ℕ) → P text → Q text)
     → Begins P input rest → Begins Q input rest
 Begins-as same b = record { piece = b.piece; whole = b.whole; is = same b.piece b.is }
@@ -73,10 +73,10 @@ pub space_read : (text : List ℕ) → Reads NoSpace (λ (_ : Unit {0}). IsSpace
 space_read text =
     let own = space_whole text in (
       record { piece = own.0; whole = own.2; is = own.1 },
-      λ other behind stop begins. (refl, same_space text begins.piece behind begins.is stop begins.whole),
+      λ other after stop begins. (refl, same_space text begins.piece after begins.is stop begins.whole),
     )
 
--- white space behind something is skipped in one way
+-- white space after a text is skipped in one way
 module _ {V : Type 0} (P : V → List ℕ → Type 0) (input : List ℕ) where
   pub spaced_none : Reads Anything P input None → Reads NoSpace (λ v. P v · IsSpace) input None
   spaced_none none v rest stop begins =
@@ -87,11 +87,11 @@ module _ {V : Type 0} (P : V → List ℕ → Type 0) (input : List ℕ) where
       → Reads NoSpace (λ v. P v · IsSpace) input (Some (skip_leading_whitespace middle, v))
   spaced middle v found = (
     Begins-join found.0 (space_read middle).0,
-    λ other behind stop begins.
+    λ other after stop begins.
         let parts = Begins-split begins in
         let same = found.1 other parts.0 tt parts.1 in (
           same.0,
-          ((space_read middle).1 tt behind stop (subst (λ m. Begins IsSpace m behind) same.1 parts.2)).1,
+          ((space_read middle).1 tt after stop (subst (λ m. Begins IsSpace m after) same.1 parts.2)).1,
         ),
   )
 
@@ -227,7 +227,7 @@ Reads-as F P Q to from input None none = λ v rest f b. none v rest f (from v in
 Reads-as F P Q to from input (Some x) found =
     (to x.1 input x.0 found.0, λ v rest f b. found.1 v rest f (from v input rest b))
 
--- what begins with no white space, behind white space or behind a word and white space
+-- a text that begins with no white space, after white space or after a word and white space
 module _ {W : Type 0} (G : List ℕ → Type 0) (Q : W → List ℕ → Type 0)
     (solid : (w : W) (text : List ℕ) → Q w text → IsSolid text) where
   pub space_then : (input : List ℕ) (o : Option (List ℕ × W)) → Reads G Q (skip_leading_whitespace input) o
@@ -253,10 +253,10 @@ module _ {W : Type 0} (G : List ℕ → Type 0) (Q : W → List ℕ → Type 0)
         (then_some NoSpace G (P · IsSpace) Q
         (λ w middle rest g b. NoSpace-before (solid w) b) input middle o first second)
 
--- behind white space, and before it
-pub behind_space : {Q : List ℕ → Type 0} {input rest : List ℕ} → ((text : List ℕ) → Q text → IsSolid text)
+-- after white space, and before it
+pub after_space : {Q : List ℕ → Type 0} {input rest : List ℕ} → ((text : List ℕ) → Q text → IsSolid text)
     → Begins (IsSpace · Q) input rest → Begins Q (skip_leading_whitespace input) rest
-behind_space {Q} {input} {rest} solid b =
+after_space {Q} {input} {rest} solid b =
     let parts = Begins-split b in
     subst (λ m. Begins Q m rest)
     ((space_read input).1 tt parts.0 (NoSpace-before solid parts.2) parts.1).1 parts.2
@@ -266,9 +266,9 @@ pub before_space : {Q : List ℕ → Type 0} (input : List ℕ) {rest : List ℕ
 before_space input b = Begins-join (space_read input).0 b
 
 -- nothing before a text
-pub behind_nothing : {Q : List ℕ → Type 0} {input rest : List ℕ}
+pub after_nothing : {Q : List ℕ → Type 0} {input rest : List ℕ}
     → Begins (Is [] · Q) input rest → Begins Q input rest
-behind_nothing {Q} {input} {rest} b =
+after_nothing {Q} {input} {rest} b =
     let parts = Begins-split b in
     subst (λ m. Begins Q m rest) (sym (parts.1.whole ∙ ap (λ piece. piece ++ parts.0) parts.1.is)) parts.2
 
@@ -277,15 +277,15 @@ pub before_nothing : {Q : List ℕ → Type 0} {input rest : List ℕ} → Begin
 before_nothing {Q} {input} {rest} b = Begins-join (record { piece = []; whole = refl; is = refl }) b
 
 -- a text doesn't begin with two words
-pub same_first : {c d : ℕ} {cs ds input rest behind : List ℕ} → Begins (Is (c ∷ cs)) input rest
-    → Begins (Is (d ∷ ds)) input behind → c ≡ d
-same_first {c} {d} {cs} {ds} {input} {rest} {behind} first second =
+pub same_first : {c d : ℕ} {cs ds input rest after : List ℕ} → Begins (Is (c ∷ cs)) input rest
+    → Begins (Is (d ∷ ds)) input after → c ≡ d
+same_first {c} {d} {cs} {ds} {input} {rest} {after} first second =
     let one : input ≡ (c ∷ cs) ++ rest = first.whole ∙ ap (λ piece. piece ++ rest) first.is in
-    let other : input ≡ (d ∷ ds) ++ behind = second.whole ∙ ap (λ piece. piece ++ behind) second.is in
-    let same : c ∷ (cs ++ rest) ≡ d ∷ (ds ++ behind) = sym one ∙ other in
+    let other : input ≡ (d ∷ ds) ++ after = second.whole ∙ ap (λ piece. piece ++ after) second.is in
+    let same : c ∷ (cs ++ rest) ≡ d ∷ (ds ++ after) = sym one ∙ other in
     cc
 
--- what is behind something is not longer, and behind a word shorter
+-- the rest after a text is not longer, and the rest after a word is shorter
 pub Begins-length : {P : List ℕ → Type 0} {input rest : List ℕ} → Begins P input rest
     → length rest ≤ length input
 Begins-length {P} {input} {rest} b = omega (arith, ap length b.whole, length-append b.piece rest)
@@ -298,7 +298,7 @@ Begins-shorter {Q} {c} {cs} {input} {rest} b =
     let later = Begins-length parts.2 in
     omega (arith, ap length first.whole, length-append first.piece parts.0, ap length first.is, later)
 
--- white space behind white space
+-- white space after white space
 pub one_space : {Q : List ℕ → Type 0} {input rest : List ℕ} → Begins (IsSpace · IsSpace · Q) input rest
     → Begins (IsSpace · Q) input rest
 one_space b =
@@ -306,7 +306,7 @@ one_space b =
     Begins-join (Begins-as (λ text both. subst IsSpace (sym both.whole)
     (IsSpace-append both.front both.back both.is_front both.is_back)) parts.1) parts.2
 
--- what holds of the front of any text holds of a whole text
+-- a property of all fronts is a property of a whole text
 pub textwise : {P Q : List ℕ → Type 0} → ((input rest : List ℕ) → Begins P input rest → Begins Q input rest)
     → (text : List ℕ) → P text → Q text
 textwise {P} {Q} same text is =

@@ -1,4 +1,4 @@
--- The longest run of characters of one kind with which a text begins.
+-- The longest run of characters of one kind at the start of a text.
 use Rattle.std.proofs.Common.{◌≡◌, ◌≢◌, ℕ, Bool, true, false, List, [], ◌∷◌, ◌++◌, refl, sym, ap, ◌∙◌, subst}
 use Rattle.std.proofs.Common.{cond, ◌≤◌, length, arith}
 use Rattle.std.proofs.lemmas.Bool.{both_ways, and_parts}
@@ -8,26 +8,26 @@ use Rattle.std.specs.Str.{skip_leading_whitespace}
 use lib.Utf8.{scalar, scalars}
 use Rattle.deno_graph_jsdoc.specs.JsDocGrammar.{IsSpace, Lacks, EmptyOr, NoSpace}
 
--- characters of one kind, and then a character of another: there is one place between
-pub same_run : (P S : ℕ → Type 0) → ((c : ℕ) → P c → S c → ⊥) → (xs ys rest behind : List ℕ)
-    → AllByRecursion P xs → AllByRecursion P ys → EmptyOr S rest → EmptyOr S behind
-    → xs ++ rest ≡ ys ++ behind → (xs ≡ ys) × (rest ≡ behind)
-same_run P S apart [] [] rest behind all each stop end same = (refl, same)
-same_run P S apart [] (y ∷ ys) [] behind all each stop end same = absurd (cc)
-same_run P S apart [] (y ∷ ys) (c ∷ rest) behind all each stop end same =
+-- characters of one kind, and then a character of another: only one offset is between
+pub same_run : (P S : ℕ → Type 0) → ((c : ℕ) → P c → S c → ⊥) → (xs ys rest after : List ℕ)
+    → AllByRecursion P xs → AllByRecursion P ys → EmptyOr S rest → EmptyOr S after
+    → xs ++ rest ≡ ys ++ after → (xs ≡ ys) × (rest ≡ after)
+same_run P S apart [] [] rest after all each stop end same = (refl, same)
+same_run P S apart [] (y ∷ ys) [] after all each stop end same = absurd (cc)
+same_run P S apart [] (y ∷ ys) (c ∷ rest) after all each stop end same =
     let first : y ≡ c = cc in
     absurd (apart c (subst P first each.0) stop)
 same_run P S apart (x ∷ xs) [] rest [] all each stop end same = absurd (cc)
-same_run P S apart (x ∷ xs) [] rest (c ∷ behind) all each stop end same =
+same_run P S apart (x ∷ xs) [] rest (c ∷ after) all each stop end same =
     let first : x ≡ c = cc in
     absurd (apart c (subst P first all.0) end)
-same_run P S apart (x ∷ xs) (y ∷ ys) rest behind all each stop end same =
-    let tails : xs ++ rest ≡ ys ++ behind = cc in
-    let again = same_run P S apart xs ys rest behind all.1 each.1 stop end tails in
+same_run P S apart (x ∷ xs) (y ∷ ys) rest after all each stop end same =
+    let tails : xs ++ rest ≡ ys ++ after = cc in
+    let again = same_run P S apart xs ys rest after all.1 each.1 stop end tails in
     let first : x ≡ y = cc in
     (λ i. first i ∷ again.0 i, again.1)
 
--- the white space with which a text begins
+-- the white space at the start of a text
 pub space_whole : (text : List ℕ) → (space : List ℕ) × IsSpace space
     × (text ≡ space ++ skip_leading_whitespace text)
 space_whole [] = ([], tt, refl)
@@ -48,7 +48,7 @@ space_ends (c ∷ cs) = by_first (is_whitespace c) refl (space_ends cs)
     by_first true is more = more
     by_first false is more = is
 
--- no other white space can be skipped before a text that begins with none
+-- if a text begins with no white space, only one run of white space can be skipped before it
 pub same_space : (text space rest : List ℕ) → IsSpace space → NoSpace rest → text ≡ space ++ rest
     → rest ≡ skip_leading_whitespace text
 same_space text space rest white stop whole =
@@ -57,24 +57,24 @@ same_space text space rest white stop whole =
     (λ c is not. both_ways (is_whitespace c) not is) space own.0 rest
     (skip_leading_whitespace text) white own.1 stop (space_ends text) (sym whole ∙ own.2)).1
 
--- the text before a mark that it doesn't hold
-pub same_before_mark : (mark : ℕ) (xs ys rest behind : List ℕ) → Lacks mark xs → Lacks mark ys
-    → xs ++ mark ∷ rest ≡ ys ++ mark ∷ behind → (xs ≡ ys) × (rest ≡ behind)
-same_before_mark mark xs ys rest behind left right same =
+-- the text before a mark, without that mark
+pub same_before_mark : (mark : ℕ) (xs ys rest after : List ℕ) → Lacks mark xs → Lacks mark ys
+    → xs ++ mark ∷ rest ≡ ys ++ mark ∷ after → (xs ≡ ys) × (rest ≡ after)
+same_before_mark mark xs ys rest after left right same =
     let found = same_run (λ c. c ≢ mark) (λ c. c ≡ mark) (λ c not is. not is) xs ys (mark ∷ rest)
-    (mark ∷ behind) left right refl refl same in
-    let tails : mark ∷ rest ≡ mark ∷ behind = found.1 in
+    (mark ∷ after) left right refl refl same in
+    let tails : mark ∷ rest ≡ mark ∷ after = found.1 in
     (found.0, cc)
 
 pub Lacks-not_inside : (mark : ℕ) (xs rest : List ℕ) → Lacks mark (xs ++ mark ∷ rest) → ⊥
 Lacks-not_inside mark [] rest all = all.0 refl
 Lacks-not_inside mark (x ∷ xs) rest all = Lacks-not_inside mark xs rest all.1
 
--- what is behind white space are characters too
-pub scalars_behind_space : (cs : List ℕ) → scalars cs ≡ true → scalars (skip_leading_whitespace cs) ≡ true
-scalars_behind_space [] all = all
-scalars_behind_space (c ∷ cs) all =
-    by_first (is_whitespace c) (scalars_behind_space cs (and_parts (scalar c) (scalars cs) all).1)
+-- the text after white space is characters too
+pub scalars_after_space : (cs : List ℕ) → scalars cs ≡ true → scalars (skip_leading_whitespace cs) ≡ true
+scalars_after_space [] all = all
+scalars_after_space (c ∷ cs) all =
+    by_first (is_whitespace c) (scalars_after_space cs (and_parts (scalar c) (scalars cs) all).1)
   where
     by_first : (b : Bool) → scalars (skip_leading_whitespace cs) ≡ true
         → scalars (cond b (skip_leading_whitespace cs) (c ∷ cs)) ≡ true

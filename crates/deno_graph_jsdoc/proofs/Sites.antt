@@ -1,4 +1,4 @@
--- The occurrences of `import` in a text, one after another, and what holds of those so far.
+-- The occurrences of `import` in a text, one after another.
 use Rattle.std.proofs.Common.{◌≡◌, ◌≢◌, ℕ, ◌+◌, ◌<◌, ◌≤◌, ◌⊎◌, inl, inr, ⊎_elim, List, [], ◌∷◌, ◌++◌, length}
 use Rattle.std.proofs.Common.{refl, sym, ap, ◌∙◌, subst, codes, append_assoc, length-append, arith}
 use Rattle.std.proofs.lemmas.Bool.{cases_lt}
@@ -7,7 +7,7 @@ use Rattle.std.proofs.lemmas.List.Elements.{Contains-append_left, Contains-push,
 use Rattle.std.proofs.lemmas.List.Elements.{Contains-get_or}
 use Rattle.std.proofs.lemmas.List.Quantifiers.{all_pairs_push}
 use Rattle.std.specs.List.{AllPairs, Contains}
-use Rattle.deno_graph_jsdoc.specs.JsDocHits.{IsFront, HasFronts}
+use Rattle.deno_graph_jsdoc.specs.JsDocImports.{IsFront, HasFronts}
 use Rattle.deno_graph_jsdoc.proofs.Runs.{front_of_front}
 
 abbrev pub word : List ℕ
@@ -17,56 +17,56 @@ word = codes "import"
 abbrev pub EndsIn : List ℕ → Type 0
 EndsIn front = (before : List ℕ) × (front ≡ before ++ word)
 
--- where a search for the next occurrence may begin
+-- an offset where a search for the next occurrence may begin
 abbrev pub IsCut : List ℕ → Type 0
 IsCut front = (front ≡ []) ⊎ EndsIn front
 
 -- the word doesn't begin again inside itself
-inside : (middle rest behind : List ℕ) → word ++ rest ≡ middle ++ (word ++ behind)
+inside : (middle rest after : List ℕ) → word ++ rest ≡ middle ++ (word ++ after)
     → 0 < length middle → length middle < 6 → ⊥
-inside [] rest behind same some short = omega arith
-inside (a ∷ []) rest behind same some short =
+inside [] rest after same some short = omega arith
+inside (a ∷ []) rest after same some short =
     let heads : ◌≡◌ {A = ℕ} 109 105 = cc in
     omega (arith, heads)
-inside (a ∷ b ∷ []) rest behind same some short =
+inside (a ∷ b ∷ []) rest after same some short =
     let heads : ◌≡◌ {A = ℕ} 112 105 = cc in
     omega (arith, heads)
-inside (a ∷ b ∷ c ∷ []) rest behind same some short =
+inside (a ∷ b ∷ c ∷ []) rest after same some short =
     let heads : ◌≡◌ {A = ℕ} 111 105 = cc in
     omega (arith, heads)
-inside (a ∷ b ∷ c ∷ d ∷ []) rest behind same some short =
+inside (a ∷ b ∷ c ∷ d ∷ []) rest after same some short =
     let heads : ◌≡◌ {A = ℕ} 114 105 = cc in
     omega (arith, heads)
-inside (a ∷ b ∷ c ∷ d ∷ e ∷ []) rest behind same some short =
+inside (a ∷ b ∷ c ∷ d ∷ e ∷ []) rest after same some short =
     let heads : ◌≡◌ {A = ℕ} 116 105 = cc in
     omega (arith, heads)
-inside (a ∷ b ∷ c ∷ d ∷ e ∷ f ∷ more) rest behind same some short = omega arith
+inside (a ∷ b ∷ c ∷ d ∷ e ∷ f ∷ more) rest after same some short = omega arith
 
 length-word : length word ≡ 6
 length-word = refl
 
 -- an occurrence that begins before a cut ends before it
-no_overlap : (front rest before behind : List ℕ) → IsCut front → front ++ rest ≡ before ++ (word ++ behind)
+no_overlap : (front rest before after : List ℕ) → IsCut front → front ++ rest ≡ before ++ (word ++ after)
     → length before < length front
     → length before + 6 ≤ length front
-no_overlap front rest before behind (inl none) same less = absurd (omega (arith, ap length none))
-no_overlap front rest before behind (inr (earlier, is)) same less =
-    let whole : earlier ++ (word ++ rest) ≡ before ++ (word ++ behind) =
+no_overlap front rest before after (inl none) same less = absurd (omega (arith, ap length none))
+no_overlap front rest before after (inr (earlier, is)) same less =
+    let whole : earlier ++ (word ++ rest) ≡ before ++ (word ++ after) =
     sym (append_assoc earlier word rest) ∙ ap (λ t. t ++ rest) (sym is) ∙ same in
     let size : length front ≡ length earlier + 6 = ap length is ∙ length-append earlier word in
     ⊎_elim
     (λ sooner.
-    let middle = front_of_front earlier (word ++ rest) before (word ++ behind) whole
+    let middle = front_of_front earlier (word ++ rest) before (word ++ after) whole
     (omega (arith, sooner)) in
-    let tails : word ++ rest ≡ middle.0 ++ (word ++ behind) =
-    append_cancel_left earlier (word ++ rest) (middle.0 ++ (word ++ behind))
-    (whole ∙ ap (λ t. t ++ (word ++ behind)) middle.1 ∙ append_assoc earlier middle.0 (word ++ behind)) in
+    let tails : word ++ rest ≡ middle.0 ++ (word ++ after) =
+    append_cancel_left earlier (word ++ rest) (middle.0 ++ (word ++ after))
+    (whole ∙ ap (λ t. t ++ (word ++ after)) middle.1 ∙ append_assoc earlier middle.0 (word ++ after)) in
     let sizes : length before ≡ length earlier + length middle.0 =
     ap length middle.1 ∙ length-append earlier middle.0 in
-    absurd (inside middle.0 rest behind tails (omega (arith, sooner)) (omega arith)))
+    absurd (inside middle.0 rest after tails (omega (arith, sooner)) (omega arith)))
     (λ later. omega (arith, later)) (cases_lt (length earlier) (length before))
 
--- two fronts of a text that are as long are the same
+-- two fronts of a text that are equally long are the same
 pub same_front : (text front other : List ℕ) → IsFront text front → IsFront text other
     → length front ≡ length other → front ≡ other
 same_front text front other is are size =
@@ -78,9 +78,9 @@ same_front text front other is are size =
     empty [] is = refl
     empty (x ∷ t) is = absurd (omega arith)
 
-pub same_behind : (text front behind other : List ℕ) → text ≡ front ++ behind
-    → text ≡ front ++ other → behind ≡ other
-same_behind text front behind other is are = append_cancel_left front behind other (sym is ∙ are)
+pub same_after : (text front after other : List ℕ) → text ≡ front ++ after
+    → text ≡ front ++ other → after ≡ other
+same_after text front after other is are = append_cancel_left front after other (sym is ∙ are)
 
 -- no front of the text ends in the word between a cut and `next`
 abbrev pub Skips : List ℕ → List ℕ → List ℕ → Type 0
@@ -88,10 +88,10 @@ Skips text front next = (other : List ℕ) → IsFront text other → EndsIn oth
     → length next ≤ length other
 
 module _ (front rest : List ℕ) (cut : IsCut front) where
-  pub skips_to : (before behind : List ℕ) → rest ≡ before ++ (word ++ behind)
-      → ((sooner after : List ℕ) → before ++ word ≡ sooner ++ (word ++ after) → after ≡ [])
+  pub skips_to : (before after : List ℕ) → rest ≡ before ++ (word ++ after)
+      → ((sooner beyond : List ℕ) → before ++ word ≡ sooner ++ (word ++ beyond) → beyond ≡ [])
       → Skips (front ++ rest) front (front ++ (before ++ word))
-  skips_to before behind whole first other is ends longer = by_place (cases_lt (length ends.0) (length front))
+  skips_to before after whole first other is ends longer = by_place (cases_lt (length ends.0) (length front))
     where
       all : front ++ rest ≡ ends.0 ++ (word ++ is.0)
       all = is.1 ∙ ap (λ t. t ++ is.0) ends.1 ∙ append_assoc ends.0 word is.0
@@ -110,18 +110,18 @@ module _ (front rest : List ℕ) (cut : IsCut front) where
           let tails : rest ≡ middle.0 ++ (word ++ is.0) =
           append_cancel_left front rest (middle.0 ++ (word ++ is.0))
           (all ∙ ap (λ t. t ++ (word ++ is.0)) middle.1 ∙ append_assoc front middle.0 (word ++ is.0)) in
-          let place : length ends.0 ≡ length front + length middle.0 =
+          let end_size : length ends.0 ≡ length front + length middle.0 =
           ap length middle.1 ∙ length-append front middle.0 in
           let fits : length before ≤ length middle.0 =
           not_sooner middle.0 tails (cases_lt (length middle.0) (length before)) in
-          omega (arith, size, sizes, place)
+          omega (arith, size, sizes, end_size)
         where
           not_sooner : (middle : List ℕ) → rest ≡ middle ++ (word ++ is.0) → (length middle < length before)
               ⊎ (length before ≤ length middle) → length before ≤ length middle
           not_sooner middle tails (inr fits) = fits
           not_sooner middle tails (inl less) =
-              let more = front_of_front (middle ++ word) is.0 (before ++ word) behind
-              (append_assoc middle word is.0 ∙ sym tails ∙ whole ∙ sym (append_assoc before word behind))
+              let more = front_of_front (middle ++ word) is.0 (before ++ word) after
+              (append_assoc middle word is.0 ∙ sym tails ∙ whole ∙ sym (append_assoc before word after))
               (omega (arith, length-append middle word, length-append before word)) in
               let none = first middle more.0 (more.1 ∙ append_assoc middle word more.0) in
               absurd (omega (
@@ -133,8 +133,8 @@ module _ (front rest : List ℕ) (cut : IsCut front) where
                 length-append before word,
               ))
 
-  -- where the rest has no `import`, none ends behind the cut
-  pub no_further : ((sooner after : List ℕ) → rest ≢ sooner ++ (word ++ after)) → (other : List ℕ)
+  -- if the rest has no `import`, none ends after the cut
+  pub no_further : ((sooner beyond : List ℕ) → rest ≢ sooner ++ (word ++ beyond)) → (other : List ℕ)
       → IsFront (front ++ rest) other → EndsIn other → length other ≤ length front
   no_further none other is ends = by_place (cases_lt (length ends.0) (length front))
     where
@@ -163,7 +163,7 @@ module _ (P : List ℕ → Type 0) (ends : (front : List ℕ) → P front → En
     pub complete : (front : List ℕ) → IsFront text front → P front → length front ≤ limit
         → Contains fronts front
 
-  -- so many
+  -- the number of such fronts
   abbrev pub Counted : ℕ → ℕ → Type 0
   Counted limit count = (fronts : List (List ℕ)) × Reached limit fronts × (count ≡ length fronts)
 

@@ -1,4 +1,4 @@
--- What std says of the bytes of a text, said of its characters.
+-- Lemmas of std on the bytes of a text, for the characters of the text.
 use Rattle.std.proofs.Common.{◌≡◌, ◌≢◌, ℕ, ◌+◌, ◌<◌, ◌≤◌, ◌==◌, Bool, true, false, Option, Some, None, List}
 use Rattle.std.proofs.Common.{[], ◌∷◌, ◌++◌, length, take, drop, get_or, refl, sym, ap, ◌∙◌, subst, arith}
 use Rattle.std.proofs.Common.{append_assoc, length-append}
@@ -19,7 +19,7 @@ use Rattle.std.specs.Str.Pattern.{StripsPrefix, SplitsAroundMatch}
 use denote.Ref.{Bor}
 use lib.Utf8.{encodes, encode}
 use Rattle.deno_graph_jsdoc.specs.JsDocGrammar.{Is, Lacks, Anything, EmptyOr}
-use Rattle.deno_graph_jsdoc.specs.JsDocReading.{Reads, rest_of}
+use Rattle.deno_graph_jsdoc.specs.internal.Reading.{Reads, rest_of}
 
 -- a text is spelled by its characters
 pub bytes_from_chars : (text front rest : List ℕ) → IsUtf8 text → chars text ≡ front ++ rest
@@ -27,7 +27,7 @@ pub bytes_from_chars : (text front rest : List ℕ) → IsUtf8 text → chars te
 bytes_from_chars text front rest utf8 is = sym (encodes-chars text utf8) ∙ ap encodes is
     ∙ encodes-append front rest
 
--- the word with which a text begins
+-- a word at the start of a text
 pub word_read : (word input : List ℕ) (answer : Option (Bor (List ℕ))) → IsUtf8 input → IsAscii word
     → MatchOption answer (FindsTextPrefix word input None)
     (λ rest. StripsPrefix (FindsTextPrefix word) input rest.now)
@@ -42,10 +42,10 @@ word_read word input (Some rest) utf8 ascii (n, is, cut, size) =
     ap chars bytes ∙ chars-append word rest.now (IsUtf8-from_ascii word ascii)
     ∙ ap (λ t. t ++ chars rest.now) (chars-IsAscii word ascii) in (
       record { piece = word; whole = whole; is = refl },
-      λ other behind _ begins. (
+      λ other after _ begins. (
         refl,
-        append_cancel_left word behind (chars rest.now)
-            (sym (begins.whole ∙ ap (λ piece. piece ++ behind) begins.is) ∙ whole),
+        append_cancel_left word after (chars rest.now)
+            (sym (begins.whole ∙ ap (λ piece. piece ++ after) begins.is) ∙ whole),
       ),
     )
 
@@ -58,7 +58,7 @@ pub Lacks-chars : (mark : ℕ) (text : List ℕ) → IsUtf8 text
 Lacks-chars mark text utf8 (cs, is, none) =
     subst (Lacks mark) (chars_from_encodes cs text utf8 is) (Lacks-from_test mark cs none)
 
--- the mark with which a text begins
+-- a mark at the start of a text
 pub no_mark_chars : (mark : ℕ) (input : List ℕ) → IsUtf8 input
     → ((rest : List ℕ) → input ≢ encode mark ++ rest) → (rest : List ℕ) → chars input ≢ mark ∷ rest
 no_mark_chars mark input utf8 none rest is =
@@ -70,7 +70,7 @@ mark_chars mark input rest utf8 (n, at, cut, size) =
     let bytes : input ≡ encode mark ++ rest = at.split ∙ ap (λ t. encode mark ++ t) (sym cut) in
     (chars_past_char input rest mark utf8 bytes, IsUtf8-past_char input rest mark utf8 bytes)
 
--- the characters before and behind the first of a mark
+-- the characters before and after the first of a mark
 pub split_chars : (mark : ℕ) (input : List ℕ) (answer : Option (Bor (List ℕ) × Bor (List ℕ)))
     → IsUtf8 input → mark < 128
     → MatchOption answer (FindsChar mark input None)
@@ -85,16 +85,16 @@ split_chars mark input (Some x) utf8 ascii (i, j, found, front, back, order, fro
     let boundary : IsCharBoundary input i =
     IsCharBoundary-before_ascii input i inside (omega (arith, byte)) in
     let before : IsUtf8 (take i input) = IsUtf8-take input i utf8 boundary in
-    let behind : chars (drop i input) ≡ mark ∷ chars (drop j input) =
+    let after : chars (drop i input) ≡ mark ∷ chars (drop j input) =
     chars_past_char (drop i input) (drop j input) mark (IsUtf8-drop input i utf8 boundary) at.split in
     let whole : chars input ≡ chars (take i input) ++ mark ∷ chars (drop j input) =
     ap chars (sym (take-append-drop i input)) ∙ chars-append (take i input) (drop i input) before
-    ∙ ap (λ t. chars (take i input) ++ t) behind in (
+    ∙ ap (λ t. chars (take i input) ++ t) after in (
       subst (λ t. Lacks mark (chars t)) (sym front) (Lacks-chars mark (take i input) before found.0),
       whole ∙ (λ k. chars (sym front k) ++ mark ∷ chars (sym back k)),
     )
 
--- the characters before and behind the last of a mark
+-- the characters before and after the last of a mark
 pub rsplit_chars : (mark : ℕ) (input before rest : List ℕ) → IsUtf8 input → mark < 128
     → SplitsAroundMatch (RFindsChar mark) input before rest
     → Lacks mark (chars rest) × (chars input ≡ chars before ++ mark ∷ chars rest)
@@ -106,20 +106,20 @@ rsplit_chars mark input before rest utf8 ascii (i, j, found, front, back, order,
     IsCharBoundary-before_ascii input i inside (omega (arith, byte)) in
     let start : IsUtf8 (take i input) = IsUtf8-take input i utf8 boundary in
     let from : IsUtf8 (drop i input) = IsUtf8-drop input i utf8 boundary in
-    let behind : chars (drop i input) ≡ mark ∷ chars (drop j input) =
+    let after : chars (drop i input) ≡ mark ∷ chars (drop j input) =
     chars_past_char (drop i input) (drop j input) mark from at.split in
     let past : IsUtf8 (drop j input) = IsUtf8-past_char (drop i input) (drop j input) mark from at.split in
     let whole : chars input ≡ chars (take i input) ++ mark ∷ chars (drop j input) =
     ap chars (sym (take-append-drop i input)) ∙ chars-append (take i input) (drop i input) start
-    ∙ ap (λ t. chars (take i input) ++ t) behind in (
+    ∙ ap (λ t. chars (take i input) ++ t) after in (
       subst (λ t. Lacks mark (chars t)) (sym back) (Lacks-chars mark (drop j input) past found.0),
       whole ∙ (λ k. chars (sym front k) ++ mark ∷ chars (sym back k)),
     )
 
--- where a text is cut behind the last of a mark
+-- the cut after the last of a mark
 pub rsplit_bytes : (mark : ℕ) (input before rest : List ℕ) → mark < 128
     → SplitsAroundMatch (RFindsChar mark) input before rest
-    → (behind : List ℕ) × (input ≡ before ++ mark ∷ behind)
+    → (after : List ℕ) × (input ≡ before ++ mark ∷ after)
 rsplit_bytes mark input before rest ascii (i, j, found, front, back, order, front_size, back_size) =
     let one : encode mark ≡ mark ∷ [] = encode_ascii mark ascii in (
       drop j input,
@@ -128,22 +128,22 @@ rsplit_bytes mark input before rest ascii (i, j, found, front, back, order, fron
           ∙ ap (λ t. t ++ mark ∷ drop j input) (sym front),
     )
 
-module _ (mark : ℕ) (text before behind : List ℕ) (utf8 : IsUtf8 text) (ascii : mark < 128)
-    (whole : text ≡ before ++ mark ∷ behind) where
-  pub behind_mark : IsCharBoundary text (length before + 1)
-  behind_mark = IsCharBoundary-after_ascii text (length before) utf8
-      (omega (arith, ap length whole, length-append before (mark ∷ behind)))
+module _ (mark : ℕ) (text before after : List ℕ) (utf8 : IsUtf8 text) (ascii : mark < 128)
+    (whole : text ≡ before ++ mark ∷ after) where
+  pub after_mark : IsCharBoundary text (length before + 1)
+  after_mark = IsCharBoundary-after_ascii text (length before) utf8
+      (omega (arith, ap length whole, length-append before (mark ∷ after)))
       (omega
-      (arith, ascii, ap (λ t. get_or t (length before) 0) whole, get_or-append_seam before mark behind 0))
+      (arith, ascii, ap (λ t. get_or t (length before) 0) whole, get_or-append_seam before mark after 0))
 
-  pub cut_behind_mark : chars text
+  pub cut_after_mark : chars text
       ≡ chars (take (length before + 1) text) ++ chars (drop (length before + 1) text)
-  cut_behind_mark =
+  cut_after_mark =
       ap chars (sym (take-append-drop (length before + 1) text))
       ∙ chars-append (take (length before + 1) text) (drop (length before + 1) text)
-      (IsUtf8-take text (length before + 1) utf8 behind_mark)
+      (IsUtf8-take text (length before + 1) utf8 after_mark)
 
--- the characters before and behind the first that passes a test
+-- the characters before and after the first that passes a test
 from_none : (test : ℕ → Bool) (cs : List ℕ) → NonePass test cs → AllByRecursion (λ c. test c ≡ false) cs
 from_none test [] none = tt
 from_none test (c ∷ cs) none = (none.0, from_none test cs none.1)
@@ -159,7 +159,7 @@ FindsAt test input answer =
     (λ i. (j : ℕ) × FindsBy test input (Some (i, j)) × (i ≤ j) × IsCharBoundary input i
     × IsCharBoundary input j)
 
--- the test by which a closure finds
+-- the test of a closure
 pub find_by_test : (test : ℕ → Bool) (IsTest : (ℕ → Bool) → Type 0) (input : List ℕ)
     (answer : Option ℕ) → IsTest test
     → MatchOption answer ((k : ℕ → Bool) → IsTest k → FindsBy k input None)
@@ -178,8 +178,8 @@ pub find_chars : (test : ℕ → Bool) (input : List ℕ) (answer : Option ℕ) 
     × EmptyOr (λ c. test c ≡ true) (chars (drop at input))
 find_chars test input None utf8 none =
     let front : take (length input) input ≡ input = take_all (length input) input (omega arith) in
-    let behind : drop (length input) input ≡ [] = drop_all (length input) input (omega arith) in
-    let rest : chars (drop (length input) input) ≡ [] = ap chars behind ∙ chars-nil in (
+    let after : drop (length input) input ≡ [] = drop_all (length input) input (omega arith) in
+    let rest : chars (drop (length input) input) ≡ [] = ap chars after ∙ chars-nil in (
       sym (ap chars front) ∙ sym (append-nil (chars (take (length input) input)))
           ∙ ap (λ t. chars (take (length input) input) ++ t) (sym rest),
       subst (λ t. AllByRecursion (λ c. test c ≡ false) (chars t)) (sym front)
@@ -189,15 +189,15 @@ find_chars test input None utf8 none =
 find_chars test input (Some i) utf8 (j, found, order, boundary, end) =
     let front : IsUtf8 (take i input) = IsUtf8-take input i utf8 boundary in
     let passing = found.1 in
-    let behind : chars (drop i input) ≡ passing.0 ∷ chars (drop j input) =
+    let after : chars (drop i input) ≡ passing.0 ∷ chars (drop j input) =
     chars_past_char (drop i input) (drop j input) passing.0
     (IsUtf8-drop input i utf8 boundary) passing.2.split in (
       ap chars (sym (take-append-drop i input)) ∙ chars-append (take i input) (drop i input) front,
       none_chars test (take i input) front found.0,
-      subst (EmptyOr (λ c. test c ≡ true)) (sym behind) passing.1,
+      subst (EmptyOr (λ c. test c ≡ true)) (sym after) passing.1,
     )
 
--- the characters before and behind the first of a word
+-- the characters before and after the first of a word
 pub split_word : (word input : List ℕ) (answer : Option (Bor (List ℕ) × Bor (List ℕ)))
     → IsUtf8 input → IsAscii word
     → MatchOption answer (Unit {0}) (λ x. IsUtf8 x.0.now)
@@ -205,7 +205,7 @@ pub split_word : (word input : List ℕ) (answer : Option (Bor (List ℕ) × Bor
     (λ x. SplitsAroundMatch (FindsText word) input x.0.now x.1.now)
     → MatchOption answer ((front rest : List ℕ) → chars input ≢ front ++ (word ++ rest))
     (λ x. (chars input ≡ chars x.0.now ++ (word ++ chars x.1.now))
-    × ((before behind : List ℕ) → chars x.0.now ++ word ≡ before ++ (word ++ behind) → behind ≡ []))
+    × ((before after : List ℕ) → chars x.0.now ++ word ≡ before ++ (word ++ after) → after ≡ []))
 split_word word input None utf8 ascii _ none = λ front rest whole.
     let bytes = bytes_from_chars input front (word ++ rest) utf8 whole in
     let here : drop (length (encodes front)) input ≡ word ++ encodes rest =
@@ -232,7 +232,7 @@ split_word word input (Some x) utf8 ascii utf8_front
         ∙ ap (λ t. chars x.0.now ++ t) (chars-append word x.1.now (IsUtf8-from_ascii word ascii)
         ∙ ap (λ t. t ++ chars x.1.now) (chars-IsAscii word ascii))
 
-    first : (before behind : List ℕ) → chars x.0.now ++ word ≡ before ++ (word ++ behind) → behind ≡ []
+    first : (before after : List ℕ) → chars x.0.now ++ word ≡ before ++ (word ++ after) → after ≡ []
     first before [] same = refl
     first before (c ∷ cs) same =
         let all : chars input ≡ before ++ (word ++ ((c ∷ cs) ++ chars x.1.now)) =
@@ -261,16 +261,16 @@ split_word word input (Some x) utf8 ascii utf8_front
 -- a mark that a text holds
 pub mark_inside : (mark : ℕ) (text : List ℕ) → IsUtf8 text → mark < 128
     → (i : ℕ) × (j : ℕ) × FindsChar mark text (Some (i, j)) × (i ≤ j) × (j ≤ length text)
-    → (inside : List ℕ) × (after : List ℕ) × (chars text ≡ inside ++ mark ∷ after)
+    → (inside : List ℕ) × (beyond : List ℕ) × (chars text ≡ inside ++ mark ∷ beyond)
 mark_inside mark text utf8 ascii (i, j, found, order, fits) =
     let at = found.1 in
     let inside : i < length text = omega (arith, at.ends, len_utf8_bounds mark) in
     let byte : get_or text i 0 ≡ mark = at.byte ascii in
     let boundary : IsCharBoundary text i = IsCharBoundary-before_ascii text i inside (omega (arith, byte)) in
-    let behind : chars (drop i text) ≡ mark ∷ chars (drop j text) =
+    let after : chars (drop i text) ≡ mark ∷ chars (drop j text) =
     chars_past_char (drop i text) (drop j text) mark (IsUtf8-drop text i utf8 boundary) at.split in (
       chars (take i text),
       chars (drop j text),
       ap chars (sym (take-append-drop i text)) ∙ chars-append (take i text) (drop i text)
-          (IsUtf8-take text i utf8 boundary) ∙ ap (λ t. chars (take i text) ++ t) behind,
+          (IsUtf8-take text i utf8 boundary) ∙ ap (λ t. chars (take i text) ++ t) after,
     )

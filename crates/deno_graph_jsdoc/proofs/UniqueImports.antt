@@ -1,4 +1,4 @@
--- A text states at most one declaration and at most one dynamic import at its start.
+-- A text begins with at most one declaration and with at most one dynamic import.
 use Rattle.std.proofs.Common.{◌≡◌, ℕ, ◌+◌, ◌⊎◌, inl, inr, None, List, [], ◌∷◌, ◌++◌, refl, sym, ap, ◌∙◌}
 use Rattle.std.proofs.Common.{subst, codes, append_assoc}
 use Rattle.std.proofs.lemmas.List.{append_cancel_right}
@@ -6,7 +6,7 @@ use Rattle.std.specs.Str.{skip_leading_whitespace}
 use Rattle.deno_graph_jsdoc.specs.Characters.{closing_brace}
 use Rattle.deno_graph_jsdoc.specs.JsDocGrammar.{◌·◌, Is, IsSpace, IsGap, IsNames, IsNamespace, IsName}
 use Rattle.deno_graph_jsdoc.specs.JsDocGrammar.{IsClause, IsOptions, IsUpTo, Begins, Anything, NoSpace}
-use Rattle.deno_graph_jsdoc.specs.JsDocReading.{EndOfIdent}
+use Rattle.deno_graph_jsdoc.specs.internal.Reading.{EndOfIdent}
 use Rattle.deno_graph_jsdoc.specs.JsDocImport.{Mode, Import, StatesImport, EndsDeclaration, EndsDynamicImport}
 use Rattle.deno_graph_jsdoc.specs.JsDocImport.{IsDeclaration, IsDynamicImport, byte_count}
 use Rattle.deno_graph_jsdoc.proofs.Arguments.{tail_apart, options_apart, end_apart, up_to_read, parts_of}
@@ -18,18 +18,18 @@ use Rattle.deno_graph_jsdoc.proofs.Clauses.{gap_before_clause}
 use Rattle.deno_graph_jsdoc.proofs.Imports.{with_solid}
 use Rattle.deno_graph_jsdoc.proofs.Parts.{brace_read}
 use Rattle.deno_graph_jsdoc.proofs.Readings.{Begins-split, IsSolid-append, IsSolid-word, NoSpace-solid}
-use Rattle.deno_graph_jsdoc.proofs.Readings.{NoSpace-before, behind_space, regroup_4}
+use Rattle.deno_graph_jsdoc.proofs.Readings.{NoSpace-before, after_space, regroup_4}
 use Rattle.deno_graph_jsdoc.proofs.Unique.{OneRest, one_then, one_word, one_space, one_gap, one_ident}
 use Rattle.deno_graph_jsdoc.proofs.Unique.{only_quote, only_with, only_options}
 
 -- the text up to a brace
 pub one_through : OneRest Anything ThroughBrace
-one_through input rest behind _ _ b c =
+one_through input rest after _ _ b c =
     let parts = b.is in
     let whole : input ≡ parts.front ++ closing_brace ∷ rest =
     b.whole ∙ ap (λ t. t ++ rest) (parts.whole ∙ ap (λ brace. parts.front ++ brace) parts.is_back)
     ∙ append_assoc parts.front (closing_brace ∷ []) rest in
-    sym ((brace_read input parts.front rest parts.is_front whole).1 tt behind tt c).1
+    sym ((brace_read input parts.front rest parts.is_front whole).1 tt after tt c).1
 
 -- clauses
 one_names : OneRest NoSpace (IsNames · IsSpace)
@@ -50,23 +50,23 @@ one_namespace =
     (λ _ _ _ _. tt)
 
 one_clause : OneRest NoSpace (IsClause · IsSpace)
-one_clause input rest behind stop end b c = by_form (clause_apart b) (clause_apart c)
+one_clause input rest after stop end b c = by_form (clause_apart b) (clause_apart c)
   where
     by_form : Begins (IsNames · IsSpace) input rest
         ⊎ (Begins IsNamespace input rest ⊎ Begins IsName input rest)
-        → Begins (IsNames · IsSpace) input behind
-        ⊎ (Begins IsNamespace input behind ⊎ Begins IsName input behind) → rest ≡ behind
-    by_form (inl x) (inl y) = one_names input rest behind stop end x y
+        → Begins (IsNames · IsSpace) input after
+        ⊎ (Begins IsNamespace input after ⊎ Begins IsName input after) → rest ≡ after
+    by_form (inl x) (inl y) = one_names input rest after stop end x y
     by_form (inl x) (inr (inl y)) = absurd (names_or_namespace x y)
     by_form (inl x) (inr (inr y)) = absurd (names_or_name x y)
     by_form (inr (inl x)) (inl y) = absurd (names_or_namespace y x)
-    by_form (inr (inl x)) (inr (inl y)) = one_namespace input rest behind stop end x y
+    by_form (inr (inl x)) (inr (inl y)) = one_namespace input rest after stop end x y
     by_form (inr (inl x)) (inr (inr y)) = absurd (namespace_or_name x y)
     by_form (inr (inr x)) (inl y) = absurd (names_or_name y x)
     by_form (inr (inr x)) (inr (inl y)) = absurd (namespace_or_name y x)
-    by_form (inr (inr x)) (inr (inr y)) = one_name input rest behind stop end x y
+    by_form (inr (inr x)) (inr (inr y)) = one_name input rest after stop end x y
 
--- what is before the specifier
+-- the text before the specifier
 abbrev DeclarationHead : List ℕ → Type 0
 DeclarationHead = Is (codes "@import") · IsGap · IsClause · IsSpace · Is (codes "from") · IsSpace
 
@@ -74,9 +74,9 @@ one_from : OneRest NoSpace (Is (codes "from") · IsSpace)
 one_from = one_then Anything NoSpace (one_word (codes "from")) one_space (λ _ _ _ _. tt)
 
 one_declaration_head : OneRest NoSpace DeclarationHead
-one_declaration_head input rest behind stop end b c =
+one_declaration_head input rest after stop end b c =
     one_then NoSpace NoSpace head one_from (λ middle others _ d. NoSpace-before
-    (IsSolid-word 102 (codes "rom") refl) d) input rest behind stop end (regroup_4 b) (regroup_4 c)
+    (IsSolid-word 102 (codes "rom") refl) d) input rest after stop end (regroup_4 b) (regroup_4 c)
   where
     head : OneRest NoSpace (Is (codes "@import") · IsGap · IsClause · IsSpace)
     head =
@@ -88,9 +88,9 @@ abbrev DynamicHead : List ℕ → Type 0
 DynamicHead = Is (codes "{") · IsUpTo (codes "import") · IsSpace · Is (codes "(") · IsSpace
 
 one_import : OneRest Anything (IsUpTo (codes "import"))
-one_import input rest behind _ _ b c =
+one_import input rest after _ _ b c =
     let parts = parts_of (codes "import") b in
-    sym ((up_to_read (codes "import") input parts.0 rest parts.1 parts.3 parts.2).1 tt behind tt c).1
+    sym ((up_to_read (codes "import") input parts.0 rest parts.1 parts.3 parts.2).1 tt after tt c).1
 
 one_dynamic_head : OneRest NoSpace DynamicHead
 one_dynamic_head =
@@ -102,30 +102,30 @@ one_dynamic_head =
     (λ _ _ _ _. tt))
     (λ _ _ _ _. tt)
 
--- what is behind it
+-- the text after the specifier
 abbrev pub OnlyTail : (List ℕ → Mode → List ℕ → Type 0) → Type 0
-OnlyTail Tail = (text : List ℕ) (mode other : Mode) (rest behind : List ℕ) → Tail text mode rest
-    → Tail text other behind → (mode ≡ other) × (rest ≡ behind)
+OnlyTail Tail = (text : List ℕ) (mode other : Mode) (rest after : List ℕ) → Tail text mode rest
+    → Tail text other after → (mode ≡ other) × (rest ≡ after)
 
 pub only_declaration_tail : OnlyTail EndsDeclaration
-only_declaration_tail text mode other rest behind (inl b) (inl c) =
-    only_with (skip_leading_whitespace text) rest behind mode other tt tt
-    (behind_space (with_solid text mode) b) (behind_space (with_solid text other) c)
-only_declaration_tail text mode other rest behind (inl b) (inr c) = absurd (c.1 mode rest b)
-only_declaration_tail text mode other rest behind (inr b) (inl c) = absurd (b.1 other behind c)
-only_declaration_tail text mode other rest behind (inr b) (inr c) =
-    (b.0 ∙ sym c.0, one_space text rest behind b.3 c.3 b.2 c.2)
+only_declaration_tail text mode other rest after (inl b) (inl c) =
+    only_with (skip_leading_whitespace text) rest after mode other tt tt
+    (after_space (with_solid text mode) b) (after_space (with_solid text other) c)
+only_declaration_tail text mode other rest after (inl b) (inr c) = absurd (c.1 mode rest b)
+only_declaration_tail text mode other rest after (inr b) (inl c) = absurd (b.1 other after c)
+only_declaration_tail text mode other rest after (inr b) (inr c) =
+    (b.0 ∙ sym c.0, one_space text rest after b.3 c.3 b.2 c.2)
 
 one_paren : OneRest Anything Paren
 one_paren = one_word (codes ")")
 
 pub only_dynamic_tail : OnlyTail EndsDynamicImport
-only_dynamic_tail text mode other rest behind b c =
+only_dynamic_tail text mode other rest after b c =
     let left = end_apart text mode rest b in
-    let right = end_apart text other behind c in
+    let right = end_apart text other after c in
     let same = by_form (tail_apart left.1) (tail_apart right.1) in (
       same.0,
-      one_through right.0 rest behind tt tt
+      one_through right.0 rest after tt tt
           (subst (λ m. Begins ThroughBrace m rest) same.1 left.2) right.2,
     )
   where
@@ -151,37 +151,37 @@ only_dynamic_tail text mode other rest behind b c =
     by_form {middle} {next} (inr x) (inr y) =
         (x.0 ∙ sym y.0, one_paren (skip_leading_whitespace text) middle next tt tt x.1 y.1)
 
--- the whole
+-- whole declarations and dynamic imports
 module _ (Head : List ℕ → Type 0) (Tail : List ℕ → Mode → List ℕ → Type 0) (one_head : OneRest NoSpace Head)
     (only_tail : OnlyTail Tail) where
   solid_quote : {input rest : List ℕ} {a : Import} (s : StatesImport Head Tail input a rest)
-      → NoSpace (s.quote ++ s.behind)
-  solid_quote {a = a} s = NoSpace-solid (s.quote ++ s.behind)
-      (IsSolid-append s.quote s.behind (IsSolid-quote a.specifier s.quote s.quoted))
+      → NoSpace (s.quote ++ s.after)
+  solid_quote {a = a} s = NoSpace-solid (s.quote ++ s.after)
+      (IsSolid-append s.quote s.after (IsSolid-quote a.specifier s.quote s.quoted))
 
-  pub only_import : (input : List ℕ) (a b : Import) (rest behind : List ℕ)
+  pub only_import : (input : List ℕ) (a b : Import) (rest after : List ℕ)
       → StatesImport Head Tail input a rest
-      → StatesImport Head Tail input b behind → (a ≡ b) × (rest ≡ behind)
-  only_import input a b rest behind s t =
-      let quotes = one_head input (s.quote ++ s.behind) (t.quote ++ t.behind) (solid_quote s) (solid_quote t)
+      → StatesImport Head Tail input b after → (a ≡ b) × (rest ≡ after)
+  only_import input a b rest after s t =
+      let quotes = one_head input (s.quote ++ s.after) (t.quote ++ t.after) (solid_quote s) (solid_quote t)
       (record { piece = s.before; whole = s.whole; is = s.head })
       (record { piece = t.before; whole = t.whole; is = t.head }) in
       let befores : s.before ≡ t.before =
-      append_cancel_right s.before t.before (t.quote ++ t.behind)
+      append_cancel_right s.before t.before (t.quote ++ t.after)
       (ap (λ q. s.before ++ q) (sym quotes) ∙ sym s.whole ∙ t.whole) in
-      let texts = only_quote (t.quote ++ t.behind) s.behind t.behind a.specifier b.specifier tt tt
+      let texts = only_quote (t.quote ++ t.after) s.after t.after a.specifier b.specifier tt tt
       (record { piece = s.quote; whole = sym quotes; is = s.quoted })
       (record { piece = t.quote; whole = refl; is = t.quoted }) in
-      let tails = only_tail t.behind a.mode b.mode rest behind
+      let tails = only_tail t.after a.mode b.mode rest after
       (subst (λ m. Tail m a.mode rest) texts.1 s.tail) t.tail in
       let start : a.start ≡ b.start = s.start ∙ ap (λ p. byte_count p + 1) befores ∙ sym t.start in
       let end : a.end ≡ b.end = s.end ∙ (λ i. start i + byte_count (texts.0 i)) ∙ sym t.end in
       ((λ i. record { specifier = texts.0 i; start = start i; end = end i; mode = tails.0 i }), tails.1)
 
-pub one_declaration : (input : List ℕ) (a b : Import) (rest behind : List ℕ) → IsDeclaration input a rest
-    → IsDeclaration input b behind → (a ≡ b) × (rest ≡ behind)
+pub one_declaration : (input : List ℕ) (a b : Import) (rest after : List ℕ) → IsDeclaration input a rest
+    → IsDeclaration input b after → (a ≡ b) × (rest ≡ after)
 one_declaration = only_import DeclarationHead EndsDeclaration one_declaration_head only_declaration_tail
 
-pub one_dynamic_import : (input : List ℕ) (a b : Import) (rest behind : List ℕ) → IsDynamicImport input a rest
-    → IsDynamicImport input b behind → (a ≡ b) × (rest ≡ behind)
+pub one_dynamic_import : (input : List ℕ) (a b : Import) (rest after : List ℕ) → IsDynamicImport input a rest
+    → IsDynamicImport input b after → (a ≡ b) × (rest ≡ after)
 one_dynamic_import = only_import DynamicHead EndsDynamicImport one_dynamic_head only_dynamic_tail

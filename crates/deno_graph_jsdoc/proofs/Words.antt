@@ -14,12 +14,12 @@ use Rattle.std.specs.Str.{IsAscii, IsUtf8, bytes_eq, chars}
 use denote.Ref.{Bor}
 use lib.Utf8.{encodes}
 use Rattle.deno_graph_jsdoc.specs.JsDocGrammar.{Attribute, resolution_mode_value}
-use Rattle.deno_graph_jsdoc.specs.JsDocReading.{text_of}
-use Rattle.deno_graph_text.specs.ResolutionMode.{mode_named}
-use Rattle.deno_graph_text.specs.declared.values.resolution_mode.TypeScriptTypesResolutionMode.TheVariants.{
+use Rattle.deno_graph_jsdoc.specs.internal.Reading.{text_of}
+use Rattle.deno_graph_base.specs.ResolutionMode.{mode_named}
+use Rattle.deno_graph_base.specs.declared.values.resolution_mode.TypeScriptTypesResolutionMode.TheVariants.{
   Require,
 }
-use Rattle.deno_graph_text.specs.declared.values.resolution_mode.TypeScriptTypesResolutionMode.TheVariants.{
+use Rattle.deno_graph_base.specs.declared.values.resolution_mode.TypeScriptTypesResolutionMode.TheVariants.{
   Import,
 }
 
@@ -46,7 +46,7 @@ mode_named-chars text utf8 =
     let as_require = bytes_eq-chars text (codes "require") utf8 (IsAscii-from_test (codes "require") refl) in
     λ i. cond (as_import i) (Some Import) (cond (as_require i) (Some Require) None)
 
--- the name of the mode behind more attributes
+-- the name of the mode after more attributes
 abbrev is_mode : Attribute → Bool
 is_mode attribute = bytes_eq attribute.key (codes "resolution-mode")
 

@@ -6,8 +6,8 @@ use Rattle.std.specs.Char.Unicode.Alphabetic.{is_alphabetic}
 use Rattle.std.specs.List.{AllByRecursion, find}
 use Rattle.std.specs.Str.{bytes_eq}
 use Rattle.deno_graph_jsdoc.specs.Characters.{double_quote, apostrophe, hyphen, colon, closing_brace}
-use Rattle.deno_graph_text.specs.ResolutionMode.{mode_named}
-use Rattle.deno_graph_text.specs.declared.values.resolution_mode.TypeScriptTypesResolutionMode.{
+use Rattle.deno_graph_base.specs.ResolutionMode.{mode_named}
+use Rattle.deno_graph_base.specs.declared.values.resolution_mode.TypeScriptTypesResolutionMode.{
   TypeScriptTypesResolutionMode,
 }
 
@@ -30,12 +30,12 @@ pub record Begins (P : List ℕ → Type 0) (input rest : List ℕ) : Type 0 whe
 abbrev pub Anything : List ℕ → Type 0
 Anything text = Unit {0}
 
--- the text is empty or begins with such a character
+-- the text is empty or begins with a character that has `P`
 abbrev pub EmptyOr : (ℕ → Type 0) → List ℕ → Type 0
 EmptyOr P [] = Unit {0}
 EmptyOr P (c ∷ cs) = P c
 
--- the text begins with no white space
+-- the text is empty or begins with a character other than white space
 abbrev pub NoSpace : List ℕ → Type 0
 NoSpace text = EmptyOr (λ c. is_whitespace c ≡ false) text
 
@@ -55,7 +55,7 @@ IsGap text = IsSpace text × (0 < length text)
 abbrev pub Lacks : ℕ → List ℕ → Type 0
 Lacks mark text = AllByRecursion (λ c. c ≢ mark) text
 
--- `inside` between two marks, which it has none of
+-- `inside` between two marks; `inside` has no mark
 abbrev pub IsBetween : ℕ → List ℕ → List ℕ → Type 0
 IsBetween mark inside text = Lacks mark inside × (text ≡ mark ∷ inside ++ mark ∷ [])
 
@@ -72,7 +72,7 @@ abbrev pub IsIdent : List ℕ → Type 0
 IsIdent [] = ⊥
 IsIdent (c ∷ cs) = (is_alphabetic c ≡ true) × AllByRecursion (λ d. ends_ident d ≡ false) cs
 
--- a key is quoted or an identifier
+-- a key: a quoted text or an identifier
 abbrev pub IsKey : List ℕ → List ℕ → Type 0
 IsKey key text = IsQuote key text ⊎ (IsIdent text × (key ≡ text))
 
@@ -83,13 +83,13 @@ pub record Attribute : Type 0 where
 abbrev pub IsAttribute : Attribute → List ℕ → Type 0
 IsAttribute attribute = IsKey attribute.key · IsSpace · Is (codes ":") · IsSpace · IsQuote attribute.value
 
--- attributes, each behind a comma
+-- attributes, each after a comma
 abbrev pub AreFurther : List Attribute → List ℕ → Type 0
 AreFurther [] = Is []
 AreFurther (attribute ∷ others) =
     IsSpace · Is (codes ",") · IsSpace · IsAttribute attribute · AreFurther others
 
--- attributes with commas between them, and none behind the last; or nothing
+-- attributes with commas between them, and none after the last; or nothing
 abbrev pub AreAttributes : List Attribute → List ℕ → Type 0
 AreAttributes [] = Is []
 AreAttributes (attribute ∷ others) = IsAttribute attribute · AreFurther others
@@ -104,15 +104,15 @@ resolution_mode_value attributes =
     option_map (λ attribute. attribute.value)
     (find (λ attribute. bytes_eq attribute.key (codes "resolution-mode")) attributes)
 
--- the mode that attributes give: the one that this value names
+-- the mode that the value of the first `resolution-mode` names, if it names one
 abbrev pub mode_of : List Attribute → Option TypeScriptTypesResolutionMode
 mode_of attributes = option_and_then mode_named (resolution_mode_value attributes)
 
--- a block whose attributes give this mode, or none
+-- a block of attributes with this mode, or with none
 abbrev pub IsModeBlock : Option TypeScriptTypesResolutionMode → List ℕ → Type 0
 IsModeBlock mode text = (attributes : List Attribute) × (mode ≡ mode_of attributes) × IsBlock attributes text
 
--- what is imported: names in braces, all under one name, or the default
+-- what is imported: names in braces, everything under one name, or the default
 abbrev pub IsNames : List ℕ → Type 0
 IsNames = Is (codes "{") · Lacks closing_brace · Is (codes "}")
 
@@ -135,13 +135,13 @@ IsOptions mode =
     Is (codes ",") · IsSpace · Is (codes "{") · IsSpace · Is (codes "with") · IsSpace · Is (codes ":")
     · IsSpace · IsModeBlock mode · IsSpace · Is (codes "}")
 
--- that, or nothing and no mode
+-- the second argument with its comma, or nothing and no mode
 abbrev pub IsSecond : Option TypeScriptTypesResolutionMode → List ℕ → Type 0
 IsSecond mode text = IsOptions mode text ⊎ ((text ≡ []) × (mode ≡ None))
 
--- a text without `}` that ends in `word` and has it nowhere before
+-- a text without `}` that ends with `word` and has no earlier `word`
 pub record IsUpTo (word text : List ℕ) : Type 0 where
   pub front : List ℕ
   pub whole : text ≡ front ++ word
   pub unclosed : Lacks closing_brace front
-  pub first : (before behind : List ℕ) → text ≡ before ++ (word ++ behind) → behind ≡ []
+  pub first : (before after : List ℕ) → text ≡ before ++ (word ++ after) → after ≡ []

@@ -1,11 +1,11 @@
--- The two forms of a JSDoc import, and what each states.
+-- The two forms of a JSDoc import, and the import that each form represents.
 use Rattle.std.specs.Prelude.{◌≡◌, ◌+◌, ◌⊎◌, ℕ, Option, None, List, ◌++◌, length, codes, encode_utf8_all}
 use Rattle.std.specs.Str.{chars}
 use Rattle.deno_graph_jsdoc.specs.Characters.{closing_brace}
 use Rattle.deno_graph_jsdoc.specs.JsDocGrammar.{◌·◌, Begins, NoSpace, Is, IsSpace, IsGap, Lacks}
 use Rattle.deno_graph_jsdoc.specs.JsDocGrammar.{IsClause, IsQuote, IsWith, IsSecond, IsUpTo}
 use Rattle.deno_graph_jsdoc.specs.declared.import.JsDocImport.{JsDocImport}
-use Rattle.deno_graph_text.specs.declared.values.resolution_mode.TypeScriptTypesResolutionMode.{
+use Rattle.deno_graph_base.specs.declared.values.resolution_mode.TypeScriptTypesResolutionMode.{
   TypeScriptTypesResolutionMode,
 }
 
@@ -13,7 +13,7 @@ use Rattle.deno_graph_text.specs.declared.values.resolution_mode.TypeScriptTypes
 abbrev pub Mode : Type 0
 Mode = Option TypeScriptTypesResolutionMode
 
--- the specifier, its place in bytes from the start of the text, and the mode
+-- an import: the specifier, the range of the specifier in bytes from the start of the text, and the mode
 pub record Import : Type 0 where
   pub specifier : List ℕ
   pub start : ℕ
@@ -24,47 +24,46 @@ pub record Import : Type 0 where
 abbrev pub byte_count : List ℕ → ℕ
 byte_count text = length (encode_utf8_all text)
 
--- `input` is a text of `Head`, the specifier in quotes, and what gives the mode and ends before `rest`
+-- `input` is a text of `Head`, the specifier in quotes, and a tail that determines the mode and `rest`
 pub record StatesImport (Head : List ℕ → Type 0) (Tail : List ℕ → Mode → List ℕ → Type 0) (input : List ℕ)
     (import : Import) (rest : List ℕ) : Type 0 where
   pub before : List ℕ
   pub quote : List ℕ
-  pub behind : List ℕ
-  pub whole : input ≡ before ++ (quote ++ behind)
+  pub after : List ℕ
+  pub whole : input ≡ before ++ (quote ++ after)
   pub head : Head before
   pub quoted : IsQuote import.specifier quote
   pub start : import.start ≡ byte_count before + 1
   pub end : import.end ≡ import.start + byte_count import.specifier
-  pub tail : Tail behind import.mode rest
+  pub tail : Tail after import.mode rest
 
--- behind the specifier of a declaration: attributes where they parse; and else no mode, and the rest from
--- the next character on that is no white space
+-- the tail of a declaration: attributes if they parse, else white space and no mode
 abbrev pub EndsDeclaration : List ℕ → Mode → List ℕ → Type 0
-EndsDeclaration behind mode rest =
-    Begins (IsSpace · IsWith mode) behind rest
+EndsDeclaration after mode rest =
+    Begins (IsSpace · IsWith mode) after rest
     ⊎ ((mode ≡ None)
-    × ((other : Mode) (others_rest : List ℕ) → ¬ (Begins (IsSpace · IsWith other) behind others_rest))
-    × Begins IsSpace behind rest × NoSpace rest)
+    × ((other : Mode) (others_rest : List ℕ) → ¬ (Begins (IsSpace · IsWith other) after others_rest))
+    × Begins IsSpace after rest × NoSpace rest)
 
--- `input` begins with a declaration that states `import`, and `rest` is behind it
+-- `input` begins with a declaration of `import`, and `rest` follows the declaration
 abbrev pub IsDeclaration : List ℕ → Import → List ℕ → Type 0
 IsDeclaration =
     StatesImport (Is (codes "@import") · IsGap · IsClause · IsSpace · Is (codes "from") · IsSpace)
     EndsDeclaration
 
--- behind the specifier of a dynamic import: maybe a second argument, and the rest behind the next `}`
+-- the tail of a dynamic import: maybe a second argument, `)`, and any text up to the next `}`
 abbrev pub EndsDynamicImport : List ℕ → Mode → List ℕ → Type 0
-EndsDynamicImport behind mode rest =
-    Begins (IsSpace · IsSecond mode · IsSpace · Is (codes ")") · Lacks closing_brace · Is (codes "}")) behind
+EndsDynamicImport after mode rest =
+    Begins (IsSpace · IsSecond mode · IsSpace · Is (codes ")") · Lacks closing_brace · Is (codes "}")) after
     rest
 
--- `input` begins with a dynamic import that states `import`, and `rest` is behind it
+-- `input` begins with a dynamic import of `import`, and `rest` follows the dynamic import
 abbrev pub IsDynamicImport : List ℕ → Import → List ℕ → Type 0
 IsDynamicImport =
     StatesImport (Is (codes "{") · IsUpTo (codes "import") · IsSpace · Is (codes "(") · IsSpace)
     EndsDynamicImport
 
--- what a value of the program states
+-- the import that a value of the program represents
 abbrev pub import_of : JsDocImport → Import
 import_of import = record {
   specifier = chars import.specifier.now;
@@ -73,6 +72,6 @@ import_of import = record {
   mode = import.resolution_mode;
 }
 
--- an import whose place is counted from `by` bytes before
+-- the import with its range moved by `by` bytes
 abbrev pub moved : ℕ → Import → Import
 moved by import = record import { start = import.start + by; end = import.end + by }

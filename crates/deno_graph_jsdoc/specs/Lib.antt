@@ -1,8 +1,5 @@
 pub mod Characters
 pub mod JsDocGrammar
-pub mod JsDocReading
 pub mod JsDocImport
-pub mod JsDocBraces
-pub mod JsDocKnown
-pub mod JsDocHits
-pub mod JsDocPass
+pub mod JsDocImports
+pub mod internal

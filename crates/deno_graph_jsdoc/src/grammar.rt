@@ -1,9 +1,10 @@
-//! The grammar of the imports that JSDoc comments state.
+//! The grammar of the imports in JSDoc comments.
 
 pub(crate) mod attributes;
+pub(crate) mod cached_lists;
+pub(crate) mod cached_spaces;
+pub(crate) mod counted;
 pub(crate) mod declaration;
 pub(crate) mod dynamic;
-pub(crate) mod known;
 pub mod laws;
 pub(crate) mod parts;
-pub(crate) mod spaces;

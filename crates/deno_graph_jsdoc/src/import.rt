@@ -1,21 +1,21 @@
-//! What a JSDoc import states.
+//! An import in a JSDoc comment, and the result of a scan.
 
 ghost use Rattle.std.specs.Prelude.{◌≡◌, IfOk, map};
 ghost use Rattle.deno_graph_jsdoc.specs.JsDocImport.{import_of};
 
-use deno_graph_text::values::TypeScriptTypesResolutionMode;
+use deno_graph_base::values::TypeScriptTypesResolutionMode;
 use std::alloc::{AllocError, Global};
 use std::ops::Range;
 
-/// An import that a JSDoc comment states.
+/// An import in a JSDoc comment.
 #[derive(Clone, Debug, PartialEq, Eq, Drop)]
 pub struct JsDocImport<'a> {
-    /// The text between the quotes.
+    /// The specifier: the text between the quotes.
     pub specifier: &'a str,
-    /// Where that text is, without its quotes, in bytes from the start of the text that was
-    /// read.
+    /// The range of the specifier, without its quotes, in bytes from the start of the text that
+    /// was read.
     pub specifier_range: Range<usize>,
-    /// How types are resolved, where an attribute says so.
+    /// The value of the attribute `resolution-mode`, if there is one and it names a mode.
     pub resolution_mode: Option<TypeScriptTypesResolutionMode>,
 }
 
@@ -23,7 +23,8 @@ impl<'a> JsDocImport<'a> {
     ghost use Rattle.std.specs.Prelude.{◌+◌, ◌<◌, ◌≤◌, ◌^◌};
     ghost use Rattle.deno_graph_jsdoc.specs.JsDocImport.{moved};
 
-    /// The same import in a text with `by` bytes more before it.
+    /// Returns the import with its range moved by `by` bytes: the range in a text that has `by`
+    /// more bytes before the import.
     pub fn moved(&self, by: usize) -> JsDocImport<'a>
         requires order { self.now.specifier_range.start ≤ self.now.specifier_range.end }
         requires fits { self.now.specifier_range.end + by < 2 ^ 64 }
@@ -36,7 +37,7 @@ impl<'a> JsDocImport<'a> {
         }
     }
 
-    /// The same import, which borrows the same text.
+    /// Returns an equal import that borrows the same specifier.
     fn copied(&self) -> JsDocImport<'a>
         ensures { import_of result ≡ import_of self.now }
     {
@@ -48,21 +49,23 @@ impl<'a> JsDocImport<'a> {
     }
 }
 
-/// What a pass over the text of a comment found.
+/// The imports in the text of a comment, and the number of times that each parser was started.
 #[derive(Debug, PartialEq, Eq, Drop)]
 pub struct Scan<'a> {
-    /// The imports by ascending start, each once. Their ranges are in bytes from the start of the
-    /// text.
+    /// The imports by ascending start of their ranges, each once. The ranges are in bytes from the
+    /// start of the text.
     pub imports: Vec<JsDocImport<'a>>,
-    /// How often the parser of dynamic imports was started: once at each `import` that is the first
-    /// behind some `{` with no `}` between.
+    /// The number of starts of the parser of dynamic imports: one for each `import` that is the
+    /// first after some `{`, with no `}` between.
     pub dynamic_starts: usize,
-    /// How often the parser of declarations was started: once at each `@import`.
+    /// The number of starts of the parser of declarations: one for each `@import`.
     pub decl_starts: usize,
 }
 
 impl<'a> Scan<'a> {
-    /// An equal scan, which borrows the same texts, or an error where memory was refused.
+    /// Returns an equal scan that borrows the same specifiers.
+    ///
+    /// Fails if an allocation fails.
     pub fn try_clone(&self, alloc: Global) -> Result<Scan<'a>, AllocError>
         ensures imports { IfOk result (λ copy.
             map import_of copy.imports.items ≡ map import_of self.now.imports.items) }
@@ -78,6 +81,9 @@ impl<'a> Scan<'a> {
     }
 }
 
+/// Returns equal imports in a new list.
+///
+/// Fails if an allocation fails.
 fn copied_imports<'a>(
     alloc: Global,
     imports: &[JsDocImport<'a>],
@@ -91,6 +97,6 @@ fn copied_imports<'a>(
     Ok(copies)
 }
 
-/// The text doesn't begin with an import.
+/// The error of the parsers: the text doesn't begin with an import.
 #[derive(Clone, Copy, Debug, PartialEq, Eq)]
 pub struct NoParse;

@@ -1,27 +1,27 @@
-//! All imports that the text of a comment states, found in one pass.
+//! The search for all imports in the text of a comment, in one pass.
 
 ghost use Rattle.std.specs.Prelude.{◌≡◌, ◌+◌, ◌<◌, ◌≤◌, ◌^◌, ◌↔◌, IfOk, OnOk, OnErr, IsTrue, codes};
 ghost use Rattle.std.specs.Prelude.{IfSome, MatchOption, map};
 ghost use Rattle.std.specs.Str.{chars};
 ghost use Rattle.deno_graph_jsdoc.specs.JsDocImport.{import_of, moved};
-ghost use Rattle.deno_graph_jsdoc.specs.JsDocHits.{Ascend, AreHits, HasFronts, EndsAtDynamicImport};
-ghost use Rattle.deno_graph_jsdoc.specs.JsDocHits.{EndsAtDeclaration, occurrences};
-ghost use Rattle.deno_graph_jsdoc.specs.JsDocPass.{EndsWithAt, GainsImport, LeavesOpen};
+ghost use Rattle.deno_graph_jsdoc.specs.JsDocImports.{Ascend, AreImportsIn, HasFronts, EndsAtDynamicImport};
+ghost use Rattle.deno_graph_jsdoc.specs.JsDocImports.{EndsAtDeclaration, occurrences};
+ghost use Rattle.deno_graph_jsdoc.specs.internal.Pass.{EndsWithAt, GainsImport, LeavesOpen};
 
-use crate::grammar::known::known_lists;
+use crate::grammar::cached_lists::cached_lists;
+use crate::grammar::cached_spaces::cached_spaces;
 use crate::grammar::parts::unclosed_len;
-use crate::grammar::spaces::known_spaces;
 use crate::grammar::{declaration, dynamic};
 use crate::import::{JsDocImport, Scan};
 use std::alloc::{AllocError, Global};
 
-/// All imports that `text`, the text of a comment, states: the dynamic imports from each `{` on,
-/// and the declarations from each `@import` on.
+/// Returns all imports in `text`, the text of a comment: the dynamic imports that start at a `{`,
+/// and the declarations that start at an `@import`.
 ///
-/// The only error is that memory was refused.
+/// Fails if an allocation fails.
 pub fn scan<'a>(alloc: Global, text: &'a str) -> Result<Scan<'a>, AllocError>
-    ensures hits { IfOk result
-        (λ scan. AreHits (chars text.now) (map import_of scan.imports.items)) }
+    ensures imports { IfOk result
+        (λ scan. AreImportsIn (chars text.now) (map import_of scan.imports.items)) }
     ensures dynamic { IfOk result
         (λ scan. HasFronts EndsAtDynamicImport (chars text.now) scan.dynamic_starts) }
     ensures dynamic_at_most { IfOk result
@@ -30,31 +30,31 @@ pub fn scan<'a>(alloc: Global, text: &'a str) -> Result<Scan<'a>, AllocError>
         (λ scan. HasFronts EndsAtDeclaration (chars text.now) scan.decl_starts) }
 {
     let unclosed = unclosed_len(text);
-    let table = known_lists(alloc, text)?;
+    let table = cached_lists(alloc, text)?;
     let lists = table.as_slice();
-    let space_table = known_spaces(alloc, text, lists)?;
+    let space_table = cached_spaces(alloc, text, lists)?;
     let spaces = space_table.as_slice();
-    let mut known = None;
+    let mut cache = None;
     let mut imports = Vec::new(alloc);
     let mut dynamic_starts = 0;
     let mut decl_starts = 0;
     let mut rest = text;
-    while let Some((before, behind)) = rest.split_once("import") {
-        let by = text.len() - behind.len();
+    while let Some((before, after)) = rest.split_once("import") {
+        let by = text.len() - after.len();
         if ends_with_at(before) {
             decl_starts += 1;
-            let found = declaration::find_import(behind, unclosed, lists, &mut known);
+            let found = declaration::find_import(after, unclosed, lists, &mut cache);
             add(&mut imports, found, by)?;
         }
         if leaves_open(before) {
             dynamic_starts += 1;
             add(
                 &mut imports,
-                dynamic::find_import(behind, unclosed, lists, spaces),
+                dynamic::find_import(after, unclosed, lists, spaces),
                 by,
             )?;
         }
-        rest = behind;
+        rest = after;
     }
     Ok(Scan {
         imports,
@@ -63,8 +63,9 @@ pub fn scan<'a>(alloc: Global, text: &'a str) -> Result<Scan<'a>, AllocError>
     })
 }
 
-/// Puts the import that a parser found, if it found one, into its place by its start, unless one
-/// with that start is there. Its range is counted from `by` bytes before.
+/// Moves the range of an import, if there is one, by `by` bytes, and inserts the import.
+///
+/// Fails if an allocation fails.
 fn add<'a>(
     imports: &mut Vec<JsDocImport<'a>>,
     found: Option<JsDocImport<'a>>,
@@ -84,8 +85,10 @@ fn add<'a>(
     insert(imports, import.moved(by))
 }
 
-/// Puts an import into its place by its start, unless one with that start is there. Where memory is
-/// refused the list stays as it was.
+/// Inserts an import into a list that ascends by the start of the range. Does nothing if the list
+/// has an import with the same start.
+///
+/// Fails if an allocation fails; the list is then unchanged.
 fn insert<'a>(imports: &mut Vec<JsDocImport<'a>>, import: JsDocImport<'a>) -> Result<(), AllocError>
     requires ascending { Ascend (map import_of imports.old.items) }
     ensures ok { OnOk result (GainsImport (map import_of imports.old.items)
@@ -105,14 +108,14 @@ fn insert<'a>(imports: &mut Vec<JsDocImport<'a>>, import: JsDocImport<'a>) -> Re
     Ok(())
 }
 
-/// Whether a text ends with `@`.
+/// Returns whether a text ends with `@`.
 fn ends_with_at(text: &str) -> bool
     ensures { IsTrue result ↔ EndsWithAt (chars text.now) }
 {
     text.ends_with('@')
 }
 
-/// Whether a text has a `{` and no `}` behind it.
+/// Returns whether a text has a `{` with no `}` after it.
 fn leaves_open(text: &str) -> bool
     ensures { IsTrue result ↔ LeavesOpen (chars text.now) }
 {

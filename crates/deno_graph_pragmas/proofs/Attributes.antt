@@ -9,12 +9,13 @@ use Rattle.std.specs.Option.{option_and_then}
 use Rattle.std.specs.Str.{chars, IsUtf8}
 use lib.Utf8.{encode, encodes}
 use Rattle.deno_graph_pragmas.specs.Finders.{attribute}
-use Rattle.deno_graph_pragmas.specs.Reading.{after_one, after_pieces, attribute_front, HasNoAttribute}
-use Rattle.deno_graph_pragmas.specs.Reading.{IsAttributeAt}
+use Rattle.deno_graph_pragmas.specs.internal.Reading.{after_one, after_pieces, attribute_front}
+use Rattle.deno_graph_pragmas.specs.internal.Reading.{HasNoAttribute}
+use Rattle.deno_graph_pragmas.specs.internal.Reading.{IsAttributeAt}
 use Rattle.deno_graph_pragmas.specs.Split.{ArePieces, Split, IsCaptured, TextPart}
 use Rattle.deno_graph_pragmas.proofs.Barriers.{attribute_apart}
 use Rattle.deno_graph_pragmas.proofs.Found.{bytes_of, rest_read, IsCaptured-read}
-use Rattle.deno_graph_pragmas.proofs.Splits.{behind_before, behind_front, front_read}
+use Rattle.deno_graph_pragmas.proofs.Splits.{after_before, after_front, front_read}
 
 -- the text is `passed` and `rest`, and none of its splits begins in `passed`
 pub record IsPassed (name text rest : List ℕ) : Type 0 where
@@ -34,13 +35,13 @@ same_front one other rest left whole same =
 -- a split that begins where `rest` does
 front_here : (name text passed here : List ℕ) → text ≡ passed ++ here
     → (split : Split (attribute name) text) → length passed ≡ length split.before
-    → after_pieces (attribute name).front here ≡ Some (behind_front split)
+    → after_pieces (attribute name).front here ≡ Some (after_front split)
 front_here name text passed here whole split same =
-    let fronts = same_front passed split.before here (behind_before split) (sym whole ∙ split.whole) same in
+    let fronts = same_front passed split.before here (after_before split) (sym whole ∙ split.whole) same in
     ap (after_pieces (attribute name).front) fronts.1
     ∙ front_read (attribute name) text (attribute_apart name) split
 
--- there is none where there is no white space or no attribute behind it
+-- there is no split where there is no white space, or no attribute after the white space
 not_here : (name text passed cs : List ℕ) (c : ℕ) → text ≡ passed ++ c ∷ cs
     → (is_whitespace c ≡ true → HasNoAttribute name cs) → (split : Split (attribute name) text)
     → length passed ≡ length split.before → ⊥
@@ -50,9 +51,9 @@ not_here name text passed cs c whole none split same =
       | inl white ↦
           let first : after_one is_whitespace (c ∷ cs) ≡ Some cs =
           cond-true (is_whitespace c) (Some cs) None white in
-          let attribute_read : after_pieces (attribute_front name) cs ≡ Some (behind_front split) =
+          let attribute_read : after_pieces (attribute_front name) cs ≡ Some (after_front split) =
           sym (ap (option_and_then (after_pieces (attribute_front name))) first) ∙ front in
-          let missing = none white (behind_front split) attribute_read in
+          let missing = none white (after_front split) attribute_read in
           let there = rest_read (attribute name) text (attribute_apart name) split in
           cc
       | inr dark ↦
@@ -123,7 +124,7 @@ no_more name text rest so_far end split =
       so_far.none split,
       ap length whole,
       ap length split.whole,
-      length-append split.before (behind_before split),
-      length-append split.front (behind_front split),
-      front_some name split.front (behind_front split) split.front_pieces,
+      length-append split.before (after_before split),
+      length-append split.front (after_front split),
+      front_some name split.front (after_front split) split.front_pieces,
     ))

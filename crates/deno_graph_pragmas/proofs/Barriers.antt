@@ -10,12 +10,12 @@ use Rattle.deno_graph_pragmas.specs.Finders.{attribute, quoted_pragma, quoteless
 use Rattle.deno_graph_pragmas.specs.Finders.{source_mapping_url_pattern}
 use Rattle.deno_graph_pragmas.specs.Piece.{one, run, exactly, keyword, is_quote, is_unquoted}
 use Rattle.deno_graph_pragmas.specs.Piece.{is_white_or_star, star}
-use Rattle.deno_graph_pragmas.specs.Reading.{begins_above_star}
+use Rattle.deno_graph_pragmas.specs.internal.Reading.{begins_above_star}
 use Rattle.deno_graph_pragmas.proofs.Folding.{same_fold-other}
 use Rattle.deno_graph_pragmas.proofs.ReadPieces.{IsBarrier}
 use Rattle.deno_graph_pragmas.proofs.Splits.{IsDetermined}
 
--- ---- a word behind white space and stars
+-- ---- a word after white space and stars
 
 -- a character that is an ASCII character above `*` in some case is no white space and no star
 lower_above_star : (c letter : ℕ) → star < letter → letter < 128

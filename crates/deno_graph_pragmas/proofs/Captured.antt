@@ -1,4 +1,4 @@
--- What is captured: its place in the text, its quotes, and that there is one.
+-- The captured part: its range in the text, the quotes around it, and when there is one.
 use Rattle.std.proofs.Common.{◌≡◌, ℕ, ◌+◌, ◌-◌, ◌<◌, true, List, [], ◌∷◌, ◌++◌, Option, IfSome, length, take}
 use Rattle.std.proofs.Common.{drop, refl, sym, ap, subst, ◌∙◌, append_assoc, length-append, arith, codes}
 use Rattle.std.proofs.lemmas.Bool.{and_parts}
@@ -20,7 +20,7 @@ use Rattle.deno_graph_pragmas.specs.Split.{Pattern, ArePieces, Split, IsCaptured
 use Rattle.deno_graph_pragmas.specs.Split.{StartDetermines, HasOnePart, TextPart, byte_count, with_beside}
 use Rattle.deno_graph_pragmas.proofs.Barriers.{attribute_apart, quoted_pragma_apart, quoteless_pragma_apart}
 use Rattle.deno_graph_pragmas.proofs.Barriers.{jsx_pragma_apart, source_mapping_url_apart}
-use Rattle.deno_graph_pragmas.proofs.Splits.{IsDetermined, behind_before, same_captured}
+use Rattle.deno_graph_pragmas.proofs.Splits.{IsDetermined, after_before, same_captured}
 
 -- ---- slices
 
@@ -29,7 +29,7 @@ scalars-back [] back all = all
 scalars-back (c ∷ front) back all =
     scalars-back front back (and_parts (scalar c) (scalars (front ++ back)) all).1
 
--- a text by its characters, cut at a place
+-- a text by its characters, cut at an offset
 cut : (text front back : List ℕ) → IsUtf8 text → chars text ≡ front ++ back
     → (text ≡ encodes front ++ encodes back) × IsUtf8 (encodes back)
 cut text front back utf8 whole = (
@@ -41,7 +41,7 @@ same_part : (one other : TextPart) → one.text ≡ other.text → one.start ≡
     → one.end ≡ other.end → one ≡ other
 same_part one other text start end = λ i. record { text = text i; start = start i; end = end i }
 
--- characters between a front and what comes behind them are a slice
+-- the characters between a front and the rest are a slice
 slice_of_chars : (text a b c : List ℕ) → IsUtf8 text → chars text ≡ a ++ (b ++ c)
     → IsSliceOf text (record { text = encodes b; start = byte_count a; end = byte_count (a ++ b) })
 slice_of_chars text a b c utf8 whole =
@@ -50,10 +50,10 @@ slice_of_chars text a b c utf8 whole =
     let size : byte_count (a ++ b) ≡ byte_count a + length (encodes b) =
     ap length (encodes-append a b) ∙ length-append (encodes a) (encodes b) in
     let span : byte_count (a ++ b) - byte_count a ≡ length (encodes b) = omega (arith, size) in
-    let behind : text ≡ encodes a ++ (encodes b ++ encodes c) =
+    let tail : text ≡ encodes a ++ (encodes b ++ encodes c) =
     first.0 ∙ ap (λ t. encodes a ++ t) (encodes-append b c) in
     let dropped : drop (byte_count a) text ≡ encodes b ++ encodes c =
-    ap (drop (byte_count a)) behind ∙ drop_at (encodes a) (encodes b ++ encodes c) (byte_count a) refl in
+    ap (drop (byte_count a)) tail ∙ drop_at (encodes a) (encodes b ++ encodes c) (byte_count a) refl in
     record {
       start = IsCharBoundary-at_seam text (encodes a) (encodes (b ++ c)) first.0 first.1;
       end = IsCharBoundary-at_seam text (encodes (a ++ b)) (encodes c) second.0 second.1;
@@ -78,11 +78,11 @@ captured_slice pattern text part utf8 is =
     subst (IsSliceOf text) (same_part slice part (sym is.bytes) (sym is.start) (sym is.end))
     (slice_of_chars text head split.captured tail utf8 whole)
 
-pub found_slice : (pattern : Pattern) (text : List ℕ) (answer : Option Match)
-    → IsUtf8 text → IfSome answer (λ found. IsCaptured pattern text (match_part_of found))
-    → IfSome answer (λ found. IsSliceOf text (match_part_of found))
-found_slice pattern text answer utf8 found =
-    IfSome_then answer found (λ m. captured_slice pattern text (match_part_of m) utf8)
+pub found_slice : (pattern : Pattern) (text : List ℕ) (result : Option Match)
+    → IsUtf8 text → IfSome result (λ found. IsCaptured pattern text (match_part_of found))
+    → IfSome result (λ found. IsSliceOf text (match_part_of found))
+found_slice pattern text result utf8 found =
+    IfSome_then result found (λ m. captured_slice pattern text (match_part_of m) utf8)
 
 -- ---- quotes
 
@@ -107,7 +107,7 @@ is_quote_piece : (back after : List ℕ) → ArePieces (quote ∷ []) back after
 is_quote_piece back after (piece, rest, whole, (mark, is, passes), end) =
     (mark, whole ∙ ap (λ t. piece ++ t) end ∙ append-nil piece ∙ is, passes)
 
--- the characters round what is captured
+-- the characters around the captured part
 record Round (before front captured back after : List ℕ) : Type 0 where
   pub head : List ℕ
   pub left : ℕ
@@ -121,9 +121,9 @@ round : (pattern : Pattern) (pieces : List Piece) (text : List ℕ)
     → pattern.front ≡ pieces ++ quote ∷ [] → pattern.back ≡ quote ∷ [] → (split : Split pattern text)
     → Round split.before split.front split.captured split.back split.after
 round pattern pieces text front_is back_is split =
-    let behind = split.captured ++ (split.back ++ split.after) in
-    let first = ends_in_quote pieces split.front behind
-    (subst (λ ps. ArePieces ps split.front behind) front_is split.front_pieces) in
+    let tail = split.captured ++ (split.back ++ split.after) in
+    let first = ends_in_quote pieces split.front tail
+    (subst (λ ps. ArePieces ps split.front tail) front_is split.front_pieces) in
     let last = is_quote_piece split.back split.after
     (subst (λ ps. ArePieces ps split.back split.after) back_is split.back_pieces) in
     record {
@@ -204,9 +204,9 @@ one_part pattern apart text one other first second =
     let a = first.split in
     let b = second.split in
     let lengths : length a.before ≡ length b.before = omega (arith, first.first b, second.first a) in
-    let starts : a.before ≡ b.before = sym (take_at a.before (behind_before a) (length a.before) refl)
+    let starts : a.before ≡ b.before = sym (take_at a.before (after_before a) (length a.before) refl)
     ∙ ap (take (length a.before)) (sym a.whole ∙ b.whole)
-    ∙ take_at b.before (behind_before b) (length a.before) (sym lengths) in
+    ∙ take_at b.before (after_before b) (length a.before) (sym lengths) in
     let parts = same_captured pattern (chars text) apart a b starts in
     let heads : a.before ++ a.front ≡ b.before ++ b.front =
     ap (λ t. t ++ a.front) starts ∙ ap (λ t. b.before ++ t) parts.front in

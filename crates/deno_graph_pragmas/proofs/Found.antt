@@ -1,4 +1,4 @@
--- From what reading leaves to what a finder answers.
+-- The results of the finders, from what they read.
 use Rattle.std.proofs.Common.{◌≡◌, ℕ, ◌+◌, ◌-◌, ◌≤◌, true, false, List, [], ◌∷◌, ◌++◌, Option, Some, None}
 use Rattle.std.proofs.Common.{IsSome, IsNone, IfSome, is_some, ◌↔◌, IsTrue, length, refl, sym, ap, subst, ◌∙◌}
 use Rattle.std.proofs.Common.{append_assoc, length-append, arith, zero-le}
@@ -12,11 +12,11 @@ use lib.Utf8.{encodes}
 use Rattle.deno_graph_pragmas.specs.Match.{match_part_of, FindsFirst, FindsFirstInQuotes}
 use Rattle.deno_graph_pragmas.specs.declared.finders.matches.Match.{Match}
 use Rattle.deno_graph_pragmas.specs.Piece.{Piece, IsPiece}
-use Rattle.deno_graph_pragmas.specs.Reading.{after_piece, after_pieces, IsCapturedAt}
+use Rattle.deno_graph_pragmas.specs.internal.Reading.{after_piece, after_pieces, IsCapturedAt}
 use Rattle.deno_graph_pragmas.specs.Split.{Pattern, ArePieces, Split, HasSplit, TextPart, IsCaptured}
 use Rattle.deno_graph_pragmas.specs.Split.{byte_count}
 use Rattle.deno_graph_pragmas.proofs.ReadPieces.{after_piece-front, after_pieces-front}
-use Rattle.deno_graph_pragmas.proofs.Splits.{IsDetermined, behind_before, behind_front, front_read}
+use Rattle.deno_graph_pragmas.proofs.Splits.{IsDetermined, after_before, after_front, front_read}
 use Rattle.deno_graph_pragmas.proofs.Splits.{captured_read, back_read}
 
 -- ---- where there is no split
@@ -26,9 +26,9 @@ none_some o x none some = cc
 
 -- an anchored split is at the start
 pub at_start : (pattern : Pattern) (text : List ℕ) → pattern.anchored ≡ true → (split : Split pattern text)
-    → behind_before split ≡ text
+    → after_before split ≡ text
 at_start pattern text anchored split =
-    ap (λ before. before ++ behind_before split) (sym (split.anchored anchored)) ∙ sym split.whole
+    ap (λ before. before ++ after_before split) (sym (split.anchored anchored)) ∙ sym split.whole
 
 pub no_front : (pattern : Pattern) (text : List ℕ) → IsDetermined pattern → pattern.anchored ≡ true
     → after_pieces pattern.front text ≡ None → ¬ (Split pattern text)
@@ -36,9 +36,9 @@ no_front pattern text determined anchored none split =
     none_some _ _ none (ap (after_pieces pattern.front) (sym (at_start pattern text anchored split))
     ∙ front_read pattern text determined split)
 
--- what a split captures, with the pieces behind it, is read behind its front
+-- the captured part and the pieces after it are read after the front
 pub rest_read : (pattern : Pattern) (text : List ℕ) → IsDetermined pattern → (split : Split pattern text)
-    → after_pieces (pattern.captured ∷ pattern.back) (behind_front split) ≡ Some split.after
+    → after_pieces (pattern.captured ∷ pattern.back) (after_front split) ≡ Some split.after
 rest_read pattern text determined split =
     ap (option_and_then (after_pieces pattern.back)) (captured_read pattern text determined split)
     ∙ back_read pattern text determined split
@@ -47,15 +47,15 @@ pub no_rest : (pattern : Pattern) (text rest : List ℕ) → IsDetermined patter
     → pattern.anchored ≡ true → after_pieces pattern.front text ≡ Some rest
     → after_pieces (pattern.captured ∷ pattern.back) rest ≡ None → ¬ (Split pattern text)
 no_rest pattern text rest determined anchored front none split =
-    let here : after_pieces pattern.front text ≡ Some (behind_front split) = ap (after_pieces pattern.front)
+    let here : after_pieces pattern.front text ≡ Some (after_front split) = ap (after_pieces pattern.front)
     (sym (at_start pattern text anchored split)) ∙ front_read pattern text determined split in
-    let same : rest ≡ behind_front split = cc in
+    let same : rest ≡ after_front split = cc in
     none_some _ _ none
     (ap (after_pieces (pattern.captured ∷ pattern.back)) same ∙ rest_read pattern text determined split)
 
--- a finder answers None where there is none
-pub none_answer : {A : Type 0} {S : Type 0} (answer : Option A) → answer ≡ None → ¬ S → IsNone answer ↔ ¬ S
-none_answer answer is none = (λ _. none, λ _. ap is_some is)
+-- a finder returns None where there is no split
+pub none_result : {A : Type 0} {S : Type 0} (result : Option A) → result ≡ None → ¬ S → IsNone result ↔ ¬ S
+none_result result is none = (λ _. none, λ _. ap is_some is)
 
 pub some_answer : {S : Type 0} → S → (true ≡ false) ↔ ¬ S
 some_answer there = (λ never. absurd (false≢true (sym never)), λ none. absurd (none there))
@@ -71,11 +71,11 @@ made : (pattern : Pattern) (text rest before tail : List ℕ) (part : TextPart) 
     → IsCapturedAt pattern.captured pattern.back text rest part → Split pattern (chars text)
 made pattern text rest before tail part whole anchored front read =
     let first = after_pieces-front pattern.front tail (chars rest) front in
-    let second = after_piece-front pattern.captured (chars rest) read.behind read.captured in
-    let more = some_is (after_pieces pattern.back read.behind) read.back_read in
-    let third = after_pieces-front pattern.back read.behind more.0 more.1 in
+    let second = after_piece-front pattern.captured (chars rest) read.tail read.captured in
+    let more = some_is (after_pieces pattern.back read.tail) read.back_read in
+    let third = after_pieces-front pattern.back read.tail more.0 more.1 in
     let same : second.0 ≡ chars part.text =
-    append_cancel_right second.0 (chars part.text) read.behind (sym second.1 ∙ read.whole) in
+    append_cancel_right second.0 (chars part.text) read.tail (sym second.1 ∙ read.whole) in
     let all : chars rest ≡ chars part.text ++ (third.0 ++ more.0) =
     read.whole ∙ ap (λ t. chars part.text ++ t) third.1 in
     record {
@@ -88,7 +88,7 @@ made pattern text rest before tail part whole anchored front read =
       anchored = anchored;
       front_pieces = subst (ArePieces pattern.front first.0) all first.2;
       captured_piece = subst (IsPiece pattern.captured (chars part.text)) third.1
-          (subst (λ t. IsPiece pattern.captured t read.behind) same second.2);
+          (subst (λ t. IsPiece pattern.captured t read.tail) same second.2);
       back_pieces = third.2;
     }
 
@@ -155,60 +155,60 @@ IsCaptured-at_start pattern text rest part text_utf8 rest_utf8 front read =
     (λ other. zero-le) front read
 
 -- what is read at the start of `rest` is a part
-pub IsCapturedAt-front : (piece : Piece) (back : List Piece) (text rest front behind : List ℕ)
+pub IsCapturedAt-front : (piece : Piece) (back : List Piece) (text rest front tail : List ℕ)
     (part : TextPart)
-    → IsUtf8 front → after_piece piece (chars rest) ≡ Some behind → IsSome (after_pieces back behind)
-    → chars rest ≡ chars front ++ behind → part.text ≡ front → part.start ≡ length text - length rest
+    → IsUtf8 front → after_piece piece (chars rest) ≡ Some tail → IsSome (after_pieces back tail)
+    → chars rest ≡ chars front ++ tail → part.text ≡ front → part.start ≡ length text - length rest
     → part.end ≡ part.start + length front → IsCapturedAt piece back text rest part
-IsCapturedAt-front piece back text rest front behind part utf8 captured back_read whole is start end =
+IsCapturedAt-front piece back text rest front tail part utf8 captured back_read whole is start end =
     record {
-      behind = behind;
+      tail = tail;
       captured = captured;
       back_read = back_read;
-      whole = whole ∙ ap (λ t. chars t ++ behind) (sym is);
+      whole = whole ∙ ap (λ t. chars t ++ tail) (sym is);
       utf8 = subst IsUtf8 (sym is) utf8;
       start = start;
       end = end ∙ ap (λ t. part.start + length t) (sym is);
     }
 
--- ---- what is answered behind a front that was read
+-- ---- the result of a finder that has read the front
 
-pub found_behind : (pattern : Pattern) (text rest : List ℕ) (answer : Option Match)
+pub found_after : (pattern : Pattern) (text rest : List ℕ) (result : Option Match)
     → IsUtf8 text → IsUtf8 rest → after_pieces pattern.front (chars text) ≡ Some (chars rest)
-    → IfSome answer (λ found. IsCapturedAt pattern.captured pattern.back text rest (match_part_of found))
-    → IfSome answer (λ found. IsCaptured pattern text (match_part_of found))
-found_behind pattern text rest answer text_utf8 rest_utf8 front read =
-    IfSome_then answer read
+    → IfSome result (λ found. IsCapturedAt pattern.captured pattern.back text rest (match_part_of found))
+    → IfSome result (λ found. IsCaptured pattern text (match_part_of found))
+found_after pattern text rest result text_utf8 rest_utf8 front read =
+    IfSome_then result read
     (λ found. IsCaptured-at_start pattern text rest (match_part_of found) text_utf8 rest_utf8 front)
 
-pub none_behind : (pattern : Pattern) (text rest : List ℕ) (answer : Option Match) → IsUtf8 text → IsUtf8 rest
+pub none_after : (pattern : Pattern) (text rest : List ℕ) (result : Option Match) → IsUtf8 text → IsUtf8 rest
     → IsDetermined pattern → pattern.anchored ≡ true → after_pieces pattern.front (chars text) ≡ Some
     (chars rest)
-    → IfSome answer (λ found. IsCapturedAt pattern.captured pattern.back text rest (match_part_of found))
-    → (IsNone answer → after_pieces (pattern.captured ∷ pattern.back) (chars rest) ≡ None)
-    → IsNone answer ↔ ¬ (Split pattern (chars text))
-none_behind pattern text rest None text_utf8 rest_utf8 determined anchored front read none =
-    none_answer {A = Match} None refl
+    → IfSome result (λ found. IsCapturedAt pattern.captured pattern.back text rest (match_part_of found))
+    → (IsNone result → after_pieces (pattern.captured ∷ pattern.back) (chars rest) ≡ None)
+    → IsNone result ↔ ¬ (Split pattern (chars text))
+none_after pattern text rest None text_utf8 rest_utf8 determined anchored front read none =
+    none_result {A = Match} None refl
     (no_rest pattern (chars text) (chars rest) determined anchored front (none refl))
-none_behind pattern text rest (Some found) text_utf8 rest_utf8 determined anchored front read none =
+none_after pattern text rest (Some found) text_utf8 rest_utf8 determined anchored front read none =
     some_answer
     (IsCaptured-at_start pattern text rest (match_part_of found) text_utf8 rest_utf8 front read).split
 
--- ---- the two forms of a finder's answer, where there is none
+-- ---- the two forms of a finder's result, where there is no split
 
-pub finds_none : (pattern : Pattern) (text : List ℕ) (answer : Option Match)
-    → answer ≡ None → ¬ HasSplit pattern text
-    → FindsFirst pattern text answer
+pub finds_none : (pattern : Pattern) (text : List ℕ) (result : Option Match)
+    → result ≡ None → ¬ HasSplit pattern text
+    → FindsFirst pattern text result
 finds_none pattern text (Some found) is none = absurd (cc)
 finds_none pattern text None is none =
-    record { found = tt; none = none_answer {A = Match} None refl none; slice = tt }
+    record { found = tt; none = none_result {A = Match} None refl none; slice = tt }
 
-pub finds_none_in_quotes : (pattern : Pattern) (text : List ℕ) (answer : Option Match) → answer ≡ None
-    → ¬ HasSplit pattern text → FindsFirstInQuotes pattern text answer
+pub finds_none_in_quotes : (pattern : Pattern) (text : List ℕ) (result : Option Match) → result ≡ None
+    → ¬ HasSplit pattern text → FindsFirstInQuotes pattern text result
 finds_none_in_quotes pattern text (Some found) is none = absurd (cc)
 finds_none_in_quotes pattern text None is none = record {
   found = tt;
-  none = none_answer {A = Match} None refl none;
+  none = none_result {A = Match} None refl none;
   slice = tt;
   quotes = tt;
 }

@@ -10,7 +10,7 @@ use Rattle.std.specs.Str.{chars, IsUtf8, IsCharBoundary}
 use Rattle.std.specs.Str.Iter.{HasSubslice}
 use lib.Utf8.{encodes, encode}
 use Rattle.deno_graph_pragmas.specs.Piece.{is_in_line, line_feed}
-use Rattle.deno_graph_pragmas.specs.Reading.{IsClosedInLine, IsFirstLine}
+use Rattle.deno_graph_pragmas.specs.internal.Reading.{IsClosedInLine, IsFirstLine}
 
 -- ---- in bytes and in characters
 
@@ -29,13 +29,13 @@ in_chars line utf8 (front, back, whole) =
     (ap (take n) whole ∙ take_at front (codes "/>" ++ back) n refl) (IsUtf8-take line n utf8 boundary) in
     let back_utf8 : IsUtf8 (47 ∷ 62 ∷ back) = subst IsUtf8
     (ap (drop n) whole ∙ drop_at front (codes "/>" ++ back) n refl) (IsUtf8-drop line n utf8 boundary) in
-    let behind_utf8 : IsUtf8 (62 ∷ back) =
+    let after_utf8 : IsUtf8 (62 ∷ back) =
     IsUtf8-past_char (47 ∷ 62 ∷ back) (62 ∷ back) 47 back_utf8 refl in (
       chars front,
       chars back,
       ap chars whole ∙ chars-append front (codes "/>" ++ back) front_utf8
           ∙ ap (λ t. chars front ++ t) (chars_past_char (47 ∷ 62 ∷ back) (62 ∷ back) 47 back_utf8 refl
-          ∙ ap (λ t. 47 ∷ t) (chars_past_char (62 ∷ back) back 62 behind_utf8 refl)),
+          ∙ ap (λ t. 47 ∷ t) (chars_past_char (62 ∷ back) back 62 after_utf8 refl)),
     )
 
 in_bytes : (line : List ℕ) → IsUtf8 line → HasClose (chars line) → HasSubslice line (codes "/>")

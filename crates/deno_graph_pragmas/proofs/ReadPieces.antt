@@ -7,8 +7,9 @@ use Rattle.std.specs.Option.{option_map, option_and_then}
 use Rattle.unicode.specs.CaseFolding.{simple_fold}
 use Rattle.deno_graph_pragmas.specs.Piece.{Piece, one, any, some, run, exactly, keyword, IsPiece, IsStopped}
 use Rattle.deno_graph_pragmas.specs.Piece.{IsInAnyCase}
-use Rattle.deno_graph_pragmas.specs.Reading.{skip_while, after_one, after_some, after_exactly, after_keyword}
-use Rattle.deno_graph_pragmas.specs.Reading.{after_piece, after_pieces}
+use Rattle.deno_graph_pragmas.specs.internal.Reading.{skip_while, after_one, after_some, after_exactly}
+use Rattle.deno_graph_pragmas.specs.internal.Reading.{after_keyword}
+use Rattle.deno_graph_pragmas.specs.internal.Reading.{after_piece, after_pieces}
 use Rattle.deno_graph_pragmas.specs.Split.{ArePieces}
 
 -- ---- one piece
@@ -180,7 +181,7 @@ Ends-next (run test) q piece rest apart is = tt
 Ends-next (exactly word) q piece rest apart is = tt
 Ends-next (keyword word) q piece rest apart is = tt
 
--- pieces in turn are found by reading
+-- reading finds pieces in turn
 pub after_pieces-append : (pieces : List Piece) (front after : List ℕ) → AreApart pieces after
     → ArePieces pieces front after → after_pieces pieces (front ++ after) ≡ Some after
 after_pieces-append [] front after apart is = ap (λ text. Some (text ++ after)) is

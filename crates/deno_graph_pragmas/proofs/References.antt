@@ -4,24 +4,24 @@ use Rattle.std.proofs.Common.{ap, subst, ◌∙◌, codes}
 use Rattle.std.proofs.lemmas.Bool.{false≢true}
 use Rattle.std.proofs.lemmas.List.{append-nil}
 use Rattle.deno_graph_pragmas.specs.Finders.{triple_slash_reference_pattern}
-use Rattle.deno_graph_pragmas.specs.Reading.{after_pieces, IsClosedInLine}
+use Rattle.deno_graph_pragmas.specs.internal.Reading.{after_pieces, IsClosedInLine}
 use Rattle.deno_graph_pragmas.specs.Split.{ArePieces, Split}
 use Rattle.deno_graph_pragmas.proofs.Barriers.{white-keyword}
 use Rattle.deno_graph_pragmas.proofs.Found.{at_start}
 use Rattle.deno_graph_pragmas.proofs.ReadPieces.{AreApart, after_pieces-append, after_pieces-front}
-use Rattle.deno_graph_pragmas.proofs.Splits.{behind_front}
+use Rattle.deno_graph_pragmas.proofs.Splits.{after_front}
 
--- what is behind the front is determined, though what is captured isn't
+-- what follows the front is determined, but the captured part isn't
 front_apart : (after : List ℕ) → AreApart triple_slash_reference_pattern.front after
 front_apart after = (tt, (white-keyword (codes "<reference") refl, (tt, tt)))
 
 front_is : (text : List ℕ) → (split : Split triple_slash_reference_pattern text)
-    → after_pieces triple_slash_reference_pattern.front text ≡ Some (behind_front split)
+    → after_pieces triple_slash_reference_pattern.front text ≡ Some (after_front split)
 front_is text split =
     ap (after_pieces triple_slash_reference_pattern.front)
     (sym (at_start triple_slash_reference_pattern text refl split))
-    ∙ after_pieces-append triple_slash_reference_pattern.front split.front (behind_front split)
-    (front_apart (behind_front split)) split.front_pieces
+    ∙ after_pieces-append triple_slash_reference_pattern.front split.front (after_front split)
+    (front_apart (after_front split)) split.front_pieces
 
 made : (text rest : List ℕ) → after_pieces triple_slash_reference_pattern.front text ≡ Some rest
     → IsClosedInLine rest → Split triple_slash_reference_pattern text
@@ -41,7 +41,7 @@ made text rest front (line, after, in_line, whole) =
     }
 
 closed : (text : List ℕ) → (split : Split triple_slash_reference_pattern text)
-    → IsClosedInLine (behind_front split)
+    → IsClosedInLine (after_front split)
 closed text split =
     let piece = split.back_pieces in
     let is : split.back ≡ codes "/>" = piece.2 ∙ ap (λ t. t ++ piece.1) piece.3
@@ -54,13 +54,13 @@ some_same one other = cc
 none_some : {o : Option (List ℕ)} {x : List ℕ} → o ≡ None → o ≡ Some x → ⊥
 none_some none some = cc
 
-pub reference_iff : (text rest : List ℕ) (answer : Bool)
+pub reference_iff : (text rest : List ℕ) (result : Bool)
     → after_pieces triple_slash_reference_pattern.front text ≡ Some rest
-    → (answer ≡ true) ↔ IsClosedInLine rest → (answer ≡ true) ↔ Split triple_slash_reference_pattern text
-reference_iff text rest answer front is = (
+    → (result ≡ true) ↔ IsClosedInLine rest → (result ≡ true) ↔ Split triple_slash_reference_pattern text
+reference_iff text rest result front is = (
   λ yes. made text rest front (is.0 yes),
   λ split.
-      let same : behind_front split ≡ rest = some_same (front_is text split) front in
+      let same : after_front split ≡ rest = some_same (front_is text split) front in
       is.1 (subst IsClosedInLine same (closed text split)),
 )
 

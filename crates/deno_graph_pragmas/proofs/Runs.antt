@@ -8,7 +8,8 @@ use Rattle.std.specs.Option.{option_map, option_and_then}
 use Rattle.std.specs.Str.{chars, IsUtf8}
 use lib.Utf8.{encodes}
 use Rattle.deno_graph_pragmas.specs.Piece.{Piece, any, some}
-use Rattle.deno_graph_pragmas.specs.Reading.{skip_while, after_one, after_some, after_pieces, IsCapturedAt}
+use Rattle.deno_graph_pragmas.specs.internal.Reading.{skip_while, after_one, after_some, after_pieces}
+use Rattle.deno_graph_pragmas.specs.internal.Reading.{IsCapturedAt}
 use Rattle.deno_graph_pragmas.specs.Split.{TextPart}
 
 length-skip_while : (test : ℕ → Bool) (text : List ℕ) → length (skip_while test text) ≤ length text
@@ -57,20 +58,20 @@ after_some-empty test text front whole empty =
 some_same : {x y : List ℕ} → Some x ≡ Some y → x ≡ y
 some_same same = cc
 
-behind_is : (test : ℕ → Bool) (back : List Piece) (text rest : List ℕ) (part : TextPart)
+tail_is : (test : ℕ → Bool) (back : List Piece) (text rest : List ℕ) (part : TextPart)
     → (read : IsCapturedAt (any test) back text rest part)
     → chars rest ≡ chars part.text ++ skip_while test (chars rest)
-behind_is test back text rest part read =
-    let same : skip_while test (chars rest) ≡ read.behind = some_same read.captured in
+tail_is test back text rest part read =
+    let same : skip_while test (chars rest) ≡ read.tail = some_same read.captured in
     read.whole ∙ ap (λ t. chars part.text ++ t) (sym same)
 
 pub read_nonempty : (test : ℕ → Bool) (back : List Piece) (text rest : List ℕ) (part : TextPart)
     → IsCapturedAt (any test) back text rest part → (length part.text == 0) ≡ false
     → IsCapturedAt (some test) back text rest part
 read_nonempty test back text rest part read nonempty = record {
-  behind = read.behind;
+  tail = read.tail;
   captured = after_some-nonempty test (chars rest) part.text read.utf8
-      (behind_is test back text rest part read) nonempty ∙ read.captured;
+      (tail_is test back text rest part read) nonempty ∙ read.captured;
   back_read = read.back_read;
   whole = read.whole;
   utf8 = read.utf8;
@@ -83,7 +84,7 @@ pub empty_read : (test : ℕ → Bool) (back : List Piece) (text rest : List ℕ
     → after_pieces (some test ∷ back) (chars rest) ≡ None
 empty_read test back text rest part read empty =
     ap (option_and_then (after_pieces back))
-    (after_some-empty test (chars rest) part.text (behind_is test back text rest part read) empty)
+    (after_some-empty test (chars rest) part.text (tail_is test back text rest part read) empty)
 
 after_some-cases : (test : ℕ → Bool) (text : List ℕ) → (after_some test text ≡ None)
     ⊎ (after_some test text ≡ Some (skip_while test text))

@@ -119,11 +119,11 @@ module _ (P : List ℕ → List ℕ → Type 0) where
   cut_of_nothing (c ∷ front) rest e is = absurd (cc)
 
   module _ (c : ℕ) (text : List ℕ) (none : P [] (c ∷ text) → ⊥) where
-    -- a cut behind the first character is one of the rest
-    behind : (front rest : List ℕ) → c ∷ text ≡ front ++ rest → P front rest
+    -- a cut after the first character is a cut of the rest
+    tail : (front rest : List ℕ) → c ∷ text ≡ front ++ rest → P front rest
         → (more : List ℕ) × (front ≡ c ∷ more) × (text ≡ more ++ rest) × P (c ∷ more) rest
-    behind [] rest e is = absurd (none (subst (P []) (sym e) is))
-    behind (d ∷ front) rest e is =
+    tail [] rest e is = absurd (none (subst (P []) (sym e) is))
+    tail (d ∷ front) rest e is =
         let same : d ≡ c = cc in
         let tails : text ≡ front ++ rest = cc in
         (front, ap (λ x. x ∷ front) same, tails, subst (λ x. P (x ∷ front) rest) same is)
@@ -147,12 +147,12 @@ first_cut P decide (c ∷ text) =
     by (inr none) (inl found) = inl (record {
       cut = (c ∷ found.cut.0, found.cut.1, ap (λ t. c ∷ t) found.cut.2, found.cut.3);
       first = λ front rest e is.
-          let other = behind P c text none front rest e is in
+          let other = tail P c text none front rest e is in
           let less = found.first other.0 rest other.2 other.3 in
           omega (arith, less, ap length other.1);
     })
     by (inr none) (inr no_more) = inr (λ cut.
-        let other = behind P c text none cut.0 cut.1 cut.2 cut.3 in
+        let other = tail P c text none cut.0 cut.1 cut.2 cut.3 in
         no_more (other.0, cut.1, other.2, other.3))
 
 decide_cut : (P : List ℕ → List ℕ → Type 0) → ((front rest : List ℕ) → Decided (P front rest))
@@ -174,7 +174,7 @@ decide_pieces (p ∷ others) text after =
     by (inr none) = inr (λ are. none (are.0, are.1, are.2, (are.3, are.4)))
 
 module _ (pattern : Pattern) where
-  -- what comes behind the captured piece, behind the front, and at the start of a split
+  -- what follows the captured piece, what follows the front, and the start of a split
   abbrev Back : List ℕ → Type 0
   Back text = Cut (λ back after. ArePieces pattern.back back after) text
 

@@ -3,7 +3,7 @@
 use Rattle.std.proofs.Common.{◌≡◌, ℕ, List, [], ◌∷◌, ◌++◌, Option, Some, sym, ap, subst, ◌∙◌, append_assoc}
 use Rattle.std.proofs.lemmas.List.{append_cancel_left, append_cancel_right}
 use Rattle.deno_graph_pragmas.specs.Piece.{Piece, IsPiece}
-use Rattle.deno_graph_pragmas.specs.Reading.{after_piece, after_pieces}
+use Rattle.deno_graph_pragmas.specs.internal.Reading.{after_piece, after_pieces}
 use Rattle.deno_graph_pragmas.specs.Split.{Pattern, ArePieces, Split}
 use Rattle.deno_graph_pragmas.proofs.ReadPieces.{AreApart, Ends, Ends-next, after_piece-append}
 use Rattle.deno_graph_pragmas.proofs.ReadPieces.{after_pieces-append}
@@ -33,30 +33,30 @@ Ends-back p (q ∷ back) text after apart (piece, rest, whole, is, others) =
     ap (λ t. t ++ after) whole ∙ append_assoc piece rest after in
     subst (Ends p) (sym next) (Ends-next p q piece (rest ++ after) apart.0 is)
 
--- what comes behind the front of a split, and what comes behind what it captures
-abbrev pub behind_captured : {pattern : Pattern} {text : List ℕ} → Split pattern text → List ℕ
-behind_captured split = split.back ++ split.after
+-- what follows the front of a split, and what follows the captured part
+abbrev pub after_captured : {pattern : Pattern} {text : List ℕ} → Split pattern text → List ℕ
+after_captured split = split.back ++ split.after
 
-abbrev pub behind_front : {pattern : Pattern} {text : List ℕ} → Split pattern text → List ℕ
-behind_front split = split.captured ++ behind_captured split
+abbrev pub after_front : {pattern : Pattern} {text : List ℕ} → Split pattern text → List ℕ
+after_front split = split.captured ++ after_captured split
 
-abbrev pub behind_before : {pattern : Pattern} {text : List ℕ} → Split pattern text → List ℕ
-behind_before split = split.front ++ behind_front split
+abbrev pub after_before : {pattern : Pattern} {text : List ℕ} → Split pattern text → List ℕ
+after_before split = split.front ++ after_front split
 
 pub front_read : (pattern : Pattern) (text : List ℕ) → IsDetermined pattern → (split : Split pattern text)
-    → after_pieces pattern.front (behind_before split) ≡ Some (behind_front split)
+    → after_pieces pattern.front (after_before split) ≡ Some (after_front split)
 front_read pattern text determined split =
     let apart = AreApart-front pattern.front pattern.captured pattern.back split.after split.captured
-    (behind_captured split) (determined split.after) split.captured_piece in
-    after_pieces-append pattern.front split.front (behind_front split) apart split.front_pieces
+    (after_captured split) (determined split.after) split.captured_piece in
+    after_pieces-append pattern.front split.front (after_front split) apart split.front_pieces
 
 pub captured_read : (pattern : Pattern) (text : List ℕ) → IsDetermined pattern → (split : Split pattern text)
-    → after_piece pattern.captured (behind_front split) ≡ Some (behind_captured split)
+    → after_piece pattern.captured (after_front split) ≡ Some (after_captured split)
 captured_read pattern text determined split =
     let apart = AreApart-rest pattern.front pattern.captured pattern.back split.after
     (determined split.after) in
     let ends = Ends-back pattern.captured pattern.back split.back split.after apart split.back_pieces in
-    after_piece-append pattern.captured split.captured (behind_captured split) split.captured_piece ends
+    after_piece-append pattern.captured split.captured (after_captured split) split.captured_piece ends
 
 AreApart-back : (p : Piece) (back : List Piece) (after : List ℕ)
     → AreApart (p ∷ back) after → AreApart back after
@@ -64,7 +64,7 @@ AreApart-back p [] after apart = tt
 AreApart-back p (q ∷ back) after apart = apart.1
 
 pub back_read : (pattern : Pattern) (text : List ℕ) → IsDetermined pattern → (split : Split pattern text)
-    → after_pieces pattern.back (behind_captured split) ≡ Some split.after
+    → after_pieces pattern.back (after_captured split) ≡ Some split.after
 back_read pattern text determined split =
     let apart = AreApart-rest pattern.front pattern.captured pattern.back split.after
     (determined split.after) in
@@ -83,19 +83,19 @@ some_same o x y is also = cc
 pub same_captured : (pattern : Pattern) (text : List ℕ) → IsDetermined pattern
     → (one other : Split pattern text) → one.before ≡ other.before → SameCaptured one other
 same_captured pattern text determined one other same =
-    let wholes : one.before ++ behind_before one ≡ one.before ++ behind_before other =
-    sym one.whole ∙ other.whole ∙ ap (λ before. before ++ behind_before other) (sym same) in
-    let starts : behind_before one ≡ behind_before other =
-    append_cancel_left one.before (behind_before one) (behind_before other) wholes in
-    let fronts : behind_front one ≡ behind_front other = some_same
-    (after_pieces pattern.front (behind_before one)) _ _ (front_read pattern text determined one)
+    let wholes : one.before ++ after_before one ≡ one.before ++ after_before other =
+    sym one.whole ∙ other.whole ∙ ap (λ before. before ++ after_before other) (sym same) in
+    let starts : after_before one ≡ after_before other =
+    append_cancel_left one.before (after_before one) (after_before other) wholes in
+    let fronts : after_front one ≡ after_front other = some_same
+    (after_pieces pattern.front (after_before one)) _ _ (front_read pattern text determined one)
     (ap (after_pieces pattern.front) starts ∙ front_read pattern text determined other) in
-    let rests : behind_captured one ≡ behind_captured other = some_same
-    (after_piece pattern.captured (behind_front one)) _ _ (captured_read pattern text determined one)
+    let rests : after_captured one ≡ after_captured other = some_same
+    (after_piece pattern.captured (after_front one)) _ _ (captured_read pattern text determined one)
     (ap (after_piece pattern.captured) fronts ∙ captured_read pattern text determined other) in
     record {
-      front = append_cancel_right one.front other.front (behind_front one)
+      front = append_cancel_right one.front other.front (after_front one)
           (starts ∙ ap (λ rest. other.front ++ rest) (sym fronts));
-      captured = append_cancel_right one.captured other.captured (behind_captured one)
+      captured = append_cancel_right one.captured other.captured (after_captured one)
           (fronts ∙ ap (λ rest. other.captured ++ rest) (sym rests));
     }

@@ -1,4 +1,4 @@
--- What the methods of `str` answer, by the characters of the text.
+-- The results of methods of `str`, by the characters of the text.
 use Rattle.std.proofs.Common.{◌≡◌, ℕ, ◌<◌, Bool, true, ◌==◌, eq-eqb, eqb-true, not, IfSome, cond, List, []}
 use Rattle.std.proofs.Common.{◌∷◌, ◌++◌, drop, Option, Some, None, Bor, MatchOption, refl, sym, ap, subst}
 use Rattle.std.proofs.Common.{◌∙◌, arith, append_assoc}
@@ -14,7 +14,7 @@ use Rattle.std.specs.Str.Pattern.{FindsPrefixBy, FindsBy, HasPassingCharAt, Stri
 use Rattle.std.specs.Str.Pattern.{FindsCharPrefix, FindsChar, CutsPrefixes, IsTrimStartMatches}
 use lib.Utf8.{encode, encodes, scalar, scalars}
 use Rattle.deno_graph_pragmas.specs.Piece.{IsStopped}
-use Rattle.deno_graph_pragmas.specs.Reading.{skip_while, after_one, after_exactly}
+use Rattle.deno_graph_pragmas.specs.internal.Reading.{skip_while, after_one, after_exactly}
 use Rattle.deno_graph_pragmas.proofs.ReadPieces.{skip_while-append}
 
 -- ---- the characters of a text that begins with one
@@ -41,7 +41,7 @@ after_char-none mark bs (c ∷ cs) utf8 is none =
     cond_both (c == mark) (Some cs) None (λ o. o ≡ None) (λ same. absurd
     (none (encodes cs) (text.0 ∙ ap (λ d. encode d ++ encodes cs) (eqb-true c mark same)))) (λ _. refl)
 
--- the characters behind one that passes
+-- the characters after one that passes
 chars-past : (test : ℕ → Bool) (bs : List ℕ) (i j : ℕ) → IsUtf8 (drop i bs) → HasPassingCharAt test bs i j
     → (c : ℕ) × (test c ≡ true) × (chars (drop i bs) ≡ c ∷ chars (drop j bs)) × (i < j)
 chars-past test bs i j utf8 (c, passes, at) = (
@@ -174,13 +174,13 @@ scalars-parts (c ∷ xs) ys all =
     (and_from (scalar c) (scalars xs) parts.0 rest.0, rest.1)
 
 -- a text that begins with the bytes of these characters begins with these characters
-behind_encodes : (front all rest : List ℕ) → encodes all ≡ encodes front ++ rest
-    → (behind : List ℕ) × (all ≡ front ++ behind) × (encodes behind ≡ rest)
-behind_encodes [] all rest is = (all, refl, is)
-behind_encodes (c ∷ front) all rest is =
+after_encodes : (front all rest : List ℕ) → encodes all ≡ encodes front ++ rest
+    → (tail : List ℕ) × (all ≡ front ++ tail) × (encodes tail ≡ rest)
+after_encodes [] all rest is = (all, refl, is)
+after_encodes (c ∷ front) all rest is =
     let first = cons_from_encodes all (encodes front ++ rest) c
     (is ∙ append_assoc (encode c) (encodes front) rest) in
-    let others = behind_encodes front first.0 rest first.2 in
+    let others = after_encodes front first.0 rest first.2 in
     (others.0, first.1 ∙ ap (λ t. c ∷ t) others.1, others.2)
 
 -- what the parts of `split_once` are
@@ -200,9 +200,9 @@ split_once_by test bs (Some x) utf8 (i, j, finds, front, back, order, front_len,
     let bytes : encodes (chars bs) ≡ encodes before ++ (encode c ++ drop j bs) =
     encodes-chars bs utf8 ∙ sym (take-append-drop i bs) ∙ ap (λ t. t ++ drop i bs) (sym finds.0.1)
     ∙ ap (λ t. encodes before ++ t) finds.1.2.split in
-    let behind = behind_encodes before (chars bs) (encode c ++ drop j bs) bytes in
-    let more = cons_from_encodes behind.0 (drop j bs) c behind.2 in
-    let whole : chars bs ≡ before ++ c ∷ more.0 = behind.1 ∙ ap (λ t. before ++ t) more.1 in
+    let tail = after_encodes before (chars bs) (encode c ++ drop j bs) bytes in
+    let more = cons_from_encodes tail.0 (drop j bs) c tail.2 in
+    let whole : chars bs ≡ before ++ c ∷ more.0 = tail.1 ∙ ap (λ t. before ++ t) more.1 in
     let all = scalars-parts before (c ∷ more.0) (ap scalars (sym whole) ∙ scalars-chars bs utf8) in
     let front_is : before ≡ chars x.0.now = sym (chars-encodes before all.0)
     ∙ ap chars (finds.0.1 ∙ sym front) in

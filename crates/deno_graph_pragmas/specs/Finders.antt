@@ -89,7 +89,7 @@ deno_types_pattern = quoted_pragma (codes "@deno-types")
 abbrev pub quoteless_deno_types_pattern : Pattern
 quoteless_deno_types_pattern = quoteless_pragma (codes "@deno-types")
 
--- those of the finders that capture a part
+-- the patterns of the finders that capture a part
 abbrev pub finder_patterns : List Pattern
 finder_patterns =
     path_reference_pattern ∷ types_reference_pattern ∷ resolution_mode_pattern ∷ jsx_import_source_pattern

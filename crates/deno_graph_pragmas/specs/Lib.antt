@@ -1,5 +1,5 @@
 pub mod Finders
 pub mod Match
 pub mod Piece
-pub mod Reading
 pub mod Split
+pub mod internal

@@ -28,7 +28,7 @@ IsStopped test (c ∷ after) = test c ≡ false
 abbrev pub IsInAnyCase : List ℕ → List ℕ → Type 0
 IsInAnyCase text word = map simple_fold text ≡ map simple_fold word
 
--- `text`, with `after` behind it, is such a piece
+-- `text`, followed by `after`, is such a piece
 abbrev pub IsPiece : Piece → List ℕ → List ℕ → Type 0
 IsPiece (one test) text after = (c : ℕ) × (text ≡ c ∷ []) × IsTrue (test c)
 IsPiece (any test) text after = IsTrue (list_all test text)

@@ -1,4 +1,4 @@
--- Splits of a text by a pattern, and the part of it that a finder answers.
+-- Splits of a text by a pattern, and the part of the text that a finder returns.
 use Rattle.std.specs.Prelude.{◌≡◌, ◌≤◌, ◌+◌, ◌-◌, ℕ, Bool, List, [], ◌∷◌, ◌++◌, IsTrue, length, slice_range}
 use Rattle.std.specs.Prelude.{encode_utf8_all}
 use Rattle.std.specs.Str.{chars, IsCharBoundary}
@@ -12,7 +12,7 @@ pub record Pattern : Type 0 where
   pub captured : Piece
   pub back : List Piece
 
--- `text`, with `after` behind it, is the pieces in turn
+-- `text`, followed by `after`, is the pieces in turn
 abbrev pub ArePieces : List Piece → List ℕ → List ℕ → Type 0
 ArePieces [] text after = text ≡ []
 ArePieces (first ∷ others) text after =
@@ -74,7 +74,7 @@ with_beside left right part = record {
   end = part.end + 1;
 }
 
--- a quote of either kind is directly before the part, and one directly behind it
+-- a quote of either kind is directly before the part, and one directly after the part
 pub record IsInQuotes (text : List ℕ) (part : TextPart) : Type 0 where
   pub left : ℕ
   pub right : ℕ

@@ -1,4 +1,4 @@
-//! Pragmas in the comments of a module.
+//! Finders of pragmas in the comments of a module.
 #![tactic(auto)]
 
 pub mod finders;

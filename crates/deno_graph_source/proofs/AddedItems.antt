@@ -1,4 +1,4 @@
--- One item more, at a position that has a list, and at one that has none.
+-- Entries with one more item, at an offset with a list and at one without.
 use Rattle.std.proofs.Common.{
   ◌≡◌,
   ◌≢◌,
@@ -31,13 +31,13 @@ use Rattle.std.proofs.lemmas.List.Sorted.{
   IsPermutation-sym,
   IsPermutation-trans,
 }
-use Rattle.deno_graph_source.specs.ByPosition.{AddsItem, all_items, value_at}
+use Rattle.deno_graph_source.specs.ByOffset.{AddsItem, all_items, value_at}
 
 not_at : (pos q : ℕ) → q ≢ pos → is_at (nat_cmp pos) q ≡ false
 not_at pos q apart = grind (arith, nat_tests, apart)
 
 module _ {T : Type 0} (item : T) where
-  -- an item may be the first, or come after a list
+  -- the order of an item and a list may be changed
   later : (xs ys : List T) → IsPermutation (item ∷ (xs ++ ys)) (xs ++ (item ∷ ys))
   later xs ys = IsPermutation-sym _ _ (IsPermutation-middle xs item ys)
 
@@ -55,7 +55,7 @@ module _ {T : Type 0} (item : T) where
       IsPermutation-trans _ _ _ (later e.1 (all_items entries))
       (IsPermutation-append_right e.1 _ _ (more found))
 
-  -- the items where one list has the item more
+  -- the items of entries in which one list has one more item
   items_set : (test : ℕ → Bool) (entries : List (ℕ × List T)) (items : List T)
       → lookup test entries ≡ Some items
       → IsPermutation (item ∷ all_items entries) (all_items (set_value test entries (items ++ item ∷ [])))
@@ -76,14 +76,14 @@ module _ {T : Type 0} (item : T) where
       IsPermutation-trans _ _ _ (later e.1 (all_items entries))
       (IsPermutation-append_right e.1 _ _ (more absent))
 
-  -- and where a list of the item alone is new
+  -- the items of entries with a new list of one item
   items_inserted : (entries : List (ℕ × List T)) (pos : ℕ) → lookup (is_at (nat_cmp pos)) entries ≡ None
       → IsPermutation (item ∷ all_items entries) (all_items (insert_entry nat_cmp entries pos (item ∷ [])))
   items_inserted [] pos absent = IsPermutation-refl _
   items_inserted (e ∷ entries) pos absent =
       at_inserted e entries pos (items_inserted entries pos) (nat_cmp pos e.0) absent
 
-  -- a list that has the item more
+  -- entries in which a list has one more item
   pub added_set : (old new : List (ℕ × List T)) (pos : ℕ) (items : List T) → value_at old pos ≡ Some items
       → new ≡ set_value (is_at (nat_cmp pos)) old (items ++ item ∷ [])
       → value_at new pos ≡ Some (items ++ item ∷ [])
@@ -95,7 +95,7 @@ module _ {T : Type 0} (item : T) where
     items = rw is (items_set (is_at (nat_cmp pos)) old items had);
   }
 
-  -- a new list, of the item alone
+  -- entries with a new list of one item
   pub added_inserted : (old new : List (ℕ × List T)) (pos : ℕ) → value_at old pos ≡ None
       → new ≡ insert_entry nat_cmp old pos (item ∷ []) → value_at new pos ≡ Some (item ∷ [])
       → ((q : ℕ) → is_at (nat_cmp pos) q ≡ false → value_at new q ≡ value_at old q)
@@ -106,12 +106,12 @@ module _ {T : Type 0} (item : T) where
     items = rw is (items_inserted old pos had);
   }
 
-  -- the items of two lists of entries, with the item in the first
+  -- the items of two lists of entries, with one more item in the first
   pub added_first : (old new others : List (ℕ × List T)) (pos : ℕ) → AddsItem old new pos item
       → IsPermutation (item ∷ (all_items old ++ all_items others)) (all_items new ++ all_items others)
   added_first old new others pos adds = IsPermutation-append_left (all_items others) _ _ adds.items
 
-  -- and in the second
+  -- the items of two lists of entries, with one more item in the second
   pub added_second : (others old new : List (ℕ × List T)) (pos : ℕ) → AddsItem old new pos item
       → IsPermutation (item ∷ (all_items others ++ all_items old)) (all_items others ++ all_items new)
   added_second others old new pos adds =

@@ -1,4 +1,4 @@
--- Which comments are filed.
+-- The comments that are filed.
 use Rattle.std.proofs.Common.{◌≡◌, ℕ, Bool, false, List, [], Option, Some, None, refl}
 use Rattle.std.specs.Cmp.{IsEquivalence}
 use Rattle.std.specs.List.{All, Contains, slice_get}
@@ -9,17 +9,17 @@ use Rattle.std.proofs.lemmas.List.Elements.{
   Contains-append_left,
   Contains-append_right,
 }
-use Rattle.deno_graph_source.specs.ByPosition.{all_items, item_at, value_at}
+use Rattle.deno_graph_source.specs.ByOffset.{all_items, item_at, value_at}
 use Rattle.deno_graph_source.specs.Comments.{FiledComments, comments_of}
 use Rattle.deno_graph_source.specs.FaultPlace.{comment_at, side_of}
 use Rattle.deno_graph_source.specs.declared.tree.comments.DependencyComment.{DependencyComment}
-use Rattle.deno_graph_source.specs.declared.tree.fault_place.CommentPlace.{CommentPlace}
-use Rattle.deno_graph_source.specs.declared.tree.fault_place.CommentSide.{CommentSide}
-use Rattle.deno_graph_source.specs.declared.tree.fault_place.CommentSide.TheVariants.{Leading, Trailing}
+use Rattle.deno_graph_source.specs.declared.tree.comments.CommentPlace.{CommentPlace}
+use Rattle.deno_graph_source.specs.declared.tree.comments.CommentSide.{CommentSide}
+use Rattle.deno_graph_source.specs.declared.tree.comments.CommentSide.TheVariants.{Leading, Trailing}
 use Rattle.deno_graph_source.proofs.NodePaths.{Contains-from_slice_get}
 use Rattle.deno_graph_source.proofs.ValidSource.{Contains-at_position}
 
--- the item with a number at a position is one of the items at all positions
+-- the item with an index at an offset is one of the items at all offsets
 Contains-item_at : {T : Type 0} (entries : List (ℕ × List T)) (pos number : ℕ) (item : T)
     → item_at entries pos number ≡ Some item → Contains (all_items entries) item
 Contains-item_at {T} entries pos number item at = by_list (value_at entries pos) refl at
@@ -46,7 +46,7 @@ pub Contains-comment_at : (comments : FiledComments) (place : CommentPlace) (com
 Contains-comment_at comments place comment at =
     filed_on comments place.side place.position place.number comment at
 
--- a comment that is equal to none of those on either side is not filed
+-- a comment that equals no leading and no trailing comment isn't filed
 pub equals_none : (eq : DependencyComment → DependencyComment → Bool) → IsEquivalence eq
     → (comments : FiledComments) (comment : DependencyComment)
     → All (λ item. eq item comment ≡ false) (all_items comments.leading)

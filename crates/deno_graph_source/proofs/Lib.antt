@@ -1,13 +1,13 @@
 pub mod AddedItems
 pub mod FiledComments
-pub mod FoundNodes
+pub mod NodeFindings
 pub mod Judgements
 pub mod Lists
 pub mod Neighbours
 pub mod NodePaths
 pub mod NodeRanges
 pub mod Nodes
-pub mod Places
+pub mod Offsets
 pub mod SourceFaults
 pub mod Spelling
 pub mod ValidSource

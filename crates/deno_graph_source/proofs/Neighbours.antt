@@ -1,4 +1,4 @@
--- Comments in ascending order of their starts: those that overlap are next to each other.
+-- Comments in ascending order of their starts: if comments overlap, so do two neighbours.
 use Rattle.std.proofs.Common.{
   ◌≡◌,
   ◌≢◌,
@@ -38,16 +38,16 @@ use Rattle.std.proofs.lemmas.List.{get_or_default, get_or-map, length-map, lengt
 use Rattle.std.proofs.lemmas.List.Elements.{All-contains, All-get_or}
 use Rattle.std.proofs.lemmas.Bool.{cases_lt}
 use Rattle.std.proofs.lemmas.Bool.Decides.{Decides-eqb}
-use Rattle.deno_graph_source.specs.Check.{AreNeighbours, Passes, RunsInto}
+use Rattle.deno_graph_source.specs.internal.Check.{AreNeighbours, Passes, RunsInto}
 use Rattle.deno_graph_source.specs.FaultPlace.{Overlap}
 use Rattle.deno_graph_source.specs.Source.{IsSpelled, SharesByte, spelling}
-use Rattle.deno_graph_text.specs.declared.text.position.SourceRange.{SourceRange}
+use Rattle.deno_graph_base.specs.declared.text.position.SourceRange.{SourceRange}
 use Rattle.deno_graph_source.specs.declared.tree.comments.CommentKind.{CommentKind}
 use Rattle.deno_graph_source.specs.declared.tree.comments.CommentKind.TheVariants.{Line, Block}
 use Rattle.deno_graph_source.specs.declared.tree.comments.DependencyComment.{DependencyComment}
 use Rattle.deno_graph_source.proofs.Spelling.{spelled_unique}
 
--- what holds of each two neighbours holds of those that a list of references refers to
+-- a property of neighbours in a list of references, for the values of the references
 pub AllAdjacentBelow-map : {R X : Type 0} (f : R → X) (P : X → X → Type 0) (rs : List R)
     → ((k : ℕ) → k + 1 < length rs → (d : R) → P (f (get_or rs k d)) (f (get_or rs (k + 1) d)))
     → AllAdjacentBelow P (map f rs) (length (map f rs))
@@ -63,7 +63,7 @@ two_bytes Block text = omega arith
 le_or_ge : (m n : ℕ) → (m ≤ n) ⊎ (n ≤ m)
 le_or_ge m n = ⊎_elim (λ below. inl (omega arith)) inr (cases_lt m n)
 
--- a comment that is written takes some bytes
+-- a comment that the text has isn't empty
 some_bytes : (text : List ℕ) (c : DependencyComment) → IsSpelled text c → c.range.start < c.range.end
 some_bytes text c is =
     let two : 2 ≤ length (spelling c.kind c.text) = two_bytes c.kind c.text in
@@ -74,7 +74,7 @@ some_bytes text c is =
       two,
     )
 
--- numbers of elements that do not fall along a list of references
+-- keys that don't descend in a list of references, for the values of the references
 pub IsNonDecreasingBy-map : {R X : Type 0} (f : R → X) (n : X → ℕ) (rs : List R)
     → IsNonDecreasingBy (λ r. n (f r)) rs → IsNonDecreasingBy n (map f rs)
 IsNonDecreasingBy-map f n [] h = λ i j d up below. absurd (omega arith)
@@ -82,7 +82,7 @@ IsNonDecreasingBy-map f n (r ∷ rs) h = λ i j d up below.
     let inside : j < length (r ∷ rs) = omega (arith, length-map (r ∷ rs) f) in
     rw (get_or-map f (r ∷ rs) i r d (omega arith), get_or-map f (r ∷ rs) j r d inside) (h i j r up inside)
 
--- two neighbours, of which one runs into the other, among the comments that references refer to
+-- two neighbours of which the later runs into the earlier, for the values of references
 pub runs_into_at : {R : Type 0} (f : R → DependencyComment) (rs : List R) (k i : ℕ) (r s : R) → i ≡ k + 1
     → i < length rs → RunsInto (f (get_or rs k r)) (f (get_or rs i s)) → (d : DependencyComment)
     → RunsInto (get_or (map f rs) k d) (get_or (map f rs) (k + 1) d)
@@ -90,7 +90,7 @@ runs_into_at f rs k i r s next below h d =
     let after : k + 1 < length rs = omega arith in
     rw (get_or-map f rs k r d (omega arith), get_or-map f rs (k + 1) s d after, ← next) h
 
--- ranges of which the test for equality fails differ
+-- ranges for which `==` is false are unequal
 pub differs : (a b : SourceRange) → true ≡ not (eqb b.start a.start && eqb b.end a.end) → a ≢ b
 differs a b test same =
     let starts = (Decides-eqb b.start a.start).1 (ap (λ r. r.start) (sym same)) in
@@ -99,7 +99,7 @@ differs a b test same =
 
 module _ (xs : List DependencyComment) (rising : IsNonDecreasingBy (λ c. c.range.start) xs)
     (passes : AllAdjacentBelow Passes xs (length xs)) (d : DependencyComment) where
-  -- a later one passes each earlier one
+  -- a later comment passes each earlier comment
   passes_far : (i m : ℕ) → i + m < length xs → Passes (get_or xs i d) (get_or xs (i + m) d)
   passes_far i zero below = rw add-zero (inl refl)
   passes_far i (suc m) below =
@@ -112,7 +112,7 @@ module _ (xs : List DependencyComment) (rising : IsNonDecreasingBy (λ c. c.rang
       next)
       (λ past. inr (omega (arith, past, up))) far)
 
-  -- so one that shares a byte with an earlier one is at its range
+  -- a comment that shares a byte with an earlier comment has its range
   shared_is_same : (i j : ℕ) → i ≤ j → j < length xs → SharesByte (get_or xs i d).range (get_or xs j d).range
       → (get_or xs i d).range ≡ (get_or xs j d).range
   shared_is_same i j up below shared =
@@ -120,8 +120,8 @@ module _ (xs : List DependencyComment) (rising : IsNonDecreasingBy (λ c. c.rang
       let far = subst (λ n. Passes (get_or xs i d) (get_or xs n d)) at (passes_far i (j - i) (omega arith)) in
       ⊎_elim (λ same. same) (λ past. absurd (omega (arith, past, shared.1, shared.2, shared.3, shared.4))) far
 
--- comments that are written in a text, in ascending order of their starts, where each passes the
--- one before it: those that share a byte are equal
+-- comments that share a byte are equal, if the text has the comments, their starts ascend, and each
+-- comment passes the one before it
 pub apart_from_neighbours : (text : List ℕ) (xs : List DependencyComment) → All (IsSpelled text) xs
     → IsNonDecreasingBy (λ c. c.range.start) xs → AllAdjacentBelow Passes xs (length xs)
     → (a b : DependencyComment) → Contains xs a → Contains xs b → SharesByte a.range b.range → a ≡ b
@@ -138,7 +138,7 @@ apart_from_neighbours text xs spelled rising passes a b at bt shared =
     (rw (here, there) (shared.0, shared.3, shared.4, shared.1, shared.2))) ∙ ap (λ c. c.range) there)
     (le_or_ge at.0 bt.0))
 
--- two neighbours, of which the later runs into the earlier, overlap
+-- two neighbours overlap if the later runs into the earlier
 pub overlap_of_neighbours : (text : List ℕ) (xs : List DependencyComment) → All (IsSpelled text) xs
     → IsNonDecreasingBy (λ c. c.range.start) xs → (a b : DependencyComment) → AreNeighbours xs a b
     → Contains xs a × Contains xs b × Overlap a b

@@ -1,4 +1,4 @@
--- The node at a path is one of the tree, and paths that grow from their end.
+-- The node at a path is a node of the tree, and paths that are read from their end.
 use Rattle.std.proofs.Common.{◌≡◌, ℕ, List, [], ◌∷◌, ◌++◌, Option, Some, None, reverse, refl, sym, subst}
 use Rattle.std.specs.List.{Contains, slice_get}
 use Rattle.std.specs.Option.{IsSomeAnd}
@@ -11,17 +11,17 @@ use Rattle.deno_graph_source.specs.declared.tree.node.Program.{Program}
 use Rattle.deno_graph_source.proofs.Lists.{Contains-flat_map}
 use Rattle.deno_graph_source.proofs.Nodes.{Contains-child_node, Contains-own_node}
 
--- the item with a number is one of the list
+-- the item with an index is an element of the list
 pub Contains-from_slice_get : {X : Type 0} (xs : List X) (k : ℕ) (x : X) → slice_get xs k ≡ Some x
     → Contains xs x
 Contains-from_slice_get xs k x at = (k, slice_get_within xs k x at, get_or_from_slice_get xs k x x at)
 
--- what there is where P holds of it
+-- an option whose value has a property has a value
 pub some_from : {X : Type 0} (P : X → Type 0) (o : Option X) → IsSomeAnd o P → (x : X) × (o ≡ Some x) × P x
 some_from P None h = absurd h
 some_from P (Some x) h = (x, refl, h)
 
--- where it is this, P holds of it
+-- an option has a value with a property, if the value is given
 pub some_and : {X : Type 0} (P : X → Type 0) (o : Option X) (x : X) → o ≡ Some x → P x → IsSomeAnd o P
 some_and P o x is h = rw is h
 
@@ -52,14 +52,14 @@ module _ (P : Node → Type 0) (number : ℕ) (back longer : List ℕ)
   turned : reverse longer ≡ number ∷ reverse back
   turned = rw (more, reverse-append) refl
 
-  -- where the way back from a node has come to a child, and goes on to the node above it
+  -- a path that leads from a child, with the child's index, leads from the node
   pub leads_from_child : (node child : Node) → slice_get (children_of node) number ≡ Some child
       → IsSomeAnd (node_below (Some child) (reverse back)) P
       → IsSomeAnd (node_below (Some node) (reverse longer)) P
   leads_from_child node child at h =
       rw turned (subst (λ o. IsSomeAnd (node_below o (reverse back)) P) (sym at) h)
 
-  -- or has come to an item, and goes on to the body
+  -- a path that leads from an item, with the item's index, leads from the body
   pub leads_from_item : (body : List Node) (item : Node) → slice_get body number ≡ Some item
       → IsSomeAnd (node_below (Some item) (reverse back)) P → LeadsTo P body (reverse longer)
   leads_from_item body item at h =

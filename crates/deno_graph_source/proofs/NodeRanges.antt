@@ -1,4 +1,4 @@
--- The ranges of a tree: which there are.
+-- The ranges of a tree.
 pub use Rattle.deno_graph_source.proofs.Lists.{Contains-map}
 use Rattle.std.proofs.Common.{◌≡◌, ◌∷◌, ◌++◌, ap, ◌∙◌, refl, arith}
 use Rattle.std.specs.List.{flat_map, Contains}
@@ -12,12 +12,12 @@ use Rattle.deno_graph_source.specs.Node.{
   nodes_in,
   node_ranges,
 }
-use Rattle.deno_graph_text.specs.declared.text.position.SourceRange.{SourceRange}
+use Rattle.deno_graph_base.specs.declared.text.position.SourceRange.{SourceRange}
 use Rattle.deno_graph_source.specs.declared.tree.node.Node.{Node}
 use Rattle.deno_graph_source.proofs.Lists.{Contains-cons, Contains-flat_map, flat_map-flat_map}
 use Rattle.deno_graph_source.proofs.Nodes.{nodes_in-is}
 
--- a node's ranges: its own, those of its kind, and those of each child
+-- the ranges of a node: its own, those of its kind, and those of each child
 pub node_ranges-is : (node : Node) → node_ranges node ≡ range_of node ∷ ranges_in_kind (kind_of node)
     ++ flat_map node_ranges (children_of node)
 unfolding node_ranges
@@ -29,14 +29,14 @@ node_ranges-is node =
 pub Contains-own_range : (node : Node) → Contains (node_ranges node) (range_of node)
 Contains-own_range node = rw node_ranges-is (0, omega arith, refl)
 
--- so are those that its kind holds
+-- the ranges of a node's kind are among its ranges
 pub Contains-kind_range : (node : Node) (range : SourceRange) → Contains (ranges_in_kind (kind_of node)) range
     → Contains (node_ranges node) range
 Contains-kind_range node range h =
     rw node_ranges-is (Contains-cons _ _ range
     (Contains-append_left _ (flat_map node_ranges (children_of node)) range h))
 
--- and those of its children, with all that is below them
+-- the ranges of a node's children, with those below them, are among its ranges
 pub Contains-child_range : (node child : Node) (range : SourceRange) → Contains (children_of node) child
     → Contains (node_ranges child) range → Contains (node_ranges node) range
 Contains-child_range node child range at h =

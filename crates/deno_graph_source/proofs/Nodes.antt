@@ -1,4 +1,4 @@
--- All nodes of a tree: which there are.
+-- The nodes of a tree.
 use Rattle.std.proofs.Common.{◌≡◌, List, [], ◌∷◌, map, refl, sym, ap, ◌∙◌, subst, arith}
 use Rattle.std.specs.List.{flat_map, Contains, All}
 use Rattle.std.proofs.lemmas.List.Elements.{Contains-append_right, All-cons}
@@ -14,7 +14,7 @@ use Rattle.deno_graph_source.specs.declared.tree.node.Node.TheFolds.{
 }
 use Rattle.deno_graph_source.proofs.Lists.{flat_map-map, Contains-flat_map}
 
--- a node with all its nodes, as the fold makes them
+-- the result of the fold: a node with all its nodes
 abbrev paired : Node → Node × List Node
 paired = fold-Node (Node × List Node) nodes_step
 
@@ -28,7 +28,7 @@ children_kept (c ∷ cs) =
     ap (λ node. node ∷ map (λ child. child.0) (map paired (map (λ d. d.0) cs))) c.1
     ∙ ap (λ nodes. c.0 ∷ nodes) (children_kept cs)
 
--- the fold keeps each node
+-- the fold leaves each node unchanged
 kept : (node : Node) → IsKept node
 kept = ind-Node IsKept (λ x y is.
     let with_children : List Node → Node-F Node =
@@ -38,7 +38,7 @@ kept = ind-Node IsKept (λ x y is.
     subst (λ z. IsKept (roll-Node z)) is (ap (λ p. p.0) same
     ∙ ap (λ cs. roll-Node (with_children cs)) (children_kept y.children)))
 
--- the nodes of a node: itself, and those of each child
+-- the nodes of a node: the node itself, and the nodes of each child
 pub nodes_in-is : (node : Node) → nodes_in node ≡ node ∷ flat_map nodes_in (children_of node)
 unfolding nodes_in children_of
 nodes_in-is node =
@@ -52,14 +52,14 @@ nodes_in-is node =
 pub Contains-own_node : (node : Node) → Contains (nodes_in node) node
 Contains-own_node node = rw nodes_in-is (0, omega arith, refl)
 
--- so are the nodes of its children
+-- the nodes of a child are nodes of the node
 pub Contains-child_node : (node child n : Node) → Contains (children_of node) child
     → Contains (nodes_in child) n → Contains (nodes_in node) n
 Contains-child_node node child n at h =
     rw nodes_in-is (Contains-append_right (node ∷ []) _ n
     (Contains-flat_map nodes_in (children_of node) child n at h))
 
--- what holds of a node and of the nodes of its children holds of all its nodes
+-- a property of a node and of the nodes of its children, for all its nodes
 pub All-nodes_in : (P : Node → Type 0) (node : Node) → P node → All P (flat_map nodes_in (children_of node))
     → All P (nodes_in node)
 All-nodes_in P node own below = rw nodes_in-is (All-cons P node _ own below)

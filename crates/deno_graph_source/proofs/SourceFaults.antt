@@ -1,4 +1,4 @@
--- Faults of a source, and validity, by their parts.
+-- The faults and the validity of a source, from those of its parts.
 use Rattle.std.proofs.Common.{◌≡◌, ℕ, List, Option, Some, map, length, reverse, refl, ⊎_elim, arith}
 use Rattle.std.specs.Borrow.{Bor}
 use Rattle.std.specs.List.{AllAdjacentBelow, Contains, All, slice_get}
@@ -20,7 +20,7 @@ use Rattle.std.proofs.lemmas.List.Sorted.{
   IsPermutation-sym,
   IsPermutation-trans,
 }
-use Rattle.deno_graph_source.specs.Check.{AreNeighbours, IsSound, Passes}
+use Rattle.deno_graph_source.specs.internal.Check.{AreNeighbours, IsSound, Passes}
 use Rattle.deno_graph_source.specs.Comments.{FiledComments, comments_of}
 use Rattle.deno_graph_source.specs.FaultPlace.{
   comment_at,
@@ -30,7 +30,7 @@ use Rattle.deno_graph_source.specs.FaultPlace.{
   PartHas,
   RangeHas,
 }
-use Rattle.deno_graph_source.specs.Found.{IsFoundIn, found_fault}
+use Rattle.deno_graph_source.specs.internal.Finding.{IsFindingIn, finding_fault}
 use Rattle.deno_graph_source.specs.Node.{
   args_of,
   held_ranges,
@@ -43,14 +43,14 @@ use Rattle.deno_graph_source.specs.Node.{
 }
 use Rattle.deno_graph_source.specs.NodePath.{NodePath, LeadsTo, node_at}
 use Rattle.deno_graph_source.specs.Source.{HasOverlap, IsSpelled, IsValid, HasFault, ranges_of}
-use Rattle.deno_graph_text.specs.SourceRange.{IsTextRange}
-use Rattle.deno_graph_text.specs.declared.text.position.SourceRange.{SourceRange}
-use Rattle.deno_graph_source.specs.declared.tree.check.found.Found.{Found}
-use Rattle.deno_graph_source.specs.declared.tree.check.found.Found.TheVariants.{
-  Program as FoundProgram,
-  Node as FoundInTree,
-  Comment as FoundText,
-  Overlap as FoundOverlap,
+use Rattle.deno_graph_base.specs.SourceRange.{IsTextRange}
+use Rattle.deno_graph_base.specs.declared.text.position.SourceRange.{SourceRange}
+use Rattle.deno_graph_source.specs.declared.tree.check.finding.Finding.{Finding}
+use Rattle.deno_graph_source.specs.declared.tree.check.finding.Finding.TheVariants.{
+  Program as ProgramFinding,
+  Node as TreeFinding,
+  Comment as TextFinding,
+  Overlap as OverlapFinding,
 }
 use Rattle.deno_graph_source.specs.declared.tree.comments.DependencyComment.{DependencyComment}
 use Rattle.deno_graph_source.specs.declared.tree.fault.SourceFault.{SourceFault}
@@ -103,7 +103,7 @@ Contains-only_one : (o : Option StrLit) (literal : StrLit) → o ≡ Some litera
 Contains-only_one o literal is = rw is (0, omega arith, refl)
 
 module _ (text : List ℕ) (program : Program) (comments : FiledComments) where
-  -- a fault of a range is one of the source
+  -- a fault of a range is a fault of the source
   range_stands : (fault : SourceFault) (range : SourceRange) → Contains (ranges_of program comments) range
       → RangeHas text fault range → HasFault text program comments fault
   range_stands RangeReversed range at h = Any-from _ _ range at h
@@ -114,7 +114,7 @@ module _ (text : List ℕ) (program : Program) (comments : FiledComments) where
   range_stands Shape range at h = absurd h
   range_stands OutOfMemory range at h = h
 
-  -- so is one of the program's range
+  -- a fault of the program's range is a fault of the source
   program_range_stands : (fault : SourceFault) → RangeHas text fault program.range
       → HasFault text program comments fault
   unfolding ranges_of program_ranges
@@ -141,7 +141,7 @@ module _ (text : List ℕ) (program : Program) (comments : FiledComments) where
   broken_is_not_shaped node KeyValueRule broken = λ shaped. broken.1 shaped.count
   broken_is_not_shaped node CallRule broken = λ shaped. broken.1 shaped.count
 
-  -- so is one of a part of a node
+  -- a fault of a part of a node is a fault of the source
   part_stands : (fault : SourceFault) (node : Node) (part : NodePart) → Contains (nodes_of program) node
       → PartHas text fault node part → HasFault text program comments fault
   part_stands fault node Range at h =
@@ -163,7 +163,7 @@ module _ (text : List ℕ) (program : Program) (comments : FiledComments) where
   part_stands fault node (Children rule) at h =
       rw h.0 (Any-from (λ n. ¬ IsShaped n) (nodes_of program) node at (broken_is_not_shaped node rule h.1))
 
-  -- so is one of a part of the node at a path
+  -- a fault of a part of the node at a path is a fault of the source
   node_stands : (fault : SourceFault) (part : NodePart) (path : NodePath)
       → LeadsTo (λ node. PartHas text fault node part) program.body path
       → HasFault text program comments fault
@@ -190,7 +190,7 @@ module _ (text : List ℕ) (program : Program) (comments : FiledComments) where
   one_comment_stands Shape comment at h = absurd h
   one_comment_stands OutOfMemory comment at h = h
 
-  -- so is one at a place
+  -- a fault at a place is a fault of the source
   pub place_stands : (fault : SourceFault) (place : FaultPlace) → HasFaultAt text program comments fault place
       → HasFault text program comments fault
   place_stands fault AtProgram h = program_range_stands fault h
@@ -211,14 +211,14 @@ module _ (text : List ℕ) (program : Program) (comments : FiledComments) where
       ) in
       rw h.0 overlap
 
-  -- so is each that is found
-  pub found_stands : (found : Found) → IsFoundIn text program comments found
-      → HasFault text program comments (found_fault found)
-  found_stands (FoundProgram fault) h = program_range_stands fault h
-  found_stands (FoundInTree found) h =
-      node_stands found.at.fault found.at.part (reverse found.way_back.items) h
-  found_stands (FoundText found) h = one_comment_stands found.fault found.comment.now h.0 h.1
-  found_stands (FoundOverlap one other) h = (one.now, other.now, h.0, h.1, h.2.0, h.2.1)
+  -- a fault that a check finds is a fault of the source
+  pub found_stands : (found : Finding) → IsFindingIn text program comments found
+      → HasFault text program comments (finding_fault found)
+  found_stands (ProgramFinding fault) h = program_range_stands fault h
+  found_stands (TreeFinding found) h =
+      node_stands found.at.fault found.at.part (reverse found.reversed_path.items) h
+  found_stands (TextFinding found) h = one_comment_stands found.fault found.comment.now h.0 h.1
+  found_stands (OverlapFinding one other) h = (one.now, other.now, h.0, h.1, h.2.0, h.2.1)
 
   -- a source with a fault is not valid
   pub fault_refutes : (fault : SourceFault) → HasFault text program comments fault
@@ -242,7 +242,7 @@ module _ (text : List ℕ) (program : Program) (comments : FiledComments) where
       h.4 (All-contains IsShaped (nodes_of program) h.1 valid.shapes (h.0, h.2, h.3))
   fault_refutes OutOfMemory h valid = h
 
-  -- a source without a fault, where the comments are sorted
+  -- a source without a fault, from its parts and its sorted comments
   valid_source : (all : List DependencyComment) → IsPermutation (comments_of comments) all
       → IsTextRange text program.range → All (IsSound text) (nodes_of program) → All (IsSpelled text) all
       → IsNonDecreasingBy (λ c. c.range.start) all → AllAdjacentBelow Passes all (length all)
@@ -268,14 +268,14 @@ module _ (text : List ℕ) (program : Program) (comments : FiledComments) where
       (same : IsPermutation (comments_of comments) (map now all)) (moved : IsPermutation all sorted)
       (spelled : All (IsSpelled text) (map now all))
       (rising : IsNonDecreasingBy (λ r. (now r).range.start) sorted) where
-    -- the comments, where they are sorted as references
+    -- the comments, sorted as references
     again : IsPermutation (comments_of comments) (map now sorted)
     again = IsPermutation-trans _ _ _ same (IsPermutation-map now all sorted moved)
 
     spelled_again : All (IsSpelled text) (map now sorted)
     spelled_again = All-permutation (IsSpelled text) _ _ (IsPermutation-map now all sorted moved) spelled
 
-    -- no fault, where each passes the one before it
+    -- the source is valid, if each comment passes the one before it
     pub valid_sorted : IsTextRange text program.range → All (IsSound text) (nodes_of program)
         → AllAdjacentBelow Passes (map now sorted) (length (map now sorted))
         → IsValid text program comments
@@ -283,9 +283,9 @@ module _ (text : List ℕ) (program : Program) (comments : FiledComments) where
         valid_source (map now sorted) again in_range sound spelled_again
         (IsNonDecreasingBy-map now (λ c. c.range.start) sorted rising) passes
 
-    -- and an overlap, where one runs into the one before it
+    -- comments overlap, if one runs into the one before it
     pub overlap_sorted : (a b : Bor DependencyComment) → AreNeighbours (map now sorted) a.now b.now
-        → IsFoundIn text program comments (FoundOverlap a b)
+        → IsFindingIn text program comments (OverlapFinding a b)
     overlap_sorted a b are =
         let back = IsPermutation-sym _ _ again in
         let overlap = overlap_of_neighbours text (map now sorted) spelled_again

@@ -1,13 +1,13 @@
--- How comments are written: a text has one comment at a range.
+-- The spelling of comments: a text has at most one comment at a range.
 use Rattle.std.proofs.Common.{◌≡◌, ℕ, List, ◌++◌, sym, ap, ◌∙◌, refl, codes, get_or, arith}
 use Rattle.std.proofs.lemmas.List.{append_cancel_left, append_cancel_right}
 use Rattle.deno_graph_source.specs.Source.{IsSpelled, spelling}
-use Rattle.deno_graph_text.specs.SourceRange.{slice_of}
+use Rattle.deno_graph_base.specs.SourceRange.{slice_of}
 use Rattle.deno_graph_source.specs.declared.tree.comments.CommentKind.{CommentKind}
 use Rattle.deno_graph_source.specs.declared.tree.comments.CommentKind.TheVariants.{Line, Block}
 use Rattle.deno_graph_source.specs.declared.tree.comments.DependencyComment.{DependencyComment}
 
--- two texts of one kind that are written alike are equal
+-- two texts with the same spelling are equal
 pub spelling-injective : (kind : CommentKind) (a b : List ℕ) → spelling kind a ≡ spelling kind b → a ≡ b
 spelling-injective Line a b h = append_cancel_left (codes "//") a b h
 spelling-injective Block a b h =
@@ -22,7 +22,7 @@ same_kind Line Block a b h =
 same_kind Block Line a b h =
     let second : ◌≡◌ {A = ℕ} 42 47 = ap (λ bytes. get_or bytes 1 0) h in absurd (omega arith)
 
--- comments that are written at one range are equal
+-- comments that the text has at one range are equal
 pub spelled_unique : (text : List ℕ) (a b : DependencyComment) → IsSpelled text a → IsSpelled text b
     → a.range ≡ b.range → a ≡ b
 spelled_unique text a b h k same =

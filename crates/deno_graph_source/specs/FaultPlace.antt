@@ -1,6 +1,6 @@
--- Where a fault of a source is.
+-- The places of the faults of a source.
 use Rattle.std.specs.Prelude.{◌≡◌, ◌≢◌, ℕ, List, length, Option, Some, None, IsSomeAnd, slice_get}
-use Rattle.deno_graph_source.specs.ByPosition.{item_at}
+use Rattle.deno_graph_source.specs.ByOffset.{item_at}
 use Rattle.deno_graph_source.specs.Comments.{FiledComments, Filing}
 use Rattle.deno_graph_source.specs.Node.{
   kind_of,
@@ -14,7 +14,7 @@ use Rattle.deno_graph_source.specs.Node.{
 }
 use Rattle.deno_graph_source.specs.NodePath.{LeadsTo}
 use Rattle.deno_graph_source.specs.Source.{IsReversed, IsOutside, IsOffBoundary, IsSpelled, SharesByte}
-use Rattle.deno_graph_text.specs.declared.text.position.SourceRange.{SourceRange}
+use Rattle.deno_graph_base.specs.declared.text.position.SourceRange.{SourceRange}
 use Rattle.deno_graph_source.specs.declared.tree.comments.DependencyComment.{DependencyComment}
 use Rattle.deno_graph_source.specs.declared.tree.fault.SourceFault.{SourceFault}
 use Rattle.deno_graph_source.specs.declared.tree.fault.SourceFault.TheVariants.{
@@ -25,9 +25,9 @@ use Rattle.deno_graph_source.specs.declared.tree.fault.SourceFault.TheVariants.{
   CommentsOverlap,
   Shape,
 }
-use Rattle.deno_graph_source.specs.declared.tree.fault_place.CommentPlace.{CommentPlace}
-use Rattle.deno_graph_source.specs.declared.tree.fault_place.CommentSide.{CommentSide}
-use Rattle.deno_graph_source.specs.declared.tree.fault_place.CommentSide.TheVariants.{Leading, Trailing}
+use Rattle.deno_graph_source.specs.declared.tree.comments.CommentPlace.{CommentPlace}
+use Rattle.deno_graph_source.specs.declared.tree.comments.CommentSide.{CommentSide}
+use Rattle.deno_graph_source.specs.declared.tree.comments.CommentSide.TheVariants.{Leading, Trailing}
 use Rattle.deno_graph_source.specs.declared.tree.fault_place.FaultPlace.{FaultPlace}
 use Rattle.deno_graph_source.specs.declared.tree.fault_place.FaultPlace.TheVariants.{
   Program as AtProgram,
@@ -62,12 +62,12 @@ RangeHas text RangeOutside range = IsOutside text range
 RangeHas text RangeOffBoundary range = IsOffBoundary text range
 RangeHas text _ range = ⊥
 
--- the comment has this fault: the text doesn't have it there, or its range is at fault
+-- the comment has this fault: the text at its range is another, or its range has the fault
 abbrev pub CommentHas : List ℕ → SourceFault → DependencyComment → Type 0
 CommentHas text CommentText comment = ¬ IsSpelled text comment
 CommentHas text fault comment = RangeHas text fault comment.range
 
--- the rule on the number of children that a kind has, if it has one
+-- the rule on the number of children of a kind, if there is one
 abbrev pub count_rule : Kind → Option ShapeRule
 count_rule (Template quasis) = Some TemplateRule
 count_rule (Binary op) = Some BinaryRule
@@ -75,15 +75,15 @@ count_rule (KeyValue key) = Some KeyValueRule
 count_rule (Call callee args) = Some CallRule
 count_rule _ = None
 
--- the node's children break this rule: it has a `with` clause, and the first is no object literal,
--- or the rule is the one on their number, and they are too few or too many
+-- the node's children break this rule: the node has a `with` clause and the first child is no object
+-- literal, or the rule is that on the number of children and the number is wrong
 abbrev pub BreaksRule : Node → ShapeRule → Type 0
 BreaksRule node WithClause = ¬ HasClause (has_with (kind_of node)) (children_of node)
 BreaksRule node rule =
     (count_rule (kind_of node) ≡ Some rule) × (¬ HasCountOfKind (kind_of node) (length (children_of node)))
 
--- this part of the node has this fault: its range, the range of its literal or of an argument, or
--- its children, where the fault is one of shape
+-- this part of the node has this fault: its range, the range of its literal or of an argument, or,
+-- for the fault `Shape`, its children
 abbrev pub PartHas : List ℕ → SourceFault → Node → NodePart → Type 0
 PartHas text fault node Range = RangeHas text fault (range_of node)
 PartHas text fault node Literal =
@@ -92,7 +92,7 @@ PartHas text fault node (Argument number) =
     IsSomeAnd (slice_get (args_of (kind_of node)) number) (λ arg. RangeHas text fault arg.range)
 PartHas text fault node (Children rule) = (fault ≡ Shape) × BreaksRule node rule
 
--- the comments filed on this side
+-- the comments that are filed on this side
 abbrev pub side_of : FiledComments → CommentSide → Filing
 side_of comments Leading = comments.leading
 side_of comments Trailing = comments.trailing
@@ -105,8 +105,8 @@ comment_at comments place = item_at (side_of comments place.side) place.position
 abbrev pub Overlap : DependencyComment → DependencyComment → Type 0
 Overlap a b = (a ≢ b) × SharesByte a.range b.range
 
--- the source has this fault at this place: the program's own range, the part of the node that the
--- path leads to, the comment that is filed there, or the two that are filed there
+-- the source has this fault at this place: the program's own range, a part of the node to which the
+-- path leads, the comment that is filed there, or the two comments that are filed there
 abbrev pub HasFaultAt : List ℕ → Program → FiledComments → SourceFault → FaultPlace → Type 0
 HasFaultAt text program comments fault AtProgram = RangeHas text fault program.range
 HasFaultAt text program comments fault (AtNode path part) =

@@ -11,7 +11,7 @@ use Rattle.deno_graph_source.specs.declared.tree.media_type.MediaType.TheVariant
   Tsx,
 }
 
--- the media types whose files hold types
+-- whether files of this media type hold types
 abbrev pub is_typed : MediaType → Bool
 is_typed TypeScript = true
 is_typed Mts = true

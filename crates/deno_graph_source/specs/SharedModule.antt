@@ -1,8 +1,8 @@
--- What the copies of one source share.
+-- The part of a parsed source that its copies share.
 use Rattle.deno_graph_source.specs.ParsedSource.{ParsedModule}
 use Rattle.deno_graph_source.specs.declared.tree.parsed_source.SharedModule.{SharedModule}
 
--- all of a module but its mark
+-- a module without the mark of scope analysis
 abbrev pub shared_of : ParsedModule → SharedModule
 shared_of source = record {
   specifier = source.specifier;

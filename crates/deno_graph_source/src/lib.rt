@@ -1,7 +1,7 @@
-//! What the analysis of one module reads: positions in a text, strings, syntax trees with their
-//! comments, and parsed sources.
+//! Parsed sources: a text with its syntax tree and its comments, which the analysis of a module
+//! reads.
 #![tactic(auto)]
 
+pub mod text;
 pub mod tree;
-
-pub use deno_graph_text::{text, values};
+pub mod values;

@@ -1,6 +1,6 @@
 //! Syntax trees, comments, and parsed sources.
 
-mod by_position;
+mod by_offset;
 mod check;
 pub mod comments;
 pub mod fault;
@@ -10,12 +10,10 @@ pub mod node;
 pub mod parsed_source;
 
 pub use check::{source_fault, source_fault_place};
-pub use comments::{CommentKind, Comments, DependencyComment};
-pub use deno_graph_text::values::ResolutionMode;
+pub use comments::{CommentKind, CommentPlace, CommentSide, Comments, DependencyComment};
+pub use deno_graph_base::values::ResolutionMode;
 pub use fault::SourceFault;
-pub use fault_place::{
-    CommentPlace, CommentSide, FaultPlace, NodePart, ShapeRule, SourceFaultPlace,
-};
+pub use fault_place::{FaultPlace, NodePart, ShapeRule, SourceFaultPlace};
 pub use media_type::MediaType;
 pub use node::{Arg, BinaryOp, Callee, ImportPhase, Kind, Node, Program, PropKey, StrLit};
 pub use parsed_source::ParsedSource;

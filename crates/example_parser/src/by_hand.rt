@@ -1,5 +1,5 @@
-//! The first way: a module whose tree is made by hand. The tree becomes a source, with its text, and
-//! that is analyzed. There is no parser, and nothing to implement.
+//! The first way: a tree made in code becomes a source, which is analyzed. There is no parser, and no
+//! trait to implement.
 
 use crate::tree::import_program;
 use anyhow::Result;
@@ -9,8 +9,9 @@ use std::alloc::Global;
 use std::rc::RcStr;
 use url::Url;
 
-/// What `import "./b.ts";` depends on, as JSON. `ParsedSource::new` looks whether tree and text fit.
-pub fn answer(alloc: Global) -> Result<String> {
+/// Returns the info of `import "./b.ts";` as JSON. `ParsedSource::new` checks the tree against the
+/// text.
+pub fn info_json(alloc: Global) -> Result<String> {
     let source = ParsedSource::new(
         alloc,
         Url::parse(alloc, "file:///a.ts")?,

@@ -1,5 +1,4 @@
-//! The second way: a parser of one's own. What it has parsed is kept in a store of one's own, and an
-//! analyzer of one's own asks both.
+//! The second way: an own parser, an own store for the parsed sources, and an own analyzer over both.
 
 mod analyzer;
 mod parser;
@@ -17,32 +16,32 @@ use std::alloc::{AllocError, Global};
 use std::rc::RcStr;
 use url::Url;
 
-/// Three texts of one module: an import, the same, which is in the store by then, and a text that the
-/// parser refuses.
+/// Three texts of one module: an import, the same import, which is then in the store, and a text with a
+/// syntax error.
 const TEXTS: [&str; 3] = ["import \"./b.ts\";", "import \"./b.ts\";", "import ./b.ts;"];
 
-/// Prints what is answered on each text.
-pub fn print_answers(rt: &(impl AllocGlobal + Print)) -> Result<()> {
+/// Prints the result for each text.
+pub fn print_results(rt: &(impl AllocGlobal + Print)) -> Result<()> {
     let alloc = rt.alloc();
     let store = CountingStore::new(DefaultParsedSourceStore::new(alloc));
     let mut analyzer = WithoutJson::new(CapturingModuleAnalyzer::new(ImportParser, store));
     for text in &TEXTS {
-        let answer = answer(alloc, &mut analyzer, text)?;
-        println!(rt; "{answer}")?;
+        let result = info_json(alloc, &mut analyzer, text)?;
+        println!(rt; "{result}")?;
     }
     Ok(())
 }
 
-/// What the module depends on, as JSON, or the parser's message where the text is no module.
-fn answer<A: ModuleAnalyzer>(alloc: Global, analyzer: &mut A, text: &str) -> Result<String> {
+/// Returns the info of a module as JSON, or the parser's message if the text is no module.
+fn info_json<A: ModuleAnalyzer>(alloc: Global, analyzer: &mut A, text: &str) -> Result<String> {
     let specifier = Url::parse(alloc, "file:///a.ts")?;
     let source = RcStr::from_str(alloc, text)?;
-    let answer = match analyzer.analyze_sync(alloc, &specifier, source, MediaType::TypeScript) {
+    let printed = match analyzer.analyze_sync(alloc, &specifier, source, MediaType::TypeScript) {
         Ok(info) => info.to_json(alloc),
         Err(AnalyzeError::Parse(diagnostic)) => {
             String::from_str(alloc, diagnostic.message.as_str())
         }
         Err(AnalyzeError::OutOfMemory) => Err(AllocError),
     };
-    Ok(answer?)
+    Ok(printed?)
 }

@@ -1,5 +1,5 @@
-//! Two ways from a module to what it depends on: `by_hand`, where its tree is made in code, and
-//! `by_parser`, where a parser makes it of the text. docs/PARSERS.md explains both.
+//! Two ways from a module to its `ModuleInfo`: `by_hand`, with a tree that is made in code, and
+//! `by_parser`, with a parser that makes the tree from the text. docs/PARSERS.md explains both.
 #![tactic(auto)]
 
 mod by_hand;
@@ -9,7 +9,7 @@ mod tree;
 use anyhow::Result;
 
 fn main(rt: HostRuntime) -> Result<()> {
-    let answer = by_hand::answer(rt.alloc())?;
-    println!(rt; "{answer}")?;
-    by_parser::print_answers(&rt)
+    let info = by_hand::info_json(rt.alloc())?;
+    println!(rt; "{info}")?;
+    by_parser::print_results(&rt)
 }

@@ -1,11 +1,12 @@
-//! A tree made in code, node by node: that of a module with one import. Both ways begin with it.
+//! The tree of a module with one import, made in code node by node. Both ways use it.
 
 use deno_graph_source::text::{JsString, SourceRange};
 use deno_graph_source::tree::{ImportPhase, Kind, Node, Program, StrLit};
 use deno_graph_source::values::Items;
 use std::alloc::{AllocError, Global};
 
-/// The program of `import "SPECIFIER";`. Ranges are in bytes, and that of a string has its quotes.
+/// Returns the program of `import "SPECIFIER";`. Ranges are in bytes. The range of the string
+/// includes its quotes.
 pub fn import_program(alloc: Global, specifier: &str) -> Result<Program, AllocError> {
     let string = SourceRange::new(7, specifier.len().saturating_add(9));
     let range = SourceRange::new(0, string.end.saturating_add(1));

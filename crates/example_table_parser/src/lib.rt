@@ -1,14 +1,14 @@
-//! A parser of one's own, in the fewest lines: it answers the trees that it was made with. A real
-//! one has a grammar in the place of the table.
+//! A parser with a promise, in the fewest lines: it returns the sources of a table. A real parser has a
+//! grammar in place of the table.
 #![tactic(auto)]
 
 ghost use Rattle.std.specs.Prelude.{◌≡◌, IfOk, IfErr};
 ghost use Rattle.std.specs.Option.{option_copied};
-ghost use Rattle.deno_graph_parser.specs.Parsing.{asked, input_of, outcome_of};
+ghost use Rattle.deno_graph_analyzer.specs.Parsing.{input_of_options, input_of, outcome_of};
 ghost use Rattle.example_table_parser.specs.Table.{source_with, unknown_source};
-ghost use Rattle.example_table_parser.specs.TableParser.{known_of, call_count};
+ghost use Rattle.example_table_parser.specs.TableParser.{sources_in, call_count};
 
-use deno_graph_parser::{EsParser, ParseDiagnostic, ParseError, ParseOptions};
+use deno_graph_analyzer::parser::{EsParser, ParseDiagnostic, ParseError, ParseOptions};
 use deno_graph_source::text::Position;
 use deno_graph_source::tree::ParsedSource;
 use deno_graph_source::values::{Text, TryClone};
@@ -16,7 +16,7 @@ use std::alloc::{AllocError, Global};
 use std::cell::Cell;
 use std::rc::Rc;
 
-/// A parser that knows some sources, each by its specifier, text and media type, and no others.
+/// A parser of a table of sources. Any other input has a diagnostic.
 #[derive(Drop)]
 pub struct TableParser {
     sources: Vec<ParsedSource>,
@@ -25,9 +25,9 @@ pub struct TableParser {
 }
 
 impl TableParser {
-    /// A parser that knows `sources`, and counts its calls in `calls` too.
+    /// Returns a parser of `sources`, which also counts its calls in `calls`.
     pub fn new(sources: Vec<ParsedSource>, calls: Rc<Cell<u64>>) -> TableParser
-        ensures sources { known_of result ≡ sources.items }
+        ensures sources { sources_in result ≡ sources.items }
         ensures count { call_count result ≡ 0 }
     {
         TableParser {
@@ -41,7 +41,7 @@ impl TableParser {
 impl EsParser for TableParser {
     ghost use Rattle.example_table_parser.specs.Table.{outcome_in};
 
-    ghost parses = { λ it. outcome_in (known_of it) };
+    ghost parses = { λ it. outcome_in (sources_in it) };
 
     ghost count = { call_count };
 
@@ -55,16 +55,16 @@ impl EsParser for TableParser {
         self.calls.set(self.calls.get().saturating_add(1));
         self.count = self.count.saturating_add(1);
         match find(&self.sources, &options) {
-            Some(known) => parsed(alloc, known, options),
+            Some(source) => parsed(alloc, source, options),
             None => Err(ParseError::Diagnostic(diagnostic(alloc)?)),
         }
     }
 }
 
-/// The first source with the specifier, the text and the media type of the options.
-#[tactic(auto, unfolding(deno_graph_parser::specs::Parsing::specifier_text))]
+/// Returns the first source with the specifier, the text and the media type of the options.
+#[tactic(auto, unfolding(deno_graph_analyzer::specs::Parsing::specifier_text))]
 fn find<'a>(sources: &'a [ParsedSource], options: &ParseOptions<'_>) -> Option<&'a ParsedSource>
-    ensures { option_copied result ≡ source_with (asked options.now) sources.now }
+    ensures { option_copied result ≡ source_with (input_of_options options.now) sources.now }
 {
     sources.iter().find(|source| {
         source.specifier() == options.specifier
@@ -73,15 +73,15 @@ fn find<'a>(sources: &'a [ParsedSource], options: &ParseOptions<'_>) -> Option<&
     })
 }
 
-/// The known tree as the answer to the options. It fits the text, so the only error is that memory
-/// was refused.
+/// Returns the tree and comments of a source of the table as the source of the options. They fit
+/// the text, so the only error is out of memory.
 fn parsed(
     alloc: Global,
-    known: &ParsedSource,
+    source: &ParsedSource,
     options: ParseOptions<'_>,
 ) -> Result<ParsedSource, ParseError>
-    ensures answer { IfOk result (λ source. (input_of source ≡ asked options.entry)
-        × (outcome_of source ≡ outcome_of known.now)) }
+    ensures answer { IfOk result (λ parsed. (input_of parsed ≡ input_of_options options.entry)
+        × (outcome_of parsed ≡ outcome_of source.now)) }
     ensures error { IfErr result (λ error. error ≡ ParseError.OutOfMemory) }
 {
     let made = ParsedSource::new(
@@ -89,8 +89,8 @@ fn parsed(
         options.specifier.clone()?,
         options.source,
         options.media_type,
-        known.program().try_clone(alloc)?,
-        known.comments().try_clone(alloc)?,
+        source.program().try_clone(alloc)?,
+        source.comments().try_clone(alloc)?,
         options.scope_analysis,
     );
     match made {

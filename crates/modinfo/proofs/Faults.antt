@@ -1,4 +1,4 @@
--- Which faults a document has, by the step that found one.
+-- The faults of a document, by the step that failed.
 use Rattle.std.proofs.Common.{◌≡◌, ◌≢◌, ℕ, List, Some, None, inl, inr, refl, sym, ◌∙◌, MatchOption, false}
 use Rattle.serde_json.specs.Data.{Data, Members}
 use Rattle.serde_json.specs.Read.{read as read_text}
@@ -13,24 +13,18 @@ use Rattle.modinfo.specs.Answer.{
   IsNoConversion,
   IsNoJson,
   IsNoReach,
-  IsReadFailure,
   IsRunFault,
 }
+use Rattle.modinfo.specs.internal.Answer.{IsReadFailure}
 use Rattle.modinfo.specs.Run.{IsFailure}
 use Rattle.modinfo.specs.Fault.{fault_of_conversion, fault_of_info}
-use Rattle.modinfo.specs.Reach.{
-  IsFirstFault,
-  IsNoInfos,
-  IsNoQuestion,
-  IsQuestionFault,
-  Question,
-  reads_question,
-}
+use Rattle.modinfo.specs.Reach.{IsFirstFault, IsNoQuestion, IsQuestionFault, Question, reads_question}
+use Rattle.modinfo.specs.internal.Reach.{IsNoInfos}
 use Rattle.modinfo.specs.declared.fault.Fault.{Fault}
 use Rattle.modinfo.specs.declared.fault.Fault.TheVariants.{
   Input,
   Json,
-  NotInNotation,
+  Tree,
   Specifier,
   Source,
   Convert,
@@ -41,28 +35,28 @@ use Rattle.modinfo.specs.declared.fault.Fault.TheVariants.{
 use Rattle.modinfo.specs.declared.subcommand.Subcommand.{Subcommand}
 use Rattle.modinfo.specs.declared.subcommand.Subcommand.TheVariants.{Analyze, Convert, Reach}
 
--- neither is the fault that of failed memory, nor the other one
+-- A fault that is neither `OutOfMemory` nor `Json` can't be.
 neither : {A : Type 0} (M : Type 0) → (M → ⊥) → ((M → ⊥) → ⊥) → A
 neither M not_memory not_json = absurd (not_json not_memory)
 
--- a text that isn't read as a value, unless memory failed
+-- An error in parsing JSON.
 pub no_json : (text : List ℕ) (fault : Fault) (M : Type 0) → (M → fault ≡ OutOfMemory)
     → ((M → ⊥) → fault ≡ Json) → ((M → ⊥) → read_text text ≡ None) → IsNoJson text fault
 no_json text Json M memory other none = none (λ m. cc (memory m))
 no_json text OutOfMemory M memory other none = tt
 no_json text Input M memory other none = neither M (λ m. cc (memory m)) (λ n. cc (other n))
-no_json text NotInNotation M memory other none = neither M (λ m. cc (memory m)) (λ n. cc (other n))
+no_json text Tree M memory other none = neither M (λ m. cc (memory m)) (λ n. cc (other n))
 no_json text Specifier M memory other none = neither M (λ m. cc (memory m)) (λ n. cc (other n))
 no_json text (Source told) M memory other none = neither M (λ m. cc (memory m)) (λ n. cc (other n))
 no_json text (Convert told) M memory other none = neither M (λ m. cc (memory m)) (λ n. cc (other n))
 no_json text (Info told) M memory other none = neither M (λ m. cc (memory m)) (λ n. cc (other n))
 no_json text Output M memory other none = neither M (λ m. cc (memory m)) (λ n. cc (other n))
 
--- what is no JSON isn't converted
+-- A text that isn't JSON isn't converted.
 pub no_conversion : (text : List ℕ) (fault : Fault) → IsNoJson text fault → IsNoConversion text fault
 no_conversion text Input none = none
 no_conversion text Json none = none
-no_conversion text NotInNotation none = none
+no_conversion text Tree none = none
 no_conversion text Specifier none = none
 no_conversion text (Source told) none = none
 no_conversion text (Convert told) none = absurd none
@@ -70,23 +64,23 @@ no_conversion text (Info told) none = none
 no_conversion text Output none = none
 no_conversion text OutOfMemory none = none
 
-pub refused_conversion : (text : List ℕ) (before : Data) (told : ConvertFault)
+pub failed_conversion : (text : List ℕ) (before : Data) (told : ConvertFault)
     → read_text text ≡ Some before → IsConvertFault before told
     → IsNoConversion text (fault_of_conversion told)
-refused_conversion text before convert.ColumnOverflow read refused = (
+failed_conversion text before convert.ColumnOverflow read refused = (
   (λ same. cc (same)),
   before,
   read,
   refused,
 )
-refused_conversion text before convert.Float read refused = ((λ same. cc (same)), before, read, refused)
-refused_conversion text before convert.OutOfMemory read refused = tt
+failed_conversion text before convert.Float read refused = ((λ same. cc (same)), before, read, refused)
+failed_conversion text before convert.OutOfMemory read refused = tt
 
--- what is no JSON is no document of `reach`
+-- A text that isn't JSON isn't a document of `reach`.
 pub no_reach : (text : List ℕ) (fault : Fault) → IsNoJson text fault → IsNoReach text fault
 no_reach text Input none = none
 no_reach text Json none = none
-no_reach text NotInNotation none = none
+no_reach text Tree none = none
 no_reach text Specifier none = none
 no_reach text (Source told) none = none
 no_reach text (Convert told) none = none
@@ -100,13 +94,13 @@ asks_nothing text value (Info told) read none = (value, read, none)
 asks_nothing text value OutOfMemory read none = tt
 asks_nothing text value Input read none = absurd none
 asks_nothing text value Json read none = absurd none
-asks_nothing text value NotInNotation read none = absurd none
+asks_nothing text value Tree read none = absurd none
 asks_nothing text value Specifier read none = absurd none
 asks_nothing text value (Source told) read none = absurd none
 asks_nothing text value (Convert told) read none = absurd none
 asks_nothing text value Output read none = absurd none
 
--- a value that has no root or no modules
+-- A value without a root or without modules.
 pub no_question : (value : Data) → reads_question value ≡ None → IsNoQuestion value (Info info.Shape)
 no_question value none =
     let lacks : IsQuestionFault value info.Shape = rw none refl in
@@ -117,7 +111,7 @@ no_infos ms info.Shape first = ((λ same. cc (same)), first)
 no_infos ms info.Float first = ((λ same. cc (same)), first)
 no_infos ms info.OutOfMemory first = tt
 
--- a value whose modules aren't read
+-- A value whose modules can't be read.
 pub no_modules : (value : Data) (question : Question) (fault : Fault) → reads_question value ≡ Some question
     → IsNoInfos question.modules fault → IsNoQuestion value fault
 no_modules value question (Info told) asks none =
@@ -126,31 +120,31 @@ no_modules value question (Info told) asks none =
 no_modules value question OutOfMemory asks none = tt
 no_modules value question Input asks none = absurd none
 no_modules value question Json asks none = absurd none
-no_modules value question NotInNotation asks none = absurd none
+no_modules value question Tree asks none = absurd none
 no_modules value question Specifier asks none = absurd none
 no_modules value question (Source told) asks none = absurd none
 no_modules value question (Convert told) asks none = absurd none
 no_modules value question Output asks none = absurd none
 
--- the fault is one of the value, where no allocation failed
+-- A fault other than a failed allocation is one of the value.
 pub question_fault : (value : Data) (fault : Fault) → fault ≢ OutOfMemory → IsNoQuestion value fault
     → (told : InfoFault) × (told ≢ info.OutOfMemory) × IsQuestionFault value told
 question_fault value (Info told) apart none = (told, none.0, none.1)
 question_fault value OutOfMemory apart none = absurd (apart refl)
 question_fault value Input apart none = absurd none
 question_fault value Json apart none = absurd none
-question_fault value NotInNotation apart none = absurd none
+question_fault value Tree apart none = absurd none
 question_fault value Specifier apart none = absurd none
 question_fault value (Source told) apart none = absurd none
 question_fault value (Convert told) apart none = absurd none
 question_fault value Output apart none = absurd none
 
--- a fault of the document is one of the run
+-- A fault of the document is one of the run.
 pub input_fault : (subcommand : Subcommand) (text : List ℕ) (fault : Fault)
     → IsDocumentFault subcommand text fault → IsInputFault subcommand text fault
 input_fault subcommand text Input has = tt
 input_fault subcommand text Json has = has
-input_fault subcommand text NotInNotation has = has
+input_fault subcommand text Tree has = has
 input_fault subcommand text Specifier has = has
 input_fault subcommand text (Source told) has = has
 input_fault subcommand text (Convert told) has = has
@@ -162,7 +156,7 @@ pub run_fault : (subcommand : Subcommand) (text : List ℕ) (fault : Fault)
     → IsDocumentFault subcommand text fault → IsRunFault subcommand text fault
 run_fault subcommand text Input has = tt
 run_fault subcommand text Json has = has
-run_fault subcommand text NotInNotation has = has
+run_fault subcommand text Tree has = has
 run_fault subcommand text Specifier has = has
 run_fault subcommand text (Source told) has = has
 run_fault subcommand text (Convert told) has = has
@@ -170,19 +164,19 @@ run_fault subcommand text (Info told) has = has
 run_fault subcommand text Output has = tt
 run_fault subcommand text OutOfMemory has = has
 
--- so is a failed allocation, of each subcommand
+-- A failed allocation is a fault of a document, for each subcommand.
 no_memory : (subcommand : Subcommand) (text : List ℕ) → IsDocumentFault subcommand text OutOfMemory
 no_memory Analyze text = tt
 no_memory Convert text = tt
 no_memory Reach text = tt
 
--- and a failed read
+-- A failed read is a fault of the run.
 pub failed_input : (subcommand : Subcommand) (text : List ℕ) (fault : Fault) → IsReadFailure fault
     → IsInputFault subcommand text fault
 failed_input subcommand text Input failed = tt
 failed_input subcommand text OutOfMemory failed = no_memory subcommand text
 failed_input subcommand text Json failed = absurd failed
-failed_input subcommand text NotInNotation failed = absurd failed
+failed_input subcommand text Tree failed = absurd failed
 failed_input subcommand text Specifier failed = absurd failed
 failed_input subcommand text (Source told) failed = absurd failed
 failed_input subcommand text (Convert told) failed = absurd failed
@@ -194,7 +188,7 @@ pub failed_run : (subcommand : Subcommand) (text : List ℕ) (fault : Fault) →
 failed_run subcommand text Input failed = tt
 failed_run subcommand text OutOfMemory failed = no_memory subcommand text
 failed_run subcommand text Json failed = absurd failed
-failed_run subcommand text NotInNotation failed = absurd failed
+failed_run subcommand text Tree failed = absurd failed
 failed_run subcommand text Specifier failed = absurd failed
 failed_run subcommand text (Source told) failed = absurd failed
 failed_run subcommand text (Convert told) failed = absurd failed
@@ -205,7 +199,7 @@ pub read_failure : (fault : Fault) → IsReadFailure fault → IsFailure fault
 read_failure Input failed = tt
 read_failure OutOfMemory failed = tt
 read_failure Json failed = absurd failed
-read_failure NotInNotation failed = absurd failed
+read_failure Tree failed = absurd failed
 read_failure Specifier failed = absurd failed
 read_failure (Source told) failed = absurd failed
 read_failure (Convert told) failed = absurd failed

@@ -1,4 +1,4 @@
--- Lemmas on the first line of a text, which ends at the first line feed.
+-- The first line of a text, which ends at the first line feed.
 use Rattle.std.proofs.Common.{
   ◌≡◌,
   ◌≢◌,
@@ -50,9 +50,10 @@ use Rattle.std.proofs.lemmas.List.{
 }
 use Rattle.std.proofs.lemmas.List.Elements.{All-from_get_or, All-head, All-tail}
 use Rattle.memchr.specs.Find.{IsFirstByte, Nowhere, Passes, is_byte}
-use Rattle.modinfo.specs.Lines.{TakesLines, before_first, lines_of}
+use Rattle.modinfo.specs.Lines.{before_first, lines_of}
+use Rattle.modinfo.specs.internal.Lines.{TakesLines}
 
--- a line that ends in a line feed
+-- A line with a line feed.
 ended : (line rest : List ℕ) → All (λ x. x ≢ 10) line → lines_of (line ++ 10 ∷ rest) ≡ line ∷ lines_of rest
 ended [] rest no_feed = refl
 ended (x ∷ line) rest no_feed =
@@ -61,7 +62,7 @@ ended (x ∷ line) rest no_feed =
     (ne_eqb x 10 (All-head (λ y. y ≢ 10) x line no_feed))
     ∙ ap (before_first x) (ended line rest (All-tail (λ y. y ≢ 10) x line no_feed))
 
--- a last line without one
+-- A last line without a line feed.
 unended : (x : ℕ) (line : List ℕ) → All (λ y. y ≢ 10) (x ∷ line) → lines_of (x ∷ line) ≡ (x ∷ line) ∷ []
 unended x [] no_feed =
     ap (λ b. cond b ([] ∷ []) ((x ∷ []) ∷ [])) (ne_eqb x 10 (All-head (λ y. y ≢ 10) x [] no_feed))
@@ -71,7 +72,7 @@ unended x (y ∷ line) no_feed =
     (ne_eqb x 10 (All-head (λ z. z ≢ 10) x (y ∷ line) no_feed))
     ∙ ap (before_first x) (unended y line (All-tail (λ z. z ≢ 10) x (y ∷ line) no_feed))
 
--- no byte before the first line feed is one
+-- No byte before the first line feed is a line feed.
 no_feed_before : (text : List ℕ) (n : ℕ) → n ≤ length text → Nowhere (Passes (is_byte 10) text) 0 n
     → All (λ x. x ≢ 10) (take n text)
 no_feed_before text n within nowhere =
@@ -79,7 +80,7 @@ no_feed_before text n within nowhere =
     let below : i < n = omega (arith, lt, length-take-le n text within) in
     nowhere i (omega arith) below (eq-eqb (get_or text i 0) 10 (sym (get_or-take n text i 0 below) ∙ is)))
 
--- The first line of a text that begins with bytes in which there is a line feed.
+-- The first line of a text whose beginning has a line feed.
 pub first_line : (bytes after : List ℕ) (n : ℕ) → IsFirstByte (is_byte 10) bytes (Some n)
     → lines_of (bytes ++ after) ≡ take n bytes ∷ lines_of (drop (n + 1) (bytes ++ after))
 first_line bytes after n first =
@@ -97,7 +98,7 @@ first_line bytes after n first =
     ∙ ended (take n bytes) rest (no_feed_before bytes n (omega (arith, within)) first.0.before)
     ∙ ap (λ l. take n bytes ∷ lines_of l) (sym (drop-append-le (n + 1) bytes after (omega (arith, within))))
 
--- The first line of a text in which there is a line feed.
+-- The first line of a text with a line feed.
 pub first_of_many : (text : List ℕ) (n : ℕ) → IsFirstByte (is_byte 10) text (Some n)
     → lines_of text ≡ take n text ∷ lines_of (take (length text - (n + 1)) (drop (n + 1) text))
 first_of_many text n first =
@@ -105,7 +106,7 @@ first_of_many text n first =
     (first_line text [] n first)
     ∙ ap (λ l. take n text ∷ lines_of l) (sym (take_rest text (n + 1)))
 
--- The one line of a text in which there is none.
+-- The only line of a text without a line feed.
 pub only_line : (text : List ℕ) → 0 < length text → IsFirstByte (is_byte 10) text None
     → lines_of text ≡ text ∷ []
 only_line [] some none = absurd (omega (arith, some))
@@ -114,7 +115,7 @@ only_line (x ∷ text) some none =
     unended x text (subst (All (λ y. y ≢ 10)) all
     (no_feed_before (x ∷ text) (length (x ∷ text)) (omega arith) none))
 
--- A buffer is at the beginning of what is left, where that is known.
+-- The buffer is a beginning of the remaining bytes, if those are known.
 in_front : (is_empty : Bool) (buffer : List ℕ) (inner : Option (List ℕ))
     → IfSome (cond is_empty None (prepend_known buffer inner))
     (λ left. (after : List ℕ) × (left ≡ buffer ++ after))
@@ -131,8 +132,7 @@ takes (Some left) new buffer n first (after, is) drops =
     (subst (λ l. lines_of l ≡ take n buffer ∷ lines_of (drop (n + 1) l)) (sym is)
     (first_line buffer after n first))
 
--- What is consumed through the first line feed of the buffer, which was seen, is the first line of what is
--- left.
+-- The bytes that are consumed through the first line feed of the buffer are the first remaining line.
 pub TakesLines-buffered : (is_empty : Bool) (seen buffer : List ℕ) (inner new : Option (List ℕ)) (n : ℕ)
     → seen ≡ buffer → IsFirstByte (is_byte 10) seen (Some n)
     → DropsConsumable (cond is_empty None (prepend_known buffer inner)) new (Some (length buffer)) (n + 1)

@@ -1,4 +1,4 @@
--- Lemmas on the lines of a text, and on what is printed for them.
+-- Lines that are taken from a text, and the printed lines for them.
 use Rattle.std.proofs.Common.{
   ◌≡◌,
   ◌++◌,
@@ -65,7 +65,6 @@ use Rattle.modinfo.specs.Lines.{
   IsPrinted,
   PrintsLine,
   PrintsLines,
-  TakesLines,
   before_first,
   lines_of,
   fault_line,
@@ -73,7 +72,8 @@ use Rattle.modinfo.specs.Lines.{
   passes_without,
   LeavesFirstLines,
 }
-use Rattle.modinfo.specs.Lines.PrintsLine.{answered, faulted, refused, reported}
+use Rattle.modinfo.specs.internal.Lines.{TakesLines}
+use Rattle.modinfo.specs.Lines.PrintsLine.{answered, faulted, out_of_memory, reported}
 use Rattle.modinfo.specs.Lines.PrintsLines.{more, none}
 use Rattle.modinfo.specs.Run.{PrintsReport, AppendsFront, IsFailure}
 use Rattle.modinfo.specs.declared.fault.Fault.{Fault}
@@ -84,7 +84,7 @@ use Rattle.modinfo.specs.declared.task.Printed.{Printed}
 use Rattle.modinfo.specs.declared.task.Task.{Task}
 use Rattle.modinfo.specs.declared.task.Task.TheVariants.{Answer, Check}
 
--- the last byte of a longer list
+-- The last byte of a longer list.
 ends_with_byte-cons : (byte x : ℕ) (xs : List ℕ) → 0 < length xs
     → ends_with_byte byte (x ∷ xs) ≡ ends_with_byte byte xs
 ends_with_byte-cons byte x [] some = absurd (omega (arith, some))
@@ -134,7 +134,7 @@ lines_of-one : (x : ℕ) (b : Bool) → eqb x 10 ≡ b → cond b ([] ∷ []) ((
 lines_of-one x true e = ap (λ l. l ∷ []) (sym (strip_last-one x true e))
 lines_of-one x false e = ap (λ l. l ∷ []) (sym (strip_last-one x false e))
 
--- the first line of a text that isn't empty is what is read through the first line feed, without it
+-- The first line of a nonempty text is the bytes up to the first line feed, without the line feed.
 pub lines_of-first : (x : ℕ) (xs : List ℕ)
     → lines_of (x ∷ xs) ≡ strip_last 10 (take_through 10 (x ∷ xs)) ∷ lines_of (drop_through 10 (x ∷ xs))
 lines_of-first x [] = lines_of-one x (eqb x 10) refl
@@ -144,7 +144,7 @@ pub TakesLines-nil : (a : Option (List ℕ)) → TakesLines a a []
 TakesLines-nil None = tt
 TakesLines-nil (Some x) = refl
 
--- a line after others
+-- A line after others.
 pub TakesLines-more : (a b c : Option (List ℕ)) (lines : List (List ℕ)) (line : List ℕ) → TakesLines a b lines
     → TakesLines b c (line ∷ []) → TakesLines a c (lines ++ line ∷ [])
 TakesLines-more None b c lines line p q = tt
@@ -153,7 +153,7 @@ TakesLines-more (Some x) (Some y) None lines line p q = absurd q
 TakesLines-more (Some x) (Some y) (Some z) lines line p q =
     p ∙ ap (λ l. lines ++ l) q ∙ sym (append_assoc lines (line ∷ []) (lines_of z))
 
--- at the end these are all lines
+-- At the end of the input the lines so far are all lines.
 pub TakesLines-all : (a b : Option (List ℕ)) (lines : List (List ℕ)) → TakesLines a b lines → IsAtEnd b
     → IfSome a (λ left. lines ≡ lines_of left)
 TakesLines-all None b lines p end = tt
@@ -161,14 +161,14 @@ TakesLines-all (Some x) None lines p end = absurd p
 TakesLines-all (Some x) (Some y) lines p end =
     sym (p ∙ ap (λ l. lines ++ lines_of l) end ∙ append-nil lines)
 
--- and before it the first
+-- Before the end they are the first lines.
 pub TakesLines-first : (a b : Option (List ℕ)) (lines : List (List ℕ)) → TakesLines a b lines
     → IfSome a (λ left. (rest : List (List ℕ)) × (lines_of left ≡ lines ++ rest))
 TakesLines-first None b lines p = tt
 TakesLines-first (Some x) None lines p = absurd p
 TakesLines-first (Some x) (Some y) lines p = (lines_of y, p)
 
--- what is dropped through the first line feed is the first line
+-- The bytes that are skipped through the first line feed are the first line.
 pub TakesLines-through : (a b : Option (List ℕ)) (line : List ℕ)
     → IfSome a (λ text. line ≡ strip_last 10 (take_through 10 text)) → IfSome a (λ text. 0 < length text)
     → DropsThrough a b 10 → TakesLines a b (line ∷ [])
@@ -178,7 +178,7 @@ TakesLines-through (Some (x ∷ xs)) b line is some drops =
     subst (λ o. TakesLines (Some (x ∷ xs)) o (line ∷ [])) (sym drops)
     (lines_of-first x xs ∙ ap (λ l. l ∷ lines_of (drop_through 10 (x ∷ xs))) (sym is))
 
--- a line that was read
+-- A line that was read.
 pub TakesLines-read : (a b : Option (List ℕ)) (old new line : List ℕ) → old ≡ []
     → IfSome a (λ text. new ≡ old ++ take_through 10 text) → 0 < length new → line ≡ strip_last 10 new
     → DropsThrough a b 10 → TakesLines a b (line ∷ [])
@@ -188,14 +188,14 @@ TakesLines-read (Some text) b old new line empty is some last drops =
     TakesLines-through (Some text) b line (last ∙ ap (strip_last 10) read)
     (take_through_nonempty 10 text (subst (λ l. 0 < length l) read some)) drops
 
--- a line that was skipped
+-- A line that was skipped.
 pub TakesLines-skipped : (a b : Option (List ℕ)) → IfSome a (λ text. 0 < length text) → DropsThrough a b 10
     → (line : List ℕ) × TakesLines a b (line ∷ [])
 TakesLines-skipped None b some drops = ([], tt)
 TakesLines-skipped (Some text) b some drops =
     (strip_last 10 (take_through 10 text), TakesLines-through (Some text) b _ refl some drops)
 
--- there are as many bytes as were read
+-- The number of bytes is the number that was read.
 pub nonempty_before : (a b : Option (List ℕ)) (first : List ℕ) → Consumes a b first
     → IfSome b (λ text. 0 < length first + length text) → IfSome a (λ text. 0 < length text)
 nonempty_before None b first p some = tt
@@ -209,7 +209,7 @@ both_true false b e = absurd (true≢false (sym e))
 nonempty_ended : (xs : List ℕ) → ends_with_byte 10 xs ≡ true → 0 < length xs
 nonempty_ended xs e = ltb-true _ _ (both_true _ _ e).0
 
--- what was read ends with its first line feed
+-- The bytes that were read end with their first line feed.
 pub DropsThrough-ended : (a b : Option (List ℕ)) (first : List ℕ) → Consumes a b first → StopsAt first 10
     → ends_with_byte 10 first ≡ true → DropsThrough a b 10
 DropsThrough-ended None b first p stops e = tt
@@ -232,7 +232,7 @@ TakesLines-ended a b first p stops e =
     at None = tt
     at (Some y) = omega (arith, nonempty_ended first e)
 
--- what was read has no line feed
+-- The bytes that were read have no line feed.
 All-unended : (xs : List ℕ) → StopsAt xs 10 → ends_with_byte 10 xs ≡ false → All (λ x. x ≢ 10) xs
 All-unended [] stops e = All-nil (λ x. x ≢ 10)
 All-unended (x ∷ xs) stops e =
@@ -260,7 +260,7 @@ TakesLines-unended a b c first p stops e drops some =
     TakesLines-skipped a c (nonempty_before a b first p some)
     (DropsThrough-unended a b c first p stops e drops)
 
--- some bytes were read or skipped
+-- Some bytes were read or skipped.
 pub nonempty_skipped : (b : Option (List ℕ)) (first : List ℕ) (count skipped : ℕ) → count ≡ length first
     → IfSome b (λ text. skipped ≡ u64_saturate (length (take_through 10 text)))
     → (0 < count) ⊎ (0 < skipped) → IfSome b (λ text. 0 < length first + length text)
@@ -277,7 +277,7 @@ and_true : (a : Bool) → a && true ≡ a
 and_true true = refl
 and_true false = refl
 
--- what is printed for a line after others
+-- The printed lines for a line after others.
 pub PrintsLines-more : (task : Task) (lines : List (List ℕ)) (line : List ℕ) (passes next : Bool)
     (printed text : List ℕ) → PrintsLines task lines passes printed → PrintsLine task line next text
     → PrintsLines task (lines ++ line ∷ []) (passes && next) (printed ++ text)
@@ -287,7 +287,7 @@ PrintsLines-more task _ line _ next _ text none one =
 PrintsLines-more task _ line _ next _ text (more one_line others) one =
     rw (and_assoc, append_assoc) (more one_line (PrintsLines-more task _ line _ next _ text others one))
 
--- the same where a part of what was printed was written
+-- Like `PrintsLines-more`, if a part of the printed lines was written.
 pub PrintsLines-next : (task : Task) (lines : List (List ℕ)) (line : List ℕ) (passes next : Bool)
     (sent waiting written left printed new : List ℕ) → PrintsLines task lines passes (sent ++ waiting)
     → waiting ≡ written ++ left → PrintsLine task line next printed → new ≡ left ++ printed
@@ -302,7 +302,7 @@ PrintsLines-next task lines line passes next sent waiting written left printed n
     subst (PrintsLines task (lines ++ line ∷ []) (passes && next)) same
     (PrintsLines-more task lines line passes next (sent ++ waiting) printed all one)
 
--- what was written is a beginning of what was printed
+-- The bytes that were written are a beginning of the printed lines.
 pub AppendsFront-sent : (a b : Option (List ℕ)) (sent waiting : List ℕ) → Appends a b sent
     → AppendsFront a b (sent ++ waiting)
 AppendsFront-sent a b sent waiting p = (
@@ -317,7 +317,7 @@ take_past (x ∷ xs) ys n =
     let e : length (x ∷ xs) + n ≡ suc (length xs + n) = omega arith in
     ap (λ k. take k (x ∷ (xs ++ ys))) e ∙ ap (λ l. x ∷ l) (take_past xs ys n)
 
--- and so is it with a beginning of what waits
+-- With a beginning of the waiting bytes they are still a beginning.
 pub AppendsFront-more : (a b c : Option (List ℕ)) (sent waiting : List ℕ) → Appends a b sent
     → AppendsFront b c waiting → AppendsFront a c (sent ++ waiting)
 AppendsFront-more a b c sent waiting p q = (
@@ -325,7 +325,7 @@ AppendsFront-more a b c sent waiting p q = (
   subst (Appends a c) (sym (take_past sent waiting q.0)) (Appends-trans a b c sent (take q.0 waiting) p q.1),
 )
 
--- a document's answer or report
+-- The line with the answer or the report.
 pub PrintsLine-framed : (task : Task) (line : List ℕ) (printed : Printed) → IsPrinted task line printed
     → PrintsLine task line printed.is_passed (framed task (string_bytes printed.line))
 PrintsLine-framed (Answer subcommand) line printed is =
@@ -334,26 +334,27 @@ PrintsLine-framed (Answer subcommand) line printed is =
     (answered text is.1)
 PrintsLine-framed (Check subcommand is_strict) line printed is = reported (string_bytes printed.line) is
 
--- a document's fault
+-- The line with the fault.
 pub PrintsLine-faulted : (task : Task) (line : List ℕ) (fault : Fault) → IsPrintFault task line fault
     → PrintsLine task line (passes_without task) (fault_line fault)
 PrintsLine-faulted (Answer subcommand) line fault has = faulted fault has
 PrintsLine-faulted (Check subcommand is_strict) line fault has =
-    subst (λ f. PrintsLine (Check subcommand is_strict) line false (fault_line f)) (sym has) refused
+    subst (λ f. PrintsLine (Check subcommand is_strict) line false (fault_line f)) (sym has) out_of_memory
 
--- memory may be refused for each document
-IsDocumentFault-refused : (subcommand : Subcommand) (line : List ℕ)
+-- An allocation may fail for each document.
+IsDocumentFault-out_of_memory : (subcommand : Subcommand) (line : List ℕ)
     → IsDocumentFault subcommand line OutOfMemory
-IsDocumentFault-refused Analyze line = tt
-IsDocumentFault-refused Convert line = tt
-IsDocumentFault-refused Reach line = tt
+IsDocumentFault-out_of_memory Analyze line = tt
+IsDocumentFault-out_of_memory Convert line = tt
+IsDocumentFault-out_of_memory Reach line = tt
 
-pub PrintsLine-refused : (task : Task) (line : List ℕ)
+pub PrintsLine-out_of_memory : (task : Task) (line : List ℕ)
     → PrintsLine task line (passes_without task) (fault_line OutOfMemory)
-PrintsLine-refused (Answer subcommand) line = faulted OutOfMemory (IsDocumentFault-refused subcommand line)
-PrintsLine-refused (Check subcommand is_strict) line = refused
+PrintsLine-out_of_memory (Answer subcommand) line =
+    faulted OutOfMemory (IsDocumentFault-out_of_memory subcommand line)
+PrintsLine-out_of_memory (Check subcommand is_strict) line = out_of_memory
 
--- the same text, of which a part was written
+-- A text of which a part was written.
 pub PrintsLines-written : (task : Task) (lines : List (List ℕ)) (passes : Bool) (sent waiting written left
     : List ℕ)
     → PrintsLines task lines passes (sent ++ waiting) → waiting ≡ written ++ left
@@ -361,7 +362,7 @@ pub PrintsLines-written : (task : Task) (lines : List (List ℕ)) (passes : Bool
 PrintsLines-written task lines passes sent waiting written left all is =
     subst (PrintsLines task lines passes) (ap (λ l. sent ++ l) is ∙ sym (append_assoc sent written left)) all
 
--- a run that fails after some lines
+-- A run that fails after some lines.
 pub LeavesFirstLines-at : (task : Task) (input now before after : Option (List ℕ)) (lines : List (List ℕ))
     (passes : Bool) (printed : List ℕ) (fault : Fault) → IsFailure fault → TakesLines input now lines
     → PrintsLines task lines passes printed → AppendsFront before after printed
@@ -369,19 +370,19 @@ pub LeavesFirstLines-at : (task : Task) (input now before after : Option (List �
 LeavesFirstLines-at task input now before after lines passes printed fault failure taken prints front =
     (failure, lines, TakesLines-first input now lines taken, passes, printed, prints, front)
 
--- or before the first
+-- A run that fails before the first line.
 pub LeavesFirstLines-none : (task : Task) (input output : Option (List ℕ)) (fault : Fault) → IsFailure fault
     → LeavesFirstLines task input output output fault
 LeavesFirstLines-none task input output fault failure =
     LeavesFirstLines-at task input input output output [] true [] fault failure (TakesLines-nil input) none
     (0, Appends-nil output)
 
--- the exit of a `?`
+-- The fault that a `?` returns.
 pub exits : (r : Result Bool Fault) (P : Bool → Type 0) (Q : Fault → Type 0) (fault : Fault)
     → IsErrAnd r (λ told. told ≡ fault) → Q fault → MatchResult r P Q
 exits r P Q fault err rest = let p = err_from_is_err_and r err in rw (p.1, p.2) rest
 
--- a line for whose answer or report memory was refused
+-- A line for whose answer or report an allocation failed.
 pub refused_after : (r : Result Bool Fault) (task : Task) (line old kept new : List ℕ) → kept ≡ old
     → MatchResult r (λ passes. (passes ≡ passes_without task) × (new ≡ kept ++ fault_line OutOfMemory))
     (λ fault. fault ≡ OutOfMemory)
@@ -390,7 +391,7 @@ pub refused_after : (r : Result Bool Fault) (task : Task) (line old kept new : L
     (λ fault. fault ≡ OutOfMemory)
 refused_after (Ok passes) task line old kept new same h = (
   fault_line OutOfMemory,
-  subst (λ b. PrintsLine task line b (fault_line OutOfMemory)) (sym h.0) (PrintsLine-refused task line),
+  subst (λ b. PrintsLine task line b (fault_line OutOfMemory)) (sym h.0) (PrintsLine-out_of_memory task line),
   h.1 ∙ ap (λ l. l ++ fault_line OutOfMemory) same,
 )
 refused_after (Err fault) task line old kept new same h = h

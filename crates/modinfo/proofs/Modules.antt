@@ -1,4 +1,4 @@
--- Reading the information of modules, one after another.
+-- Reading the information on modules, one after the other.
 use Rattle.std.proofs.Common.{
   ◌≡◌,
   ◌≢◌,
@@ -37,7 +37,7 @@ pub stored_info : (d : Data) (m : ModuleInfo) → has_float d ≡ false → read
 unfolding reads_stored
 stored_info d m whole is = rw whole is
 
--- a first fault after a module that is read is the first of all
+-- After a module without a fault, the first fault of the others is the first of all.
 pub fault_after : (told : InfoFault) (left rest : Entries) (e : String Global × Value) (m : ModuleInfo)
     → left ≡ e ∷ rest → reads_stored (view e.1) ≡ Some m → IsFirstFault (members_view rest) told
     → IsFirstFault (members_view left) told
@@ -45,18 +45,18 @@ fault_after told left rest e m first is fault =
     subst (λ es. IsFirstFault (members_view es) told) (sym first)
     (inr ((λ none. none-some m (sym none ∙ is)), fault))
 
--- and so is that of the next module
+-- The fault of the next module is the first of all.
 pub fault_here : (told : InfoFault) (left rest : Entries) (e : String Global × Value) → left ≡ e ∷ rest
     → IsInfoFault (view e.1) told → IsFirstFault (members_view left) told
 fault_here told left rest e first fault =
     subst (λ es. IsFirstFault (members_view es) told) (sym first) (inl fault)
 
--- before the first module
+-- Before the first module.
 pub none_left : (told : InfoFault) (all left : Entries) → left ≡ all → IsFirstFault (members_view left) told
     → IsFirstFault (members_view all) told
 none_left told all left whole fault = subst (λ es. IsFirstFault (members_view es) told) whole fault
 
--- what a value asks, by its two members
+-- ---- The two members of a document
 
 pub lacks_root : (d : Data) → root_in d ≡ None → reads_question d ≡ None
 unfolding reads_question

@@ -1,4 +1,4 @@
--- What is read of a document of `reach` at once, and module by module.
+-- A document of `reach` is the same, read at once or module by module.
 use Rattle.std.proofs.Common.{
   inl,
   inr,
@@ -37,28 +37,22 @@ use Rattle.serde_json.specs.Data.{
 }
 use Rattle.serde_json.specs.Find.{as_object, as_str, get_member}
 use Rattle.serde_json.specs.Written.{has_float}
-use Rattle.deno_graph_dependency.specs.Read.Partial.{◌>>=◌, member_at, reads_map, reads_members, unless_float}
+use Rattle.deno_graph_json.specs.Read.Partial.{◌>>=◌, member_at, reads_map, reads_members, unless_float}
 use Rattle.deno_graph_info.specs.InfoFault.{IsInfoFault}
 use Rattle.deno_graph_info.specs.Json.ModuleInfo.{reads_info}
 use Rattle.deno_graph_info.specs.declared.analysis.fault.InfoFault.{InfoFault}
 use Rattle.deno_graph_info.specs.declared.analysis.fault.InfoFault.TheVariants as info
 use Rattle.deno_graph_info.specs.declared.analysis.module_info.ModuleInfo.{ModuleInfo}
 use Rattle.modinfo.specs.Check.{AsksNone, AsksSome}
-use Rattle.modinfo.specs.Reach.{
-  IsFirstFault,
-  IsQuestionFault,
-  reads_modules,
-  reads_question,
-  reads_stored,
-  reads_stored_info,
-}
+use Rattle.modinfo.specs.Reach.{IsFirstFault, IsQuestionFault, reads_question, reads_stored}
+use Rattle.modinfo.specs.internal.Reach.{reads_modules, reads_stored_info}
 use Rattle.modinfo.specs.declared.reach.StoredInfo.{StoredInfo}
 
--- a fault that is not a failed allocation
+-- A fault other than a failed allocation.
 abbrev HasFault : (InfoFault → Type 0) → Type 0
 HasFault IsFault = (told : InfoFault) × (told ≢ info.OutOfMemory) × IsFault told
 
--- ---- one module
+-- ---- One module
 
 abbrev OneModule : Data → Type 0
 OneModule d = ((found : ModuleInfo) × (reads_stored_info d ≡ Some (record { info = found }))
@@ -77,7 +71,7 @@ one_module_by d false (Some found) floats is = inl (found, rw (floats, is) refl,
 one_module : (d : Data) → OneModule d
 one_module d = one_module_by d (has_float d) (reads_info d) refl refl
 
--- ---- all modules
+-- ---- All modules
 
 abbrev infos_of : List (List ℕ × StoredInfo) → List (List ℕ × ModuleInfo)
 infos_of stored = map (λ e. (e.0, e.1.info)) stored
@@ -101,9 +95,10 @@ unfolding reads_members
 all_modules no_members = inl ([], refl, refl)
 all_modules (member key d ms) = one_more key d ms (one_module d) (all_modules ms)
 
--- ---- the document
+-- ---- The document
 
--- what is read at once is asked, and where nothing is read there is a fault
+-- The modules and the root that are read at once are those of the document. If none are read, there is a
+-- fault.
 abbrev pub Outcome : Data → Type 0
 Outcome value = ((found : List (List ℕ × StoredInfo) × List ℕ) × (reads_modules value ≡ Some found) ×
     AsksSome value)

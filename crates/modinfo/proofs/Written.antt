@@ -1,4 +1,4 @@
--- What is written of a text: all of it, or a beginning.
+-- Writing a whole text, or a beginning.
 use Rattle.std.proofs.Common.{
   ◌≡◌,
   ℕ,
@@ -32,7 +32,7 @@ use Rattle.std.proofs.Math.Seq.{take-append-add}
 use Rattle.std.proofs.lemmas.List.{take_all}
 use Rattle.modinfo.specs.Run.{AppendsFront}
 
--- a beginning of the first of two texts is one of both
+-- A beginning of the first text is a beginning of both.
 front_taken : (n : ℕ) (xs ys : List ℕ) → (m : ℕ) × (take m (xs ++ ys) ≡ take n xs)
 front_taken n [] ys = (0, sym (take_all n [] (omega arith)))
 front_taken zero (x ∷ xs) ys = (0, refl)
@@ -46,7 +46,7 @@ front_of_both a b xs ys front =
     let taken = front_taken front.0 xs ys in
     (taken.0, subst (Appends a b) (sym taken.1) front.1)
 
--- a text was written, and then a beginning of another
+-- A text was written, and then a beginning of another.
 pub front_after : (a b c : Option (List ℕ)) (xs ys : List ℕ) → Appends a b xs → AppendsFront b c ys
     → AppendsFront a c (xs ++ ys)
 front_after a b c xs ys whole front = (
@@ -55,7 +55,7 @@ front_after a b c xs ys whole front = (
       (Appends-trans a b c xs (take front.0 ys) whole front.1),
 )
 
--- all of it is a beginning
+-- The whole text is a beginning.
 pub whole_front : (a b : Option (List ℕ)) (xs : List ℕ) → Appends a b xs → AppendsFront a b xs
 whole_front a b xs whole = (
   length xs,
@@ -68,7 +68,7 @@ pub front_of_result : (all : Bool) (a b : Option (List ℕ)) (xs : List ℕ)
 front_of_result true a b xs whole = whole_front a b xs whole
 front_of_result false a b xs front = front
 
--- the known bytes, or none
+-- The bytes if they are known, else none.
 pub known_or_none : (known : Option (List ℕ)) → IfSome known (λ left. unwrap_or known [] ≡ left)
 known_or_none (Some left) = refl
 known_or_none None = tt

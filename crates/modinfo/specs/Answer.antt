@@ -1,4 +1,4 @@
--- What a subcommand prints for a document, as text, and which faults a document has.
+-- The answer of a subcommand to a document, and the faults of a document.
 use Rattle.std.specs.Prelude.{◌≡◌, ◌≢◌, ◌⊎◌, ◌++◌, ℕ, List, Some, None, IsUtf8, codes, false}
 use Rattle.json.specs.Lex.{tokens}
 use Rattle.json.specs.Print.{print}
@@ -10,79 +10,79 @@ use Rattle.deno_graph_info.specs.Conversion.{IsConverted, IsConvertFault}
 use Rattle.deno_graph_info.specs.Json.ModuleInfo.{json_of_info}
 use Rattle.deno_graph_info.specs.declared.analysis.module_info.ModuleInfo.{ModuleInfo}
 use Rattle.deno_graph_info.specs.declared.conversion.fault.ConvertFault.TheVariants as convert
-use Rattle.deno_graph_ast.specs.InfoOfModule.{IsInfoOfModule}
-use Rattle.modinfo_notation.specs.Document.{HasNotationFault, IsDocumentOf, IsSourceOf}
-use Rattle.modinfo_notation.specs.declared.document.Document.{Document}
-use Rattle.modinfo_notation.specs.declared.fault.NotationFault.{NotationFault}
+use Rattle.deno_graph_module_info.specs.InfoOfModule.{IsInfoOfModule}
+use Rattle.modinfo_document.specs.Check.{IsNoModuleText, IsModuleText}
+use Rattle.modinfo_document.specs.Document.{HasDocumentError, IsDocumentOf, IsSourceOf}
+use Rattle.modinfo_document.specs.declared.document.Document.{Document}
+use Rattle.modinfo_document.specs.declared.error.DocumentError.{DocumentError}
 use Rattle.modinfo.specs.Check.{
-  StatesConvertible,
-  StatesNoConvertible,
-  StatesNoQuestion,
-  StatesNoSource,
-  StatesQuestion,
-  StatesSource,
+  IsConvertibleText,
+  IsNoConvertibleText,
+  IsNoQuestionText,
+  IsQuestionText,
 }
 use Rattle.modinfo.specs.declared.fault.Fault.{Fault}
 use Rattle.modinfo.specs.declared.fault.Fault.TheVariants.{Input, Json, Output, OutOfMemory}
 use Rattle.modinfo.specs.declared.fault.Fault.TheVariants as fault_of
 use Rattle.modinfo.specs.declared.subcommand.Subcommand.{Subcommand}
 use Rattle.modinfo.specs.declared.subcommand.Subcommand.TheVariants.{Analyze, Convert, Reach}
-use Rattle.modinfo.specs.Fault.{fault_of_notation}
+use Rattle.modinfo.specs.Fault.{fault_of_document}
 use Rattle.modinfo.specs.Reach.{IsNoQuestion, IsReachText}
 
--- the module that a text states in the notation, which is valid
+-- The text is a module document, and the module is its source.
 pub record IsModuleOf (text : List ℕ) (module_ : ParsedModule) : Type 0 where
   pub document : Document
-  pub is_stated : IsDocumentOf text document
+  pub is_document : IsDocumentOf text document
   pub is_source : IsSourceOf document module_
 
--- the compact JSON of the information of the module that a text states
+-- The compact JSON of the information on the module of a document.
 abbrev pub IsInfoText : List ℕ → List ℕ → Type 0
 IsInfoText document text = (module_ : ParsedModule) × IsModuleOf document module_
     × (info : ModuleInfo) × IsInfoOfModule module_ info
     × (text ≡ compact_text (json_of_info info))
 
--- Why a text states no module: it isn't UTF-8, or has a fault of the notation; or an allocation failed.
+-- Why bytes have no module: they aren't UTF-8, or the text has an error as a module document; or an
+-- allocation failed.
 abbrev pub IsNoModule : List ℕ → Fault → Type 0
 IsNoModule text Input = ¬ IsUtf8 text
 IsNoModule text OutOfMemory = Unit {0}
-IsNoModule text fault = (told : NotationFault) × (fault_of_notation told ≡ fault)
-    × HasNotationFault text told
+IsNoModule text fault = (error : DocumentError) × (fault_of_document error ≡ fault)
+    × HasDocumentError text error
 
--- Why bytes are no JSON value: they aren't UTF-8, or the text isn't JSON; or an allocation failed.
+-- Why bytes are no JSON: they aren't UTF-8, or the text isn't JSON; or an allocation failed.
 abbrev pub IsNoJson : List ℕ → Fault → Type 0
 IsNoJson bytes Input = ¬ IsUtf8 bytes
 IsNoJson bytes Json = read_text bytes ≡ None
 IsNoJson bytes OutOfMemory = Unit {0}
 IsNoJson bytes fault = ⊥
 
--- The document is JSON without a float that is converted to this value.
+-- The document is JSON without a float, and is converted to this value.
 abbrev pub IsConversionOf : List ℕ → Data → Type 0
 IsConversionOf document after = (before : Data) × (read_text document ≡ Some before)
     × (has_float before ≡ false) × IsConverted before after
 
--- JSON without white space between its tokens. Line feeds in strings are escaped, so it is one line.
+-- JSON without white space between its tokens: one line, since line feeds in strings are escaped.
 abbrev pub IsCompact : List ℕ → Type 0
 IsCompact text = text ≡ print (tokens text)
 
--- The compact JSON of the value that the document is converted to.
+-- The compact JSON of the value to which a document is converted.
 abbrev pub IsConvertedText : List ℕ → List ℕ → Type 0
 IsConvertedText document text = (after : Data) × IsConversionOf document after × IsInOrder text after
     × IsCompact text
 
--- Why a document isn't converted: it is no JSON, or its value can't be converted.
+-- Why a document isn't converted: it isn't JSON, or its value can't be converted; or an allocation failed.
 abbrev pub IsNoConversion : List ℕ → Fault → Type 0
 IsNoConversion document (fault_of.Convert told) = (told ≢ convert.OutOfMemory)
     × (before : Data) × (read_text document ≡ Some before) × IsConvertFault before told
 IsNoConversion document fault = IsNoJson document fault
 
--- Why a document of `reach` has no answer: it is no JSON, or its value isn't what `reach` reads.
+-- Why a document of `reach` has no answer: it isn't JSON, or its value has a fault; or an allocation failed.
 abbrev pub IsNoReach : List ℕ → Fault → Type 0
 IsNoReach document (fault_of.Info told) = (value : Data) × (read_text document ≡ Some value)
     × IsNoQuestion value (fault_of.Info told)
 IsNoReach document fault = IsNoJson document fault
 
--- The JSON that a subcommand prints for a document.
+-- The answer of a subcommand to a document: compact JSON.
 abbrev pub IsAnswerText : Subcommand → List ℕ → List ℕ → Type 0
 IsAnswerText Analyze document text = IsInfoText document text
 IsAnswerText Convert document text = IsConvertedText document text
@@ -94,12 +94,6 @@ IsDocumentFault Analyze document fault = IsNoModule document fault
 IsDocumentFault Convert document fault = IsNoConversion document fault
 IsDocumentFault Reach document fault = IsNoReach document fault
 
--- A read or an allocation failed.
-abbrev pub IsReadFailure : Fault → Type 0
-IsReadFailure Input = Unit {0}
-IsReadFailure OutOfMemory = Unit {0}
-IsReadFailure fault = ⊥
-
 -- The document has this fault, or a read or an allocation failed.
 abbrev pub IsInputFault : Subcommand → List ℕ → Fault → Type 0
 IsInputFault subcommand document Input = Unit {0}
@@ -110,24 +104,24 @@ abbrev pub IsRunFault : Subcommand → List ℕ → Fault → Type 0
 IsRunFault subcommand document Output = Unit {0}
 IsRunFault subcommand document fault = IsInputFault subcommand document fault
 
--- the answer to a document, and a line feed
+-- The answer to a document, and a line feed.
 abbrev pub IsAnswerLine : Subcommand → List ℕ → List ℕ → Type 0
 IsAnswerLine subcommand document line = (text : List ℕ) × IsAnswerText subcommand document text
     × (line ≡ text ++ codes "\n")
 
--- the bytes are a document of the subcommand, and have no fault
+-- The bytes are a document of the subcommand without a fault.
 abbrev pub IsValidDocument : Subcommand → List ℕ → Type 0
-IsValidDocument Analyze document = StatesSource document
-IsValidDocument Convert document = StatesConvertible document
-IsValidDocument Reach document = StatesQuestion document
+IsValidDocument Analyze document = IsModuleText document
+IsValidDocument Convert document = IsConvertibleText document
+IsValidDocument Reach document = IsQuestionText document
 
--- the bytes are no text, or one with a fault
+-- The bytes aren't UTF-8, or the text has a fault as a document of the subcommand.
 abbrev pub IsFaultyDocument : Subcommand → List ℕ → Type 0
-IsFaultyDocument Analyze document = (¬ IsUtf8 document) ⊎ StatesNoSource document
-IsFaultyDocument Convert document = (¬ IsUtf8 document) ⊎ StatesNoConvertible document
-IsFaultyDocument Reach document = (¬ IsUtf8 document) ⊎ StatesNoQuestion document
+IsFaultyDocument Analyze document = (¬ IsUtf8 document) ⊎ IsNoModuleText document
+IsFaultyDocument Convert document = (¬ IsUtf8 document) ⊎ IsNoConvertibleText document
+IsFaultyDocument Reach document = (¬ IsUtf8 document) ⊎ IsNoQuestionText document
 
--- the word by which a subcommand is asked for
+-- The name of a subcommand.
 abbrev pub name_of : Subcommand → List ℕ
 name_of Analyze = codes "analyze"
 name_of Convert = codes "convert"

@@ -1,79 +1,72 @@
--- What a text states where a report on it is right.
-use Rattle.std.specs.Prelude.{◌≡◌, ◌≢◌, ◌⊎◌, ℕ, List, None, Some, Ok}
-use Rattle.std.specs.Rc.{rc_str_bytes}
+-- When a report on a document of `convert` or `reach` is right.
+use Rattle.std.specs.Prelude.{◌≡◌, ◌≢◌, ◌⊎◌, ℕ, List, None, Some, false}
 use Rattle.serde_json.specs.Data.{Data}
 use Rattle.serde_json.specs.Read.{read as read_text}
-use Rattle.url.specs.Parts.{Parts}
-use Rattle.url.specs.Parser.{parse_url}
-use Rattle.deno_graph_source.specs.Source.{IsValid}
+use Rattle.serde_json.specs.Written.{has_float}
+use Rattle.deno_graph_json.specs.Read.Error.{IsIn}
+use Rattle.deno_graph_json.specs.declared.error.Mismatch.{Mismatch}
+use Rattle.deno_graph_json.specs.declared.error.ReadError.TheVariants as read
+use Rattle.deno_graph_info.specs.Conversion.{IsConverted, IsConvertFault}
 use Rattle.deno_graph_info.specs.declared.analysis.fault.InfoFault.{InfoFault}
 use Rattle.deno_graph_info.specs.declared.analysis.fault.InfoFault.TheVariants.{OutOfMemory as NoMemory}
 use Rattle.deno_graph_info.specs.declared.analysis.module_info.ModuleInfo.{ModuleInfo}
-use Rattle.modinfo_notation.specs.Document.{HasNotationFault, IsDocumentOf}
-use Rattle.modinfo_notation.specs.declared.document.Document.{Document}
-use Rattle.modinfo_notation.specs.declared.fault.NotationFault.{NotationFault}
-use Rattle.modinfo_notation.specs.declared.fault.NotationFault.TheVariants.{OutOfMemory}
-use Rattle.modinfo_report.specs.Report.{CanBeConverted, CannotBeConverted, MatchReport, PointsInto}
-use Rattle.modinfo_report.specs.declared.report.Report.{Report}
-use Rattle.modinfo_report.specs.declared.report.Report.TheVariants.{Valid, Wrong}
+use Rattle.deno_graph_info.specs.declared.conversion.fault.ConvertFault.{ConvertFault}
+use Rattle.deno_graph_info.specs.declared.conversion.fault.ConvertFault.TheVariants as convert
+use Rattle.modinfo_document.specs.Report.{MatchReport, Reports}
+use Rattle.modinfo_document.specs.declared.report.Report.{Report}
+use Rattle.modinfo_document.specs.declared.report.Report.TheVariants.{Valid, Invalid}
+use Rattle.modinfo_document.specs.declared.report.FaultReport.{FaultReport}
 use Rattle.modinfo.specs.Reach.{Asks, IsQuestionFault}
 
--- The text states a valid source: a document whose specifier is a URL, and whose tree and comments fit its
--- source.
-pub record StatesSource (text : List ℕ) : Type 0 where
-  pub document : Document
-  pub is_stated : IsDocumentOf text document
-  pub has_url : (url : Parts) × (parse_url None document.specifier ≡ Ok url)
-  pub is_valid : IsValid (rc_str_bytes document.source) document.program document.comments
+-- The value can be converted: it has no float, and there is a converted value.
+abbrev pub CanBeConverted : Data → Type 0
+CanBeConverted before = (has_float before ≡ false) × ((after : Data) × IsConverted before after)
 
--- the text has a fault of the notation, other than that memory was refused
-abbrev pub StatesNoSource : List ℕ → Type 0
-StatesNoSource text = (fault : NotationFault) × (fault ≢ OutOfMemory) × HasNotationFault text fault
+-- The value has a fault as stored information.
+abbrev pub CannotBeConverted : Data → Type 0
+CannotBeConverted before = (fault : ConvertFault) × (fault ≢ convert.OutOfMemory)
+    × IsConvertFault before fault
 
--- a document of `analyze` is valid only where it states a valid source, and wrong only where it has a fault
-abbrev pub ReportsOn : List ℕ → Report → Type 0
-ReportsOn text = MatchReport (StatesSource text) (StatesNoSource text)
+-- The text is JSON that can be converted.
+abbrev pub IsConvertibleText : List ℕ → Type 0
+IsConvertibleText text = (before : Data) × (read_text text ≡ Some before) × CanBeConverted before
 
--- the same of the value of stored information
-abbrev pub ReportsOnValue : Data → Report → Type 0
-ReportsOnValue before = MatchReport (CanBeConverted before) (CannotBeConverted before)
-
--- the text is JSON that can be converted
-abbrev pub StatesConvertible : List ℕ → Type 0
-StatesConvertible text = (before : Data) × (read_text text ≡ Some before) × CanBeConverted before
-
--- the text is no JSON, or JSON that can't be converted
-abbrev pub StatesNoConvertible : List ℕ → Type 0
-StatesNoConvertible text = (read_text text ≡ None)
+-- The text isn't JSON, or is JSON that can't be converted.
+abbrev pub IsNoConvertibleText : List ℕ → Type 0
+IsNoConvertibleText text = (read_text text ≡ None)
     ⊎ ((before : Data) × (read_text text ≡ Some before) × CannotBeConverted before)
 
--- the same of a document of `convert`
+-- `Valid` is returned only for a text that can be converted, `Invalid` only for one that can't.
 abbrev pub ReportsOnStored : List ℕ → Report → Type 0
-ReportsOnStored text = MatchReport (StatesConvertible text) (StatesNoConvertible text)
+ReportsOnStored text = MatchReport (IsConvertibleText text) (IsNoConvertibleText text)
 
--- The value asks which modules a root reaches.
+-- The value has modules and a root.
 abbrev pub AsksSome : Data → Type 0
 AsksSome value = (modules : List (List ℕ × ModuleInfo)) × (root : List ℕ) × Asks value modules root
 
--- The value has a fault as one of `reach`, other than that an allocation failed.
+-- The value has a fault as a document of `reach`.
 abbrev pub AsksNone : Data → Type 0
 AsksNone value = (fault : InfoFault) × (fault ≢ NoMemory) × IsQuestionFault value fault
 
--- The text is JSON that asks which modules a root reaches.
-abbrev pub StatesQuestion : List ℕ → Type 0
-StatesQuestion text = (value : Data) × (read_text text ≡ Some value) × AsksSome value
+-- The text is JSON with modules and a root.
+abbrev pub IsQuestionText : List ℕ → Type 0
+IsQuestionText text = (value : Data) × (read_text text ≡ Some value) × AsksSome value
 
--- The text is no JSON, or JSON with a fault as a document of `reach`.
-abbrev pub StatesNoQuestion : List ℕ → Type 0
-StatesNoQuestion text = (read_text text ≡ None)
+-- The text isn't JSON, or is JSON with a fault as a document of `reach`.
+abbrev pub IsNoQuestionText : List ℕ → Type 0
+IsNoQuestionText text = (read_text text ≡ None)
     ⊎ ((value : Data) × (read_text text ≡ Some value) × AsksNone value)
 
--- A document of `reach` is reported as valid only where it asks something, and as wrong only where it has a
--- fault.
+-- `Valid` is returned only for a document of `reach`, `Invalid` only for a text with a fault as one.
 abbrev pub ReportsOnQuestion : List ℕ → Report → Type 0
-ReportsOnQuestion text = MatchReport (StatesQuestion text) (StatesNoQuestion text)
+ReportsOnQuestion text = MatchReport (IsQuestionText text) (IsNoQuestionText text)
 
--- A report that stored information is wrong points to a value in it that isn't what the report expects there.
-abbrev pub IsPlacedIn : Data → Report → Type 0
-IsPlacedIn value (Valid _) = Unit {0}
-IsPlacedIn value (Wrong wrong) = PointsInto value wrong
+-- The pointer of the report leads to a value that isn't what the report expects there.
+abbrev pub PointsInto : Data → FaultReport → Type 0
+PointsInto value report = (mismatch : Mismatch) × IsIn value (read.Mismatch mismatch)
+    × Reports mismatch report
+
+-- If the report is `Invalid`, its pointer leads to a value that isn't what the report expects there.
+abbrev pub HasPointerInto : Data → Report → Type 0
+HasPointerInto value (Valid _) = Unit {0}
+HasPointerInto value (Invalid report) = PointsInto value report

@@ -1,10 +1,9 @@
--- The program's faults: which fault of a library each is, and the names that are printed. A failed allocation
--- is always the same fault.
+-- The faults of the program: from the errors of the libraries, and to the printed names.
 use Rattle.std.specs.Prelude.{ℕ, List, codes}
 use Rattle.deno_graph_source.specs.declared.tree.fault.SourceFault.{SourceFault}
 use Rattle.deno_graph_source.specs.declared.tree.fault.SourceFault.TheVariants as source
-use Rattle.modinfo_notation.specs.declared.fault.NotationFault.{NotationFault}
-use Rattle.modinfo_notation.specs.declared.fault.NotationFault.TheVariants as notation
+use Rattle.modinfo_document.specs.declared.error.DocumentError.{DocumentError}
+use Rattle.modinfo_document.specs.declared.error.DocumentError.TheVariants as error
 use Rattle.deno_graph_info.specs.declared.analysis.fault.InfoFault.{InfoFault}
 use Rattle.deno_graph_info.specs.declared.analysis.fault.InfoFault.TheVariants as info
 use Rattle.deno_graph_info.specs.declared.conversion.fault.ConvertFault.{ConvertFault}
@@ -13,7 +12,7 @@ use Rattle.modinfo.specs.declared.fault.Fault.{Fault}
 use Rattle.modinfo.specs.declared.fault.Fault.TheVariants.{
   Input,
   Json,
-  NotInNotation,
+  Tree,
   Specifier,
   Source,
   Convert,
@@ -22,20 +21,20 @@ use Rattle.modinfo.specs.declared.fault.Fault.TheVariants.{
   OutOfMemory,
 }
 
--- why a document gave no source
-abbrev pub fault_of_notation : NotationFault → Fault
-fault_of_notation (notation.Json _) = Json
-fault_of_notation (notation.NotInNotation _) = NotInNotation
-fault_of_notation notation.Specifier = Specifier
-fault_of_notation (notation.Source fault) = Source fault
-fault_of_notation notation.OutOfMemory = OutOfMemory
+-- The fault for an error of a document.
+abbrev pub fault_of_document : DocumentError → Fault
+fault_of_document (error.Json _) = Json
+fault_of_document (error.Tree _) = Tree
+fault_of_document error.Specifier = Specifier
+fault_of_document (error.Source fault) = Source fault
+fault_of_document error.OutOfMemory = OutOfMemory
 
--- why stored information isn't converted
+-- The fault for an error of the conversion.
 abbrev pub fault_of_conversion : ConvertFault → Fault
 fault_of_conversion convert.OutOfMemory = OutOfMemory
 fault_of_conversion fault = Convert fault
 
--- why no information was read
+-- The fault for an error in reading information.
 abbrev pub fault_of_info : InfoFault → Fault
 fault_of_info info.OutOfMemory = OutOfMemory
 fault_of_info fault = Info fault
@@ -66,7 +65,7 @@ name_of_info info.OutOfMemory = codes "OutOfMemory"
 abbrev pub name_of_fault : Fault → List ℕ
 name_of_fault Input = codes "Input"
 name_of_fault Json = codes "Json"
-name_of_fault NotInNotation = codes "Tree"
+name_of_fault Tree = codes "Tree"
 name_of_fault Specifier = codes "Specifier"
 name_of_fault (Source fault) = name_of_source fault
 name_of_fault (Convert fault) = name_of_conversion fault

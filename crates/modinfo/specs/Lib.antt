@@ -2,7 +2,7 @@ pub mod Answer
 pub mod Check
 pub mod Fault
 pub mod Reach
-pub mod Request
-pub mod Invocation
+pub mod CommandLine
 pub mod Lines
 pub mod Run
+pub mod internal

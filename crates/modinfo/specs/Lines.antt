@@ -1,5 +1,5 @@
 -- The lines of an input, and what is printed for each of them.
-use Rattle.std.specs.Io.KnownBytes.{Appends, IsAtEnd, Keeps}
+use Rattle.std.specs.Io.KnownBytes.{Appends, Keeps}
 use Rattle.std.specs.Prelude.{
   ◌≡◌,
   ◌++◌,
@@ -14,8 +14,6 @@ use Rattle.std.specs.Prelude.{
   true,
   false,
   Option,
-  None,
-  Some,
   IfSome,
   IsTrue,
   if◌then◌else◌,
@@ -26,14 +24,12 @@ use Rattle.modinfo.specs.Fault.{name_of_fault}
 use Rattle.modinfo.specs.Run.{AppendsFront, IsFailure, PrintsReport, error_line}
 use Rattle.modinfo.specs.declared.fault.Fault.{Fault}
 use Rattle.modinfo.specs.declared.fault.Fault.TheVariants.{OutOfMemory}
-use Rattle.modinfo.specs.declared.lines.Next.{Next}
-use Rattle.modinfo.specs.declared.lines.Next.TheVariants.{End, Line, Skipped}
 use Rattle.modinfo.specs.declared.subcommand.Subcommand.{Subcommand}
 use Rattle.modinfo.specs.declared.task.Printed.{Printed}
 use Rattle.modinfo.specs.declared.task.Task.{Task}
 use Rattle.modinfo.specs.declared.task.Task.TheVariants.{Answer, Check}
 
--- The lines, where the byte is put before the first of them.
+-- The lines, with this byte before the first line.
 abbrev pub before_first : ℕ → List (List ℕ) → List (List ℕ)
 before_first byte [] = (byte ∷ []) ∷ []
 before_first byte (line ∷ lines) = (byte ∷ line) ∷ lines
@@ -43,12 +39,12 @@ abbrev pub lines_of : List ℕ → List (List ℕ)
 lines_of [] = []
 lines_of (byte ∷ text) = if byte == 10 then [] ∷ lines_of text else before_first byte (lines_of text)
 
--- The line that holds an answer or a report.
+-- The line with an answer or a report.
 abbrev pub framed : Task → List ℕ → List ℕ
 framed (Answer subcommand) text = codes "{\"answer\":" ++ text ++ codes "}\n"
 framed (Check subcommand is_strict) text = text ++ codes "\n"
 
--- The line that holds a fault.
+-- The line with a fault.
 abbrev pub fault_line : Fault → List ℕ
 fault_line fault = codes "{\"fault\":\"" ++ name_of_fault fault ++ codes "\"}\n"
 
@@ -57,14 +53,14 @@ abbrev pub passes_without : Task → Bool
 passes_without (Answer subcommand) = true
 passes_without (Check subcommand is_strict) = false
 
--- What is printed for a document, without what is around it in a line.
+-- The answer to a document or the report on it, without the rest of the line.
 abbrev pub IsPrinted : Task → List ℕ → Printed → Type 0
 IsPrinted (Answer subcommand) document printed = IsTrue printed.is_passed
     × IsAnswerText subcommand document (string_bytes printed.line)
 IsPrinted (Check subcommand is_strict) document printed =
     PrintsReport subcommand is_strict document printed.is_passed (string_bytes printed.line)
 
--- Why nothing is printed for a document: it has this fault, of a check that an allocation failed.
+-- Why there is no answer or report: the document has this fault, or, for a check, an allocation failed.
 abbrev pub IsPrintFault : Task → List ℕ → Fault → Type 0
 IsPrintFault (Answer subcommand) document fault = IsDocumentFault subcommand document fault
 IsPrintFault (Check subcommand is_strict) document fault = fault ≡ OutOfMemory
@@ -78,10 +74,10 @@ pub data PrintsLine : Task → List ℕ → Bool → List ℕ → Type 0 where
   reported : {subcommand : Subcommand} {is_strict passes : Bool} {line : List ℕ} (text : List ℕ)
       → PrintsReport subcommand is_strict line passes text
       → PrintsLine (Check subcommand is_strict) line passes (framed (Check subcommand is_strict) text)
-  refused : {subcommand : Subcommand} {is_strict : Bool} {line : List ℕ}
+  out_of_memory : {subcommand : Subcommand} {is_strict : Bool} {line : List ℕ}
       → PrintsLine (Check subcommand is_strict) line false (fault_line OutOfMemory)
 
--- What is printed for lines, in their order. They pass if each of them does.
+-- What is printed for lines, in the same order. They pass if each line passes.
 pub data PrintsLines (task : Task) : List (List ℕ) → Bool → List ℕ → Type 0 where
   none : PrintsLines task [] true []
   more : {line : List ℕ} {lines : List (List ℕ)} {passes all_pass : Bool} {printed rest : List ℕ}
@@ -103,8 +99,8 @@ LeavesFirstLines task input before after fault = IsFailure fault
     × (passes : Bool) × (printed : List ℕ) × PrintsLines task lines passes printed
     × AppendsFront before after printed
 
--- A run that reads lines. The error output is as it was, or has the line of the fault, or the beginning of
--- that line where a write failed.
+-- A run that reads lines. The error output is unchanged, or got the line with the fault, or the beginning of
+-- that line if a write failed.
 pub data IsLinesRun (task : Task)
     (input output_before output_after errors_before errors_after : Option (List ℕ)) (status : ℕ)
     : Type 0 where
@@ -116,15 +112,3 @@ pub data IsLinesRun (task : Task)
       → status ≡ 1
       → AppendsFront errors_before errors_after (error_line fault)
       → IsLinesRun task input output_before output_after errors_before errors_after status
-
--- Known bytes lost their first lines.
-abbrev pub TakesLines : Option (List ℕ) → Option (List ℕ) → List (List ℕ) → Type 0
-TakesLines None new lines = Unit {0}
-TakesLines (Some text) None lines = ⊥
-TakesLines (Some text) (Some left) lines = lines_of text ≡ lines ++ lines_of left
-
--- Known bytes lost their first line, which was read or skipped; or none is left.
-abbrev pub TakesNext : Option (List ℕ) → Option (List ℕ) → Next → Type 0
-TakesNext old new (Line bytes) = TakesLines old new (bytes.items ∷ [])
-TakesNext old new Skipped = (line : List ℕ) × TakesLines old new (line ∷ [])
-TakesNext old new End = IsAtEnd old

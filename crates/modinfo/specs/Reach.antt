@@ -1,4 +1,4 @@
--- A document of `reach`, and what is printed for it.
+-- Documents of `reach`, and the answer to one.
 use Rattle.std.specs.Prelude.{
   ◌≡◌,
   ◌≢◌,
@@ -16,93 +16,65 @@ use Rattle.serde_json.specs.Data.{Data, string, Members, no_members, member}
 use Rattle.serde_json.specs.Find.{as_object, as_str, get}
 use Rattle.serde_json.specs.Read.{read as read_text}
 use Rattle.serde_json.specs.Written.{compact_text, has_float}
-use Rattle.deno_graph_dependency.specs.Object.{array_of}
-use Rattle.deno_graph_dependency.specs.Read.Partial.{
-  ◌>>=◌,
-  member_at,
-  reads_map,
-  reads_members,
-  unless_float,
-}
+use Rattle.deno_graph_json.specs.Object.{array_of}
+use Rattle.deno_graph_json.specs.Read.Partial.{◌>>=◌, reads_members}
 use Rattle.deno_graph_info.specs.InfoFault.{IsInfoFault}
 use Rattle.deno_graph_info.specs.Json.ModuleInfo.{reads_info}
 use Rattle.deno_graph_info.specs.Reach.{IsReach}
 use Rattle.deno_graph_info.specs.declared.analysis.fault.InfoFault.{InfoFault}
 use Rattle.deno_graph_info.specs.declared.analysis.fault.InfoFault.TheVariants as info
 use Rattle.deno_graph_info.specs.declared.analysis.module_info.ModuleInfo.{ModuleInfo}
-use Rattle.modinfo.specs.declared.reach.StoredInfo.{StoredInfo}
 use Rattle.modinfo.specs.declared.fault.Fault.{Fault}
 use Rattle.modinfo.specs.declared.fault.Fault.TheVariants.{Info, OutOfMemory}
 
--- The JSON of modules by their keys, and the key of the root.
+-- The JSON of the modules by their keys, and the key of the root.
 pub record Question : Type 0 where
   pub modules : Members
   pub root : List ℕ
 
--- The object that is the member `modules`.
+-- The member `modules`, an object.
 abbrev pub modules_in : Data → Option Members
 modules_in d = get (codes "modules") d >>= as_object
 
--- The string that is the member `root`.
+-- The member `root`, a string.
 abbrev pub root_in : Data → Option (List ℕ)
 root_in d = get (codes "root") d >>= as_str
 
--- An object that has both; its other members are ignored.
+-- The two members of an object. Other members are ignored.
 unfoldable pub reads_question : Data → Option Question
 reads_question d = do
   root ← root_in d
   modules ← modules_in d
   Some (record { modules = modules; root = root })
 
--- A `ModuleInfo`, where no number in its JSON is a float.
+-- The `ModuleInfo` that JSON without a float describes.
 unfoldable pub reads_stored : Data → Option ModuleInfo
 reads_stored d = if has_float d then None else reads_info d
 
--- The same as it is held.
-unfoldable pub reads_stored_info : Data → Option StoredInfo
-reads_stored_info d = do
-  whole ← unless_float (has_float d)
-  info ← reads_info d
-  Some (record { info = info })
-
--- The modules and the root, where the JSON of each module is that of a `ModuleInfo`.
-unfoldable pub reads_modules : Data → Option (List (List ℕ × StoredInfo) × List ℕ)
-reads_modules d = do
-  ms ← as_object d
-  root ← member_at as_str (codes "root") ms
-  modules ← member_at (reads_map reads_stored_info) (codes "modules") ms
-  Some (modules, root)
-
--- The value asks which of these modules the root reaches.
+-- The value has these modules and this root.
 abbrev pub Asks : Data → List (List ℕ × ModuleInfo) → List ℕ → Type 0
 Asks value modules root = (question : Question) × (reads_question value ≡ Some question)
     × (root ≡ question.root) × (reads_members reads_stored question.modules ≡ Some modules)
 
--- The compact JSON array of the keys that the root reaches.
+-- The keys that the root reaches, as a compact JSON array.
 abbrev pub IsReachText : List ℕ → List ℕ → Type 0
 IsReachText document text = (value : Data) × (read_text document ≡ Some value)
     × (modules : List (List ℕ × ModuleInfo)) × (root : List ℕ) × Asks value modules root
     × (keys : List (List ℕ)) × IsReach modules root keys
     × (text ≡ compact_text (array_of string keys))
 
--- The fault of the first module, in the order of the keys, whose JSON isn't that of a `ModuleInfo`.
+-- The fault of the first module, in the order of the keys, that isn't the JSON of a `ModuleInfo`.
 abbrev pub IsFirstFault : Members → InfoFault → Type 0
 IsFirstFault no_members fault = ⊥
 IsFirstFault (member key d ms) fault = IsInfoFault d fault
     ⊎ ((reads_stored d ≢ None) × IsFirstFault ms fault)
 
--- Why no information of modules is read: the first fault, or an allocation failed.
-abbrev pub IsNoInfos : Members → Fault → Type 0
-IsNoInfos ms (Info told) = (told ≢ info.OutOfMemory) × IsFirstFault ms told
-IsNoInfos ms OutOfMemory = Unit {0}
-IsNoInfos ms fault = ⊥
-
--- The fault of a value: its shape, or else that of the first module with one.
+-- The fault of a value: its own shape, or the first fault of a module.
 abbrev pub IsQuestionFault : Data → InfoFault → Type 0
 IsQuestionFault d fault = MatchOption (reads_question d) (fault ≡ info.Shape)
     (λ question. IsFirstFault question.modules fault)
 
--- Why a value asks nothing, or an allocation failed.
+-- Why a value can't be read: its fault, or a failed allocation.
 abbrev pub IsNoQuestion : Data → Fault → Type 0
 IsNoQuestion d (Info told) = (told ≢ info.OutOfMemory) × IsQuestionFault d told
 IsNoQuestion d OutOfMemory = Unit {0}

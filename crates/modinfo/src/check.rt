@@ -1,8 +1,13 @@
-//! Checks of documents: whether one has a fault, and the report that says where.
+//! Checking the documents of each command.
 
-mod document;
+mod conversion;
+mod modules;
 mod stored;
+mod text;
 
-pub use document::check_document;
-pub use modinfo_report::{Report, TextPlace, Warning, Warnings, Wrong, report_bytes};
-pub use stored::{check_modules, check_stored};
+pub use modinfo_document::check_document;
+pub use modinfo_document::report::{
+    FaultReport, Report, TextPlace, Warning, Warnings, report_invalid_utf8,
+};
+pub use modules::check_modules;
+pub use stored::check_stored;

@@ -3,28 +3,28 @@ ghost use Rattle.modinfo.specs.Fault.{name_of_conversion, name_of_fault, name_of
 
 use deno_graph_info::analysis::{ConvertFault, InfoFault};
 use deno_graph_source::tree::SourceFault;
-use modinfo_notation::NotationFault;
+use modinfo_document::DocumentError;
 use std::alloc::{AllocError, AllocFailed};
 use std::error::Error;
 use std::fmt;
 
-/// Why the program printed no answer. Each prints as its name: `NotInNotation` as `Tree`, and a fault
-/// of a source, of a conversion or of information by its own name.
+/// Why the program printed no answer. Displayed by its name; `Source`, `Convert` and `Info` by the name
+/// of the fault inside.
 #[derive(Debug, PartialEq, Eq, Drop)]
 pub enum Fault {
     /// A read failed, or the input isn't UTF-8.
     Input,
-    /// The input is no JSON, nests deeper than 127 or has a number too large for a float.
+    /// The input isn't JSON, nests deeper than 127 or has a number too large for a float.
     Json,
-    /// The JSON isn't in the notation.
-    NotInNotation,
-    /// The specifier is no URL.
+    /// The JSON isn't a module document.
+    Tree,
+    /// The specifier isn't a URL.
     Specifier,
     /// The tree or the comments don't fit the source.
     Source(SourceFault),
-    /// A module's stored information can't be converted.
+    /// The stored information can't be converted.
     Convert(ConvertFault),
-    /// The JSON isn't what `reach` reads, or a module's isn't that of a `ModuleInfo`.
+    /// The JSON isn't a document of `reach`, or a module in it isn't the JSON of a `ModuleInfo`.
     Info(InfoFault),
     /// A write failed.
     Output,
@@ -33,14 +33,14 @@ pub enum Fault {
 }
 
 impl Fault {
-    /// The name that is printed for the fault.
+    /// The printed name of the fault.
     pub fn name(&self) -> &'static str
         ensures { result.now ≡ name_of_fault self.now }
     {
         match self {
             Fault::Input => "Input",
             Fault::Json => "Json",
-            Fault::NotInNotation => "Tree",
+            Fault::Tree => "Tree",
             Fault::Specifier => "Specifier",
             Fault::Source(fault) => source_name(fault),
             Fault::Convert(fault) => conversion_name(fault),
@@ -99,7 +99,7 @@ impl From<AllocError> for Fault {
 
     ghost from_gives = { λ error fault. fault ≡ OutOfMemory };
 
-    fn from(_refused: AllocError) -> Fault {
+    fn from(_error: AllocError) -> Fault {
         Fault::OutOfMemory
     }
 }
@@ -110,7 +110,7 @@ impl<T: Drop> From<AllocFailed<T>> for Fault {
 
     ghost from_gives = { λ error fault. fault ≡ OutOfMemory };
 
-    fn from(_refused: AllocFailed<T>) -> Fault {
+    fn from(_error: AllocFailed<T>) -> Fault {
         Fault::OutOfMemory
     }
 }
@@ -132,19 +132,19 @@ impl From<serde_json::Error> for Fault {
     }
 }
 
-impl From<NotationFault> for Fault {
+impl From<DocumentError> for Fault {
     ghost use Rattle.std.specs.Prelude.{◌≡◌};
-    ghost use Rattle.modinfo.specs.Fault.{fault_of_notation};
+    ghost use Rattle.modinfo.specs.Fault.{fault_of_document};
 
-    ghost from_gives = { λ notation_fault fault. fault ≡ fault_of_notation notation_fault };
+    ghost from_gives = { λ notation_fault fault. fault ≡ fault_of_document notation_fault };
 
-    fn from(fault: NotationFault) -> Fault {
+    fn from(fault: DocumentError) -> Fault {
         match fault {
-            NotationFault::Json { .. } => Fault::Json,
-            NotationFault::NotInNotation(_) => Fault::NotInNotation,
-            NotationFault::Specifier => Fault::Specifier,
-            NotationFault::Source(fault) => Fault::Source(fault),
-            NotationFault::OutOfMemory => Fault::OutOfMemory,
+            DocumentError::Json { .. } => Fault::Json,
+            DocumentError::Tree(_) => Fault::Tree,
+            DocumentError::Specifier => Fault::Specifier,
+            DocumentError::Source(fault) => Fault::Source(fault),
+            DocumentError::OutOfMemory => Fault::OutOfMemory,
         }
     }
 }

@@ -1,13 +1,14 @@
-//! From the bytes of an input to what a subcommand reads.
+//! Reading the input.
 
 ghost use Rattle.std.specs.Prelude.{◌≡◌, Some, IfSome, IsUtf8, MatchResult};
 ghost use Rattle.serde_json.specs.View.{view};
 ghost use Rattle.serde_json.specs.Read.{read as read_text};
-ghost use Rattle.modinfo_notation.specs.Document.{IsDocumentOf};
-ghost use Rattle.modinfo.specs.Answer.{IsNoJson, IsNoModule, IsReadFailure};
+ghost use Rattle.modinfo_document.specs.Document.{IsDocumentOf};
+ghost use Rattle.modinfo.specs.Answer.{IsNoJson, IsNoModule};
+ghost use Rattle.modinfo.specs.internal.Answer.{IsReadFailure};
 
 use crate::fault::Fault;
-use modinfo_notation::{Document, parse_document};
+use modinfo_document::{Document, parse_document};
 use serde_json::Value;
 use simdutf8::basic;
 use std::alloc::Global;
@@ -15,14 +16,15 @@ use std::io::{ErrorKind, Read};
 
 const CHUNK: usize = 65536;
 
-/// Reads a document in the notation.
+/// Reads a module document. `Input` if the bytes aren't UTF-8; else the faults of `parse_document`.
 pub fn document_of(alloc: Global, bytes: &[u8]) -> Result<Document, Fault>
     ensures { MatchResult result (IsDocumentOf bytes.now) (IsNoModule bytes.now) }
 {
     Ok(parse_document(alloc, text_of(bytes)?)?)
 }
 
-/// Reads bytes that are one JSON value.
+/// Reads JSON. `Input` if the bytes aren't UTF-8, `Json` if the text isn't JSON, `OutOfMemory` if an
+/// allocation fails.
 pub fn parse_json(alloc: Global, bytes: &[u8]) -> Result<Value, Fault>
     ensures { MatchResult result (λ value. read_text bytes.now ≡ Some (view value))
         (IsNoJson bytes.now) }
@@ -37,9 +39,9 @@ fn text_of(bytes: &[u8]) -> Result<&str, Fault>
     basic::from_utf8(bytes).map_err(|_| Fault::Input)
 }
 
-/// Reads the input to its end. `Input` where a read fails, `OutOfMemory` where an allocation does,
-/// which an `io::Error` doesn't tell apart. Not inlined, so that its chunk is on the stack only while
-/// it reads.
+/// Reads the input to its end. `Input` if a read fails, `OutOfMemory` if an allocation fails: std's
+/// `read_to_end` doesn't distinguish them. Not inlined, so that the chunk is on the stack only during
+/// the reads.
 #[inline(never)]
 pub fn read_to_end<R: Read>(alloc: Global, input: &mut R) -> Result<Vec<u8>, Fault>
     ensures { MatchResult result (λ bytes. IfSome (R.remaining input.old) (λ left. bytes.items ≡ left))

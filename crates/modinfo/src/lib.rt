@@ -1,11 +1,10 @@
-//! What the program `modinfo` does: it reads a module from JSON, analyzes it, and prints what it
-//! found as JSON.
+//! The program `modinfo` as a library: reads documents, analyzes or converts them, and prints JSON.
 #![tactic(auto)]
 
 pub mod check;
+mod command_line;
 pub mod fault;
 mod input;
-mod invocation;
 pub mod laws;
 mod lines;
 mod output;
@@ -16,8 +15,8 @@ pub mod subcommand;
 pub mod task;
 
 pub use fault::Fault;
-pub use modinfo_notation as notation;
-pub use modinfo_notation::parse_document;
+pub use modinfo_document as document;
+pub use modinfo_document::parse_document;
 pub use program::serve;
 pub use subcommand::Subcommand;
 pub use task::Task;

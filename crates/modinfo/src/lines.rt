@@ -1,4 +1,4 @@
-//! A document a line, and a line printed for each.
+//! Runs with `--lines`: a document on each line of the input, and a printed line for each.
 
 ghost use Rattle.std.specs.Prelude.{◌≡◌, ◌++◌, ◌∷◌, ◌<◌, ℕ, Bool, IfOk, List, [], length, MatchOption, MatchResult, OnOk, Option, true};
 ghost use Rattle.std.specs.Io.Buffered.{reader_remaining};
@@ -6,7 +6,8 @@ ghost use Rattle.std.specs.Io.{StopsAt};
 ghost use Rattle.std.specs.Io.BufRead.{ends_with_byte, strip_last};
 ghost use Rattle.std.specs.Io.KnownBytes.{Appends, Consumes, IsAtEnd};
 ghost use Rattle.modinfo.specs.Lines.{IsPrintFault, IsPrinted, LeavesFirstLines, LeavesLines, PrintsLine, PrintsLines};
-ghost use Rattle.modinfo.specs.Lines.{TakesLines, TakesNext, fault_line, framed, lines_of, passes_without};
+ghost use Rattle.modinfo.specs.Lines.{fault_line, framed, lines_of, passes_without};
+ghost use Rattle.modinfo.specs.internal.Lines.{TakesLines, TakesNext};
 ghost use Rattle.modinfo.specs.Run.{AppendsFront, IsFailure};
 
 use crate::fault::Fault;
@@ -18,13 +19,13 @@ use std::io::{BufRead, BufReader, ErrorKind, Read, Write};
 
 const CHUNK: usize = 65536;
 
-/// Room for the line of any fault.
+/// At least the length of the line with a fault, in bytes.
 const FAULT_ROOM: usize = 64;
 
-/// Prints a line for each line of the input, `{"answer":..}`, a report or `{"fault":"NAME"}`, in the
-/// same order, and returns whether each document of a check passed. What is printed is written when
-/// no further whole line was read. `Input` where a read fails, `Output` where a write does.
-pub fn answer_lines<R: Read, W: Write>(
+/// Prints a line for each line of the input, in the same order: `{"answer":..}`, a report or
+/// `{"fault":"NAME"}`. Returns whether each check passed. Writes before each read that may wait for
+/// input. `Input` if a read fails, `Output` if a write fails, `OutOfMemory` if an allocation fails.
+pub fn run_lines<R: Read, W: Write>(
     alloc: Global,
     task: Task,
     input: R,
@@ -41,11 +42,11 @@ where
     let mut is_passed = true;
     'lines: for _ in 0..u64::MAX {
         let is_due = waiting.len() >= CHUNK || memchr(b'\n', input.buffer()).is_none();
-        hand_on(output, &mut waiting, is_due)?;
-        match answer_next(alloc, task, &mut input, &mut waiting)? {
+        write_waiting(output, &mut waiting, is_due)?;
+        match run_next(alloc, task, &mut input, &mut waiting)? {
             Some(passes) => is_passed &= passes,
             None => {
-                hand_on(output, &mut waiting, true)?;
+                write_waiting(output, &mut waiting, true)?;
                 return Ok(is_passed);
             }
         }
@@ -53,6 +54,7 @@ where
     Err(Fault::Input)
 }
 
+/// A buffered reader of the input.
 fn buffered<R: Read>(alloc: Global, input: R) -> Result<BufReader<R, Global>, Fault>
 where
     R: Drop,
@@ -65,8 +67,8 @@ where
     }
 }
 
-/// Writes what waits, if it is due, and flushes the output.
-fn hand_on<W: Write>(output: &mut W, waiting: &mut Vec<u8>, is_due: bool) -> Result<(), Fault>
+/// Writes the waiting bytes if they are due, and flushes the output.
+fn write_waiting<W: Write>(output: &mut W, waiting: &mut Vec<u8>, is_due: bool) -> Result<(), Fault>
     ensures { MatchResult result
         (λ _. (written : List ℕ) × (waiting.old.items ≡ written ++ waiting.new.items)
         × Appends (W.contents output.old) (W.contents output.new) written
@@ -85,9 +87,9 @@ fn hand_on<W: Write>(output: &mut W, waiting: &mut Vec<u8>, is_due: bool) -> Res
     Ok(())
 }
 
-/// Reads a line, and appends what is printed for it to what waits. Returns whether the line passes,
-/// or `None` at the end of the input. A line that is whole in the buffer is read there.
-fn answer_next<R: Read>(
+/// Reads a line, and appends the printed line to the waiting bytes. Returns whether the line passes,
+/// `None` at the end of the input. Doesn't copy a line that is whole in the buffer.
+fn run_next<R: Read>(
     alloc: Global,
     task: Task,
     input: &mut BufReader<R, Global>,
@@ -110,24 +112,24 @@ fn answer_next<R: Read>(
     }
     match next_line(alloc, input)? {
         Next::Line(line) => Ok(Some(print_owned(alloc, task, line, waiting)?)),
-        Next::Skipped => Ok(Some(print_refused(task, waiting)?)),
+        Next::Skipped => Ok(Some(put_out_of_memory(task, waiting)?)),
         Next::End => Ok(None),
     }
 }
 
-/// What was read for the next line.
+/// The result of reading a line.
 #[derive(Drop)]
 enum Next {
     /// The line, without its line feed.
     Line(Vec<u8>),
-    /// Memory for the line was refused, and it was skipped.
+    /// The line was skipped, since an allocation for it failed.
     Skipped,
     /// The input has no further line.
     End,
 }
 
-/// Reads the next line. What follows the last line feed is a line if it isn't empty. A read that
-/// fails for want of memory counts as an allocation that fails.
+/// Reads the next line. The text after the last line feed is a line if it isn't empty. A read that
+/// fails because it is out of memory counts as a failed allocation.
 fn next_line<R: Read>(alloc: Global, input: &mut BufReader<R, Global>) -> Result<Next, Fault>
     ensures { MatchResult result
         (TakesNext (reader_remaining R.remaining input.old) (reader_remaining R.remaining input.new))
@@ -159,7 +161,7 @@ fn ends_with_feed(bytes: &[u8]) -> bool
     count > 0 && bytes[count - 1] == b'\n'
 }
 
-/// Skips what is left of a line, for which memory was refused after its first bytes.
+/// Skips the rest of a line, after an allocation failed for all but its first bytes.
 fn skip_rest<R: Read>(input: &mut BufReader<R, Global>, first: Vec<u8>) -> Result<Next, Fault>
     ensures { (before : Option (List ℕ)) → StopsAt first.items 10
         → Consumes before (reader_remaining R.remaining input.old) first.items
@@ -177,7 +179,7 @@ fn skip_rest<R: Read>(input: &mut BufReader<R, Global>, first: Vec<u8>) -> Resul
     }
 }
 
-/// What is printed for each line of a text, in the same order. The only fault is `OutOfMemory`.
+/// The printed lines for the lines of a text, in the same order. The only fault is `OutOfMemory`.
 pub fn print_lines(alloc: Global, task: Task, documents: &[u8]) -> Result<Vec<u8>, Fault>
     ensures { IfOk result (λ printed. (passes : Bool)
         × PrintsLines task (lines_of documents.now) passes printed.items) }
@@ -192,7 +194,7 @@ pub fn print_lines(alloc: Global, task: Task, documents: &[u8]) -> Result<Vec<u8
     Ok(printed)
 }
 
-/// The first line of a text without its line feed, and what is after it.
+/// The first line of a text, without its line feed, and the text after the line.
 fn split_line(text: &[u8]) -> (&[u8], &[u8])
     ensures lines { 0 < length text.now → lines_of text.now ≡ result.0.now ∷ lines_of result.1.now }
     ensures shorter { 0 < length text.now → length result.1.now < length text.now }
@@ -203,7 +205,7 @@ fn split_line(text: &[u8]) -> (&[u8], &[u8])
     }
 }
 
-/// Appends what is printed for a line, and returns whether the line passes.
+/// Appends the printed line for a line of the input. Returns whether the line passes.
 fn print_line(alloc: Global, task: Task, line: &[u8], waiting: &mut Vec<u8>) -> Result<bool, Fault>
     ensures { MatchResult result
         (λ passes. (printed : List ℕ) × PrintsLine task line.now passes printed
@@ -213,7 +215,7 @@ fn print_line(alloc: Global, task: Task, line: &[u8], waiting: &mut Vec<u8>) -> 
     put_printed(task, task.print(alloc, line), waiting)
 }
 
-/// Like `print_line`, but drops the line as soon as its document is read.
+/// Like `print_line`, but drops the line when its document was read.
 fn print_owned(
     alloc: Global,
     task: Task,
@@ -228,7 +230,7 @@ fn print_owned(
     put_printed(task, task.print_bytes(alloc, line), waiting)
 }
 
-/// Appends the line of an answer, of a report or of a fault, and returns whether it passes.
+/// Appends the line with an answer, a report or a fault. Returns whether the line passes.
 fn put_printed(
     task: Task,
     printed: Result<Printed, Fault>,
@@ -242,7 +244,7 @@ fn put_printed(
     match printed {
         Ok(printed) => match put_framed(task, printed.line.as_str(), waiting) {
             Ok(()) => Ok(printed.is_passed),
-            Err(_) => print_refused(task, waiting),
+            Err(_) => put_out_of_memory(task, waiting),
         },
         Err(fault) => {
             put_fault(&fault, waiting)?;
@@ -251,8 +253,8 @@ fn put_printed(
     }
 }
 
-/// Appends what is printed for a line for which memory was refused, and returns whether it passes.
-fn print_refused(task: Task, waiting: &mut Vec<u8>) -> Result<bool, Fault>
+/// Appends the line with the fault `OutOfMemory`. Returns whether the line passes.
+fn put_out_of_memory(task: Task, waiting: &mut Vec<u8>) -> Result<bool, Fault>
     ensures { MatchResult result
         (λ passes. (passes ≡ passes_without task)
         × (waiting.new.items ≡ waiting.old.items ++ fault_line Fault.OutOfMemory))
@@ -262,7 +264,7 @@ fn print_refused(task: Task, waiting: &mut Vec<u8>) -> Result<bool, Fault>
     Ok(passes_without(task))
 }
 
-/// Whether a line without an answer or a report passes.
+/// Whether a line without an answer or a report passes: only a check can fail.
 fn passes_without(task: Task) -> bool
     ensures { result ≡ passes_without task }
 {
@@ -272,7 +274,7 @@ fn passes_without(task: Task) -> bool
     }
 }
 
-/// Appends the line that holds an answer or a report, or nothing where memory is refused.
+/// Appends the line with an answer or a report, or nothing if an allocation fails.
 fn put_framed(task: Task, text: &str, waiting: &mut Vec<u8>) -> Result<(), AllocError>
     ensures { MatchResult result
         (λ _. waiting.new.items ≡ waiting.old.items ++ framed task text.now)
@@ -282,14 +284,14 @@ fn put_framed(task: Task, text: &str, waiting: &mut Vec<u8>) -> Result<(), Alloc
     let (before, after) = frame(task);
     match put_parts(before, text, after, waiting) {
         Ok(()) => Ok(()),
-        Err(refused) => {
+        Err(error) => {
             waiting.truncate(start);
-            Err(refused)
+            Err(error)
         }
     }
 }
 
-/// What is before and after an answer or a report in its line.
+/// The texts before and after an answer or a report in its line.
 fn frame(task: Task) -> (&'static str, &'static str)
     ensures { (text : List ℕ) → result.0.now ++ text ++ result.1.now ≡ framed task text }
 {
@@ -299,14 +301,14 @@ fn frame(task: Task) -> (&'static str, &'static str)
     }
 }
 
-/// Appends the line that holds a fault.
+/// Appends the line with a fault.
 fn put_fault(fault: &Fault, waiting: &mut Vec<u8>) -> Result<(), AllocError>
     ensures { OnOk result (waiting.new.items ≡ waiting.old.items ++ fault_line fault.now) }
 {
     put_parts("{\"fault\":\"", fault.name(), "\"}\n", waiting)
 }
 
-/// Appends three texts, or a beginning of them where memory is refused.
+/// Appends three texts, or a beginning of them if an allocation fails.
 fn put_parts(before: &str, text: &str, after: &str, waiting: &mut Vec<u8>) -> Result<(), AllocError>
     ensures { MatchResult result
         (λ _. waiting.new.items ≡ waiting.old.items ++ (before.now ++ text.now ++ after.now))

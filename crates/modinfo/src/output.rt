@@ -1,4 +1,4 @@
-//! Writing bytes, and how far a failed write got.
+//! Writing bytes, with a known result if a write fails.
 
 ghost use Rattle.std.specs.Prelude.{MatchBool};
 ghost use Rattle.std.specs.Io.KnownBytes.{Appends};
@@ -6,7 +6,7 @@ ghost use Rattle.modinfo.specs.Run.{AppendsFront};
 
 use std::io::{ErrorKind, Write};
 
-/// Writes the bytes, or a beginning of them where a write fails. Returns whether all were written.
+/// Writes the bytes, or a beginning of them if a write fails. Returns whether all were written.
 pub fn write_front<W: Write>(output: &mut W, bytes: &[u8]) -> bool
     ensures { MatchBool result (Appends (W.contents output.old) (W.contents output.new) bytes.now)
         (AppendsFront (W.contents output.old) (W.contents output.new) bytes.now) }

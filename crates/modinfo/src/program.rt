@@ -2,31 +2,36 @@ ghost use Rattle.std.specs.Prelude.{◌≡◌, [], ◌∷◌, ◌++◌, ℕ, Boo
 ghost use Rattle.std.specs.Prelude.{MatchResult, OnOk, true};
 ghost use Rattle.std.specs.Io.KnownBytes.{Appends, Keeps};
 ghost use Rattle.modinfo.specs.Answer.{IsRunFault, name_of};
-ghost use Rattle.modinfo.specs.Invocation.{Flags, are_strict, flag_words, have_lines, invocation_of};
+ghost use Rattle.modinfo.specs.CommandLine.{Flags, are_strict, flag_words, have_lines};
+ghost use Rattle.modinfo.specs.internal.CommandLine.{command_line_of};
 ghost use Rattle.modinfo.specs.Lines.{IsLinesRun, LeavesFirstLines, LeavesLines};
-ghost use Rattle.modinfo.specs.Run.{AppendsFront, IsFailure, IsRun, Leaves, LeavesFault, PrintsAnswer, PrintsReport, error_line};
+ghost use Rattle.modinfo.specs.Run.{AppendsFront, IsFailure, IsRun, PrintsAnswer, PrintsReport, error_line};
+ghost use Rattle.modinfo.specs.internal.Run.{Leaves, LeavesFault};
 
+use crate::command_line::{CommandLine, HELP, USAGE, VERSION, unexpected_word};
 use crate::fault::Fault;
 use crate::input::read_to_end;
-use crate::invocation::{HELP, Invocation, USAGE, VERSION, unexpected_word};
-use crate::lines::answer_lines;
+use crate::lines::run_lines;
 use crate::output::write_front;
 use crate::subcommand::Subcommand;
 use crate::task::{Printed, Task};
 use std::alloc::Global;
 use std::io::{self, Read, Write};
 
-/// One run of the program, and its exit status. `words` are the arguments after the program's name:
-/// `analyze`, `convert` or `reach`, and then `--lines` or not; `check`, and then one of these three
-/// or none, and then `--lines`, `--strict`, both or none; or `--help`, `-h` or `--version` alone.
+/// Runs the program, and returns the exit status. `words` are the arguments after the program's name:
+/// `analyze`, `convert` or `reach`, optionally followed by `--lines`; `check`, optionally followed by
+/// one of these three, and then by `--lines`, `--strict` or both; or `--help`, `-h` or `--version`
+/// alone.
 ///
-/// `--help`, `-h` and `--version` read nothing and print their text: status 0. The others read `input` to
-/// its end and write one line of JSON to `output`: status 0. Where that fails `errors` gets a line
-/// with the fault's name, and `output` nothing, or a beginning where a write failed: status 1. A
-/// check prints its report, and has status 1 too where the document has a fault, or with `--strict`
-/// a warning. With `--lines` each line of the input is a document, for which one line is printed, and
-/// only a failed read, write or allocation ends the run. Other words print a line on the usage to
-/// `errors`, and one that names the first wrong word: status 2. A failed write to `errors` is ignored.
+/// - Status 0: `--help`, `-h` and `--version` print their text. The other commands read `input` to its
+///   end and write one line of JSON to `output`.
+/// - Status 1: there was a fault. `errors` gets a line with its name, and `output` nothing, or a
+///   beginning if a write failed. A check whose document has a fault, or with `--strict` a warning,
+///   prints its report and has status 1.
+/// - Status 2: wrong arguments. `errors` gets a line on the usage, and one with the first wrong argument.
+///
+/// With `--lines` each line of the input is a document, for which one line is printed; only a failed
+/// read, write or allocation ends the run. A failed write to `errors` is ignored.
 pub fn serve<R: Read, W: Write, E: Write>(
     alloc: Global,
     words: &[&str],
@@ -72,11 +77,11 @@ pub fn serve<R: Read, W: Write, E: Write>(
         result }
     ensures usage { result ≡ 2 → Keeps (W.contents output.old) (W.contents output.new) }
 {
-    let Some(invocation) = Invocation::from_words(words) else {
+    let Some(command_line) = CommandLine::from_words(words) else {
         print_usage(errors, unexpected_word(words));
         return 2;
     };
-    match answer(alloc, invocation, input, output) {
+    match answer(alloc, command_line, input, output) {
         Ok(passes) => status_of(passes),
         Err(fault) => {
             print_fault(errors, &fault);
@@ -85,13 +90,14 @@ pub fn serve<R: Read, W: Write, E: Write>(
     }
 }
 
+/// The exit status of a run that printed its result.
 fn status_of(passes: bool) -> u8
     ensures { result ≡ (if passes then 0 else 1) }
 {
     if passes { 0 } else { 1 }
 }
 
-/// Prints the usage, and the word that isn't part of it. A write that fails ends the text there.
+/// Prints the usage, and the first wrong argument. A failed write ends the text.
 fn print_usage<E: Write>(errors: &mut E, unexpected: Option<&str>) {
     if !write_front(errors, USAGE.as_bytes()) || !write_front(errors, b"\nmodinfo: ") {
         return;
@@ -108,8 +114,7 @@ fn print_usage<E: Write>(errors: &mut E, unexpected: Option<&str>) {
     }
 }
 
-/// Prints which word is not expected, with escapes for what a terminal would not show. Returns whether
-/// all of it was written.
+/// Prints the wrong argument, with escapes for invisible characters. Returns whether all was written.
 fn print_unexpected<E: Write>(errors: &mut E, word: &str) -> bool {
     if !write_front(errors, b"unexpected argument \"") {
         return false;
@@ -123,7 +128,7 @@ fn print_unexpected<E: Write>(errors: &mut E, word: &str) -> bool {
     write_front(errors, b"\"")
 }
 
-/// Prints the line of a fault. A write that fails ends the line there.
+/// Prints the line of a fault. A failed write ends the line.
 fn print_fault<E: Write>(errors: &mut E, fault: &Fault)
     ensures { AppendsFront (E.contents errors.old) (E.contents errors.new) (error_line fault.now) }
 {
@@ -132,7 +137,7 @@ fn print_fault<E: Write>(errors: &mut E, fault: &Fault)
     }
 }
 
-/// Prints a text and a line feed. A write that fails ends the line there.
+/// Prints a text and a line feed. A failed write ends the line.
 fn print_line<E: Write>(errors: &mut E, text: &str)
     ensures { AppendsFront (E.contents errors.old) (E.contents errors.new) (text.now ++ codes "\n") }
 {
@@ -141,40 +146,41 @@ fn print_line<E: Write>(errors: &mut E, text: &str)
     }
 }
 
-/// Runs an invocation, and returns whether what was printed lets the run pass.
+/// Runs a command line, and returns whether its checks passed; true without a check.
 fn answer<R: Read, W: Write>(
     alloc: Global,
-    invocation: Invocation,
+    command_line: CommandLine,
     input: &mut R,
     output: &mut W,
 ) -> Result<bool, Fault>
-    ensures answer { (subcommand : Subcommand) → invocation ≡ Invocation.Document (Task.Answer subcommand)
+    ensures answer { (subcommand : Subcommand) → command_line ≡ CommandLine.Document (Task.Answer subcommand)
         → (document : List ℕ) × IfSome (R.remaining input.old) (λ left. document ≡ left)
         × MatchResult result
         (Leaves (PrintsAnswer subcommand document) (W.contents output.old) (W.contents output.new))
         (LeavesFault (IsRunFault subcommand document) (W.contents output.old) (W.contents output.new)) }
     ensures check { (subcommand : Subcommand) → (is_strict : Bool)
-        → invocation ≡ Invocation.Document (Task.Check subcommand is_strict)
+        → command_line ≡ CommandLine.Document (Task.Check subcommand is_strict)
         → (document : List ℕ) × IfSome (R.remaining input.old) (λ left. document ≡ left)
         × MatchResult result
         (Leaves (PrintsReport subcommand is_strict document) (W.contents output.old) (W.contents output.new))
         (LeavesFault IsFailure (W.contents output.old) (W.contents output.new)) }
-    ensures lines { (task : Task) → invocation ≡ Invocation.Lines task
+    ensures lines { (task : Task) → command_line ≡ CommandLine.Lines task
         → MatchResult result
         (LeavesLines task (R.remaining input.old) (W.contents output.old) (W.contents output.new))
         (LeavesFirstLines task (R.remaining input.old) (W.contents output.old) (W.contents output.new)) }
 {
-    match invocation {
-        Invocation::Help => print(output, HELP)?,
-        Invocation::Version => print(output, VERSION)?,
-        Invocation::Document(task) => return answer_document(alloc, task, input, output),
-        Invocation::Lines(task) => return answer_lines(alloc, task, input, output),
+    match command_line {
+        CommandLine::Help => print(output, HELP)?,
+        CommandLine::Version => print(output, VERSION)?,
+        CommandLine::Document(task) => return run_document(alloc, task, input, output),
+        CommandLine::Lines(task) => return run_lines(alloc, task, input, output),
     }
     Ok(true)
 }
 
-/// Reads the input, which is one document, and prints one line for it.
-fn answer_document<R: Read, W: Write>(
+/// Reads the input, which is one document, and prints one line. Returns whether its check passed; true
+/// without a check.
+fn run_document<R: Read, W: Write>(
     alloc: Global,
     task: Task,
     input: &mut R,

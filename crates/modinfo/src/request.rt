@@ -1,42 +1,41 @@
-//! What is read of a document, and the JSON that is printed for it.
+//! From a document to the answer.
 
 ghost use Rattle.std.specs.Prelude.{◌≡◌, ℕ, List, MatchResult, Some};
 ghost use Rattle.std.specs.String.{string_bytes};
 ghost use Rattle.serde_json.specs.Read.{read as read_text};
 ghost use Rattle.serde_json.specs.View.{view};
 ghost use Rattle.deno_graph_source.specs.ParsedSource.{ParsedModule};
-ghost use Rattle.deno_graph_ast.specs.InfoOfModule.{IsInfoOfModule};
-ghost use Rattle.modinfo_notation.specs.Document.{IsDocumentOf};
+ghost use Rattle.deno_graph_module_info.specs.InfoOfModule.{IsInfoOfModule};
+ghost use Rattle.modinfo_document.specs.Document.{IsDocumentOf};
 ghost use Rattle.modinfo.specs.Answer.{IsAnswerText, IsConversionOf, IsConvertedText, IsDocumentFault};
 ghost use Rattle.modinfo.specs.Answer.{IsInfoText, IsModuleOf, IsNoConversion, IsNoModule};
-ghost use Rattle.modinfo.specs.Request.{IsReadFrom, subcommand_of};
+ghost use Rattle.modinfo.specs.internal.Request.{IsReadFrom, subcommand_of};
 
 use crate::fault::Fault;
 use crate::input::{document_of, parse_json};
 use crate::reach::reach_text;
 use crate::subcommand::Subcommand;
-use deno_graph_ast::module_info;
-use deno_graph_info::analysis::{ModuleInfo, module_graph_1_into_2};
+use deno_graph_info::analysis::{ModuleInfo, module_graph_1_to_2_owned};
+use deno_graph_module_info::module_info;
 use deno_graph_source::tree::ParsedSource;
-use modinfo_notation::Document;
+use modinfo_document::Document;
 use serde_json::Value;
 use std::alloc::Global;
 
-/// What was read of a document. Holds none of its bytes, so that they can be dropped before the answer
-/// is made.
+/// A document that was read. Borrows none of the input, which can be dropped before the answer is made.
 #[derive(Drop)]
 pub enum Request {
-    /// A module in the notation, whose tree isn't checked yet.
+    /// A module document, whose tree isn't checked yet.
     Analyze(Document),
-    /// The information of one module, as version 1 stored it.
+    /// The stored information of one module, of version 1.
     Convert(Value),
-    /// A root, and the information of many modules.
+    /// A root, and the information on modules.
     Reach(Value),
 }
 
 impl Request {
-    /// Reads a document of the subcommand. The error is a fault of the document, or `OutOfMemory` where
-    /// an allocation fails.
+    /// Reads a document of the subcommand. The error is a fault of the document, or `OutOfMemory` if an
+    /// allocation fails.
     pub fn read(alloc: Global, subcommand: Subcommand, document: &[u8]) -> Result<Request, Fault>
         ensures { MatchResult result
             (λ request. (subcommand_of request ≡ subcommand) × IsReadFrom document.now request)
@@ -49,8 +48,8 @@ impl Request {
         }
     }
 
-    /// What is printed for the document: compact JSON, without a line feed. The error is a fault of the
-    /// document, or `OutOfMemory` where an allocation fails.
+    /// The answer to the document: compact JSON, without a line feed. The error is a fault of the
+    /// document, or `OutOfMemory` if an allocation fails.
     pub fn answer(self, alloc: Global) -> Result<String, Fault>
         ensures { (document : List ℕ) → IsReadFrom document self → MatchResult result
             (λ text. IsAnswerText (subcommand_of self) document (string_bytes text))
@@ -64,6 +63,7 @@ impl Request {
     }
 }
 
+/// The information on the module of a document, as JSON.
 fn analyze(alloc: Global, document: Document) -> Result<String, Fault>
     ensures { (text : List ℕ) → IsDocumentOf text document
         → MatchResult result (λ printed. IsInfoText text (string_bytes printed)) (IsNoModule text) }
@@ -71,7 +71,7 @@ fn analyze(alloc: Global, document: Document) -> Result<String, Fault>
     Ok(info_of(alloc, document)?.to_json(alloc)?)
 }
 
-/// Drops the tree before what was found is written.
+/// The information on the module of a document. Drops the tree.
 fn info_of(alloc: Global, document: Document) -> Result<ModuleInfo, Fault>
     ensures { (text : List ℕ) → IsDocumentOf text document → MatchResult result
         (λ info. (module_ : ParsedModule) × IsModuleOf text module_ × IsInfoOfModule module_ info)
@@ -81,7 +81,7 @@ fn info_of(alloc: Global, document: Document) -> Result<ModuleInfo, Fault>
     Ok(module_info(alloc, &source)?)
 }
 
-/// The source of a document in the notation, whose tree has to fit it.
+/// The source of a document.
 fn source_of(alloc: Global, document: Document) -> Result<ParsedSource, Fault>
     ensures { (text : List ℕ) → IsDocumentOf text document
         → MatchResult result (IsModuleOf text) (IsNoModule text) }
@@ -89,6 +89,7 @@ fn source_of(alloc: Global, document: Document) -> Result<ParsedSource, Fault>
     Ok(document.into_source(alloc)?)
 }
 
+/// The converted information, as JSON.
 fn convert(alloc: Global, before: Value) -> Result<String, Fault>
     ensures { (document : List ℕ) → read_text document ≡ Some (view before)
         → MatchResult result (λ text. IsConvertedText document (string_bytes text))
@@ -97,10 +98,11 @@ fn convert(alloc: Global, before: Value) -> Result<String, Fault>
     Ok(converted(alloc, before)?.to_string(alloc)?)
 }
 
+/// Converts stored information.
 fn converted(alloc: Global, before: Value) -> Result<Value, Fault>
     ensures { (document : List ℕ) → read_text document ≡ Some (view before)
         → MatchResult result (λ after. IsConversionOf document (view after))
         (IsNoConversion document) }
 {
-    Ok(module_graph_1_into_2(alloc, before)?)
+    Ok(module_graph_1_to_2_owned(alloc, before)?)
 }

@@ -1,12 +1,12 @@
-//! What the program can be asked for, each from a text to the JSON that is printed.
+//! The subcommands of the program.
 
 ghost use Rattle.std.specs.Prelude.{◌≡◌, ◌≢◌, ℕ, IfOk, IfSome, List, MatchResult, None};
 ghost use Rattle.std.specs.String.{string_bytes};
-ghost use Rattle.modinfo_report.specs.Report.{MatchReport};
+ghost use Rattle.modinfo_document.specs.Report.{MatchReport};
 ghost use Rattle.modinfo.specs.Answer.{IsAnswerLine, IsAnswerText, IsDocumentFault, IsFaultyDocument};
 ghost use Rattle.modinfo.specs.Answer.{IsInputFault, IsValidDocument, name_of};
 
-use crate::check::{Report, check_document, check_modules, check_stored, report_bytes};
+use crate::check::{Report, check_document, check_modules, check_stored, report_invalid_utf8};
 use crate::fault::Fault;
 use crate::input::read_to_end;
 use crate::request::Request;
@@ -14,19 +14,19 @@ use simdutf8::compat;
 use std::alloc::{AllocError, Global};
 use std::io::Read;
 
-/// What the program is asked for.
+/// A subcommand of the program.
 #[derive(Debug, Clone, Copy, PartialEq, Eq)]
 pub enum Subcommand {
-    /// From a document in the notation to the module's information.
+    /// From a module document to the `ModuleInfo`.
     Analyze,
-    /// From the information of one module, as version 1 stored it, to that of version 2.
+    /// From the stored information of one module, of version 1, to that of version 2.
     Convert,
-    /// From a root and the information of many modules to the keys that the root reaches.
+    /// From a root and the information on modules to the keys that the root reaches.
     Reach,
 }
 
 impl Subcommand {
-    /// The subcommand of this name, if it is one.
+    /// The subcommand of this name, if there is one.
     pub fn from_name(name: &str) -> Option<Subcommand>
         ensures some { IfSome result (λ subcommand. name.now ≡ name_of subcommand) }
         ensures none { result ≡ None → (subcommand : Subcommand) → name.now ≢ name_of subcommand }
@@ -39,9 +39,8 @@ impl Subcommand {
         }
     }
 
-    /// Reads the input to its end and returns what is printed for it: compact JSON and a line feed.
-    /// The error is a fault of the document; or `Input` where a read fails, or `OutOfMemory` where an
-    /// allocation does.
+    /// Reads the input to its end, and returns the answer: compact JSON and a line feed. The error is a
+    /// fault of the document, `Input` if a read fails, or `OutOfMemory` if an allocation fails.
     pub fn answer<R: Read>(self, alloc: Global, input: &mut R) -> Result<String, Fault>
         ensures { (document : List ℕ) × IfSome (R.remaining input.old) (λ left. document ≡ left)
             × MatchResult result (λ line. IsAnswerLine self document (string_bytes line))
@@ -51,7 +50,7 @@ impl Subcommand {
         self.answer_line(alloc, bytes)
     }
 
-    /// Like `answer`, for a document in memory, which is read where it is.
+    /// Like `answer`, for a document in memory, which isn't copied.
     pub fn answer_slice(self, alloc: Global, document: &[u8]) -> Result<String, Fault>
         ensures { MatchResult result (λ line. IsAnswerLine self document.now (string_bytes line))
             (IsDocumentFault self document.now) }
@@ -61,6 +60,7 @@ impl Subcommand {
         Ok(line)
     }
 
+    /// Like `answer`, for a document in memory. Drops the input before the tree is checked.
     fn answer_line(self, alloc: Global, input: Vec<u8>) -> Result<String, Fault>
         ensures { MatchResult result (λ line. IsAnswerLine self input.items (string_bytes line))
             (IsDocumentFault self input.items) }
@@ -70,8 +70,8 @@ impl Subcommand {
         Ok(line)
     }
 
-    /// What is printed for a whole document: compact JSON, without a line feed. The error is a fault
-    /// of the document, or `OutOfMemory` where an allocation fails.
+    /// The answer to a document: compact JSON, without a line feed. The error is a fault of the
+    /// document, or `OutOfMemory` if an allocation fails.
     pub fn answer_text(self, alloc: Global, document: &[u8]) -> Result<String, Fault>
         ensures { MatchResult result (λ text. IsAnswerText self document.now (string_bytes text))
             (IsDocumentFault self document.now) }
@@ -91,14 +91,14 @@ impl Subcommand {
 }
 
 impl Subcommand {
-    /// The report on a document of this subcommand. The only error is that memory was refused.
+    /// Checks a document of this subcommand. The only error is a failed allocation.
     pub fn check(self, alloc: Global, document: &[u8]) -> Result<Report, AllocError>
         ensures { IfOk result (MatchReport (IsValidDocument self document.now)
             (IsFaultyDocument self document.now)) }
     {
         let text = match compat::from_utf8(document) {
             Ok(text) => text,
-            Err(error) => return report_bytes(alloc, document, error.valid_up_to()),
+            Err(error) => return report_invalid_utf8(alloc, document, error.valid_up_to()),
         };
         match self {
             Subcommand::Analyze => check_document(alloc, text),

@@ -6,30 +6,29 @@ use crate::lines::print_lines;
 use crate::subcommand::Subcommand;
 use std::alloc::{AllocError, Global};
 
-/// What is done with each document.
+/// What the program does with each document.
 #[derive(Debug, Clone, Copy, PartialEq, Eq)]
 pub enum Task {
-    /// Prints what the subcommand makes of the document.
+    /// Prints the answer of the subcommand to the document.
     Answer(Subcommand),
-    /// Prints a report on the document, as one of the subcommand. Where the check is strict a warning
-    /// counts as a fault does.
+    /// Prints a report on the document of the subcommand. In a strict check a warning counts as a fault.
     Check {
         subcommand: Subcommand,
         is_strict: bool,
     },
 }
 
-/// What is printed for a document.
+/// The printed result for a document.
 #[derive(Debug, PartialEq, Eq, Drop)]
 pub struct Printed {
     /// One line of JSON, without a line feed.
     pub line: String,
-    /// Whether the check passed; true where no check was asked for.
+    /// Whether the check passed; true without a check.
     pub is_passed: bool,
 }
 
 impl Task {
-    /// What is printed for a document. The error is a fault of the document, or `OutOfMemory` where
+    /// The printed result for a document. The error is a fault of the document, or `OutOfMemory` where
     /// an allocation fails; of a check the second alone.
     pub fn print(self, alloc: Global, document: &[u8]) -> Result<Printed, Fault>
         ensures { MatchResult result (IsPrinted self document.now) (IsPrintFault self document.now) }
@@ -66,8 +65,8 @@ impl Task {
         }
     }
 
-    /// What is printed for each line of a text, which is a document, in the same order: the output of
-    /// a run with `--lines`. The only error is that an allocation failed.
+    /// The output of a run with `--lines` over a text: for each line, which is a document, one line, in
+    /// the same order. The only error is a failed allocation.
     pub fn print_lines(self, alloc: Global, documents: &[u8]) -> Result<Vec<u8>, AllocError>
         ensures { IfOk result (λ printed. (passes : Bool)
             × PrintsLines self (lines_of documents.now) passes printed.items) }

@@ -1,4 +1,4 @@
--- What a call leaves in the memory of its caller.
+-- The status of a call, and what the call writes to the memory of its caller.
 use Rattle.std.specs.Prelude.{
   ◌≡◌,
   ◌++◌,
@@ -24,38 +24,38 @@ use Rattle.modinfo.specs.declared.subcommand.Subcommand.TheVariants.{Analyze, Co
 use Rattle.modinfo.specs.declared.task.Task.{Task}
 use Rattle.modinfo.specs.declared.task.Task.TheVariants.{Answer, Check}
 
--- The text is at the front of the room, and the bytes after it are as they were.
+-- The text was written to the start of the buffer, and the other bytes are unchanged.
 pub record IsPut (text before after : List ℕ) : Type 0 where
   pub fits : length text ≤ length before
   pub is : after ≡ text ++ drop (length text) before
 
--- With the wanted status the text is put into the room; with status 2 the text is longer than the room, and
--- the room is as it was. In both cases `needed` is the length of the text.
+-- With the wanted status the text was written to the buffer. With status 2 the text is longer than the
+-- buffer, which is unchanged. In both cases `needed` is the length of the text.
 pub data IsLeft (text : List ℕ) (wanted : ℕ) (before after : List ℕ) (needed status : ℕ) : Type 0 where
   put : status ≡ wanted → needed ≡ length text → IsPut text before after
       → IsLeft text wanted before after needed status
   too_small : status ≡ 2 → needed ≡ length text → length before < length text → after ≡ before
       → IsLeft text wanted before after needed status
 
--- With status 0 an answer is put into the room, with status 1 the name of a fault of the document; with
--- status 2 what would have been put there is longer than the room, and the room is as it was. In each case
--- `needed` is the length of the answer or name.
+-- With status 0 an answer was written to the buffer, with status 1 the name of a fault of the document. With
+-- status 2 the answer or name is longer than the buffer, which is unchanged. In each case `needed` is the
+-- length of the answer or name.
 pub data IsAnswered (IsAnswer : List ℕ → Type 0) (IsFault : Fault → Type 0) (before after : List ℕ)
     (needed status : ℕ) : Type 0 where
   answered : (line : List ℕ) → IsAnswer line → IsLeft line 0 before after needed status
       → IsAnswered IsAnswer IsFault before after needed status
-  refused : (fault : Fault) → IsFault fault → IsLeft (name_of_fault fault) 1 before after needed status
+  faulted : (fault : Fault) → IsFault fault → IsLeft (name_of_fault fault) 1 before after needed status
       → IsAnswered IsAnswer IsFault before after needed status
 
--- The one fault of a check: an allocation failed.
+-- The only fault of a check: an allocation failed.
 abbrev pub IsOutOfMemory : Fault → Type 0
 IsOutOfMemory fault = fault ≡ OutOfMemory
 
--- Of the text of a report nothing is said.
+-- Any text: nothing is proved about the text of a report.
 abbrev pub IsReport : List ℕ → Type 0
 IsReport line = Unit {0}
 
--- The command that a number stands for, if it stands for one.
+-- The task of a command by its number, if there is one.
 abbrev pub task_of : ℕ → Option Task
 task_of command =
     if command == 0 then Some (Answer Analyze)
@@ -66,6 +66,6 @@ task_of command =
     else if command == 5 then Some (Check Reach false)
     else None
 
--- The text has what is printed for each line of the documents, in their order.
+-- The text has the printed lines for the lines of the documents, in the same order.
 abbrev pub IsLinesText : Task → List ℕ → List ℕ → Type 0
 IsLinesText task documents text = (passes : Bool) × PrintsLines task (lines_of documents) passes text

@@ -1,5 +1,5 @@
-//! `modinfo` for a process that has a parser of its own: a static library for C, Rust, Python and
-//! whatever else calls functions of C. `include/modinfo.h` declares what it exports.
+//! `modinfo` as a static library for C, Rust, Python and other languages that can call C functions.
+//! `include/modinfo.h` declares the functions.
 #![tactic(auto)]
 
 ghost use Rattle.std.specs.Prelude.{◌≡◌, false, None, Some};
@@ -10,22 +10,22 @@ ghost use Rattle.modinfo_c.specs.Call.{IsAnswered, IsLeft, IsLinesText, IsOutOfM
 use modinfo::{Fault, Subcommand, Task};
 use std::alloc::{AllocError, Global};
 
-/// The answer is in the caller's room.
+/// Status: the answer is in the buffer.
 const ANSWERED: u8 = 0;
 
-/// A fault's name is in the caller's room.
+/// Status: the name of a fault is in the buffer.
 const FAULT: u8 = 1;
 
-/// The caller's room is too small for the answer or the fault's name.
+/// Status: the buffer is too small for the answer or the name of the fault.
 const TOO_SMALL: u8 = 2;
 
-/// The number of the command is that of no command.
+/// Status: no command has this number.
 const NO_COMMAND: u8 = 3;
 
-/// The version in whole numbers, `MAJOR * 10000 + MINOR * 100 + PATCH`: that of `modinfo --version`.
+/// The version of `modinfo --version` as a number, `MAJOR * 10000 + MINOR * 100 + PATCH`.
 const VERSION: u32 = 100;
 
-/// The version, as `MODINFO_VERSION` of the header that belongs to this library.
+/// Returns the version, which is `MODINFO_VERSION` in the header for this library.
 #[unsafe(no_mangle)]
 pub extern "C" fn modinfo_version() -> u32
     ensures { result ≡ 100 }
@@ -33,8 +33,9 @@ pub extern "C" fn modinfo_version() -> u32
     VERSION
 }
 
-/// `modinfo analyze`, from one piece of memory into another. Answers the status, and leaves in
-/// `length` how many bytes were, or with status 2 would be, written.
+/// Runs `modinfo analyze` on a document, and writes the answer or the name of the fault to the buffer
+/// `answer`. Returns the status. Sets `length` to the number of bytes that were written, with status 2
+/// to the number of bytes that the buffer needs.
 #[unsafe(no_mangle)]
 pub extern "C" fn modinfo_analyze(
     alloc: Global,
@@ -48,7 +49,7 @@ pub extern "C" fn modinfo_analyze(
     call(alloc, Subcommand::Analyze, document, answer, length)
 }
 
-/// `modinfo convert`, likewise.
+/// Runs `modinfo convert`. Otherwise like `modinfo_analyze`.
 #[unsafe(no_mangle)]
 pub extern "C" fn modinfo_convert(
     alloc: Global,
@@ -62,7 +63,7 @@ pub extern "C" fn modinfo_convert(
     call(alloc, Subcommand::Convert, document, answer, length)
 }
 
-/// `modinfo reach`, likewise.
+/// Runs `modinfo reach`. Otherwise like `modinfo_analyze`.
 #[unsafe(no_mangle)]
 pub extern "C" fn modinfo_reach(
     alloc: Global,
@@ -76,8 +77,8 @@ pub extern "C" fn modinfo_reach(
     call(alloc, Subcommand::Reach, document, answer, length)
 }
 
-/// `modinfo check`: the answer is the report on a document of `modinfo analyze`, also where that has
-/// a fault.
+/// Runs `modinfo check` on a document of `modinfo analyze`. The answer is the report, even on a document
+/// with a fault. Otherwise like `modinfo_analyze`.
 #[unsafe(no_mangle)]
 pub extern "C" fn modinfo_check(
     alloc: Global,
@@ -90,7 +91,7 @@ pub extern "C" fn modinfo_check(
     check(alloc, Subcommand::Analyze, document, answer, length)
 }
 
-/// `modinfo check convert`, likewise.
+/// Runs `modinfo check convert`. Otherwise like `modinfo_check`.
 #[unsafe(no_mangle)]
 pub extern "C" fn modinfo_check_convert(
     alloc: Global,
@@ -103,7 +104,7 @@ pub extern "C" fn modinfo_check_convert(
     check(alloc, Subcommand::Convert, document, answer, length)
 }
 
-/// `modinfo check reach`, likewise.
+/// Runs `modinfo check reach`. Otherwise like `modinfo_check`.
 #[unsafe(no_mangle)]
 pub extern "C" fn modinfo_check_reach(
     alloc: Global,
@@ -116,8 +117,9 @@ pub extern "C" fn modinfo_check_reach(
     check(alloc, Subcommand::Reach, document, answer, length)
 }
 
-/// `modinfo analyze --lines` and the other commands, by their number: the answer is a line for each
-/// line of the documents, in the same order. The only fault is `OutOfMemory`.
+/// Runs a command, by its number, with `--lines` on documents, one per line. The answer has a line for
+/// each document, in the same order. The only fault is `OutOfMemory`. Otherwise like
+/// `modinfo_analyze`.
 #[unsafe(no_mangle)]
 pub extern "C" fn modinfo_lines(
     alloc: Global,
@@ -142,6 +144,7 @@ pub extern "C" fn modinfo_lines(
     }
 }
 
+/// The task of a command by its number.
 fn task_of(command: u8) -> Option<Task>
     ensures { result ≡ task_of command }
 {
@@ -156,6 +159,7 @@ fn task_of(command: u8) -> Option<Task>
     }
 }
 
+/// A check that isn't strict.
 fn check_of(subcommand: Subcommand) -> Task
     ensures { result ≡ Task.Check subcommand false }
 {
@@ -165,6 +169,7 @@ fn check_of(subcommand: Subcommand) -> Task
     }
 }
 
+/// Writes the report on a document.
 fn check(
     alloc: Global,
     subcommand: Subcommand,
@@ -180,6 +185,7 @@ fn check(
     }
 }
 
+/// The report on a document, with a line feed.
 fn report_line(
     alloc: Global,
     subcommand: Subcommand,
@@ -190,6 +196,7 @@ fn report_line(
     Ok(line)
 }
 
+/// Writes the answer to a document.
 fn call(
     alloc: Global,
     subcommand: Subcommand,
@@ -206,13 +213,14 @@ fn call(
     }
 }
 
+/// Writes the name of a fault.
 fn put_name(fault: &Fault, answer: &mut [u8], length: &mut usize) -> u8
     ensures { IsLeft (name_of_fault fault.now) 1 answer.old answer.new length.new result }
 {
     put(fault.name().as_bytes(), FAULT, answer, length)
 }
 
-/// Copies bytes to the front of the room, if they fit.
+/// Writes bytes to the start of the buffer, if they fit.
 fn put(bytes: &[u8], status: u8, answer: &mut [u8], length: &mut usize) -> u8
     ensures { IsLeft bytes.now status answer.old answer.new length.new result }
 {

@@ -1,13 +1,13 @@
-//! Documents broken by chance.
+//! Random changes of documents.
 
 use rand_core::Rng;
 use rand_pcg::Pcg32;
 use std::alloc::{AllocError, Global};
 
-/// Bytes that mean something in JSON, and some that can't be in it.
+/// Bytes of JSON, and some that JSON doesn't have.
 const BYTES: &[u8] = b"\"\\[]{},:-+.0123456789eEntf \n\0\x7f\x80\xc3\xe2\xf0\xff";
 
-/// Numbers at the limits of what is read, and what is no number there.
+/// Numbers at the limits of what is read, and texts that are no numbers.
 const NUMBERS: [&str; 12] = [
     "0",
     "-0",
@@ -25,7 +25,7 @@ const NUMBERS: [&str; 12] = [
 
 const DEEPEST: usize = 140;
 
-/// One of the documents, broken as the seed says.
+/// One of the documents, changed by a seed.
 pub fn broken_by(alloc: Global, seed: u64, documents: &[&str]) -> Result<Vec<u8>, AllocError> {
     broken(alloc, &mut Pcg32::new(seed, 0), documents)
 }
@@ -41,8 +41,8 @@ fn broken(alloc: Global, generator: &mut Pcg32, documents: &[&str]) -> Result<Ve
     Ok(bytes)
 }
 
-/// The bytes with one change: another byte, a part cut or doubled, another number, another word or
-/// deeper nesting.
+/// The bytes with one change: another byte, a part removed or repeated, another number, another word,
+/// or deeper nesting.
 fn changed(alloc: Global, generator: &mut Pcg32, bytes: &[u8]) -> Result<Vec<u8>, AllocError> {
     let kind = below(generator, 8);
     let start = below(generator, bytes.len());
@@ -69,7 +69,7 @@ fn changed(alloc: Global, generator: &mut Pcg32, bytes: &[u8]) -> Result<Vec<u8>
     }
 }
 
-/// The first number at or behind `from` becomes another one.
+/// Replaces the first number at or after `from`.
 fn renumbered(
     alloc: Global,
     generator: &mut Pcg32,
@@ -99,7 +99,7 @@ fn renumbered(
     }
 }
 
-/// A part between quotes becomes another such part.
+/// Replaces a part between quotes by another such part.
 fn reworded(alloc: Global, generator: &mut Pcg32, bytes: &[u8]) -> Result<Vec<u8>, AllocError> {
     let mut quotes = Vec::new(alloc);
     for (at, byte) in bytes.iter().enumerate() {
@@ -112,7 +112,7 @@ fn reworded(alloc: Global, generator: &mut Pcg32, bytes: &[u8]) -> Result<Vec<u8
     spliced(alloc, bytes, start, end, bytes.get(from..to).unwrap_or(&[]))
 }
 
-/// The places of a quote of an even number and of the one behind it.
+/// The offsets of a quote with an even number and of the next quote.
 fn between(generator: &mut Pcg32, quotes: &[usize]) -> (usize, usize) {
     let at = below(generator, quotes.len()) & !1;
     let start = quotes.get(at).copied().unwrap_or(0);
@@ -120,7 +120,7 @@ fn between(generator: &mut Pcg32, quotes: &[usize]) -> (usize, usize) {
     (start, end)
 }
 
-/// Brackets that open before `at` and close behind it.
+/// Brackets that open before `at` and close after.
 fn nested(
     alloc: Global,
     generator: &mut Pcg32,
@@ -139,7 +139,7 @@ fn nested(
     )
 }
 
-/// The bytes with `with` in the place of those from `start` to `end`.
+/// The bytes with those from `start` to `end` replaced by `with`.
 fn spliced(
     alloc: Global,
     bytes: &[u8],
@@ -154,7 +154,7 @@ fn spliced(
     Ok(spliced)
 }
 
-/// A number below `bound`, and 0 where there is none.
+/// A number below `bound`, 0 if there is none.
 fn below(generator: &mut Pcg32, bound: usize) -> usize {
     let drawn = generator.next_u32() as usize;
     if bound == 0 { 0 } else { drawn % bound }

@@ -1,6 +1,6 @@
-//! Documents broken by seed, each analyzed by the program: it has to print a result with status 0, or
-//! nothing but a fault that has a name with status 1. Then one run is handed all of them, one a line,
-//! and has to answer each alike.
+//! Runs of the program on documents that are changed by a seed. Each has to print a result with status
+//! 0, or only a fault with status 1. A run over all of them, one per line, has to have the same
+//! outcomes.
 
 use crate::breaking::broken_by;
 use crate::lines::{Documents, printed};
@@ -9,8 +9,9 @@ use anyhow::{Result, bail};
 use std::alloc::Global;
 use std::fs::{self, Files};
 
-/// Prints how often each outcome comes, which is the same on each run. The documents that are broken are
-/// in `documents.txt`, one a line. A broken one without a named outcome is told by its seed.
+/// Prints the number of documents with each outcome, which is the same for each run. `documents.txt` has
+/// the documents to change, one per line. A changed document without an expected outcome is reported
+/// by its seed.
 pub fn print_outcomes<R: Files + AllocGlobal + Print>(rt: &R, count: usize) -> Result<()> {
     let text = fs::read_to_string(rt, "documents.txt")?;
     let whole: Vec<&str> = text.lines().collect(rt.alloc())?;
@@ -22,7 +23,7 @@ pub fn print_outcomes<R: Files + AllocGlobal + Print>(rt: &R, count: usize) -> R
     Ok(())
 }
 
-/// How often each outcome comes, where one run over all of them has the same.
+/// The number of documents with each outcome, if one run over all of them has the same outcomes.
 fn compared(alloc: Global, whole: &[&str], count: u64) -> Result<[u64; OUTCOMES.len()]> {
     let mut counts = [0u64; OUTCOMES.len()];
     let mut lines = Vec::new(alloc);

@@ -1,11 +1,11 @@
-//! Comments that are longer, or filed more often, than a document's are likely to be.
+//! Comments that are longer, or filed more often, than in a real document.
 
 use deno_graph_source::text::SourceRange;
 use deno_graph_source::tree::{CommentKind, Comments, DependencyComment};
 use deno_graph_source::values::Text;
 use std::alloc::{AllocError, Global};
 
-/// The text of a JSDoc comment with an import behind so many braces.
+/// The text of a JSDoc comment with an import after this number of braces.
 pub fn braces(alloc: Global, count: usize) -> Result<String, AllocError> {
     let mut text = String::from_str(alloc, "*")?;
     for _ in 0..count {
@@ -15,8 +15,8 @@ pub fn braces(alloc: Global, count: usize) -> Result<String, AllocError> {
     Ok(text)
 }
 
-/// A comment at the start of a source of this length, filed so often as leading there and as trailing
-/// at the end.
+/// A comment at the start of a source of this length, filed this number of times as leading at the start
+/// and as trailing at the end.
 pub fn filed(alloc: Global, text: &str, end: usize, count: usize) -> Result<Comments, AllocError> {
     let mut comments = Comments::new(alloc);
     for _ in 0..count {

@@ -1,17 +1,17 @@
-//! All documents in one run, one a line.
+//! One run over all documents, one per line.
 
 use crate::breaking::broken_by;
 use std::alloc::Global;
 use std::io::{Read, Result};
 
-/// Reads as the documents of the seeds, each with a line feed. Those that have one are left out.
+/// A reader of the documents of the seeds, each with a line feed. Omits documents that contain one.
 #[derive(Drop)]
 pub struct Documents<'a> {
     alloc: Global,
     whole: &'a [&'a str],
     seed: u64,
     count: u64,
-    /// The document that is being read, and how much of it was.
+    /// The current document, and the number of bytes that were read.
     line: Vec<u8>,
     read: usize,
 }
@@ -32,7 +32,7 @@ impl<'a> Documents<'a> {
         self.line.get(self.read..).unwrap_or(&[])
     }
 
-    /// Goes on to the next document that is a line, if there is one.
+    /// Moves to the next document without a line feed, if there is one.
     fn advance(&mut self) -> Result<()> {
         self.line.clear();
         self.read = 0;
@@ -61,7 +61,7 @@ impl Read for Documents<'_> {
     }
 }
 
-/// What one run over all of them prints, where it ends with status 0 and complains of nothing.
+/// The output of one run over all documents, if its status is 0 and its error output is empty.
 pub fn printed(alloc: Global, mut documents: Documents<'_>) -> Option<Vec<u8>> {
     let mut output = Vec::new(alloc);
     let mut errors = Vec::new(alloc);

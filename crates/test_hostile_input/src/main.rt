@@ -1,26 +1,26 @@
-//! Input that no one should make, and that is answered all the same: documents broken by seed, and
-//! modules made in code that are deeper, wider or longer than documents are.
+//! Tests with hostile input: documents that are changed by a seed, and modules made in code that are
+//! deeper, wider or longer than real ones.
 //!
-//!     test_hostile_input                      all of it
-//!     test_hostile_input broken COUNT         so many broken documents
+//!     test_hostile_input                      all tests
+//!     test_hostile_input broken COUNT         COUNT changed documents
 //!     test_hostile_input NAME COUNT           one of nested, calls, operands, sum, types, braces, filings
-//!     test_hostile_input NAME COUNT build     builds the module, and no more
+//!     test_hostile_input NAME COUNT build     only builds the module
 //!
-//! Status 1 where a document has no outcome that is named, or another one among all of them, and where
-//! a module can't be made.
+//! Status 1 if a document has an unexpected outcome, or another outcome in the run over all documents, or
+//! if a module can't be made.
 #![tactic(auto)]
 
 mod breaking;
 mod broken;
 mod comments;
-mod found;
 mod lines;
 mod modules;
 mod outcome;
+mod summary;
 mod trees;
 
 use crate::broken::print_outcomes;
-use crate::modules::{print_found, source};
+use crate::modules::{print_summary, source};
 use anyhow::{Context, Result};
 use std::env;
 use std::fs::Files;
@@ -56,5 +56,5 @@ fn run<R: Files + AllocGlobal + Print>(rt: &R, name: &str, count: usize) -> Resu
     if name == "broken" {
         return print_outcomes(rt, count);
     }
-    print_found(rt, name, count)
+    print_summary(rt, name, count)
 }

@@ -1,7 +1,7 @@
-//! Modules that are deeper, wider or longer than documents are, made in code and analyzed.
+//! Analysis of modules, made in code, that are deeper, wider or longer than real ones.
 
 use crate::comments::{braces, filed};
-use crate::found::{found, known_text};
+use crate::summary::{argument_summary, summary};
 use crate::trees::{calls, nested, operands, sum, types};
 use anyhow::{Context, Result, bail};
 use deno_graph_analysis::ast::module_info;
@@ -15,10 +15,10 @@ use std::alloc::{AllocError, Global};
 use std::rc::RcStr;
 use url::Url;
 
-/// Prints what is known of the dependencies of a module, equal ones in a row once with their number,
-/// and what JSDoc imports there are; of a sum what is known of it as an argument.
-pub fn print_found<R: AllocGlobal + Print>(rt: &R, name: &str, count: usize) -> Result<()> {
-    let text = found_in(rt.alloc(), name, count)?;
+/// Prints the dependencies and the JSDoc imports of a module, each with the number of its repetitions;
+/// for `sum` the value of the sum as an argument.
+pub fn print_summary<R: AllocGlobal + Print>(rt: &R, name: &str, count: usize) -> Result<()> {
+    let text = summary_of(rt.alloc(), name, count)?;
     println!(rt; "{name} {count}: {text}")?;
     if name == "braces" {
         print_starts(rt, count)?;
@@ -26,19 +26,19 @@ pub fn print_found<R: AllocGlobal + Print>(rt: &R, name: &str, count: usize) -> 
     Ok(())
 }
 
-fn found_in(alloc: Global, name: &str, count: usize) -> Result<String> {
+fn summary_of(alloc: Global, name: &str, count: usize) -> Result<String> {
     let source = source(alloc, name, count)?;
     if name == "sum" {
         return known_of_first(alloc, &source);
     }
     let info = info_of(alloc, &source)?;
-    Ok(found(alloc, &info)?)
+    Ok(summary(alloc, &info)?)
 }
 
-/// What `argument_of` knows of the first node of a module.
+/// The result of `argument_of` for the first node of a module.
 fn known_of_first(alloc: Global, source: &ParsedSource) -> Result<String> {
     let argument = first_argument(alloc, source)?.context("the module has no node")?;
-    Ok(known_text(alloc, &argument)?)
+    Ok(argument_summary(alloc, &argument)?)
 }
 
 fn first_argument(
@@ -51,12 +51,13 @@ fn first_argument(
     }
 }
 
-/// The information on a source. Its contract is left behind here, since a caller's proof needs none.
+/// The information on a source. Hides the contract of `module_info`, which a caller's proof doesn't need.
 fn info_of(alloc: Global, source: &ParsedSource) -> Result<ModuleInfo, AllocError> {
     module_info(alloc, source)
 }
 
-/// How often the parsers of JSDoc imports are started in a comment of braces, and where they find one.
+/// The number of starts of the parsers of JSDoc imports in a comment of braces, and the ranges of the
+/// imports.
 fn print_starts<R: AllocGlobal + Print>(rt: &R, count: usize) -> Result<()> {
     let text = braces(rt.alloc(), count)?;
     let found = scan(rt.alloc(), text.as_str())?;
@@ -69,7 +70,7 @@ fn print_starts<R: AllocGlobal + Print>(rt: &R, count: usize) -> Result<()> {
     Ok(())
 }
 
-/// The module of this name, of so many nodes, braces or comments.
+/// The module of this name, with this number of nodes, braces or comments.
 pub fn source(alloc: Global, name: &str, count: usize) -> Result<ParsedSource> {
     match name {
         "braces" => {
@@ -84,7 +85,7 @@ pub fn source(alloc: Global, name: &str, count: usize) -> Result<ParsedSource> {
     }
 }
 
-/// A module that is one comment, filed so often before the module and behind it.
+/// A module of one comment, filed this number of times before and after the module.
 fn commented(alloc: Global, text: &str, count: usize) -> Result<ParsedSource> {
     let source = format!(in alloc; "/*{text}*/")?;
     let comments = filed(alloc, text, source.len(), count)?;

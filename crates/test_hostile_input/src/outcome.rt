@@ -1,8 +1,8 @@
-//! What the program answers.
+//! Outcomes of runs of the program.
 
 use std::alloc::{AllocError, Global};
 
-/// What a run may come to: a result, or a fault with this name.
+/// The expected outcomes of a run: a result, or a fault of this name.
 pub const OUTCOMES: [&str; 11] = [
     "a result",
     "Input",
@@ -17,7 +17,7 @@ pub const OUTCOMES: [&str; 11] = [
     "Shape",
 ];
 
-/// What a run on one document printed, and its outcome.
+/// The output of a run on one document, and its outcome.
 #[derive(Drop)]
 pub struct Outcome {
     at: usize,
@@ -25,8 +25,8 @@ pub struct Outcome {
 }
 
 impl Outcome {
-    /// The outcome of the analysis of a document, and none where it is no such one or the report on
-    /// it has another.
+    /// The outcome of the analysis of a document. None if it is unexpected, or if the report on the
+    /// document has another.
     pub fn of(alloc: Global, document: &[u8]) -> Result<Option<Outcome>, AllocError> {
         let mut output = Vec::new(alloc);
         let mut errors = Vec::new(alloc);
@@ -44,12 +44,12 @@ impl Outcome {
         Ok(None)
     }
 
-    /// Its place among the outcomes.
+    /// The index of the outcome.
     pub fn at(&self) -> usize {
         self.at
     }
 
-    /// Adds the line that answers the document among others.
+    /// Appends the line for the document of a run with `--lines`.
     pub fn push_line(&self, lines: &mut Vec<u8>) -> Result<(), AllocError> {
         if self.at == 0 {
             lines.extend_from_slice(b"{\"answer\":")?;
@@ -63,7 +63,7 @@ impl Outcome {
     }
 }
 
-/// Whether the report on a document has the outcome of this number and name.
+/// Whether the report on a document has the outcome with this index and name.
 fn reports(alloc: Global, document: &[u8], at: usize, name: &str) -> Result<bool, AllocError> {
     let mut output = Vec::new(alloc);
     let mut errors = Vec::new(alloc);
@@ -78,7 +78,7 @@ fn reports(alloc: Global, document: &[u8], at: usize, name: &str) -> Result<bool
     Ok(is_status && errors.is_empty() && output.as_slice().starts_with(expected.as_bytes()))
 }
 
-/// Whether it is an object in one line.
+/// Whether the output is one line with an object.
 fn is_line(output: &[u8]) -> bool {
     output.starts_with(b"{") && output.ends_with(b"}\n")
 }

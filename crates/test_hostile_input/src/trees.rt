@@ -1,14 +1,14 @@
-//! Trees that are deeper or wider than a document is likely to be.
+//! Trees that are deeper or wider than real ones.
 
 use deno_graph_source::text::{JsString, SourceRange};
 use deno_graph_source::tree::{Arg, BinaryOp, Callee, ImportPhase, Kind, Node, StrLit};
 use deno_graph_source::values::{Items, Text};
 use std::alloc::{AllocError, Global};
 
-/// Where everything is, since the source is empty.
+/// The range of each node, since the source is empty.
 const NOWHERE: SourceRange = SourceRange { start: 0, end: 0 };
 
-/// A call of `import` with a string, under so many other nodes.
+/// A call of `import` with a string, below this number of other nodes.
 pub fn nested(alloc: Global, count: usize) -> Result<Items<Node>, AllocError> {
     let argument = one(alloc, string(alloc, "a")?)?;
     let mut body = one(alloc, import(alloc, argument)?)?;
@@ -18,7 +18,7 @@ pub fn nested(alloc: Global, count: usize) -> Result<Items<Node>, AllocError> {
     Ok(body)
 }
 
-/// So many calls of `require` inside one another, with a string in the innermost.
+/// This number of nested calls of `require`, with a string in the innermost.
 pub fn calls(alloc: Global, count: usize) -> Result<Items<Node>, AllocError> {
     let mut argument = one(alloc, string(alloc, "a")?)?;
     for _ in 0..count {
@@ -27,13 +27,13 @@ pub fn calls(alloc: Global, count: usize) -> Result<Items<Node>, AllocError> {
     Ok(argument)
 }
 
-/// A call of `import` with a string, plus `x` so often.
+/// A call of `import` with a string, plus this number of `x`.
 pub fn operands(alloc: Global, count: usize) -> Result<Items<Node>, AllocError> {
     let sum = sum(alloc, count)?;
     one(alloc, import(alloc, sum)?)
 }
 
-/// A string, plus `x` so often.
+/// A string, plus this number of `x`.
 pub fn sum(alloc: Global, count: usize) -> Result<Items<Node>, AllocError> {
     let mut sum = one(alloc, string(alloc, "a")?)?;
     for _ in 0..count {
@@ -43,7 +43,7 @@ pub fn sum(alloc: Global, count: usize) -> Result<Items<Node>, AllocError> {
     Ok(sum)
 }
 
-/// So many import types of an empty text, beside one another.
+/// This number of import types of an empty text, side by side.
 pub fn types(alloc: Global, count: usize) -> Result<Items<Node>, AllocError> {
     let mut body = Items::with_capacity(alloc, count)?;
     for _ in 0..count {
@@ -60,14 +60,14 @@ pub fn types(alloc: Global, count: usize) -> Result<Items<Node>, AllocError> {
     Ok(body)
 }
 
-/// A call with the one argument of the list.
+/// A call with one argument, the node of the list.
 fn import(alloc: Global, argument: Items<Node>) -> Result<Node, AllocError> {
     let callee = Callee::Import(ImportPhase::Evaluation);
     let args = one(alloc, ARGUMENT)?;
     Ok(node_of(Kind::Call { callee, args }, argument))
 }
 
-/// The same of `require`.
+/// A call of `require` with one argument, the node of the list.
 fn require(alloc: Global, argument: Items<Node>) -> Result<Node, AllocError> {
     let callee = Callee::Expr;
     let args = one(alloc, ARGUMENT)?;

@@ -1,4 +1,4 @@
-//! The descriptors of dependencies, by their parts.
+//! Descriptors of dependencies, field by field.
 
 use crate::documents::source_of;
 use deno_graph_analysis::ast::module_info;
@@ -12,7 +12,7 @@ use deno_graph_source::values::TryClone;
 use std::alloc::{AllocError, Global};
 use std::process::Abort;
 
-/// An import of a type with an attribute behind a comment, and a call of `require`.
+/// An import of a type with an attribute, after a comment, and a call of `require`.
 const DOCUMENT: &str = r#"{"mediaType":"TypeScript","program":{"body":[
     {"kind":"ImportDecl","range":[5,55],"typeOnly":true,"hasSpecifiers":true,"hasWith":true,
         "src":{"value":"a","range":[28,31]},"children":[
@@ -33,7 +33,7 @@ fn dependencies_by_their_parts(rt: HostRuntime) {
     assert_parts(&rt, &info);
 }
 
-/// The information on a source. Its contract is left behind here, since a caller's proof needs none.
+/// The information on a source. Hides the contract of `module_info`, which a caller's proof doesn't need.
 fn info_of(alloc: Global, source: &ParsedSource) -> Result<ModuleInfo, AllocError> {
     module_info(alloc, source)
 }
@@ -74,7 +74,7 @@ fn is_the_call(dependency: &DependencyDescriptor) -> bool {
         && DynamicArgument::default().is_expr()
 }
 
-/// The dependency that a copy of the descriptor inside makes.
+/// The dependency, made again from a copy of the descriptor inside.
 fn made_again(
     alloc: Global,
     dependency: &DependencyDescriptor,

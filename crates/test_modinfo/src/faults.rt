@@ -1,9 +1,9 @@
-//! Each fault of the program by its name, from each error that it comes from.
+//! The name of each fault of the program, from each error of a library.
 
 use deno_graph_info::analysis::{ConvertFault, InfoFault};
 use deno_graph_source::tree::SourceFault;
 use modinfo::Fault;
-use modinfo::notation::{Expected, Misfit, NotationFault};
+use modinfo::document::{DocumentError, ElementMismatch, Expected};
 use serde_json::{Error, Value};
 use std::alloc::{AllocError, AllocFailed};
 use std::process::Abort;
@@ -17,17 +17,17 @@ fn assert_names(rt: &(impl AllocGlobal + Abort), faults: &[(Fault, &str)]) {
 
 #[test]
 fn faults_of_a_document(rt: HostRuntime) {
-    let misfit = Misfit {
+    let mismatch = ElementMismatch {
         element: 0,
         expected: Expected::Object,
     };
     assert_names(
         &rt,
         &[
-            (Fault::from(NotationFault::Json { offset: 0 }), "Json"),
-            (Fault::from(NotationFault::NotInNotation(misfit)), "Tree"),
-            (Fault::from(NotationFault::Specifier), "Specifier"),
-            (Fault::from(NotationFault::OutOfMemory), "OutOfMemory"),
+            (Fault::from(DocumentError::Json { offset: 0 }), "Json"),
+            (Fault::from(DocumentError::Tree(mismatch)), "Tree"),
+            (Fault::from(DocumentError::Specifier), "Specifier"),
+            (Fault::from(DocumentError::OutOfMemory), "OutOfMemory"),
         ],
     );
 }
@@ -44,7 +44,7 @@ fn faults_of_a_source(rt: HostRuntime) {
         (SourceFault::OutOfMemory, "OutOfMemory"),
     ];
     for (fault, name) in faults {
-        assert_names(&rt, &[(Fault::from(NotationFault::from(fault)), name)]);
+        assert_names(&rt, &[(Fault::from(DocumentError::from(fault)), name)]);
     }
 }
 

@@ -1,7 +1,6 @@
-//! Tests of the analysis and of the program for what has no text: dependencies by their parts, a walk
-//! step by step, readers and writers that fail at each of their calls, and faults by the errors that
-//! they come from. What has a text is a row of `crates/test_replay`. A test stops where it is refused
-//! memory.
+//! Tests of the analysis and of the program that can't be test cases of `crates/test_replay`, which are
+//! texts: descriptors field by field, a walk step by step, readers and writers that fail, and faults
+//! by the errors of the libraries. A test ends if an allocation fails.
 #![tactic(auto)]
 
 #[cfg(test)]

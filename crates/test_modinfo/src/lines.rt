@@ -1,18 +1,19 @@
-//! Runs with `--lines`: answers come at once, whatever a read gives, and failures end the run.
+//! Runs with `--lines`: each answer is printed before further input is needed, and failures end the
+//! run.
 
 use std::alloc::Global;
 use std::cell::Cell;
 use std::io::{Error, ErrorKind, Read, Result, Write};
 use std::rc::Rc;
 
-/// A document, a text that is none, an empty line, and a last line without a line feed.
+/// A document, a line with another JSON value, an empty line, and a last line without a line feed.
 const INPUT: &str =
     "{\"mediaType\":\"JavaScript\",\"program\":{\"body\":[],\"range\":[0,0]},\"source\":\"\",\"specifier\":\"file:///a.js\"}\n{}\n\n[";
 
 const PRINTED: &str =
     "{\"answer\":{\"script\":true}}\n{\"fault\":\"Tree\"}\n{\"fault\":\"Json\"}\n{\"fault\":\"Json\"}\n";
 
-/// Gives its text in two reads, the first of so many bytes, and then fails or ends.
+/// Returns two texts, each in one read or more, and then fails or ends.
 #[derive(Drop)]
 struct Pieces<'a> {
     first: &'a [u8],
@@ -32,7 +33,7 @@ impl Read for Pieces<'_> {
     }
 }
 
-/// Gives a line once the answer to the line before it was handed on, and fails otherwise.
+/// Returns each line after the answer to the line before was flushed, and fails otherwise.
 #[derive(Drop)]
 struct Partner<'a> {
     lines: &'a [&'a str],
@@ -58,7 +59,7 @@ fn count_lines(bytes: &[u8]) -> usize {
     bytes.iter().filter(|byte| **byte == b'\n').count()
 }
 
-/// Counts the lines that were handed on by a flush.
+/// Counts the lines that were flushed.
 #[derive(Drop)]
 struct Answered {
     written: usize,
@@ -103,7 +104,7 @@ fn lines_that_are_cut_anywhere_are_answered_alike(rt: HostRuntime) {
 }
 
 #[test]
-fn a_read_that_fails_ends_behind_the_answers_before_it(rt: HostRuntime) {
+fn a_read_that_fails_ends_the_run_after_the_earlier_answers(rt: HostRuntime) {
     let bytes = INPUT.as_bytes();
     for cut in 0..=bytes.len() {
         let (first, second) = bytes.split_at(cut);

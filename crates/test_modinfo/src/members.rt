@@ -1,16 +1,13 @@
-//! The names of a document's members: of those that `known_members` names each is read, and no
-//! other.
+//! `member_names` has the names of exactly the members that are read.
 
+use deno_graph_json::{Element, Tape};
 use deno_graph_source::tree::CommentSide;
-use flat_json::{Element, Tape};
 use json::Scratch;
-use modinfo::notation::kind::KINDS;
-use modinfo::notation::{Role, comment_at, known_members, node_at, parse_document};
+use modinfo::document::{KINDS, Role, comment_at, member_names, node_at, parse_document};
 use std::process::Abort;
 
-/// A document of which each object has every member that is read of it, so that it would be read
-/// as something else without that member. Only the nodes in `children` have none themselves, and a
-/// key has one of its two members.
+/// A document whose objects have all members that are read, each with a value other than the default.
+/// Only the nodes in `children` have no children, and a key has one of its two members.
 const DOCUMENT: &str = r#"{
 "specifier":"file:///a.ts","mediaType":"TypeScript","source":"a",
 "leading":[{"pos":0,"comments":[{"kind":"line","range":[0,0],"text":"a"}]}],
@@ -44,7 +41,7 @@ const DOCUMENT: &str = r#"{
 {"kind":"Other","range":[0,1],"children":[{"kind":"Other","range":[0,0]}]}
 ]}}"#;
 
-/// What is behind the name of each member, and nowhere else.
+/// Stands after the name of each member, and nowhere else.
 const BEHIND_NAME: &str = "\":";
 
 #[test]
@@ -57,7 +54,7 @@ fn each_member_is_read(rt: HostRuntime) {
     }
 }
 
-/// The document, with another name of its member of this number, from 1 on.
+/// The document with its member of this number, from 1, renamed.
 fn with_renamed(rt: &(impl AllocGlobal + Abort), number: usize) -> String {
     let mut text = String::new(rt.alloc());
     for (place, part) in DOCUMENT.split(BEHIND_NAME).enumerate() {
@@ -72,7 +69,7 @@ fn with_renamed(rt: &(impl AllocGlobal + Abort), number: usize) -> String {
     text
 }
 
-/// What is read of a text, if it is a document.
+/// The document of a text, if the text is one.
 fn read_of(rt: &(impl AllocGlobal + Abort), text: &str) -> Option<String> {
     match parse_document(rt.alloc(), text) {
         Ok(document) => Some(format!(in rt.alloc(); "{document:?}").expect(rt, "memory")),
@@ -85,7 +82,7 @@ fn each_member_is_known(rt: HostRuntime) {
     let mut scratch = Scratch::new(rt.alloc());
     let tape = Tape::read(rt.alloc(), DOCUMENT, &mut scratch).expect(&rt, "it is JSON");
     let root = tape.root();
-    let kinds = KINDS.split(", ").count();
+    let kinds = KINDS.len();
     assert_members(&rt, Role::Document, Some(root));
     assert_members(&rt, Role::Program, node_at(root, &[]));
     for name in ["leading", "trailing"] {
@@ -108,14 +105,11 @@ fn each_member_is_known(rt: HostRuntime) {
     assert!(rt; node_at(root, &[kinds + 1]).is_none());
 }
 
-/// A node of the body, and what it has beside its children.
+/// A node of the body, and its members except `children`.
 fn assert_node(rt: &impl Abort, node: Option<Element<'_>>) {
     let kind = member(node, "kind").and_then(|kind| kind.as_str());
     let kind = kind.unwrap_or("");
-    assert!(rt;
-        KINDS.split(", ").any(|known| known == kind),
-        "the kind {kind}"
-    );
+    assert!(rt; KINDS.iter().any(|name| *name == kind), "the kind {kind}");
     assert_members(rt, Role::Node(kind), node);
     for name in ["src", "external", "arg", "name"] {
         if let Some(literal) = member(node, name) {
@@ -126,31 +120,31 @@ fn assert_node(rt: &impl Abort, node: Option<Element<'_>>) {
         assert_members(rt, Role::Argument, first(args));
     }
     if let Some(key) = member(node, "key") {
-        assert_known(rt, Role::Key, key);
+        assert_named(rt, Role::Key, key);
     }
 }
 
-/// An object that has each member of its role, and no other.
+/// An object with each member of its role, and no other.
 fn assert_members(rt: &impl Abort, role: Role<'_>, object: Option<Element<'_>>) {
     let Some(object) = object else {
         panic!(rt; "{role:?} isn't there");
     };
-    for name in known_members(role) {
+    for name in member_names(role) {
         assert!(rt;
             member(Some(object), name).is_some(),
             "{role:?} has no {name}"
         );
     }
-    assert_known(rt, role, object);
+    assert_named(rt, role, object);
 }
 
-fn assert_known(rt: &impl Abort, role: Role<'_>, object: Element<'_>) {
+fn assert_named(rt: &impl Abort, role: Role<'_>, object: Element<'_>) {
     let Some(members) = object.members() else {
         panic!(rt; "{role:?} is no object");
     };
     for (name, _) in members.entries() {
-        let is_known = known_members(role).iter().any(|known| *known == name);
-        assert!(rt; is_known, "{role:?} has {name}");
+        let is_named = member_names(role).iter().any(|member| *member == name);
+        assert!(rt; is_named, "{role:?} has {name}");
     }
 }
 

@@ -18,12 +18,13 @@ const TYPE_IN_A_TYPE: &str = r#"{"mediaType":"TypeScript","program":{"body":[
         {"kind":"ImportType","range":[14,25],"arg":{"value":"b","range":[21,24]}}]}
 ],"range":[0,26]},"source":"import(\"a\").B<import(\"b\")>","specifier":"file:///a.ts"}"#;
 
-/// Nothing behind a shebang.
+/// A shebang, and nothing after.
 const SHEBANG: &str =
     r##"{"mediaType":"JavaScript","program":{"body":[],"range":[0,5],"shebang":true},
     "source":"#!/a\n","specifier":"file:///a.js"}"##;
 
-/// Each step gives the node that starts there, or none, and so many nodes are entered then.
+/// For each step the start of the returned node, if there is one, and the number of nodes entered so
+/// far.
 fn assert_steps(
     rt: &(impl AllocGlobal + Abort),
     document: &str,

@@ -8,7 +8,7 @@ const DOCUMENT: &str =
 const PRINTED: &str =
     "{\"dependencies\":[{\"kind\":\"import\",\"sideEffect\":true,\"specifier\":\"./b.ts\",\"specifierRange\":[[0,7],[0,15]],\"type\":\"static\"}]}\n";
 
-/// Gives its bytes one at a time, and fails at one of its reads, counted from zero.
+/// Returns its bytes one at a time. One read fails, by its number from zero.
 #[derive(Drop)]
 struct FailingReader<'a> {
     bytes: &'a [u8],
@@ -35,7 +35,7 @@ impl Read for FailingReader<'_> {
     }
 }
 
-/// Keeps so many bytes, one a write, and then fails.
+/// Keeps this number of bytes, one per write, and then fails.
 #[derive(Drop)]
 struct FailingWriter {
     kept: Vec<u8>,
@@ -119,7 +119,7 @@ fn a_failed_write_leaves_a_beginning(rt: HostRuntime) {
     }
 }
 
-/// What is printed for a word that would clear the screen.
+/// The printed text for an argument that would clear the screen.
 const UNEXPECTED: &str = r#"modinfo: usage: modinfo analyze, modinfo convert or modinfo reach
 modinfo: unexpected argument "\u{1b}[2J\n"; modinfo --help describes each command, check among them
 "#;

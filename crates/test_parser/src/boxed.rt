@@ -5,7 +5,7 @@ use deno_graph_analysis::ast::{
 use deno_graph_source::tree::ParsedSource;
 use std::process::Abort;
 
-/// The text of a source, and whether it has the mark of scopes.
+/// The text of a source, and whether the source has the mark of analyzed scopes.
 type Expected = Option<(&'static str, bool)>;
 
 fn assert_source(rt: &(impl AllocGlobal + Abort), found: Option<ParsedSource>, expected: Expected) {
@@ -17,7 +17,7 @@ fn assert_source(rt: &(impl AllocGlobal + Abort), found: Option<ParsedSource>, e
     assert!(rt; found.is_some_and(|found| found == source));
 }
 
-/// A call of a store, on the source of this text or on what there is under `U`.
+/// A call of a store under the specifier `U`. `Set` stores the source of a text.
 #[derive(Clone, Copy)]
 enum Call {
     Set(&'static str),
@@ -26,7 +26,7 @@ enum Call {
     Remove,
 }
 
-/// Each call of a store, which is empty before and after, and what it answers.
+/// Calls of an empty store, and the source that each returns. The store is empty after the calls.
 const CALLS: [(Call, Expected); 9] = [
     (Call::Get, None),
     (Call::GetScopeAnalysis, None),
@@ -39,29 +39,29 @@ const CALLS: [(Call, Expected); 9] = [
     (Call::Remove, None),
 ];
 
-fn answer<S: ParsedSourceStore>(
+fn call_store<S: ParsedSourceStore>(
     rt: &(impl AllocGlobal + Abort),
     store: &mut S,
     call: Call,
 ) -> Option<ParsedSource> {
     let u = url(rt, U);
-    let answer = match call {
+    let returned = match call {
         Call::Set(text) => store.set_parsed_source(rt.alloc(), u, parsed(rt, text)),
         Call::Get => store.get_parsed_source(rt.alloc(), &u),
         Call::GetScopeAnalysis => store.get_scope_analysis_parsed_source(rt.alloc(), &u),
         Call::Remove => store.remove_parsed_source(rt.alloc(), &u),
     };
-    answer.expect(rt, "memory")
+    returned.expect(rt, "memory")
 }
 
 fn assert_store<S: ParsedSourceStore>(rt: &(impl AllocGlobal + Abort), store: &mut S) {
     for (call, expected) in &CALLS {
-        assert_source(rt, answer(rt, store, *call), *expected);
+        assert_source(rt, call_store(rt, store, *call), *expected);
     }
 }
 
 #[test]
-fn stores_answer_each_call(rt: HostRuntime) {
+fn stores_return_the_source_of_each_call(rt: HostRuntime) {
     assert_store(&rt, &mut DefaultParsedSourceStore::new(rt.alloc()));
     assert_store(&rt, &mut boxed_store(&rt));
     let store = DefaultParsedSourceStore::new(rt.alloc());

@@ -6,7 +6,7 @@ use deno_graph_analysis::ast::{
 use deno_graph_source::tree::ParsedSource;
 use std::process::Abort;
 
-/// A store with the source of `a` under `U`.
+/// Returns a store with the source of `a` under `U`.
 fn store_of_a(rt: &(impl AllocGlobal + Abort)) -> DefaultParsedSourceStore {
     let mut store = DefaultParsedSourceStore::new(rt.alloc());
     let before = store.set_parsed_source(rt.alloc(), url(rt, U), parsed(rt, "a"));
@@ -14,7 +14,8 @@ fn store_of_a(rt: &(impl AllocGlobal + Abort)) -> DefaultParsedSourceStore {
     store
 }
 
-/// Parses a text with its scopes, over a store with the source of `a`, which is marked then.
+/// Parses a text with the scope option, over a store with the source of `a`. Asserts that this
+/// source is marked afterwards.
 fn parse_with_scopes(
     rt: &(impl AllocGlobal + Abort),
     text: &str,
@@ -23,10 +24,10 @@ fn parse_with_scopes(
     let mut table = parser(rt, &calls);
     let mut store = store_of_a(rt);
     let mut capturing = CapturingEsParser::new(&mut table, &mut store);
-    let answer = parse(rt, &mut capturing, text, true);
+    let outcome = parse(rt, &mut capturing, text, true);
     assert_marked(rt, &store);
     assert_eq!(rt; calls.get(), u64::from(text != "a"));
-    answer
+    outcome
 }
 
 fn assert_marked(rt: &(impl AllocGlobal + Abort), store: &DefaultParsedSourceStore) {
@@ -36,20 +37,20 @@ fn assert_marked(rt: &(impl AllocGlobal + Abort), store: &DefaultParsedSourceSto
 }
 
 #[test]
-fn the_mark_is_set_where_the_text_is_the_same(rt: HostRuntime) {
-    let answer = parse_with_scopes(&rt, "a");
+fn the_mark_is_set_if_the_text_is_the_same(rt: HostRuntime) {
+    let outcome = parse_with_scopes(&rt, "a");
     let marked = parsed_with(&rt, "a", true);
-    assert!(rt; answer.is_ok_and(|source| source == marked));
+    assert!(rt; outcome.is_ok_and(|source| source == marked));
 }
 
 #[test]
-fn the_mark_is_set_even_where_the_text_is_no_module(rt: HostRuntime) {
-    let answer = parse_with_scopes(&rt, "x");
-    assert!(rt; matches!(answer, Err(ParseError::Diagnostic(_))));
+fn the_mark_is_set_even_if_the_text_is_no_module(rt: HostRuntime) {
+    let outcome = parse_with_scopes(&rt, "x");
+    assert!(rt; matches!(outcome, Err(ParseError::Diagnostic(_))));
 }
 
 #[test]
-fn an_analyzer_keeps_what_its_capturing_parser_did(rt: HostRuntime) {
+fn an_analyzer_has_the_sources_of_its_capturing_parser(rt: HostRuntime) {
     let calls = counter(&rt);
     let store = DefaultParsedSourceStore::new(rt.alloc());
     let mut analyzer = CapturingModuleAnalyzer::new(parser(&rt, &calls), store);
@@ -59,7 +60,7 @@ fn an_analyzer_keeps_what_its_capturing_parser_did(rt: HostRuntime) {
 }
 
 #[test]
-fn an_analyzer_without_a_store_parses_anew(rt: HostRuntime) {
+fn an_analyzer_without_a_store_parses_again(rt: HostRuntime) {
     let calls = counter(&rt);
     let mut table = parser(&rt, &calls);
     let mut plain = ParserModuleAnalyzer::new(&mut table);

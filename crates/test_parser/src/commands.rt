@@ -1,4 +1,4 @@
-use crate::sources::{Row, U, V, analyze, commands, counter, parsed, parser, source_with, url};
+use crate::sources::{Plan, U, V, analyze, commands, counter, parsed, parser, source_with, url};
 use deno_graph_analysis::ast::{
     Answer, CapturingModuleAnalyzer, DefaultParsedSourceStore, ParsedSourceStore, run,
 };
@@ -7,7 +7,7 @@ use deno_graph_source::tree::MediaType;
 use deno_graph_source::values::Items;
 use std::process::Abort;
 
-/// What a module imports, or the letter of a script.
+/// Returns the specifier that a module imports, or `s` for a script.
 fn imported(info: &ModuleInfo) -> &str {
     let Some(DependencyDescriptor::Static(import)) = info.dependencies.first() else {
         return "s";
@@ -15,8 +15,8 @@ fn imported(info: &ModuleInfo) -> &str {
     import.specifier.as_str()
 }
 
-/// Each answer in a letter: what a module imports, a script, a diagnostic, a source that was parsed,
-/// one taken away, or none.
+/// Returns one letter per answer: the imported specifier, `s` for a script, `d` for a diagnostic,
+/// `p` for a parsed source, `r` for a removed source, `n` if there was none to remove.
 fn letters(rt: &(impl AllocGlobal + Abort), answers: &[Answer]) -> String {
     let mut letters = String::new(rt.alloc());
     for answer in answers {
@@ -35,15 +35,15 @@ fn letter(answer: &Answer) -> &str {
     }
 }
 
-/// The answers to commands, given these sources, and how often the parser was called.
+/// Runs commands over a store. Returns the answers and the number of calls of the parser.
 fn answers(
     rt: &(impl AllocGlobal + Abort),
     store: DefaultParsedSourceStore,
-    rows: &[Row],
+    plans: &[Plan],
 ) -> (Vec<Answer>, u64) {
     let calls = counter(rt);
     let mut analyzer = CapturingModuleAnalyzer::new(parser(rt, &calls), store);
-    let commands = commands(rt, rows);
+    let commands = commands(rt, plans);
     let answers = run(rt.alloc(), &mut analyzer, &commands).expect(rt, "memory");
     (answers, calls.get())
 }
@@ -52,24 +52,24 @@ fn empty(rt: &(impl AllocGlobal + Abort)) -> DefaultParsedSourceStore {
     DefaultParsedSourceStore::new(rt.alloc())
 }
 
-/// The commands have these answers, each in a letter, and the parser is called so often.
+/// Asserts the letters of the answers and the number of calls of the parser.
 fn assert_letters(
     rt: &(impl AllocGlobal + Abort),
     store: DefaultParsedSourceStore,
-    rows: &[Row],
+    plans: &[Plan],
     expected: (&str, u64),
 ) {
-    let (answers, calls) = answers(rt, store, rows);
+    let (answers, calls) = answers(rt, store, plans);
     let letters = letters(rt, &answers);
     assert_eq!(rt; (letters.as_str(), calls), expected);
 }
 
-const FROM_AN_EMPTY_STORE: [Row; 5] = [
-    Row::Analyze(U, "a", MediaType::JavaScript),
-    Row::Analyze(U, "a", MediaType::JavaScript),
-    Row::Analyze(U, "b", MediaType::JavaScript),
-    Row::Remove(U),
-    Row::Analyze(U, "b", MediaType::JavaScript),
+const FROM_AN_EMPTY_STORE: [Plan; 5] = [
+    Plan::Analyze(U, "a", MediaType::JavaScript),
+    Plan::Analyze(U, "a", MediaType::JavaScript),
+    Plan::Analyze(U, "b", MediaType::JavaScript),
+    Plan::Remove(U),
+    Plan::Analyze(U, "b", MediaType::JavaScript),
 ];
 
 #[test]
@@ -78,12 +78,12 @@ fn runs_from_an_empty_store(rt: HostRuntime) {
 }
 
 #[test]
-fn the_source_that_was_parsed_last_is_taken_away(rt: HostRuntime) {
+fn the_source_that_was_parsed_last_is_removed(rt: HostRuntime) {
     let (answers, _) = answers(&rt, empty(&rt), &FROM_AN_EMPTY_STORE);
     assert_removed(&rt, answers.get(3));
 }
 
-/// The answer is the source of `b`.
+/// Asserts that the answer is the removed source of `b`.
 fn assert_removed(rt: &(impl AllocGlobal + Abort), answer: Option<&Answer>) {
     let Some(Answer::Removed(Some(source))) = answer else {
         assert!(rt; false);
@@ -94,19 +94,19 @@ fn assert_removed(rt: &(impl AllocGlobal + Abort), answer: Option<&Answer>) {
 
 const W: &str = "file:///w.js";
 
-const OF_ONE_TEXT: [Row; 8] = [
-    Row::Analyze(U, "a", MediaType::JavaScript),
-    Row::Analyze(V, "a", MediaType::JavaScript),
-    Row::Analyze(V, "a", MediaType::TypeScript),
-    Row::Analyze(V, "x", MediaType::JavaScript),
-    Row::Analyze(V, "a", MediaType::TypeScript),
-    Row::Analyze(W, "a", MediaType::JavaScript),
-    Row::Analyze(U, "a", MediaType::TypeScript),
-    Row::Remove(W),
+const OF_ONE_TEXT: [Plan; 8] = [
+    Plan::Analyze(U, "a", MediaType::JavaScript),
+    Plan::Analyze(V, "a", MediaType::JavaScript),
+    Plan::Analyze(V, "a", MediaType::TypeScript),
+    Plan::Analyze(V, "x", MediaType::JavaScript),
+    Plan::Analyze(V, "a", MediaType::TypeScript),
+    Plan::Analyze(W, "a", MediaType::JavaScript),
+    Plan::Analyze(U, "a", MediaType::TypeScript),
+    Plan::Remove(W),
 ];
 
-/// A text that is known under one specifier and media type is parsed anew under others, and refused
-/// where it isn't known. A diagnostic stops nothing and is not kept.
+/// A text is parsed again under another specifier or media type. A diagnostic doesn't stop the run,
+/// and is not stored.
 #[test]
 fn one_text_has_several_sources(rt: HostRuntime) {
     assert_letters(&rt, empty(&rt), &OF_ONE_TEXT, ("avtdtddn", 6));
@@ -114,17 +114,17 @@ fn one_text_has_several_sources(rt: HostRuntime) {
 
 #[test]
 fn a_run_parses_with_scopes_or_without(rt: HostRuntime) {
-    let rows = [
-        Row::Parse(U, "a", false),
-        Row::Parse(U, "x", true),
-        Row::Parse(U, "a", false),
+    let plans = [
+        Plan::Parse(U, "a", false),
+        Plan::Parse(U, "x", true),
+        Plan::Parse(U, "a", false),
     ];
-    let (answers, calls) = answers(&rt, empty(&rt), &rows);
+    let (answers, calls) = answers(&rt, empty(&rt), &plans);
     assert_eq!(rt; calls, 2);
     assert_parsed(&rt, answers.as_slice());
 }
 
-/// The answers are the source of `a`, a diagnostic, and the source with its mark.
+/// Asserts that the answers are the source of `a`, a diagnostic, and the source with its mark.
 fn assert_parsed(rt: &(impl AllocGlobal + Abort), answers: &[Answer]) {
     let [
         Answer::Parsed(Ok(first)),
@@ -139,8 +139,8 @@ fn assert_parsed(rt: &(impl AllocGlobal + Abort), answers: &[Answer]) {
     assert!(rt; *last == parsed(rt, "a").into_with_scope_analysis());
 }
 
-/// A store with a source of `a` that imports nothing.
-fn store_of_the_callers_own(rt: &(impl AllocGlobal + Abort)) -> DefaultParsedSourceStore {
+/// Returns a store with a source of `a` that imports nothing, which the parser would not return.
+fn store_with_a_source_of_the_caller(rt: &(impl AllocGlobal + Abort)) -> DefaultParsedSourceStore {
     let mut store = empty(rt);
     let source = source_with(rt, U, "a", MediaType::JavaScript, Items::new(rt.alloc()));
     let before = store.set_parsed_source(rt.alloc(), url(rt, U), source);
@@ -149,7 +149,12 @@ fn store_of_the_callers_own(rt: &(impl AllocGlobal + Abort)) -> DefaultParsedSou
 }
 
 #[test]
-fn a_source_of_the_callers_own_is_answered_until_the_text_changes(rt: HostRuntime) {
-    let rows = [analyze(U, "a"), analyze(U, "b"), analyze(U, "a")];
-    assert_letters(&rt, store_of_the_callers_own(&rt), &rows, ("sba", 2));
+fn a_source_of_the_caller_is_returned_until_the_text_changes(rt: HostRuntime) {
+    let plans = [analyze(U, "a"), analyze(U, "b"), analyze(U, "a")];
+    assert_letters(
+        &rt,
+        store_with_a_source_of_the_caller(&rt),
+        &plans,
+        ("sba", 2),
+    );
 }

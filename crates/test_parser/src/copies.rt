@@ -1,6 +1,6 @@
-//! Copies of commands, options, scans, answers and errors.
+//! Tests of `try_clone` of commands, options, scans, answers and errors.
 
-use crate::sources::{Row, U, analyze, commands, parsed, shared, url};
+use crate::sources::{Plan, U, analyze, commands, parsed, shared, url};
 use deno_graph_analysis::ast::{
     AnalyzeError, Answer, Command, ParseDiagnostic, ParseError, ParseOptions,
 };
@@ -12,20 +12,20 @@ use std::process::Abort;
 
 #[test]
 fn commands_are_copied(rt: HostRuntime) {
-    let rows = [
+    let plans = [
         analyze(U, "a"),
-        Row::Parse(U, "a", true),
-        Row::Parse(U, "a", false),
-        Row::Remove(U),
+        Plan::Parse(U, "a", true),
+        Plan::Parse(U, "a", false),
+        Plan::Remove(U),
     ];
-    let commands = commands(&rt, &rows);
+    let commands = commands(&rt, &plans);
     for (number, command) in commands.iter().enumerate() {
         let copy = command.try_clone(rt.alloc()).expect(&rt, "memory");
         assert_only(&rt, &copy, number, &commands);
     }
 }
 
-/// The command is equal to the one with this number, and to no other.
+/// Asserts that the command is equal to the command with this number, and to no other.
 fn assert_only(rt: &impl Abort, command: &Command, number: usize, commands: &[Command]) {
     for (other_number, other) in commands.iter().enumerate() {
         assert_eq!(rt; command == other, number == other_number);
@@ -53,7 +53,7 @@ fn scans_are_copied(rt: HostRuntime) {
     assert!(rt; copy == found);
 }
 
-/// A copy is there, and equal.
+/// Asserts that a copy is equal to the value.
 fn assert_copied<T: TryClone + PartialEq + Drop>(rt: &(impl AllocGlobal + Abort), value: T) {
     let copy = value.try_clone(rt.alloc()).expect(rt, "memory");
     assert!(rt; copy == value);

@@ -1,18 +1,18 @@
-//! A parser and a store that are refused memory once.
+//! A parser and a store that return out of memory once.
 
 use deno_graph_analysis::ast::{EsParser, ParseError, ParseOptions, ParsedSourceStore};
 use deno_graph_source::tree::ParsedSource;
 use std::alloc::{AllocError, Global};
 use url::Url;
 
-/// A parser that answers `OutOfMemory` at its second call.
+/// A parser whose second call returns `OutOfMemory`.
 #[derive(Drop)]
-pub struct RefusedParser<P: EsParser> {
+pub struct FailingParser<P: EsParser> {
     pub parser: P,
     pub calls: u64,
 }
 
-impl<P: EsParser> EsParser for RefusedParser<P> {
+impl<P: EsParser> EsParser for FailingParser<P> {
     ghost parses = { λ it. P.parses it.parser };
 
     ghost count = { λ it. P.count it.parser };
@@ -32,16 +32,16 @@ impl<P: EsParser> EsParser for RefusedParser<P> {
     }
 }
 
-/// A store that refuses to keep one of the sources that it is handed.
+/// A store that returns an error for one of the sources that are stored in it.
 #[derive(Drop)]
-pub struct RefusedStore<S: ParsedSourceStore> {
+pub struct FailingStore<S: ParsedSourceStore> {
     pub store: S,
     pub sets: u64,
-    /// The number of the source that it refuses, counted from one.
-    pub refused: u64,
+    /// Number of the source for which it returns an error, counted from one.
+    pub failing: u64,
 }
 
-impl<S: ParsedSourceStore> ParsedSourceStore for RefusedStore<S> {
+impl<S: ParsedSourceStore> ParsedSourceStore for FailingStore<S> {
     ghost sources = { λ it. S.sources it.store };
 
     fn set_parsed_source(
@@ -51,7 +51,7 @@ impl<S: ParsedSourceStore> ParsedSourceStore for RefusedStore<S> {
         source: ParsedSource,
     ) -> Result<Option<ParsedSource>, AllocError> {
         self.sets = self.sets.saturating_add(1);
-        if self.sets == self.refused {
+        if self.sets == self.failing {
             return Err(AllocError);
         }
         self.store.set_parsed_source(alloc, specifier, source)

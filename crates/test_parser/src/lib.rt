@@ -1,7 +1,6 @@
-//! Tests of parsers, stores and capturing analyzers: rows of commands, and each call with ample
-//! memory. A test stops where it is refused memory itself; in `refusals` a parser or a store says that
-//! it is. What is there after a refusal is looked at by `crates/test_after_refusal`. Of the
-//! library this crate lists the front doors alone, as a caller does; `front_doors` has each name of theirs.
+//! Tests of parsers, stores and capturing analyzers, and of the names in the facades. This crate
+//! uses only the facades of the library, as a caller does. In `out_of_memory` a parser or a store
+//! returns an error; in `crates/test_failed_allocations` allocations fail.
 #![tactic(auto)]
 
 #[cfg(test)]
@@ -13,12 +12,12 @@ mod commands;
 #[cfg(test)]
 mod copies;
 #[cfg(test)]
+pub mod facades;
+#[cfg(test)]
 mod failing;
 #[cfg(test)]
-pub mod front_doors;
+mod out_of_memory;
 #[cfg(test)]
 mod recording;
-#[cfg(test)]
-mod refusals;
 #[cfg(test)]
 mod sources;

@@ -1,4 +1,4 @@
-//! A parser that keeps the option of scopes, and who hands it on.
+//! Tests of which scope option boxed parsers and analyzers pass to their parser.
 
 use crate::sources::{assert_module, assert_parsed, counter, parser};
 use deno_graph_analysis::ast::{
@@ -12,7 +12,7 @@ use std::cell::Cell;
 use std::process::Abort;
 use std::rc::Rc;
 
-/// A parser that keeps the option of scopes that it was handed last.
+/// A parser that records the scope option of its last call.
 #[derive(Drop)]
 struct RecordingParser<P: EsParser> {
     parser: P,
@@ -36,7 +36,7 @@ impl<P: EsParser> EsParser for RecordingParser<P> {
     }
 }
 
-/// A recording parser over that of the tests.
+/// Returns a recording parser over the parser of the tests.
 fn recording(
     rt: &(impl AllocGlobal + Abort),
     last: &Rc<Cell<Option<bool>>>,
@@ -52,7 +52,7 @@ fn nothing_recorded(rt: &(impl AllocGlobal + Abort)) -> Rc<Cell<Option<bool>>> {
 }
 
 #[test]
-fn a_boxed_parser_is_handed_the_option_of_scopes(rt: HostRuntime) {
+fn a_boxed_parser_gets_the_scope_option(rt: HostRuntime) {
     let last = nothing_recorded(&rt);
     let recording = Box::new(rt.alloc(), recording(&rt, &last)).expect(&rt, "memory");
     let mut boxed: Box<dyn EsParser> = recording;
@@ -62,8 +62,8 @@ fn a_boxed_parser_is_handed_the_option_of_scopes(rt: HostRuntime) {
     }
 }
 
-/// The analyzer asks its parser for no scopes.
-fn assert_no_scopes<A: ModuleAnalyzer>(
+/// Asserts that the analyzer calls its parser without the scope option.
+fn assert_no_scope_option<A: ModuleAnalyzer>(
     rt: &(impl AllocGlobal + Abort),
     analyzer: &mut A,
     last: &Cell<Option<bool>>,
@@ -74,12 +74,12 @@ fn assert_no_scopes<A: ModuleAnalyzer>(
 }
 
 #[test]
-fn analyzers_ask_for_no_scopes(rt: HostRuntime) {
+fn analyzers_parse_without_the_scope_option(rt: HostRuntime) {
     let last = nothing_recorded(&rt);
     let mut recording = recording(&rt, &last);
     let mut plain = ParserModuleAnalyzer::new(&mut recording);
-    assert_no_scopes(&rt, &mut plain, &last);
+    assert_no_scope_option(&rt, &mut plain, &last);
     let store = DefaultParsedSourceStore::new(rt.alloc());
     let mut capturing = CapturingModuleAnalyzer::new(recording, store);
-    assert_no_scopes(&rt, &mut capturing, &last);
+    assert_no_scope_option(&rt, &mut capturing, &last);
 }

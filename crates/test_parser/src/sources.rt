@@ -1,5 +1,5 @@
-//! The sources of the tests, each an import of another module: `a` and `b` under one specifier, and
-//! `a` under another as JavaScript and as TypeScript. The parser of the tests knows no more.
+//! The sources of the tests, each a module with one import: `a` and `b` under `U`, and `a` under `V` as
+//! JavaScript and as TypeScript. The parser of the tests returns a diagnostic for any other text.
 
 use deno_graph_analysis::ast::{Command, EsParser, ModuleAnalyzer, ParseError, ParseOptions};
 use deno_graph_source::text::{JsString, SourceRange};
@@ -17,7 +17,7 @@ pub const U: &str = "file:///u.js";
 
 pub const V: &str = "file:///v.js";
 
-/// A module with these items.
+/// Returns the source of a module with these items.
 pub fn source_with(
     rt: &(impl AllocGlobal + Abort),
     specifier: &str,
@@ -50,12 +50,12 @@ pub fn shared(rt: &(impl AllocGlobal + Abort), text: &str) -> RcStr {
     RcStr::from_str(rt.alloc(), text).expect(rt, "memory")
 }
 
-/// A number that counts the calls of a parser.
+/// Returns a counter for the calls of a parser.
 pub fn counter(rt: &(impl AllocGlobal + Abort)) -> Rc<Cell<u64>> {
     Rc::new(rt.alloc(), Cell::new(0)).expect(rt, "memory")
 }
 
-/// An import of a module, so no script.
+/// Returns the items of a module with one import.
 fn import(rt: &(impl AllocGlobal + Abort), text: &str, imported: &str) -> Items<Node> {
     let range = SourceRange::new(0, text.len());
     let value = JsString::from_str(rt.alloc(), imported).expect(rt, "memory");
@@ -69,7 +69,7 @@ fn import(rt: &(impl AllocGlobal + Abort), text: &str, imported: &str) -> Items<
     Items::from_item(rt.alloc(), Node::new(rt.alloc(), range, kind)).expect(rt, "memory")
 }
 
-/// A module that imports another.
+/// Returns the source of a module with one import.
 fn importing(
     rt: &(impl AllocGlobal + Abort),
     specifier: &str,
@@ -81,12 +81,12 @@ fn importing(
     source_with(rt, specifier, text, media_type, body)
 }
 
-/// What the parser of the tests has for a text under `U`: an import of what it says.
+/// Returns the source of a text under `U` as JavaScript, which imports the text as a specifier.
 pub fn parsed(rt: &(impl AllocGlobal + Abort), text: &str) -> ParsedSource {
     importing(rt, U, text, MediaType::JavaScript, text)
 }
 
-/// The same with the mark of scopes, or without.
+/// Like `parsed`, with the mark of analyzed scopes if `scope_analysis` is true.
 pub fn parsed_with(
     rt: &(impl AllocGlobal + Abort),
     text: &str,
@@ -100,7 +100,7 @@ pub fn parsed_with(
     }
 }
 
-/// A parser of the four sources that counts in `calls`.
+/// Returns a parser of the four sources, which counts its calls in `calls`.
 pub fn parser(rt: &(impl AllocGlobal + Abort), calls: &Rc<Cell<u64>>) -> TableParser {
     let mut sources = Vec::new(rt.alloc());
     for (specifier, text, media_type, imported) in [
@@ -115,7 +115,7 @@ pub fn parser(rt: &(impl AllocGlobal + Abort), calls: &Rc<Cell<u64>>) -> TablePa
     TableParser::new(sources, calls.clone().expect(rt, "a count that fits"))
 }
 
-/// What the parser answers on a text under `U`.
+/// Parses a text under `U` as JavaScript.
 pub fn parse<P: EsParser>(
     rt: &(impl AllocGlobal + Abort),
     parser: &mut P,
@@ -132,63 +132,63 @@ pub fn parse<P: EsParser>(
     parser.parse_program(rt.alloc(), options)
 }
 
-/// The source of `a` is answered, with the mark of scopes where those are asked for.
+/// Asserts that the parser returns the source of `a`, with the mark if `scope_analysis` is true.
 pub fn assert_parsed<P: EsParser>(
     rt: &(impl AllocGlobal + Abort),
     parser: &mut P,
     scope_analysis: bool,
 ) {
-    let answer = parse(rt, parser, "a", scope_analysis);
+    let outcome = parse(rt, parser, "a", scope_analysis);
     let expected = parsed_with(rt, "a", scope_analysis);
-    assert!(rt; answer.is_ok_and(|source| source == expected));
+    assert!(rt; outcome.is_ok_and(|source| source == expected));
 }
 
-/// The information on `a` is that of a module.
+/// Asserts that the info of `a` is that of a module, not of a script.
 pub fn assert_module<A: ModuleAnalyzer>(rt: &(impl AllocGlobal + Abort), analyzer: &mut A) {
     let (specifier, source) = (url(rt, U), shared(rt, "a"));
     let info = analyzer.analyze_sync(rt.alloc(), &specifier, source, MediaType::JavaScript);
     assert!(rt; info.is_ok_and(|info| !info.is_script));
 }
 
-/// A command as data: on a specifier, and on a text where it has one.
+/// The data of a command: specifier, text and media type.
 #[derive(Clone, Copy)]
-pub enum Row {
+pub enum Plan {
     Analyze(&'static str, &'static str, MediaType),
-    /// With a text, and whether its scopes are asked for.
+    /// Specifier, text and scope option.
     Parse(&'static str, &'static str, bool),
     Remove(&'static str),
 }
 
-/// The row of the analysis of JavaScript.
-pub fn analyze(specifier: &'static str, text: &'static str) -> Row {
-    Row::Analyze(specifier, text, MediaType::JavaScript)
+/// Returns the data of an `Analyze` of JavaScript.
+pub fn analyze(specifier: &'static str, text: &'static str) -> Plan {
+    Plan::Analyze(specifier, text, MediaType::JavaScript)
 }
 
-impl Row {
+impl Plan {
     pub fn command(self, rt: &(impl AllocGlobal + Abort)) -> Command {
         match self {
-            Row::Analyze(specifier, text, media_type) => Command::Analyze {
+            Plan::Analyze(specifier, text, media_type) => Command::Analyze {
                 specifier: url(rt, specifier),
                 source: shared(rt, text),
                 media_type,
             },
-            Row::Parse(specifier, text, scope_analysis) => Command::Parse {
+            Plan::Parse(specifier, text, scope_analysis) => Command::Parse {
                 specifier: url(rt, specifier),
                 source: shared(rt, text),
                 media_type: MediaType::JavaScript,
                 scope_analysis,
             },
-            Row::Remove(specifier) => Command::Remove {
+            Plan::Remove(specifier) => Command::Remove {
                 specifier: url(rt, specifier),
             },
         }
     }
 }
 
-pub fn commands(rt: &(impl AllocGlobal + Abort), rows: &[Row]) -> Vec<Command> {
+pub fn commands(rt: &(impl AllocGlobal + Abort), plans: &[Plan]) -> Vec<Command> {
     let mut commands = Vec::new(rt.alloc());
-    for row in rows {
-        commands.push(row.command(rt)).expect(rt, "memory");
+    for plan in plans {
+        commands.push(plan.command(rt)).expect(rt, "memory");
     }
     commands
 }

@@ -1,4 +1,4 @@
--- The first item of a program.
+-- The first node of a program.
 use Rattle.std.specs.Prelude.{◌≡◌, Some, slice_get}
 use Rattle.std.specs.List.{Contains, All}
 use Rattle.std.proofs.Common.{subst}
@@ -9,7 +9,7 @@ use Rattle.deno_graph_source.specs.declared.tree.node.Node.{Node}
 use Rattle.deno_graph_source.specs.declared.tree.node.Program.{Program}
 use Rattle.deno_graph_source.proofs.Lists.{All-within, Contains-flat_map}
 
--- where all nodes of a program have the children that they need, so have those of its first item
+-- If all nodes of a program have the children that they need, so do the nodes of the first one.
 pub shaped_first : (program : Program) (node : Node) → All IsShaped (nodes_of program)
     → slice_get program.body 0 ≡ Some node → All IsShaped (nodes_in node)
 unfolding nodes_of

@@ -1,4 +1,4 @@
-//! What a row can call.
+//! The calls of test cases.
 
 pub mod arguments;
 pub mod attributes;
@@ -11,16 +11,16 @@ pub mod parts;
 pub mod serve;
 pub mod texts;
 
-use crate::row_fault::RowFault;
+use crate::case_error::CaseError;
 use deno_graph_source::tree::ParsedSource;
 use modinfo::parse_document;
 use serde_json::Value;
 use std::alloc::Global;
 
-/// What the call of these words answers on this input, in the lines that state it in a row.
-pub fn answer_of(alloc: Global, words: &[&str], input: &[u8]) -> Result<String, RowFault> {
+/// Makes the call of these words on this input. Returns the lines of the answer.
+pub fn answer_of(alloc: Global, words: &[&str], input: &[u8]) -> Result<String, CaseError> {
     let Some((name, words)) = words.split_first() else {
-        return Err(RowFault::Row("it calls nothing"));
+        return Err(CaseError::Invalid("it calls nothing"));
     };
     match *name {
         "serve" => serve::serve(alloc, words, input),
@@ -29,13 +29,13 @@ pub fn answer_of(alloc: Global, words: &[&str], input: &[u8]) -> Result<String, 
     }
 }
 
-/// What a call on the JSON value that the input is answers.
+/// Makes a call on an input of JSON.
 pub fn of_json(
     alloc: Global,
     name: &str,
     words: &[&str],
     input: &[u8],
-) -> Result<String, RowFault> {
+) -> Result<String, CaseError> {
     let text = text_of(input)?;
     match name {
         "js_string" => texts::js_string(alloc, text),
@@ -45,25 +45,25 @@ pub fn of_json(
     }
 }
 
-/// The input as a text.
-pub fn text_of(input: &[u8]) -> Result<&str, RowFault> {
-    std::str::from_utf8(input).map_err(|_| RowFault::Row("its input is no UTF-8"))
+/// The text of the input.
+pub fn text_of(input: &[u8]) -> Result<&str, CaseError> {
+    std::str::from_utf8(input).map_err(|_| CaseError::Invalid("its input is no UTF-8"))
 }
 
-/// What a call on a JSON value answers.
-fn of_value(alloc: Global, name: &str, words: &[&str], text: &str) -> Result<String, RowFault> {
+/// Makes a call on a JSON value.
+fn of_value(alloc: Global, name: &str, words: &[&str], text: &str) -> Result<String, CaseError> {
     let value = Value::from_str(alloc, text)?;
     of_parsed(alloc, name, words, text, &value)
 }
 
-/// What a call on a JSON value answers, which is of this text.
+/// Makes a call on a JSON value that was read from this text.
 fn of_parsed(
     alloc: Global,
     name: &str,
     words: &[&str],
     text: &str,
     value: &Value,
-) -> Result<String, RowFault> {
+) -> Result<String, CaseError> {
     match name {
         "parse_jsdoc_import_decl" | "parse_jsdoc_dynamic_import" | "scan" => {
             jsdoc::of_text(alloc, name, value)
@@ -83,13 +83,14 @@ fn of_parsed(
     }
 }
 
-fn of_document(alloc: Global, name: &str, text: &str) -> Result<String, RowFault> {
+/// Makes a call on the source of a module document.
+fn of_document(alloc: Global, name: &str, text: &str) -> Result<String, CaseError> {
     let source = parse_document(alloc, text)?.into_source(alloc)?;
     of_source(alloc, name, &source)
 }
 
-/// What a call on the source of a document answers.
-fn of_source(alloc: Global, name: &str, source: &ParsedSource) -> Result<String, RowFault> {
+/// Makes a call on a source.
+fn of_source(alloc: Global, name: &str, source: &ParsedSource) -> Result<String, CaseError> {
     match name {
         "argument_of" => arguments::argument(alloc, source),
         "parse_dynamic_import_attributes" => attributes::of_call(alloc, source),
@@ -101,6 +102,6 @@ fn of_source(alloc: Global, name: &str, source: &ParsedSource) -> Result<String,
         "analyze_ts_or_deno_types" => parts::types(alloc, source),
         "media_type" => modules::media_type(alloc, source),
         "every_way" => modules::every_way(alloc, source),
-        _ => Err(RowFault::Row("it calls nothing that is known")),
+        _ => Err(CaseError::Invalid("it calls nothing that is known")),
     }
 }

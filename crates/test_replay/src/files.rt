@@ -1,38 +1,38 @@
-//! Files of rows.
+//! Files of test cases.
 
-use crate::row_fault::RowFault;
+use crate::case_error::CaseError;
 use std::alloc::Global;
 use std::fs;
 use std::rt::Files;
 
-/// A file of rows.
+/// A file of test cases.
 #[derive(Drop)]
-pub struct RowFile {
+pub struct CaseFile {
     pub name: String,
     text: String,
 }
 
-/// A row as it is in its file: its name, and the lines below it, each a word and the rest.
+/// A test case in its file: its name, and its other lines, each a word and the rest.
 #[derive(Drop)]
 pub struct Block<'a> {
     pub name: &'a str,
     pub lines: Vec<(&'a str, &'a str)>,
 }
 
-/// The files `*.rows` of the current folder, in the order of their names.
-pub fn row_files<R>(rt: &R) -> Result<Vec<RowFile>, RowFault>
+/// Reads the files `*.rows` of the current folder, in the order of their names.
+pub fn case_files<R>(rt: &R) -> Result<Vec<CaseFile>, CaseError>
 where
     R: Files + AllocGlobal + Clone + Drop,
 {
     let mut files = Vec::new(rt.alloc());
-    for name in row_names(rt)? {
+    for name in case_file_names(rt)? {
         let text = fs::read_to_string(rt, name.as_str())?;
-        files.push(RowFile { name, text })?;
+        files.push(CaseFile { name, text })?;
     }
     Ok(files)
 }
 
-fn row_names<R>(rt: &R) -> Result<Vec<String>, RowFault>
+fn case_file_names<R>(rt: &R) -> Result<Vec<String>, CaseError>
 where
     R: Files + AllocGlobal + Clone + Drop,
 {
@@ -44,16 +44,16 @@ where
     Ok(names)
 }
 
-fn push_name(alloc: Global, names: &mut Vec<String>, name: &str) -> Result<(), RowFault> {
+fn push_name(alloc: Global, names: &mut Vec<String>, name: &str) -> Result<(), CaseError> {
     if name.ends_with(".rows") {
         names.push(String::from_str(alloc, name)?)?;
     }
     Ok(())
 }
 
-impl RowFile {
-    /// The rows of the file. A line that begins with `#` is a comment, and empty lines say nothing.
-    pub fn blocks(&self, alloc: Global) -> Result<Vec<Block<'_>>, RowFault> {
+impl CaseFile {
+    /// The test cases of the file. Ignores comments, which start with `#`, and empty lines.
+    pub fn blocks(&self, alloc: Global) -> Result<Vec<Block<'_>>, CaseError> {
         let mut blocks = Vec::new(alloc);
         for line in self.text.lines() {
             if !line.is_empty() && !line.starts_with('#') {
@@ -68,7 +68,7 @@ fn push_line<'a>(
     alloc: Global,
     blocks: &mut Vec<Block<'a>>,
     line: &'a str,
-) -> Result<(), RowFault> {
+) -> Result<(), CaseError> {
     let (word, rest) = line.split_once(' ').unwrap_or((line, ""));
     if word == "row" {
         let lines = Vec::new(alloc);
@@ -77,6 +77,6 @@ fn push_line<'a>(
     }
     match blocks.last_mut() {
         Some(block) => Ok(block.lines.push((word, rest))?),
-        None => Err(RowFault::Row("a line is before the first row")),
+        None => Err(CaseError::Invalid("a line is before the first row")),
     }
 }

@@ -1,22 +1,22 @@
-//! Replays rows: calls of the library and of the program, and what each has to answer.
+//! Runs test cases: calls of the library and of the program, each with the expected answer.
 //!
-//!     test_replay           every row of every file `*.rows` of the current folder
-//!     test_replay NAME      one row, and prints its answer
+//!     test_replay           runs the test cases in all files `*.rows` of the current folder
+//!     test_replay NAME      runs one test case, and prints its answer
 //!
-//! docs/ROWS.md describes the files. Status 0 where each row answers what it states, 1 where one
-//! answers otherwise, 2 where a file or a row can't be read, 3 where memory was refused.
+//! docs/ROWS.md describes the files. Status 0: all answers are as expected. Status 1: an answer differs.
+//! Status 2: a file or a test case can't be read. Status 3: an allocation failed.
 #![tactic(auto)]
 
 mod answer;
 mod calls;
+mod case;
+mod case_error;
 mod files;
 mod replay;
-mod row;
-mod row_fault;
 
-use crate::files::row_files;
+use crate::case_error::CaseError;
+use crate::files::case_files;
 use crate::replay::{replay_all, replay_one};
-use crate::row_fault::RowFault;
 use std::env;
 use std::process::ExitCode;
 
@@ -24,7 +24,7 @@ fn main(rt: HostRuntime) -> ExitCode {
     match run(&rt) {
         Ok(true) => ExitCode::SUCCESS,
         Ok(false) => ExitCode::FAILURE,
-        Err(RowFault::OutOfMemory) => ExitCode::from(3),
+        Err(CaseError::OutOfMemory) => ExitCode::from(3),
         Err(fault) => {
             let _ = eprintln!(rt; "test_replay: {fault}");
             ExitCode::from(2)
@@ -32,9 +32,9 @@ fn main(rt: HostRuntime) -> ExitCode {
     }
 }
 
-/// Whether every row that was replayed answers what it states.
-fn run(rt: &HostRuntime) -> Result<bool, RowFault> {
-    let files = row_files(rt)?;
+/// Runs the test cases that the arguments select. Returns whether all answers are as expected.
+fn run(rt: &HostRuntime) -> Result<bool, CaseError> {
+    let files = case_files(rt)?;
     let mut names = env::args(rt)?.skip(1);
     match names.next() {
         None => replay_all(rt, files.as_slice()),

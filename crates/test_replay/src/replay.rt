@@ -1,14 +1,15 @@
-//! Rows replayed, all or one.
+//! Running all test cases, or one.
 
 use crate::calls::answer_of;
-use crate::files::{Block, RowFile};
-use crate::row::Row;
-use crate::row_fault::RowFault;
+use crate::case::Case;
+use crate::case_error::CaseError;
+use crate::files::{Block, CaseFile};
 use std::collections::BTreeSet;
 use std::rt::Files;
 
-/// Whether every row answers what it states. Prints those that don't, and how many each file has.
-pub fn replay_all<R>(rt: &R, files: &[RowFile]) -> Result<bool, RowFault>
+/// Runs all test cases. Prints those with another answer than expected, and the number of test cases in
+/// each file. Returns whether all answers are as expected.
+pub fn replay_all<R>(rt: &R, files: &[CaseFile]) -> Result<bool, CaseError>
 where
     R: Files + AllocGlobal + Print,
 {
@@ -16,21 +17,21 @@ where
     let mut is_well = true;
     let mut count = 0usize;
     for file in files {
-        let (rows, are_well) = replay_file(rt, &mut names, file)?;
+        let (cases, are_well) = replay_file(rt, &mut names, file)?;
         is_well &= are_well;
-        count = count.saturating_add(rows);
+        count = count.saturating_add(cases);
     }
     println!(rt; "{count} rows")?;
     Ok(is_well)
 }
 
-/// How many rows the file has, and whether every one is the first of its name and answers what it
-/// states.
+/// Runs the test cases of a file. Returns their number, and whether all have different names and the
+/// expected answers.
 fn replay_file<'a, R>(
     rt: &R,
     names: &mut BTreeSet<&'a str>,
-    file: &'a RowFile,
-) -> Result<(usize, bool), RowFault>
+    file: &'a CaseFile,
+) -> Result<(usize, bool), CaseError>
 where
     R: Files + AllocGlobal + Print,
 {
@@ -44,7 +45,7 @@ fn replay_blocks<'a, R>(
     rt: &R,
     names: &mut BTreeSet<&'a str>,
     blocks: &[Block<'a>],
-) -> Result<bool, RowFault>
+) -> Result<bool, CaseError>
 where
     R: Files + AllocGlobal + Print,
 {
@@ -59,22 +60,22 @@ where
     Ok(are_well)
 }
 
-/// Whether the row answers what it states. Prints it with both answers where it doesn't.
-fn is_replayed<R>(rt: &R, block: &Block<'_>) -> Result<bool, RowFault>
+/// Runs a test case. Returns whether its answer is as expected; else prints both answers.
+fn is_replayed<R>(rt: &R, block: &Block<'_>) -> Result<bool, CaseError>
 where
     R: Files + AllocGlobal + Print,
 {
-    let row = Row::read(rt, block)?;
-    let answer = answer_of(rt.alloc(), row.words.as_slice(), row.input.as_slice());
-    is_stated(rt, block.name, row.expected.as_str(), answer)
+    let case = Case::read(rt, block)?;
+    let answer = answer_of(rt.alloc(), case.words.as_slice(), case.input.as_slice());
+    is_stated(rt, block.name, case.expected.as_str(), answer)
 }
 
 fn is_stated<R: Print>(
     rt: &R,
     name: &str,
     expected: &str,
-    answer: Result<String, RowFault>,
-) -> Result<bool, RowFault> {
+    answer: Result<String, CaseError>,
+) -> Result<bool, CaseError> {
     match answer {
         Ok(answer) => {
             let is_same = answer.as_str() == expected;
@@ -83,7 +84,7 @@ fn is_stated<R: Print>(
             }
             Ok(is_same)
         }
-        Err(RowFault::OutOfMemory) => Err(RowFault::OutOfMemory),
+        Err(CaseError::OutOfMemory) => Err(CaseError::OutOfMemory),
         Err(fault) => {
             println!(rt; "row {name} can't be run: {fault}")?;
             Ok(false)
@@ -91,8 +92,8 @@ fn is_stated<R: Print>(
     }
 }
 
-/// Runs the row of this name, and prints its answer. Whether it is what the row states.
-pub fn replay_one<R>(rt: &R, files: &[RowFile], name: &str) -> Result<bool, RowFault>
+/// Runs the test case of this name, and prints its answer. Returns whether the answer is as expected.
+pub fn replay_one<R>(rt: &R, files: &[CaseFile], name: &str) -> Result<bool, CaseError>
 where
     R: Files + AllocGlobal + Print,
 {
@@ -102,15 +103,15 @@ where
             return print_answer(rt, block);
         }
     }
-    Err(RowFault::Row("no row has this name"))
+    Err(CaseError::Invalid("no row has this name"))
 }
 
-fn print_answer<R>(rt: &R, block: &Block<'_>) -> Result<bool, RowFault>
+fn print_answer<R>(rt: &R, block: &Block<'_>) -> Result<bool, CaseError>
 where
     R: Files + AllocGlobal + Print,
 {
-    let row = Row::read(rt, block)?;
-    let answer = answer_of(rt.alloc(), row.words.as_slice(), row.input.as_slice())?;
+    let case = Case::read(rt, block)?;
+    let answer = answer_of(rt.alloc(), case.words.as_slice(), case.input.as_slice())?;
     print!(rt; "{answer}")?;
-    Ok(answer == row.expected)
+    Ok(answer == case.expected)
 }

@@ -1,4 +1,4 @@
-//! Filing comments by hand.
+//! `Comments`: filing, look-ups and copies.
 
 use deno_graph_source::text::SourceRange;
 use deno_graph_source::tree::{CommentKind, CommentSide, Comments, DependencyComment};
@@ -16,7 +16,7 @@ fn line(rt: &(impl AllocGlobal + Abort), start: usize, text: &str) -> Dependency
     }
 }
 
-/// The starts and texts of all comments, in order.
+/// Returns the starts and texts of all comments, sorted.
 fn all_of<'a>(rt: &(impl AllocGlobal + Abort), comments: &'a Comments) -> Vec<(usize, &'a str)> {
     let mut all = Vec::new(rt.alloc());
     for comment in comments.iter_unstable(rt.alloc()).expect(rt, "memory") {
@@ -27,31 +27,31 @@ fn all_of<'a>(rt: &(impl AllocGlobal + Abort), comments: &'a Comments) -> Vec<(u
     all
 }
 
-/// Files a comment at this position, on this side.
+/// Files a comment at this offset, on this side.
 fn file(
     rt: &impl Abort,
     comments: &mut Comments,
     side: CommentSide,
-    position: usize,
+    offset: usize,
     comment: DependencyComment,
 ) {
     let filed = match side {
-        CommentSide::Leading => comments.add_leading(position, comment),
-        CommentSide::Trailing => comments.add_trailing(position, comment),
+        CommentSide::Leading => comments.add_leading(offset, comment),
+        CommentSide::Trailing => comments.add_trailing(offset, comment),
     };
     filed.expect(rt, "memory");
 }
 
-/// Four comments at two positions, of which two are equal.
+/// Returns four comments at two offsets. Two of the comments are equal.
 fn filed(rt: &(impl AllocGlobal + Abort)) -> Comments {
     let mut comments = Comments::new(rt.alloc());
-    for (side, position, start, text) in [
+    for (side, offset, start, text) in [
         (CommentSide::Leading, 8, 0, "a"),
         (CommentSide::Leading, 8, 4, "b"),
         (CommentSide::Leading, 0, 0, "a"),
         (CommentSide::Trailing, 8, 9, "c"),
     ] {
-        file(rt, &mut comments, side, position, line(rt, start, text));
+        file(rt, &mut comments, side, offset, line(rt, start, text));
     }
     comments
 }
@@ -63,21 +63,21 @@ fn nothing_is_filed(rt: HostRuntime) {
     assert!(rt; all_of(&rt, &comments).is_empty());
 }
 
-/// The comments at this position have these texts in turn, or there is no list.
+/// Asserts the texts of the comments at this offset, in order. `None` stands for no list.
 fn assert_filed(
     rt: &impl Abort,
     comments: &Comments,
-    position: usize,
+    offset: usize,
     leading: Option<&[&str]>,
     trailing: Option<&[&str]>,
 ) {
     assert!(rt;
-        has_texts(comments.get_leading(position), leading),
-        "leading {position}"
+        has_texts(comments.get_leading(offset), leading),
+        "leading {offset}"
     );
     assert!(rt;
-        has_texts(comments.get_trailing(position), trailing),
-        "trailing {position}"
+        has_texts(comments.get_trailing(offset), trailing),
+        "trailing {offset}"
     );
 }
 
@@ -93,7 +93,7 @@ fn has_texts(found: Option<&[DependencyComment]>, expected: Option<&[&str]>) -> 
 }
 
 #[test]
-fn comments_are_filed_in_turn(rt: HostRuntime) {
+fn comments_are_filed_in_order(rt: HostRuntime) {
     let comments = filed(&rt);
     assert_filed(&rt, &comments, 8, Some(&["a", "b"]), Some(&["c"]));
     assert_filed(&rt, &comments, 0, Some(&["a"]), None);
@@ -101,7 +101,7 @@ fn comments_are_filed_in_turn(rt: HostRuntime) {
 }
 
 #[test]
-fn all_comments_are_listed(rt: HostRuntime) {
+fn all_comments_are_returned(rt: HostRuntime) {
     let comments = filed(&rt);
     let expected = [(0, "a"), (0, "a"), (4, "b"), (9, "c")];
     assert_eq!(rt; all_of(&rt, &comments).as_slice(), expected.as_slice());
@@ -112,7 +112,7 @@ fn comments_are_copied(rt: HostRuntime) {
     let mut comments = filed(&rt);
     let copy = comments.try_clone(rt.alloc()).expect(&rt, "memory");
     assert!(rt; copy == comments);
-    // A copy is equal until one comment more is filed.
+    // The copy differs after one more comment is filed.
     file(
         &rt,
         &mut comments,

@@ -1,6 +1,5 @@
-//! Tests of `deno_graph_source` for what has no text: each public call with ample memory, its answer
-//! compared, and positions all along long texts. What has a text is a row of `crates/test_replay`.
-//! A test stops where it is refused memory.
+//! Tests of `deno_graph_source`: the result of each public call that no test case of
+//! `crates/test_replay` covers, and positions in long texts. A test stops when an allocation fails.
 #![tactic(auto)]
 
 #[cfg(test)]

@@ -4,14 +4,14 @@ use deno_graph_source::values::TryClone;
 use std::process::Abort;
 use std::rc::RcStr;
 
-/// The boundary has this position, and the position gives it back.
+/// Asserts that the boundary has this position, and is found by the position.
 fn assert_position(rt: &impl Abort, info: &SourceTextInfo, pos: usize, expected: Position) {
     assert!(rt; info.text().is_char_boundary(pos));
     assert_eq!(rt; Position::from_source_pos(pos, info), expected, "{pos}");
     assert_eq!(rt; expected.as_source_pos(info), Some(pos));
 }
 
-/// Counts along the text, and compares at each boundary.
+/// Counts lines and characters along the text, and compares the position of each boundary.
 fn assert_positions_along(rt: &impl Abort, info: &SourceTextInfo) {
     let mut expected = Position::zeroed();
     let mut pos = 0usize;
@@ -34,7 +34,7 @@ fn assert_positions_along(rt: &impl Abort, info: &SourceTextInfo) {
 }
 
 #[test]
-fn positions_are_right_all_along_long_texts(rt: HostRuntime) {
+fn positions_are_right_in_long_texts(rt: HostRuntime) {
     for (part, count) in [
         ("ab", 700),
         ("aé€😀", 200),
@@ -65,7 +65,7 @@ fn of_units(rt: &(impl AllocGlobal + Abort), units: &[u16]) -> JsString {
     JsString::from_units(rt.alloc(), units).expect(rt, "memory")
 }
 
-/// Whether the string of these units is that of the text.
+/// Whether the string of these units is equal to the string of the text.
 fn has_units_of(rt: &(impl AllocGlobal + Abort), units: &[u16], text: &str) -> bool {
     of_units(rt, units) == JsString::from_str(rt.alloc(), text).expect(rt, "memory")
 }

@@ -1,4 +1,4 @@
-//! Trees that are written by hand.
+//! Trees that are made in code.
 
 use crate::copied::is_copied;
 use deno_graph_source::text::{JsString, SourceRange};
@@ -17,7 +17,7 @@ fn range(start: usize, end: usize) -> SourceRange {
     SourceRange { start, end }
 }
 
-/// The program of `SOURCE`, with this range for the specifier.
+/// Returns the program of `SOURCE`, with this range for the specifier.
 fn side_effect_import(rt: &(impl AllocGlobal + Abort), literal: SourceRange) -> Program {
     let src = StrLit {
         value: JsString::from_str(rt.alloc(), "./b.ts").expect(rt, "memory"),
@@ -55,7 +55,7 @@ fn parsed(rt: &(impl AllocGlobal + Abort)) -> ParsedSource {
 }
 
 #[test]
-fn a_parsed_source_keeps_what_it_got(rt: HostRuntime) {
+fn a_parsed_source_has_its_parts(rt: HostRuntime) {
     assert_parts(&rt, &parsed(&rt));
 }
 
@@ -76,7 +76,7 @@ fn a_parsed_source_is_copied(rt: HostRuntime) {
     assert!(rt; is_copied(&rt, &source));
 }
 
-/// The fault of the import's program over a text, with this range for its specifier.
+/// Returns the fault of the program of `SOURCE` with a text, and with this range for the specifier.
 fn fault_of_import(
     rt: &(impl AllocGlobal + Abort),
     text: &str,
@@ -88,7 +88,7 @@ fn fault_of_import(
 }
 
 #[test]
-fn a_range_past_what_a_document_can_say(rt: HostRuntime) {
+fn a_range_up_to_the_largest_offset(rt: HostRuntime) {
     let comments = Comments::new(rt.alloc());
     let found = fault_of_import(&rt, SOURCE, range(7, usize::MAX), &comments);
     assert_eq!(rt; found, Some(SourceFault::RangeOutside));
@@ -103,7 +103,7 @@ fn comments_past_the_end_of_the_source(rt: HostRuntime) {
     assert_eq!(rt; all.len(), 2000);
 }
 
-/// One comment, filed again and again on both sides, past the end of the source too.
+/// Returns one comment, filed 1,000 times on each side, and also after the end of the source.
 fn many_filings(rt: &(impl AllocGlobal + Abort)) -> Comments {
     let mut comments = Comments::new(rt.alloc());
     for _ in 0..1000 {
@@ -115,7 +115,7 @@ fn many_filings(rt: &(impl AllocGlobal + Abort)) -> Comments {
     comments
 }
 
-/// The comment at the start of `/*a*/`.
+/// Returns the comment of `/*a*/`.
 fn comment(rt: &(impl AllocGlobal + Abort)) -> DependencyComment {
     DependencyComment {
         kind: CommentKind::Block,

@@ -1,4 +1,4 @@
-//! The lists, texts and maps of values, each call once.
+//! Each call of lists, texts and maps once.
 
 use crate::copied::is_copied;
 use deno_graph_source::values::{Items, Text, TextMap};
@@ -57,7 +57,7 @@ fn texts(rt: HostRuntime) {
     assert_eq!(rt; again.as_str(), "größe");
 }
 
-/// The value that was there before.
+/// Inserts a value, and returns the value that it replaces.
 fn insert(
     rt: &(impl AllocGlobal + Abort),
     map: &mut TextMap<Text>,
@@ -68,7 +68,7 @@ fn insert(
         .expect(rt, "memory")
 }
 
-/// A map of two keys, one of them inserted twice.
+/// Returns a map of two keys, one of them inserted twice.
 fn map(rt: &(impl AllocGlobal + Abort)) -> TextMap<Text> {
     let mut map = TextMap::new(rt.alloc());
     for (key, value) in [("b", "1"), ("a", "2"), ("b", "3")] {

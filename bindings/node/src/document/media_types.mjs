@@ -40,6 +40,15 @@ export function mediaTypeOf(name) {
 }
 
 /**
+ * The end of the names of files of a media type.
+ * @param {string} mediaType
+ * @returns {string | undefined} nothing for a media type that no name has
+ */
+export function endingOf(mediaType) {
+  return ENDINGS.find(([, named]) => named === mediaType)?.[0];
+}
+
+/**
  * Whether a text is a URL that needs no other to be read.
  * @param {unknown} text
  * @returns {boolean}

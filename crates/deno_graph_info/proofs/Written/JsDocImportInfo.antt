@@ -1,8 +1,8 @@
 -- What is written of an import of a JSDoc comment is read back, and has no float.
 use Rattle.std.proofs.Common.{◌≡◌, false, Some, refl}
 use Rattle.serde_json.specs.Written.{has_float}
-use Rattle.deno_graph_dependency.proofs.NoFloats.{neither, no_float-object_of}
-use Rattle.deno_graph_dependency.proofs.Reading.{goes_on}
+use Rattle.deno_graph_json.proofs.NoFloats.{neither, no_float-object_of}
+use Rattle.deno_graph_json.proofs.Reading.{goes_on}
 use Rattle.deno_graph_info.specs.declared.analysis.js_doc_import_info.JsDocImportInfo.{JsDocImportInfo}
 use Rattle.deno_graph_info.specs.Json.JsDocImportInfo.{
   IsHeldJsDocImport,

@@ -19,23 +19,23 @@ use Rattle.std.proofs.Common.{
 use Rattle.serde_json.specs.declared.value.Value.{Value}
 use Rattle.serde_json.specs.View.{view}
 use Rattle.serde_json.specs.Written.{has_float}
-use Rattle.deno_graph_dependency.specs.declared.dependency.DependencyDescriptor.{DependencyDescriptor}
-use Rattle.deno_graph_dependency.specs.Object.{array_of, if_any}
-use Rattle.deno_graph_dependency.specs.Read.Partial.{read_or, reads_array}
-use Rattle.deno_graph_dependency.specs.Json.Dependency.{
+use Rattle.deno_graph_info.specs.declared.analysis.dependency.DependencyDescriptor.{DependencyDescriptor}
+use Rattle.deno_graph_json.specs.Object.{array_of, if_any}
+use Rattle.deno_graph_json.specs.Read.Partial.{read_or, reads_array}
+use Rattle.deno_graph_info.specs.Json.Dependency.{
   json_of_dependency,
   IsHeldDependency,
   reads_dependency,
 }
-use Rattle.deno_graph_dependency.proofs.NoFloats.{
+use Rattle.deno_graph_json.proofs.NoFloats.{
   neither,
   no_float-object_of,
   no_float-if_true,
   no_float-if_any,
 }
-use Rattle.deno_graph_dependency.proofs.ReadBack.{reads_or, list_back, flag_back}
-use Rattle.deno_graph_dependency.proofs.Written.SpecifierWithRange.{types_no_float, specifier_option_back}
-use Rattle.deno_graph_dependency.proofs.Written.Dependency.{dependency_no_float, dependency_back}
+use Rattle.deno_graph_json.proofs.ReadBack.{reads_or, list_back, flag_back}
+use Rattle.deno_graph_info.proofs.Written.SpecifierWithRange.{types_no_float, specifier_option_back}
+use Rattle.deno_graph_info.proofs.Written.Dependency.{dependency_no_float, dependency_back}
 use Rattle.deno_graph_info.specs.declared.analysis.js_doc_import_info.JsDocImportInfo.{JsDocImportInfo}
 use Rattle.deno_graph_info.specs.declared.analysis.module_info.ModuleInfo.{ModuleInfo}
 use Rattle.deno_graph_info.specs.declared.analysis.type_script_reference.TypeScriptReference.{

@@ -1,24 +1,24 @@
 -- What is written of a specifier with a resolution mode is read back, and its mode has no float.
 use Rattle.std.proofs.Common.{◌≡◌, List, true, false, codes, Option, Some, None, option_map, refl, ap, ◌∙◌}
 use Rattle.serde_json.specs.Data.{string, no_members}
-use Rattle.deno_graph_text.specs.declared.values.resolution_mode.TypeScriptTypesResolutionMode.{
+use Rattle.deno_graph_base.specs.declared.values.resolution_mode.TypeScriptTypesResolutionMode.{
   TypeScriptTypesResolutionMode,
 }
-use Rattle.deno_graph_text.specs.declared.values.resolution_mode.TypeScriptTypesResolutionMode.TheVariants.{
+use Rattle.deno_graph_base.specs.declared.values.resolution_mode.TypeScriptTypesResolutionMode.TheVariants.{
   Require,
   Import,
 }
-use Rattle.deno_graph_dependency.specs.declared.specifier_with_range.SpecifierWithRange.{SpecifierWithRange}
-use Rattle.deno_graph_dependency.specs.Object.{Entry, put_entries}
-use Rattle.deno_graph_dependency.specs.Json.Position.{json_of_range}
-use Rattle.deno_graph_dependency.specs.Json.ResolutionMode.{json_of_mode, reads_mode}
-use Rattle.deno_graph_dependency.specs.Json.SpecifierWithRange.{IsHeldSpecifier}
-use Rattle.deno_graph_dependency.specs.Read.Partial.{read_or, reads_optional}
-use Rattle.deno_graph_dependency.proofs.NoFloats.{option_has_float}
-use Rattle.deno_graph_dependency.proofs.Objects.{has_distinct_keys, entry_at}
-use Rattle.deno_graph_dependency.proofs.ReadBack.{member_or-table, mode_back}
-use Rattle.deno_graph_dependency.proofs.Reading.{goes_on}
-use Rattle.deno_graph_dependency.proofs.Written.SpecifierWithRange.{specifier_members_back}
+use Rattle.deno_graph_info.specs.declared.analysis.specifier_with_range.SpecifierWithRange.{SpecifierWithRange}
+use Rattle.deno_graph_json.specs.Object.{Entry, put_entries}
+use Rattle.deno_graph_json.specs.Json.Position.{json_of_range}
+use Rattle.deno_graph_json.specs.Json.ResolutionMode.{json_of_mode, reads_mode}
+use Rattle.deno_graph_info.specs.Json.SpecifierWithRange.{IsHeldSpecifier}
+use Rattle.deno_graph_json.specs.Read.Partial.{read_or, reads_optional}
+use Rattle.deno_graph_json.proofs.NoFloats.{option_has_float}
+use Rattle.deno_graph_json.proofs.Objects.{has_distinct_keys, entry_at}
+use Rattle.deno_graph_json.proofs.ReadBack.{member_or-table, mode_back}
+use Rattle.deno_graph_json.proofs.Reading.{goes_on}
+use Rattle.deno_graph_info.proofs.Written.SpecifierWithRange.{specifier_members_back}
 use Rattle.deno_graph_info.specs.Json.SpecifierWithMode.{specifier_with_mode}
 
 pub specifier_with_mode_back : (s : SpecifierWithRange) (mode : Option TypeScriptTypesResolutionMode)

@@ -2,10 +2,10 @@
 use Rattle.std.proofs.Common.{◌≡◌, false, codes, Some, refl}
 use Rattle.serde_json.specs.Find.{as_str}
 use Rattle.serde_json.specs.Written.{has_float}
-use Rattle.deno_graph_dependency.proofs.NoFloats.{neither, no_float-object_of}
-use Rattle.deno_graph_dependency.proofs.ReadBack.{member_at-table}
-use Rattle.deno_graph_dependency.proofs.Reading.{goes_on}
-use Rattle.deno_graph_dependency.proofs.Written.SpecifierWithRange.{specifier_members_back}
+use Rattle.deno_graph_json.proofs.NoFloats.{neither, no_float-object_of}
+use Rattle.deno_graph_json.proofs.ReadBack.{member_at-table}
+use Rattle.deno_graph_json.proofs.Reading.{goes_on}
+use Rattle.deno_graph_info.proofs.Written.SpecifierWithRange.{specifier_members_back}
 use Rattle.deno_graph_info.specs.declared.analysis.type_script_reference.TypeScriptReference.{
   TypeScriptReference,
 }

@@ -1,19 +1,19 @@
--- A `ModuleInfo`, as JSON and from it.
+-- A `ModuleInfo`, written to and read from JSON.
 use Rattle.std.specs.Prelude.{List, [], ◌∷◌, codes, false, option_map, Option, Some, None, All, IfSome}
 use Rattle.serde_json.specs.Data.{Data}
 use Rattle.serde_json.specs.Find.{as_bool, as_object}
-use Rattle.deno_graph_dependency.specs.Json.Dependency.{
+use Rattle.deno_graph_info.specs.Json.Dependency.{
   json_of_dependency,
   reads_dependency,
   IsHeldDependency,
 }
-use Rattle.deno_graph_dependency.specs.Object.{Entry, object_of, array_of, if_true, if_any}
-use Rattle.deno_graph_dependency.specs.Json.SpecifierWithRange.{
+use Rattle.deno_graph_json.specs.Object.{Entry, object_of, array_of, if_true, if_any}
+use Rattle.deno_graph_info.specs.Json.SpecifierWithRange.{
   json_of_specifier,
   reads_specifier,
   IsHeldSpecifier,
 }
-use Rattle.deno_graph_dependency.specs.Read.Partial.{◌>>=◌, member_or, reads_array, reads_optional}
+use Rattle.deno_graph_json.specs.Read.Partial.{◌>>=◌, member_or, reads_array, reads_optional}
 use Rattle.deno_graph_info.specs.declared.analysis.module_info.ModuleInfo.{ModuleInfo}
 use Rattle.deno_graph_info.specs.Json.JsDocImportInfo.{
   json_of_js_doc_import,
@@ -26,8 +26,7 @@ use Rattle.deno_graph_info.specs.Json.TypeScriptReference.{
   IsHeldReference,
 }
 
--- its table: `script` is left out where it is false, a list where it is empty, and a specifier where
--- there is none
+-- the members: `script` is left out if it is false, a list if it is empty, and a specifier if there is none
 abbrev pub info_entries : ModuleInfo → List Entry
 info_entries m =
     (codes "dependencies", option_map (array_of json_of_dependency) (if_any m.dependencies))
@@ -43,7 +42,7 @@ info_entries m =
 abbrev pub json_of_info : ModuleInfo → Data
 json_of_info m = object_of (info_entries m)
 
--- what holds of each that a program has: positions fit, and the keys of attributes ascend
+-- what holds of each `ModuleInfo` that exists at run time: positions fit, and the keys of attributes ascend
 pub record IsHeldInfo (m : ModuleInfo) : Type 0 where
   pub dependencies : All IsHeldDependency m.dependencies
   pub ts_references : All IsHeldReference m.ts_references
@@ -53,7 +52,7 @@ pub record IsHeldInfo (m : ModuleInfo) : Type 0 where
   pub jsdoc_imports : All IsHeldJsDocImport m.jsdoc_imports
   pub source_map_url : IfSome m.source_map_url IsHeldSpecifier
 
--- an object, whose members may be missing; others that it has say nothing
+-- an object. Each member may be missing, and unknown members are ignored.
 unfoldable pub reads_info : Data → Option ModuleInfo
 reads_info d = do
   ms ← as_object d

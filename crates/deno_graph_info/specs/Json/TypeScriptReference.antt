@@ -1,4 +1,4 @@
--- A triple-slash reference, as JSON and from it.
+-- A triple-slash reference, written to and read from JSON.
 use Rattle.std.specs.Prelude.{
   List,
   [],
@@ -14,15 +14,15 @@ use Rattle.std.specs.Prelude.{
 }
 use Rattle.serde_json.specs.Data.{Data, string, Members}
 use Rattle.serde_json.specs.Find.{as_object, as_str}
-use Rattle.deno_graph_text.specs.declared.values.resolution_mode.TypeScriptTypesResolutionMode.{
+use Rattle.deno_graph_base.specs.declared.values.resolution_mode.TypeScriptTypesResolutionMode.{
   TypeScriptTypesResolutionMode,
 }
-use Rattle.deno_graph_dependency.specs.declared.specifier_with_range.SpecifierWithRange.{SpecifierWithRange}
-use Rattle.deno_graph_dependency.specs.Object.{Entry, object_of}
-use Rattle.deno_graph_dependency.specs.Json.Position.{json_of_range}
-use Rattle.deno_graph_dependency.specs.Json.ResolutionMode.{json_of_mode}
-use Rattle.deno_graph_dependency.specs.Read.Partial.{◌>>=◌, member_at}
-use Rattle.deno_graph_dependency.specs.Json.SpecifierWithRange.{specifier_of, IsHeldSpecifier}
+use Rattle.deno_graph_info.specs.declared.analysis.specifier_with_range.SpecifierWithRange.{SpecifierWithRange}
+use Rattle.deno_graph_json.specs.Object.{Entry, object_of}
+use Rattle.deno_graph_json.specs.Json.Position.{json_of_range}
+use Rattle.deno_graph_json.specs.Json.ResolutionMode.{json_of_mode}
+use Rattle.deno_graph_json.specs.Read.Partial.{◌>>=◌, member_at}
+use Rattle.deno_graph_info.specs.Json.SpecifierWithRange.{specifier_of, IsHeldSpecifier}
 use Rattle.deno_graph_info.specs.declared.analysis.type_script_reference.TypeScriptReference.{
   TypeScriptReference,
 }
@@ -39,7 +39,7 @@ path_entries s =
     ∷ (codes "type", Some (string (codes "path")))
     ∷ []
 
--- its table: `resolutionMode` is left out where there is none
+-- the members of a reference to types: `resolutionMode` is left out if there is none
 abbrev pub types_entries : SpecifierWithRange → Option TypeScriptTypesResolutionMode → List Entry
 types_entries s mode =
     (codes "range", Some (json_of_range s.range))
@@ -55,18 +55,18 @@ reference_entries (Types s mode) = types_entries s mode
 abbrev pub json_of_reference : TypeScriptReference → Data
 json_of_reference r = object_of (reference_entries r)
 
--- what holds of each that a program has: its positions fit
+-- what holds of each reference that exists at run time: its positions fit
 abbrev pub IsHeldReference : TypeScriptReference → Type 0
 IsHeldReference (Path s) = IsHeldSpecifier s
 IsHeldReference (Types s mode) = IsHeldSpecifier s
 
--- the members but `type`, of which `resolutionMode` may be missing
+-- the members of a reference to types except `type`. `resolutionMode` may be missing.
 unfoldable pub reference_to_types : Members → Option TypeScriptReference
 reference_to_types ms = do
-  stated ← specifier_with_mode ms
-  Some (Types stated.0 stated.1)
+  both ← specifier_with_mode ms
+  Some (Types both.0 both.1)
 
--- the reference that has this `type`
+-- a reference of this `type`
 unfoldable pub reference_of_type : List ℕ → Members → Option TypeScriptReference
 reference_of_type type ms =
     if bytes_eq type (codes "path")

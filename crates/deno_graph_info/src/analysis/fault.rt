@@ -1,13 +1,13 @@
-use deno_graph_dependency::json_form::ReadError;
+use deno_graph_json::ReadError;
 use thiserror::Error;
 
-/// Why no `ModuleInfo` was read.
+/// Why a `ModuleInfo` can't be read.
 #[derive(Debug, PartialEq, Eq, Drop, Error)]
 pub enum InfoFault {
-    /// The value has no float, and not the form that is read.
+    /// The value has no float, and isn't the JSON of a `ModuleInfo`.
     #[error("Shape")]
     Shape,
-    /// A number that isn't held as a whole number is in the value.
+    /// The value has a number that isn't held as a whole number.
     #[error("Float")]
     Float,
     #[error("OutOfMemory")]

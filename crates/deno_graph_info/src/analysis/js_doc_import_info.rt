@@ -1,21 +1,21 @@
 ghost use Rattle.std.specs.Prelude.{refl};
 ghost use Rattle.deno_graph_info.specs.Json.JsDocImportInfo.{js_doc_import_entries, json_of_js_doc_import, reads_js_doc_import, IsHeldJsDocImport};
 
+use crate::analysis::SpecifierWithRange;
 use crate::analysis::specifier_with_mode::{put_specifier_with_mode, read_specifier_with_mode};
-use deno_graph_dependency::SpecifierWithRange;
-use deno_graph_dependency::json_form::{
+use deno_graph_base::values::{TryClone, TypeScriptTypesResolutionMode};
+use deno_graph_json::{
     FromJson, MemberWriter, ObjectReader, ReadError, TextWriter, ToJson, ToObject, object_value,
     write_object,
 };
-use deno_graph_text::values::{TryClone, TypeScriptTypesResolutionMode};
 use serde_json::Value;
 use std::alloc::{AllocError, Global};
 
-/// An import that a JSDoc comment states.
+/// An import in a JSDoc comment.
 #[derive(Debug, PartialEq, Eq, Drop)]
 pub struct JsDocImportInfo {
     pub specifier: SpecifierWithRange,
-    /// The value of `resolution-mode`, if it is stated and is one that is known.
+    /// The value of the attribute `resolution-mode`, if it is a known mode.
     pub resolution_mode: Option<TypeScriptTypesResolutionMode>,
 }
 
@@ -57,7 +57,7 @@ impl ToObject for JsDocImportInfo {
 impl FromJson for JsDocImportInfo {
     ghost reads = { reads_js_doc_import };
 
-    #[tactic(auto, using(deno_graph_dependency::proofs::Reading::reading), unfolding(crate::specs::Json::JsDocImportInfo::reads_js_doc_import))]
+    #[tactic(auto, using(deno_graph_json::proofs::Reading::reading), unfolding(crate::specs::Json::JsDocImportInfo::reads_js_doc_import))]
     fn from_json(alloc: Global, value: &Value) -> Result<JsDocImportInfo, ReadError> {
         let object = ObjectReader::new(alloc, value)?;
         let (specifier, resolution_mode) = read_specifier_with_mode(&object)?;

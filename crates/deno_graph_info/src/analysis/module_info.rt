@@ -7,42 +7,41 @@ ghost use Rattle.deno_graph_info.specs.Json.ModuleInfo.{info_entries, json_of_in
 use crate::analysis::fault::InfoFault;
 use crate::analysis::js_doc_import_info::JsDocImportInfo;
 use crate::analysis::type_script_reference::TypeScriptReference;
-use deno_graph_dependency::json_form::{
+use crate::analysis::{DependencyDescriptor, SpecifierWithRange};
+use deno_graph_base::values::{Items, TryClone};
+use deno_graph_json::{
     FromJson, MemberWriter, ObjectReader, ReadError, TextWriter, ToJson, ToObject, has_float,
     object_value, text_of, write_object,
 };
-use deno_graph_dependency::{DependencyDescriptor, SpecifierWithRange};
-use deno_graph_text::values::{Items, TryClone};
 use serde_json::Value;
 use std::alloc::{AllocError, Global};
 
-/// What the analysis of one module finds.
+/// The result of analyzing a module.
 #[derive(Debug, PartialEq, Eq, Drop)]
 pub struct ModuleInfo {
-    /// Whether the source is a script: nothing makes it an ES module, no import or export declaration
-    /// among its items, no `await` outside every function, no `import.meta`. So it is true for
-    /// CommonJS too.
+    /// Whether the source is a script, CommonJS included: it has no import or export declaration, no
+    /// `await` outside functions and no `import.meta`.
     pub is_script: bool,
-    /// The dependencies, in the order of the tree, a call after those inside it.
+    /// The dependencies, in the order of the tree. A call comes after those inside it.
     pub dependencies: Items<DependencyDescriptor>,
     /// The triple-slash references at the head of the module.
     pub ts_references: Items<TypeScriptReference>,
-    /// What `@ts-self-types` names as the types of the module itself.
+    /// The types of the module itself, named by `@ts-self-types`.
     pub self_types_specifier: Option<SpecifierWithRange>,
-    /// What `@jsxImportSource` names.
+    /// The specifier that `@jsxImportSource` names.
     pub jsx_import_source: Option<SpecifierWithRange>,
-    /// What `@jsxImportSourceTypes` names.
+    /// The specifier that `@jsxImportSourceTypes` names.
     pub jsx_import_source_types: Option<SpecifierWithRange>,
-    /// The imports that JSDoc comments state, in the order of their places.
+    /// The imports in JSDoc comments, in the order of the source.
     pub jsdoc_imports: Items<JsDocImportInfo>,
-    /// What `sourceMappingURL` names.
+    /// The URL that `sourceMappingURL` names.
     pub source_map_url: Option<SpecifierWithRange>,
 }
 
 impl ModuleInfo {
     ghost use Rattle.deno_graph_info.specs.declared.analysis.module_info.ModuleInfo.{ModuleInfo};
 
-    /// No script, and nothing found. Takes no memory.
+    /// Returns an empty result of a module that is no script. Allocates nothing.
     pub fn new(alloc: Global) -> ModuleInfo
         ensures script { result.is_script ≡ false }
         ensures dependencies { result.dependencies ≡ [] }
@@ -65,9 +64,10 @@ impl ModuleInfo {
         }
     }
 
-    /// Reads the JSON form. A member that is missing has its default, and members that have no
-    /// meaning here are passed over. `Float` where a number that isn't held as a whole number
-    /// is anywhere in the value, and else `Shape` where it isn't of the form.
+    /// Reads JSON. A missing member has its default, and unknown members are ignored.
+    ///
+    /// Returns `Float` if a number that isn't held as a whole number is anywhere in the value,
+    /// `Shape` if the value can't be read, and `OutOfMemory` if an allocation fails.
     pub fn from_value(alloc: Global, value: &Value) -> Result<ModuleInfo, InfoFault>
         ensures ok { IfOk result (λ info. (holds_float (view value.now) ≡ false)
             × (reads_info (view value.now) ≡ Some info)) }
@@ -80,8 +80,8 @@ impl ModuleInfo {
         }
     }
 
-    /// The JSON form: members that have their default are left out. `from_value` reads it as this
-    /// very `ModuleInfo`. The only error is that memory was refused.
+    /// Returns the JSON, without members that have their default. `from_value` reads it back as an
+    /// equal `ModuleInfo`. The only error is that an allocation fails.
     pub fn to_value(&self, alloc: Global) -> Result<Value, AllocError>
         ensures form { IfOk result (λ value. view value ≡ json_of_info self.now) }
         ensures read_back { IfOk result (λ value. reads_info (view value) ≡ Some self.now) }
@@ -90,17 +90,17 @@ impl ModuleInfo {
         object_value(alloc, self)
     }
 
-    /// The JSON form as text: compact, with the keys of each object ascending, as `to_value` and
-    /// `Value::to_string` give it. The only error is that memory was refused.
+    /// Returns the JSON as compact text, with the keys of each object ascending: the text that
+    /// `Value::to_string` makes of `to_value`. The only error is that an allocation fails.
     pub fn to_json(&self, alloc: Global) -> Result<String, AllocError>
         ensures text { IfOk result (λ text. string_bytes text ≡ compact_text (json_of_info self.now)) }
     {
         text_of(alloc, self)
     }
 
-    /// A law: the JSON of a `ModuleInfo` is read as that very `ModuleInfo`. What `IsHeldInfo` asks
-    /// holds of each `ModuleInfo` of a program. This call does nothing: what it ensures holds of
-    /// every value, and a caller learns it by the call.
+    /// The law that the JSON of a `ModuleInfo` is read back as the same `ModuleInfo`. `IsHeldInfo`
+    /// holds of each `ModuleInfo` that exists at run time. The call does nothing but make its
+    /// contract known to the caller.
     pub fn law_of_json()
         ensures { (info : ModuleInfo) → IsHeldInfo info → reads_info (json_of_info info) ≡ Some info }
     {}
@@ -157,7 +157,7 @@ impl ToObject for ModuleInfo {
 impl FromJson for ModuleInfo {
     ghost reads = { reads_info };
 
-    #[tactic(auto, using(deno_graph_dependency::proofs::Reading::reading), unfolding(crate::specs::Json::ModuleInfo::reads_info))]
+    #[tactic(auto, using(deno_graph_json::proofs::Reading::reading), unfolding(crate::specs::Json::ModuleInfo::reads_info))]
     fn from_json(alloc: Global, value: &Value) -> Result<ModuleInfo, ReadError> {
         let object = ObjectReader::new(alloc, value)?;
         let is_script = object.read_or("script", false)?;

@@ -1,18 +1,18 @@
-//! A specifier with the resolution mode that is stated beside it, as members of an object.
+//! A specifier and its resolution mode, as members of an object.
 
 ghost use Rattle.std.specs.Prelude.{◌≡◌, OnOk};
-ghost use Rattle.deno_graph_dependency.specs.Json.SpecifierWithRange.{IsHeldSpecifier};
-ghost use Rattle.deno_graph_dependency.specs.Object.{with_entries};
-ghost use Rattle.deno_graph_dependency.specs.ObjectReader.{readable, value_of};
-ghost use Rattle.deno_graph_dependency.specs.Read.Answer.{Answers};
+ghost use Rattle.deno_graph_info.specs.Json.SpecifierWithRange.{IsHeldSpecifier};
+ghost use Rattle.deno_graph_json.specs.Object.{with_entries};
+ghost use Rattle.deno_graph_json.specs.ObjectReader.{readable, value_of};
+ghost use Rattle.deno_graph_json.specs.Read.Result.{IsReadResult};
 ghost use Rattle.deno_graph_info.specs.Json.SpecifierWithMode.{specifier_with_mode, specifier_with_mode_entries};
 
-use deno_graph_dependency::json_form::{MemberWriter, ObjectReader, ReadError};
-use deno_graph_dependency::{SpecifierWithRange, read_specifier};
-use deno_graph_text::values::TypeScriptTypesResolutionMode;
+use crate::analysis::specifier_with_range::{SpecifierWithRange, read_specifier};
+use deno_graph_base::values::TypeScriptTypesResolutionMode;
+use deno_graph_json::{MemberWriter, ObjectReader, ReadError};
 use std::alloc::AllocError;
 
-/// Puts both, the mode if there is one.
+/// Writes the specifier and, if present, `resolutionMode`.
 pub(crate) fn put_specifier_with_mode<W: MemberWriter>(
     specifier: &SpecifierWithRange,
     resolution_mode: &Option<TypeScriptTypesResolutionMode>,
@@ -27,12 +27,12 @@ pub(crate) fn put_specifier_with_mode<W: MemberWriter>(
     out.put("text", &specifier.text)
 }
 
-/// Both, as these members have them.
-#[tactic(auto, using(deno_graph_dependency::proofs::Reading::reading), unfolding(crate::specs::Json::SpecifierWithMode::specifier_with_mode))]
+/// Reads the specifier and, if present, `resolutionMode`.
+#[tactic(auto, using(deno_graph_json::proofs::Reading::reading), unfolding(crate::specs::Json::SpecifierWithMode::specifier_with_mode))]
 pub(crate) fn read_specifier_with_mode(
     object: &ObjectReader,
 ) -> Result<(SpecifierWithRange, Option<TypeScriptTypesResolutionMode>), ReadError>
-    ensures { Answers (value_of object.now) (specifier_with_mode (readable object.now)) result }
+    ensures { IsReadResult (value_of object.now) (specifier_with_mode (readable object.now)) result }
 {
     let specifier = read_specifier(object)?;
     let resolution_mode = object.read_or("resolutionMode", None)?;

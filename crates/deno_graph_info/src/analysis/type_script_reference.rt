@@ -1,22 +1,22 @@
 ghost use Rattle.std.specs.Prelude.{◌≡◌, Some, codes, refl, true};
 ghost use Rattle.serde_json.specs.Data.{string};
 ghost use Rattle.serde_json.specs.Find.{get_member};
-ghost use Rattle.deno_graph_dependency.specs.Ascending.{has_ascending_keys};
-ghost use Rattle.deno_graph_dependency.specs.ObjectReader.{readable, value_of};
-ghost use Rattle.deno_graph_dependency.specs.Read.Answer.{Answers};
+ghost use Rattle.deno_graph_json.specs.Ascending.{has_ascending_keys};
+ghost use Rattle.deno_graph_json.specs.ObjectReader.{readable, value_of};
+ghost use Rattle.deno_graph_json.specs.Read.Result.{IsReadResult};
 ghost use Rattle.deno_graph_info.specs.Json.TypeScriptReference.{json_of_reference, reads_reference, reference_entries, reference_of_type, reference_to_types, IsHeldReference};
 
 use crate::analysis::specifier_with_mode::{put_specifier_with_mode, read_specifier_with_mode};
-use deno_graph_dependency::json_form::{
+use crate::analysis::specifier_with_range::{SpecifierWithRange, read_specifier};
+use deno_graph_base::values::{TryClone, TypeScriptTypesResolutionMode};
+use deno_graph_json::{
     Expected, FromJson, MemberWriter, ObjectReader, ReadError, TextWriter, ToJson, ToObject,
     object_value, write_object,
 };
-use deno_graph_dependency::{SpecifierWithRange, read_specifier};
-use deno_graph_text::values::{TryClone, TypeScriptTypesResolutionMode};
 use serde_json::Value;
 use std::alloc::{AllocError, Global};
 
-/// What a triple-slash reference refers to.
+/// A triple-slash reference.
 #[derive(Debug, PartialEq, Eq, Drop)]
 pub enum TypeScriptReference {
     /// `/// <reference path=".." />`.
@@ -24,7 +24,7 @@ pub enum TypeScriptReference {
     /// `/// <reference types=".." />`.
     Types {
         specifier: SpecifierWithRange,
-        /// The value of `resolution-mode`, if it is stated and is one that is known.
+        /// The value of `resolution-mode`, if it is a known mode.
         resolution_mode: Option<TypeScriptTypesResolutionMode>,
     },
 }
@@ -90,7 +90,7 @@ impl ToObject for TypeScriptReference {
 impl FromJson for TypeScriptReference {
     ghost reads = { reads_reference };
 
-    #[tactic(auto, using(deno_graph_dependency::proofs::Reading::reading), unfolding(crate::specs::Json::TypeScriptReference::reads_reference))]
+    #[tactic(auto, using(deno_graph_json::proofs::Reading::reading), unfolding(crate::specs::Json::TypeScriptReference::reads_reference))]
     fn from_json(alloc: Global, value: &Value) -> Result<TypeScriptReference, ReadError> {
         let object = ObjectReader::new(alloc, value)?;
         let reference_type = object.read_str("type")?;
@@ -98,14 +98,14 @@ impl FromJson for TypeScriptReference {
     }
 }
 
-/// The reference that has this `type`.
+/// Reads a reference of the type `reference_type`.
 #[tactic(auto, unfolding(crate::specs::Json::TypeScriptReference::reference_of_type))]
 fn read_reference(
     reference_type: &str,
     object: &ObjectReader,
 ) -> Result<TypeScriptReference, ReadError>
     ensures { get_member (codes "type") (readable object.now) ≡ Some (string reference_type.now)
-        → Answers (value_of object.now)
+        → IsReadResult (value_of object.now)
         (reference_of_type reference_type.now (readable object.now)) result }
 {
     match reference_type {
@@ -118,10 +118,10 @@ fn read_reference(
     }
 }
 
-/// The reference to types that has these members.
-#[tactic(auto, using(deno_graph_dependency::proofs::Reading::reading), unfolding(crate::specs::Json::TypeScriptReference::reference_to_types))]
+/// Reads the members of a reference to types.
+#[tactic(auto, using(deno_graph_json::proofs::Reading::reading), unfolding(crate::specs::Json::TypeScriptReference::reference_to_types))]
 fn read_types(object: &ObjectReader) -> Result<TypeScriptReference, ReadError>
-    ensures { Answers (value_of object.now) (reference_to_types (readable object.now)) result }
+    ensures { IsReadResult (value_of object.now) (reference_to_types (readable object.now)) result }
 {
     let (specifier, resolution_mode) = read_specifier_with_mode(object)?;
     Ok(TypeScriptReference::Types {

@@ -1,19 +1,19 @@
-//! The comments that version 1 keeps with a dependency.
+//! The comments that version 1 stores with a dependency.
 
 ghost use Rattle.deno_graph_info.specs.Comment.{reads_stored_comment};
 
-use deno_graph_dependency::json_form::{FromJson, ObjectReader, ReadError};
-use deno_graph_text::text::PositionRange;
-use deno_graph_text::values::Text;
+use deno_graph_base::text::PositionRange;
+use deno_graph_base::values::Text;
+use deno_graph_json::{FromJson, ObjectReader, ReadError};
 use serde_json::Value;
 use std::alloc::Global;
 
 /// A comment before a dependency.
 #[derive(Debug, PartialEq, Eq, Drop)]
 pub struct Comment {
-    /// What follows the two bytes that mark the comment.
+    /// The text after the two characters that begin the comment.
     pub text: Text,
-    /// Where the comment is: lines and characters from zero.
+    /// Range of the comment: lines and characters from zero.
     pub range: PositionRange,
 }
 

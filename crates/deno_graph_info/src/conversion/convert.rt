@@ -5,29 +5,30 @@ ghost use Rattle.serde_json.specs.Find.{as_array};
 ghost use Rattle.serde_json.specs.View.{view, items_view, members_view};
 ghost use Rattle.serde_json.specs.Written.{has_float as holds_float};
 ghost use Rattle.deno_graph_info.specs.Conversion.{AnyOverflows, AreConverted, DependencyOverflows, IsConverted, IsConvertedDependency, IsConvertFault, Overflows, comments_in, dependencies_in, with_types, without_value_at};
-ghost use Rattle.deno_graph_info.specs.ConvertFault.{IsColumnFault};
+ghost use Rattle.deno_graph_info.specs.internal.ConvertFault.{IsColumnFault};
 
+use crate::analysis::SpecifierWithRange;
 use crate::conversion::comment::Comment;
 use crate::conversion::fault::ConvertFault;
 use crate::conversion::types::types_named;
-use deno_graph_dependency::SpecifierWithRange;
-use deno_graph_dependency::json_form::object_reader::find_member;
-use deno_graph_dependency::json_form::{ObjectReader, ReadError, ToJson, has_float};
-use deno_graph_text::values::Items;
+use deno_graph_base::values::Items;
+use deno_graph_json::object_reader::find_member;
+use deno_graph_json::{ObjectReader, ReadError, ToJson, has_float};
+use deno_graph_pragmas::finders::laws::captures_are_unique;
 use serde_json::{Map, Value, put};
 use std::alloc::{AllocError, Global};
 
-/// Converts the information of one module, as JSON, from version 1, whose dependencies keep the
-/// comments before them, to version 2, where they have the types that `@deno-types` in the last of
-/// these names.
+/// Converts the JSON of a module's information from version 1 to version 2. In version 1, a
+/// dependency has the comments before it. In version 2, it has the types that `@deno-types` in the
+/// last of these comments names.
 ///
-/// A dependency of the array `dependencies` whose `leadingComments` are an array of readable
-/// comments loses them; where the last names types, they are put at `typesSpecifier`. All else
-/// stays. A readable comment has a string `text` and a `range` of positions.
+/// From each dependency in the array `dependencies`, removes the member `leadingComments` if it is an
+/// array of readable comments. If the last of them names types, writes these to `typesSpecifier`. A
+/// readable comment has a string `text` and a `range` of positions. All other members stay.
 ///
-/// `Float` where a number that isn't held as a whole number is anywhere in the value, and else
-/// `ColumnOverflow` where a column would be above the largest `usize`. On an error the value stays
-/// as it was.
+/// Returns `Float` if a number that isn't held as a whole number is anywhere in the value,
+/// `ColumnOverflow` if types would end beyond the largest column, and `OutOfMemory` if an allocation
+/// fails. On an error the value is unchanged.
 pub fn module_graph_1_to_2(alloc: Global, value: &mut Value) -> Result<(), ConvertFault>
     ensures no_float { OnOk result (holds_float (view value.old) ≡ false) }
     ensures ok { OnOk result (IsConverted (view value.old) (view value.new)) }
@@ -42,8 +43,8 @@ pub fn module_graph_1_to_2(alloc: Global, value: &mut Value) -> Result<(), Conve
     Ok(())
 }
 
-/// The same of a value that nobody else needs: nothing of it is copied.
-pub fn module_graph_1_into_2(alloc: Global, value: Value) -> Result<Value, ConvertFault>
+/// Like `module_graph_1_to_2`, but takes the value and copies nothing.
+pub fn module_graph_1_to_2_owned(alloc: Global, value: Value) -> Result<Value, ConvertFault>
     ensures no_float { IfOk result (λ _. holds_float (view value) ≡ false) }
     ensures ok { IfOk result (λ after. IsConverted (view value) (view after)) }
     ensures err { IfErr result (IsConvertFault (view value)) }
@@ -54,7 +55,7 @@ pub fn module_graph_1_into_2(alloc: Global, value: Value) -> Result<Value, Conve
     convert_value(alloc, value)
 }
 
-/// The value, with its dependencies converted where it has any.
+/// Converts the dependencies of a value, if there are any.
 fn convert_value(alloc: Global, value: Value) -> Result<Value, ConvertFault>
     ensures ok { IfOk result (λ after. IsConverted (view value) (view after)) }
     ensures err { IfErr result (IsColumnFault (Overflows (view value))) }
@@ -66,8 +67,8 @@ fn convert_value(alloc: Global, value: Value) -> Result<Value, ConvertFault>
     }
 }
 
-/// Whether it is an object with an array `dependencies`.
-#[tactic(auto, unfolding(crate::specs::Conversion::dependencies_in, deno_graph_dependency::specs::Read::Partial::member_at))]
+/// Returns whether the value is an object with an array `dependencies`.
+#[tactic(auto, unfolding(crate::specs::Conversion::dependencies_in, deno_graph_json::specs::Read::Partial::member_at))]
 fn has_dependencies(value: &Value) -> bool
     ensures { IsTrue result ↔ IsSome (dependencies_in (view value.now)) }
 {
@@ -80,7 +81,7 @@ fn has_dependencies(value: &Value) -> bool
     dependencies.is_array()
 }
 
-/// An object that has dependencies, with these converted.
+/// Converts the dependencies of an object that has dependencies.
 #[tactic(auto, unfolding(crate::specs::Conversion::dependencies_in))]
 fn convert_object(alloc: Global, value: Value) -> Result<Value, ConvertFault>
     requires { IsSome (dependencies_in (view value)) }
@@ -97,7 +98,7 @@ fn convert_object(alloc: Global, value: Value) -> Result<Value, ConvertFault>
     }
 }
 
-/// The members of an object that has dependencies, with these converted.
+/// Converts the dependencies among the members of an object that has dependencies.
 fn convert_members(
     alloc: Global,
     members: Map<String, Value>,
@@ -111,7 +112,7 @@ fn convert_members(
         (IsColumnFault (Overflows (object (members_view members.entries)))) }
 {
     let mut converted = members;
-    // The key is there, so that no memory is asked for.
+    // The key is present, so that this allocates nothing and can't fail.
     let Ok(found) = converted.insert(key, Value::Null) else {
         return Ok(converted);
     };
@@ -123,7 +124,7 @@ fn convert_members(
     Ok(converted)
 }
 
-/// The dependencies, converted, where they are an array.
+/// Converts each dependency of an array. Returns any other value unchanged.
 fn convert_array(alloc: Global, dependencies: Value) -> Result<Value, ConvertFault>
     ensures ok { IfOk result (λ after. IfSome (as_array (view dependencies))
         (λ old. (new : DataItems) × AreConverted old new × (view after ≡ array new))) }
@@ -139,7 +140,7 @@ fn convert_array(alloc: Global, dependencies: Value) -> Result<Value, ConvertFau
     }
 }
 
-/// Each dependency, converted.
+/// Converts each dependency.
 fn convert_all(alloc: Global, dependencies: Vec<Value>) -> Result<Vec<Value>, ConvertFault>
     ensures ok { IfOk result
         (λ new. AreConverted (items_view dependencies.items) (items_view new.items)) }
@@ -153,7 +154,7 @@ fn convert_all(alloc: Global, dependencies: Vec<Value>) -> Result<Vec<Value>, Co
     Ok(converted)
 }
 
-/// The dependency, converted.
+/// Converts a dependency.
 fn convert_dependency(alloc: Global, dependency: Value) -> Result<Value, ConvertFault>
     ensures ok { IfOk result
         (λ converted. IsConvertedDependency (view dependency) (view converted)) }
@@ -168,7 +169,26 @@ fn convert_dependency(alloc: Global, dependency: Value) -> Result<Value, Convert
     }
 }
 
-/// The leading comments of a dependency, where they are an array of readable comments.
+/// Returns whether the types that the comments of a dependency name would end beyond the largest
+/// column, so that a value with this dependency can't be converted. Copies only the comments. The only
+/// error is that an allocation fails.
+pub fn column_overflows(alloc: Global, dependency: &Value) -> Result<bool, AllocError>
+    ensures { IfOk result
+        (λ overflows. IsTrue overflows ↔ DependencyOverflows (view dependency.now)) }
+{
+    captures_are_unique();
+    let Some(comments) = read_comments(alloc, dependency)? else {
+        return Ok(false);
+    };
+    match types_named(alloc, &comments) {
+        Ok(_types) => Ok(false),
+        Err(ConvertFault::ColumnOverflow) => Ok(true),
+        Err(_fault) => Err(AllocError),
+    }
+}
+
+/// Reads the leading comments of a dependency. Returns None if they aren't an array of readable
+/// comments.
 #[tactic(auto, unfolding(crate::specs::Conversion::comments_in))]
 fn read_comments(alloc: Global, dependency: &Value) -> Result<Option<Items<Comment>>, AllocError>
     ensures { IfOk result (λ comments. comments ≡ comments_in (view dependency.now)) }
@@ -183,7 +203,7 @@ fn read_comments(alloc: Global, dependency: &Value) -> Result<Option<Items<Comme
     }
 }
 
-/// A dependency with the types, if there are any, and without comments.
+/// Adds the types, if there are any, to a dependency, and removes its comments.
 fn replace_comments(
     alloc: Global,
     dependency: Value,
@@ -201,7 +221,7 @@ fn replace_comments(
     }
 }
 
-/// The same of the members of a dependency.
+/// Like `replace_comments`, for the members of a dependency.
 fn replace_members(
     alloc: Global,
     members: Map<String, Value>,
@@ -216,7 +236,7 @@ fn replace_members(
     Ok(replaced)
 }
 
-/// The members with the types, if there are any.
+/// Adds the types, if there are any, to the members of a dependency.
 fn put_types(
     alloc: Global,
     members: Map<String, Value>,
@@ -227,8 +247,8 @@ fn put_types(
 {
     let mut typed = members;
     if let Some(types) = types {
-        let form = types.to_value(alloc)?;
-        put(&mut typed, alloc, "typesSpecifier", form)?;
+        let json = types.to_value(alloc)?;
+        put(&mut typed, alloc, "typesSpecifier", json)?;
     }
     Ok(typed)
 }

@@ -1,13 +1,13 @@
 use std::alloc::{AllocError, AllocFailed};
 use thiserror::Error;
 
-/// Why a value wasn't converted.
+/// Why a value can't be converted.
 #[derive(Debug, PartialEq, Eq, Drop, Error)]
 pub enum ConvertFault {
-    /// A column of a types specifier is above the largest `usize`.
+    /// The column at which a types specifier ends is above the largest `usize`.
     #[error("ColumnOverflow")]
     ColumnOverflow,
-    /// A number that isn't held as a whole number is in the value.
+    /// The value has a number that isn't held as a whole number.
     #[error("Float")]
     Float,
     #[error("OutOfMemory")]

@@ -1,5 +1,4 @@
-//! Laws of the conversion. These calls do nothing: what they ensure holds of every value, and a
-//! caller learns it by the call.
+//! Laws of the conversion. The calls do nothing but make their contracts known to the caller.
 
 ghost use Rattle.std.specs.Prelude.{◌≡◌, ◌⊎◌};
 ghost use Rattle.serde_json.specs.Data.{Data};
@@ -7,12 +6,12 @@ ghost use Rattle.deno_graph_info.specs.Conversion.{IsConverted, Overflows};
 
 use deno_graph_pragmas::finders::laws::captures_are_unique;
 
-/// Conversion of what is converted changes nothing.
+/// The law that converting a converted value changes nothing.
 pub fn conversion_is_done_once()
     ensures { (value after : Data) → IsConverted value after → IsConverted after after }
 {}
 
-/// A value is converted to one value, or to none, exactly where a column overflows.
+/// The law that a value is converted to exactly one value, unless a column overflows.
 pub fn conversion_has_one_outcome()
     ensures some { (value : Data) → ((after : Data) × IsConverted value after) ⊎ Overflows value }
     ensures one { (value after other : Data)

@@ -1,19 +1,20 @@
 //! The types that the comments of a dependency name.
 
 ghost use Rattle.std.specs.Prelude.{◌≡◌, ◌≤◌, ◌<◌, ◌^◌, ◌+◌, IfOk, IfErr};
-ghost use Rattle.deno_graph_info.specs.ConvertFault.{IsColumnFault};
+ghost use Rattle.deno_graph_info.specs.internal.ConvertFault.{IsColumnFault};
 ghost use Rattle.deno_graph_info.specs.Types.{AreTypes, HasNoColumn};
 
+use crate::analysis::SpecifierWithRange;
 use crate::conversion::comment::Comment;
 use crate::conversion::fault::ConvertFault;
-use deno_graph_dependency::SpecifierWithRange;
+use deno_graph_base::text::{Position, PositionRange};
+use deno_graph_base::values::{Items, Text};
 use deno_graph_pragmas::finders::find_deno_types;
-use deno_graph_text::text::{Position, PositionRange};
-use deno_graph_text::values::{Items, Text};
 use std::alloc::Global;
 use std::ops::Range;
 
-/// The types that the last of the comments names, or None where it names none.
+/// Returns the types that the last comment names, or None if it names none. Returns
+/// `ColumnOverflow` if the types would end beyond the largest column.
 pub(crate) fn types_named(
     alloc: Global,
     comments: &Items<Comment>,
@@ -32,8 +33,9 @@ pub(crate) fn types_named(
     Ok(Some(SpecifierWithRange { text, range }))
 }
 
-/// Where the types are that were found at these bytes of the text of a comment that begins at
-/// `start`: as many columns on, and two for the comment's marker, with one more on each side.
+/// Returns the range of types that were found at the byte range `found` in the text of a comment
+/// that begins at `start`. Adds two columns for the characters that begin the comment, and one on
+/// each side for quotes, whether there are any or not.
 fn range_of_types(start: Position, found: Range<usize>) -> Result<PositionRange, ConvertFault>
     requires { found.start ≤ found.end }
     ensures fits { IfOk result (λ range. start.character + found.end + 3 < 2 ^ 64) }

@@ -1,64 +1,65 @@
-//! Import attributes in braces.
+//! Parsers of import attributes in braces. Each function returns what follows the part that it
+//! reads, or None if the input doesn't begin with that part.
 
 ghost use Rattle.std.specs.Prelude.{◌≡◌, List, ◌∷◌, [], ◌++◌, option_and_then};
 ghost use Rattle.std.specs.Str.{chars};
 ghost use Rattle.deno_graph_jsdoc.specs.JsDocGrammar.{IsKey, IsAttribute, IsModeBlock, Attribute};
 ghost use Rattle.deno_graph_jsdoc.specs.JsDocGrammar.{resolution_mode_value, mode_of, Anything};
-ghost use Rattle.deno_graph_jsdoc.specs.JsDocKnown.{AreKnown};
-ghost use Rattle.deno_graph_jsdoc.specs.JsDocReading.{IsModeBlockEnd, Reads, EndOfIdent};
-ghost use Rattle.deno_graph_jsdoc.specs.JsDocReading.{rest_and_text, rest_and_mode};
-ghost use Rattle.deno_graph_jsdoc.specs.JsDocReading.{rest_and_attribute, text_of};
-ghost use Rattle.deno_graph_text.specs.ResolutionMode.{mode_named};
+ghost use Rattle.deno_graph_jsdoc.specs.internal.Cache.{AreCached};
+ghost use Rattle.deno_graph_jsdoc.specs.internal.Reading.{IsModeBlockEnd, Reads, EndOfIdent};
+ghost use Rattle.deno_graph_jsdoc.specs.internal.Reading.{rest_and_text, rest_and_mode};
+ghost use Rattle.deno_graph_jsdoc.specs.internal.Reading.{rest_and_attribute, text_of};
+ghost use Rattle.deno_graph_base.specs.ResolutionMode.{mode_named};
 
-use super::known::{KnownList, known_from};
+use super::cached_lists::{CachedList, list_at};
 use super::parts::{ident, quote, skip_space, token, word};
-use deno_graph_text::values::TypeScriptTypesResolutionMode;
+use deno_graph_base::values::TypeScriptTypesResolutionMode;
 
-/// What is behind attributes in braces, and the mode that they give: the one that the first
-/// `resolution-mode` names.
+/// Reads attributes in braces, and returns the mode that the first `resolution-mode` names.
 ///
-/// `known` is what was read beforehand of the attributes of the text that `input` ends.
+/// `cache` has the lists of attributes of a text that ends with `input`, or some of these lists.
 pub(crate) fn block<'a>(
     input: &'a str,
-    known: &[KnownList<'a>],
+    cache: &[CachedList<'a>],
 ) -> Option<(&'a str, Option<TypeScriptTypesResolutionMode>)>
-    requires { AreKnown (chars input.now) known.now }
+    requires { AreCached (chars input.now) cache.now }
     ensures { Reads Anything IsModeBlock (chars input.now) (rest_and_mode result) }
 {
     let rest = token(input, "{")?;
     match word(rest, "}") {
         Some(rest) => Some((rest, None)),
-        None => attributes(rest, known),
+        None => attributes(rest, cache),
     }
 }
 
-/// What is behind one attribute or more and a closing brace, and the mode that they give.
+/// Reads one attribute or more and the closing brace, and returns the mode that the first
+/// `resolution-mode` names.
 pub(crate) fn attributes<'a>(
     input: &'a str,
-    known: &[KnownList<'a>],
+    cache: &[CachedList<'a>],
 ) -> Option<(&'a str, Option<TypeScriptTypesResolutionMode>)>
-    requires { AreKnown (chars input.now) known.now }
+    requires { AreCached (chars input.now) cache.now }
     ensures { Reads Anything IsModeBlockEnd (chars input.now) (rest_and_mode result) }
 {
     let mut rest = input;
     let mut name = None;
     loop {
-        let (behind, (key, value)) = attribute(rest)?;
+        let (after, (key, value)) = attribute(rest)?;
         name = name_after(name, key, value);
-        let behind = skip_space(behind);
-        if let Some(end) = word(behind, "}") {
+        let after = skip_space(after);
+        if let Some(end) = word(after, "}") {
             return Some((end, mode_of(name)));
         }
-        rest = token(behind, ",")?;
-        if let Some(list) = known_from(known, rest) {
+        rest = token(after, ",")?;
+        if let Some(list) = list_at(cache, rest) {
             let (end, mode) = list.read?;
             return Some((end, mode_with(name, mode)));
         }
     }
 }
 
-/// The mode that attributes give, where `name` is the one of the first of them and `mode` is what
-/// the others give.
+/// Returns the mode of a list of attributes, of which some are read and the rest are cached: `name`
+/// is the first `resolution-mode` of those that are read, and `mode` is the mode of the rest.
 fn mode_with(
     name: Option<&str>,
     mode: Option<TypeScriptTypesResolutionMode>,
@@ -72,7 +73,8 @@ fn mode_with(
     }
 }
 
-/// The name of the mode behind an attribute, where `name` is the one before it.
+/// Returns the value of the first `resolution-mode` of a list of attributes that ends with this
+/// attribute. `name` is the value before the attribute.
 fn name_after<'a>(name: Option<&'a str>, key: &str, value: &'a str) -> Option<&'a str>
     ensures { (before : List Attribute) → text_of name.entry ≡ resolution_mode_value before
         → text_of result ≡ resolution_mode_value
@@ -84,7 +86,7 @@ fn name_after<'a>(name: Option<&'a str>, key: &str, value: &'a str) -> Option<&'
     }
 }
 
-/// What is behind an attribute, and its key and value.
+/// Reads an attribute, and returns its key and value.
 fn attribute(input: &str) -> Option<(&str, (&str, &str))>
     ensures { Reads Anything IsAttribute (chars input.now) (rest_and_attribute result) }
 {
@@ -94,6 +96,7 @@ fn attribute(input: &str) -> Option<(&str, (&str, &str))>
     Some((rest, (key, value)))
 }
 
+/// Reads a key, which is quoted or an identifier.
 fn key(input: &str) -> Option<(&str, &str)>
     ensures { Reads EndOfIdent IsKey (chars input.now) (rest_and_text result) }
 {
@@ -103,7 +106,7 @@ fn key(input: &str) -> Option<(&str, &str)>
     }
 }
 
-/// The mode that a text names, where there is one.
+/// Returns the mode that a text names, or None if it names none.
 fn mode_of(name: Option<&str>) -> Option<TypeScriptTypesResolutionMode>
     ensures { result ≡ option_and_then mode_named (text_of name.entry) }
 {

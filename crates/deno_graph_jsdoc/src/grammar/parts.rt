@@ -1,5 +1,5 @@
-//! What the imports are made of: words, white space, quoted texts and identifiers. Each function
-//! answers what is behind the part with which the input begins, and None where it begins with none.
+//! Parsers of the parts of imports: words, white space, quoted texts and identifiers. Each function
+//! returns what follows the part that it reads, or None if the input doesn't begin with that part.
 
 ghost use Rattle.std.specs.Prelude.{◌≡◌, ◌<◌, codes};
 ghost use Rattle.std.specs.Str.{IsAscii, chars, skip_leading_whitespace};
@@ -7,18 +7,18 @@ ghost use Rattle.deno_graph_jsdoc.specs.Characters.{closing_brace};
 ghost use Rattle.deno_graph_jsdoc.specs.JsDocGrammar.{◌·◌, Is, IsSpace, IsGap, IsQuote, IsBetween};
 ghost use Rattle.deno_graph_jsdoc.specs.JsDocGrammar.{IsIdent, Lacks, ends_ident, Anything};
 ghost use Rattle.deno_graph_jsdoc.specs.JsDocGrammar.{NoSpace};
-ghost use Rattle.deno_graph_jsdoc.specs.JsDocReading.{begins_ident, Reads, EndOfIdent, rest_of};
-ghost use Rattle.deno_graph_jsdoc.specs.JsDocReading.{rest_and_text};
-ghost use Rattle.deno_graph_jsdoc.specs.JsDocBraces.{IsUnclosed};
+ghost use Rattle.deno_graph_jsdoc.specs.internal.Reading.{begins_ident, Reads, EndOfIdent, rest_of};
+ghost use Rattle.deno_graph_jsdoc.specs.internal.Reading.{rest_and_text};
+ghost use Rattle.deno_graph_jsdoc.specs.internal.Braces.{IsUnclosed};
 
-/// What is behind the white space, or all where there is none.
+/// Skips white space, if there is any.
 pub(crate) fn skip_space(input: &str) -> &str
     ensures { chars result.now ≡ skip_leading_whitespace (chars input.now) }
 {
     input.trim_start()
 }
 
-/// What is behind at least one character of white space.
+/// Skips white space, of which there is at least one character.
 pub(crate) fn gap(input: &str) -> Option<&str>
     ensures { Reads NoSpace (λ _. IsGap) (chars input.now) (rest_of result) }
 {
@@ -30,7 +30,7 @@ pub(crate) fn gap(input: &str) -> Option<&str>
     }
 }
 
-/// What is behind `word`.
+/// Skips `word`.
 pub(crate) fn word<'a>(input: &'a str, word: &str) -> Option<&'a str>
     requires { IsAscii word.now }
     ensures { Reads Anything (λ _. Is word.now) (chars input.now) (rest_of result) }
@@ -38,7 +38,7 @@ pub(crate) fn word<'a>(input: &'a str, word: &str) -> Option<&'a str>
     input.strip_prefix(word)
 }
 
-/// What is behind `word` and white space.
+/// Skips `word` and white space.
 pub(crate) fn token<'a>(input: &'a str, word: &str) -> Option<&'a str>
     requires { IsAscii word.now }
     ensures { Reads NoSpace (λ _. Is word.now · IsSpace) (chars input.now) (rest_of result) }
@@ -46,7 +46,7 @@ pub(crate) fn token<'a>(input: &'a str, word: &str) -> Option<&'a str>
     Some(skip_space(self::word(input, word)?))
 }
 
-/// What is behind a text in quotes of one kind, and that text.
+/// Reads a text between two `"` or two `'`, and returns the text too.
 pub(crate) fn quote(input: &str) -> Option<(&str, &str)>
     ensures { Reads Anything IsQuote (chars input.now) (rest_and_text result) }
 {
@@ -56,7 +56,7 @@ pub(crate) fn quote(input: &str) -> Option<(&str, &str)>
     }
 }
 
-/// What is behind a text between two marks that it doesn't hold, and that text.
+/// Reads a text between two `mark`s, and returns the text too.
 fn between(input: &str, mark: char) -> Option<(&str, &str)>
     requires { mark < 128 }
     ensures { Reads Anything (IsBetween mark) (chars input.now) (rest_and_text result) }
@@ -65,7 +65,7 @@ fn between(input: &str, mark: char) -> Option<(&str, &str)>
     Some((rest, text))
 }
 
-/// What is behind the next `}`.
+/// Skips the text up to and with the next `}`.
 pub(crate) fn through_brace(input: &str) -> Option<&str>
     ensures { Reads Anything (λ _. Lacks closing_brace · Is (codes "}"))
         (chars input.now) (rest_of result) }
@@ -74,18 +74,18 @@ pub(crate) fn through_brace(input: &str) -> Option<&str>
     Some(rest)
 }
 
-/// How many bytes at the end of a text have no `}`: those behind the last one, or all.
+/// Returns the number of bytes after the last `}` of a text, or of all bytes if there is none.
 pub(crate) fn unclosed_len(text: &str) -> usize
     ensures { IsUnclosed (chars text.now) result }
 {
     match text.rsplit_once('}') {
-        Some((_, behind)) => behind.len(),
+        Some((_, after)) => after.len(),
         None => text.len(),
     }
 }
 
-/// What is behind an identifier, and its name: an Alphabetic character and all others up to white
-/// space, `:` or `-`.
+/// Reads an identifier, and returns the identifier too: an Alphabetic character and all others up to
+/// white space, `:` or `-`.
 pub(crate) fn ident(input: &str) -> Option<(&str, &str)>
     ensures { Reads EndOfIdent (λ name text. IsIdent text × (name ≡ text))
         (chars input.now) (rest_and_text result) }
@@ -99,12 +99,14 @@ pub(crate) fn ident(input: &str) -> Option<(&str, &str)>
     }
 }
 
+/// Returns whether a text begins as an identifier does.
 fn begins_ident(text: &str) -> bool
     ensures { result ≡ begins_ident (chars text.now) }
 {
     text.chars().next().is_some_and(|c| c.is_alphabetic())
 }
 
+/// Returns whether an identifier ends before this character.
 fn ends_ident(c: char) -> bool
     ensures { result ≡ ends_ident c }
 {

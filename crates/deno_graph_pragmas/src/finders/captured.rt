@@ -1,15 +1,16 @@
-//! The part of a text that a finder captures, read where `rest` begins, with which `text` ends.
+//! Readers of the part that a finder returns. The part is at the start of `rest`, and `text` ends
+//! with `rest`.
 
 ghost use Rattle.std.specs.Prelude.{◌≡◌, ◌≤◌, List, [], ◌∷◌, None, IfSome, IsNone, length};
 ghost use Rattle.std.specs.Str.{chars};
 ghost use Rattle.deno_graph_pragmas.specs.Match.{match_part_of};
 ghost use Rattle.deno_graph_pragmas.specs.Piece.{non_white_space, quote, unquoted};
-ghost use Rattle.deno_graph_pragmas.specs.Reading.{after_pieces, IsCapturedAt};
+ghost use Rattle.deno_graph_pragmas.specs.internal.Reading.{after_pieces, IsCapturedAt};
 
 use crate::finders::matches::Match;
 use crate::finders::scan::{before_quote, before_white_space};
 
-/// The characters up to the next quote. None where there is no quote.
+/// Returns the characters up to the next quote, or None if there is no quote.
 pub(super) fn capture_quoted<'a>(text: &str, rest: &'a str) -> Option<Match<'a>>
     requires { length rest.now ≤ length text.now }
     ensures found { IfSome result
@@ -21,7 +22,7 @@ pub(super) fn capture_quoted<'a>(text: &str, rest: &'a str) -> Option<Match<'a>>
     Some(Match::at_start_of(rest, text, found))
 }
 
-/// The characters up to the next white space, or to the end. None where there are none.
+/// Returns the characters up to the next white space or the end, or None if there are none.
 pub(super) fn capture_run<'a>(text: &str, rest: &'a str) -> Option<Match<'a>>
     requires { length rest.now ≤ length text.now }
     ensures found { IfSome result

@@ -1,5 +1,5 @@
-//! Laws of what the finders capture. These calls do nothing: what they ensure holds of every text,
-//! and a caller learns it by the call.
+//! Laws of the parts that the finders return. The functions do nothing: their contracts hold for
+//! every text.
 
 ghost use Rattle.std.specs.Prelude.{◌⊎◌, ℕ, List};
 ghost use Rattle.std.specs.List.{AllByRecursion};
@@ -7,20 +7,20 @@ ghost use Rattle.deno_graph_pragmas.specs.Finders.{attribute, finder_patterns, q
 ghost use Rattle.deno_graph_pragmas.specs.Split.{HasOnePart, HasSplit, IsCaptured, Pattern, TextPart};
 ghost use Rattle.deno_graph_pragmas.specs.Split.{IsInQuotes, StartDetermines};
 
-/// A finder captures one part at most, and where its split begins determines the part.
+/// The part that a finder returns is the only one, and the start of a split determines the part.
 pub fn captures_are_unique()
     ensures starts { AllByRecursion StartDetermines finder_patterns }
     ensures parts { AllByRecursion HasOnePart finder_patterns }
 {}
 
-/// A text has a part that a pattern captures, or it has no split.
+/// Every text has a part that the pattern captures, or no split by the pattern.
 pub fn each_text_has_a_part_or_no_split()
     ensures { (pattern : Pattern) (text : List ℕ)
         → ((part : TextPart) × IsCaptured pattern text part) ⊎ ¬ HasSplit pattern text }
 {}
 
-/// What is captured between quotes has one directly before it and one directly behind it.
-pub fn quotes_stand_round(text: &str)
+/// A part that is captured between quotes has a quote directly before it and one directly after it.
+pub fn quotes_stand_around(text: &str)
     ensures attributes { (name : List ℕ) (part : TextPart)
         → IsCaptured (attribute name) text.now part → IsInQuotes text.now part }
     ensures pragmas { (name : List ℕ) (part : TextPart)

@@ -1,9 +1,11 @@
+//! The results of the finders.
+
 ghost use Rattle.std.specs.Prelude.{◌≡◌, ◌+◌, ◌-◌, ◌≤◌, length};
 ghost use Rattle.deno_graph_pragmas.specs.Match.{match_part_of, pragma_part_of};
 
 use std::ops::Range;
 
-/// A part of a text that a finder answers.
+/// A part of a text, as a finder returns it.
 #[derive(Clone, Copy, Debug, PartialEq, Eq)]
 pub struct Match<'a> {
     text: &'a str,
@@ -12,7 +14,7 @@ pub struct Match<'a> {
 }
 
 impl<'a> Match<'a> {
-    /// `found`, which is at the start of `rest`, with which `input` ends.
+    /// Returns the part `found`, which is at the start of `rest`. `input` ends with `rest`.
     pub(super) fn at_start_of(rest: &str, input: &str, found: &'a str) -> Match<'a>
         requires rest { length rest.now ≤ length input.now }
         requires found { length found.now ≤ length rest.now }
@@ -28,14 +30,14 @@ impl<'a> Match<'a> {
         }
     }
 
-    /// The part itself.
+    /// Returns the text of the part.
     pub fn as_str(&self) -> &'a str
         ensures { result.now ≡ (match_part_of self.now).text }
     {
         self.text
     }
 
-    /// Where the part is in the text, in bytes from zero.
+    /// Returns the range of the part, in bytes from the start of the text.
     pub fn range(&self) -> Range<usize>
         ensures start { result.start ≡ (match_part_of self.now).start }
         ensures end { result.end ≡ (match_part_of self.now).end }
@@ -44,18 +46,19 @@ impl<'a> Match<'a> {
     }
 }
 
-/// The types of what is imported, as a `@deno-types` pragma names them.
+/// The specifier of the types of an imported module, as a `@deno-types` pragma names it.
 #[derive(Debug, PartialEq, Eq, Drop)]
 pub struct DenoTypesPragmaMatch<'a> {
     /// The specifier, without quotes.
     pub text: &'a str,
-    /// Where the specifier is, without quotes, in bytes from zero.
+    /// The range of the specifier, without quotes, in bytes from the start of the text.
     pub range: Range<usize>,
-    /// Whether no quotes are round it.
+    /// Whether the specifier has no quotes around it.
     pub is_quoteless: bool,
 }
 
 impl<'a> DenoTypesPragmaMatch<'a> {
+    /// Makes the result of a finder from a part of a text.
     pub(super) fn new(found: Match<'a>, is_quoteless: bool) -> DenoTypesPragmaMatch<'a>
         ensures part { pragma_part_of result ≡ match_part_of found.entry }
         ensures quoteless { result.is_quoteless ≡ is_quoteless }

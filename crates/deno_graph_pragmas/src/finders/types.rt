@@ -1,4 +1,4 @@
-//! Pragmas that name types.
+//! Finders of pragmas that name types.
 
 ghost use Rattle.std.specs.Prelude.{◌≡◌, ◌∷◌, ◌↔◌, IfSome, IsNone, IsTrue, false, true};
 ghost use Rattle.std.specs.Str.{chars, IsUtf8};
@@ -7,33 +7,33 @@ ghost use Rattle.deno_graph_pragmas.specs.Finders.{quoteless_deno_types_pattern,
 ghost use Rattle.deno_graph_pragmas.specs.Finders.{ts_self_types_pattern, ts_types_pattern};
 ghost use Rattle.deno_graph_pragmas.specs.Match.{pragma_part_of, FindsFirst, FindsFirstInQuotes};
 ghost use Rattle.deno_graph_pragmas.specs.Piece.{any_white_space};
-ghost use Rattle.deno_graph_pragmas.specs.Reading.{after_pieces, assignment, begins_above_star};
-ghost use Rattle.deno_graph_pragmas.specs.Reading.{chars_left, is_ascii};
+ghost use Rattle.deno_graph_pragmas.specs.internal.Reading.{after_pieces, assignment, begins_above_star};
+ghost use Rattle.deno_graph_pragmas.specs.internal.Reading.{chars_left, is_ascii};
 ghost use Rattle.deno_graph_pragmas.specs.Split.{HasSplit, IsCaptured, IsSliceOf, IsInQuotes};
 
 use crate::finders::captured::{capture_quoted, capture_run};
 use crate::finders::matches::{DenoTypesPragmaMatch, Match};
 use crate::finders::scan::{skip_white_space, strip_assignment, strip_quote};
 
-/// The types of the module itself, as `@ts-self-types="./mod.d.ts"` names them: the text between
-/// the quotes, which isn't empty.
+/// Returns the specifier of the types of the module itself, as in `@ts-self-types="./mod.d.ts"`: the
+/// text between the quotes, which isn't empty.
 pub fn find_ts_self_types(text: &str) -> Option<Match<'_>>
     ensures { FindsFirstInQuotes ts_self_types_pattern text.now result }
 {
     find_quoted_pragma(text, "@ts-self-types")
 }
 
-/// The types of what is imported, as `@ts-types="./mod.d.ts"` names them: the text between the
-/// quotes, which isn't empty.
+/// Returns the specifier of the types of an imported module, as in `@ts-types="./mod.d.ts"`: the
+/// text between the quotes, which isn't empty.
 pub fn find_ts_types(text: &str) -> Option<Match<'_>>
     ensures { FindsFirstInQuotes ts_types_pattern text.now result }
 {
     find_quoted_pragma(text, "@ts-types")
 }
 
-/// The types of what is imported, as `@deno-types="./mod.d.ts"` names them: the text between the
-/// quotes, which isn't empty; or, where the text isn't so, the characters up to the next white
-/// space, as in `@deno-types=./mod.d.ts`.
+/// Returns the specifier of the types of an imported module, as in `@deno-types="./mod.d.ts"`: the
+/// text between the quotes, which isn't empty. If there is no such text, returns the characters up
+/// to the next white space, as in `@deno-types=./mod.d.ts`.
 pub fn find_deno_types(text: &str) -> Option<DenoTypesPragmaMatch<'_>>
     ensures quoted { IfSome result (λ found. found.is_quoteless ≡ false
         → IsCaptured deno_types_pattern text.now (pragma_part_of found)) }
@@ -56,6 +56,7 @@ pub fn find_deno_types(text: &str) -> Option<DenoTypesPragmaMatch<'_>>
     }
 }
 
+/// Returns the value of a pragma with quotes: the text between the quotes, which isn't empty.
 fn find_quoted_pragma<'a>(text: &'a str, name: &str) -> Option<Match<'a>>
     requires ascii { IsTrue (is_ascii name.now) }
     requires start { IsTrue (begins_above_star name.now) }
@@ -69,6 +70,7 @@ fn find_quoted_pragma<'a>(text: &'a str, name: &str) -> Option<Match<'a>>
     Some(found)
 }
 
+/// Returns the value of a pragma without quotes: the characters up to the next white space.
 fn find_quoteless_pragma<'a>(text: &'a str, name: &str) -> Option<Match<'a>>
     requires ascii { IsTrue (is_ascii name.now) }
     requires start { IsTrue (begins_above_star name.now) }
@@ -78,7 +80,7 @@ fn find_quoteless_pragma<'a>(text: &'a str, name: &str) -> Option<Match<'a>>
     capture_run(text, value)
 }
 
-/// White space, the name in any case, and an equals sign with white space round it.
+/// Skips white space, the name in any case, and an equals sign with white space around it.
 fn strip_pragma<'a>(text: &'a str, name: &str) -> Option<&'a str>
     requires { IsTrue (is_ascii name.now) }
     ensures left { chars_left result
@@ -88,7 +90,7 @@ fn strip_pragma<'a>(text: &'a str, name: &str) -> Option<&'a str>
     strip_assignment(skip_white_space(text), name)
 }
 
-/// The same, and a quote.
+/// Like `strip_pragma`, but also skips a quote.
 fn strip_pragma_and_quote<'a>(text: &'a str, name: &str) -> Option<&'a str>
     requires { IsTrue (is_ascii name.now) }
     ensures left { chars_left result

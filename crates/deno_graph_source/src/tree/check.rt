@@ -1,18 +1,18 @@
-//! Looks for what is wrong with a text and what a parser made of it.
+//! Checks a source: a text with the tree and the comments that a parser made of it.
 
 ghost use Rattle.std.specs.Prelude.{◌↔◌, IfOk, IfSome, IsNone, MatchOption};
-ghost use Rattle.deno_graph_source.specs.Check.{JudgesSource};
+ghost use Rattle.deno_graph_source.specs.internal.Check.{JudgesSource};
 ghost use Rattle.deno_graph_source.specs.FaultPlace.{HasFaultAt};
-ghost use Rattle.deno_graph_source.specs.Found.{IsFoundIn};
+ghost use Rattle.deno_graph_source.specs.internal.Finding.{IsFindingIn};
 ghost use Rattle.deno_graph_source.specs.Source.{IsValid, HasFault};
 
 mod comments;
-mod found;
+mod finding;
 mod nodes;
 mod ranges;
 
 use self::comments::{check_comments, check_neighbours};
-use self::found::Found;
+use self::finding::Finding;
 use self::nodes::check_nodes;
 use self::ranges::check_range;
 use crate::tree::comments::Comments;
@@ -21,9 +21,8 @@ use crate::tree::fault_place::SourceFaultPlace;
 use crate::tree::node::Program;
 use std::alloc::{AllocError, Global};
 
-/// Looks for a fault of a source: of a text with the tree and the comments that a parser made of
-/// it. Returns `None` if the source is valid. If it has several faults, returns one of them. The
-/// only error is that memory ran out.
+/// Returns a fault of a source, or `None` if the source is valid. Of several faults, any may be
+/// returned. Fails only if an allocation fails.
 pub fn source_fault(
     alloc: Global,
     text: &str,
@@ -41,8 +40,8 @@ pub fn source_fault(
     }
 }
 
-/// Looks for a fault of a source, and where it is. Returns `None` if the source is valid. If it has
-/// several faults, returns one of them. The only error is that memory ran out.
+/// Returns a fault of a source and its place, or `None` if the source is valid. Of several faults,
+/// any may be returned. Fails only if an allocation fails.
 pub fn source_fault_place(
     alloc: Global,
     text: &str,
@@ -62,7 +61,7 @@ pub fn source_fault_place(
     }
 }
 
-/// Looks for a fault of a source.
+/// Returns an error exactly if a source has a fault or an allocation fails.
 pub(crate) fn check_source(
     alloc: Global,
     text: &str,
@@ -77,30 +76,30 @@ pub(crate) fn check_source(
     }
 }
 
-/// Looks for a fault of a source, with what it is a fault of.
+/// Finds a fault of a source. Fails only if an allocation fails.
 fn find_fault<'a>(
     alloc: Global,
     text: &str,
     program: &Program,
     comments: &'a Comments,
-) -> Result<Option<Found<'a>>, AllocError>
+) -> Result<Option<Finding<'a>>, AllocError>
     ensures { IfOk result (λ found. MatchOption found
         (IsValid text.now program.now comments.now)
-        (IsFoundIn text.now program.now comments.now)) }
+        (IsFindingIn text.now program.now comments.now)) }
 {
     if let Err(fault) = check_range(text, program.range) {
-        return Ok(Some(Found::Program(fault)));
+        return Ok(Some(Finding::Program(fault)));
     }
     if let Some(found) = check_nodes(alloc, text, program)? {
-        return Ok(Some(Found::Node(found)));
+        return Ok(Some(Finding::Node(found)));
     }
     let mut all = comments.iter_unstable(alloc)?;
     if let Some(found) = check_comments(text, &all) {
-        return Ok(Some(Found::Comment(found)));
+        return Ok(Some(Finding::Comment(found)));
     }
     all.sort_by_key(|comment| comment.range.start)?;
     match check_neighbours(&all) {
-        Some((before, after)) => Ok(Some(Found::Overlap(before, after))),
+        Some((before, after)) => Ok(Some(Finding::Overlap(before, after))),
         None => Ok(None),
     }
 }

@@ -2,14 +2,13 @@ ghost use Rattle.std.specs.Prelude.{◌≡◌, [], ◌∷◌, map, Contains, IfO
 ghost use Rattle.std.specs.List.Sorted.{IsPermutation};
 ghost use Rattle.std.specs.Option.{option_copied};
 
-use crate::tree::by_position::ByPosition;
-use crate::tree::fault_place::{CommentPlace, CommentSide};
-use deno_graph_text::text::SourceRange;
-use deno_graph_text::values::{Items, Text, TryClone};
+use crate::tree::by_offset::ByOffset;
+use deno_graph_base::text::SourceRange;
+use deno_graph_base::values::{Items, Text, TryClone};
 use std::alloc::{AllocError, Global};
 use std::marker::Model;
 
-/// Which form a comment has.
+/// The form of a comment.
 #[derive(Clone, Copy, Debug, PartialEq, Eq)]
 pub enum CommentKind {
     /// `// ..`
@@ -18,7 +17,8 @@ pub enum CommentKind {
     Block,
 }
 
-/// A comment: its text begins two bytes after its start.
+/// A comment. Its range includes the marks, its text doesn't: the text begins two bytes after the
+/// start of the range.
 #[derive(Debug, PartialEq, Eq, Drop)]
 pub struct DependencyComment {
     pub kind: CommentKind,
@@ -36,12 +36,30 @@ impl TryClone for DependencyComment {
     }
 }
 
-/// Comments by the position that they are filed at, in bytes of the text. The position need be no
-/// character boundary.
+/// The side on which a comment is filed.
+#[derive(Clone, Copy, Debug, PartialEq, Eq)]
+pub enum CommentSide {
+    Leading,
+    Trailing,
+}
+
+/// Where a comment is filed.
+#[derive(Clone, Copy, Debug, PartialEq, Eq)]
+pub struct CommentPlace {
+    pub side: CommentSide,
+    /// The offset at which the comment is filed, in bytes from zero.
+    pub position: usize,
+    /// The index of the comment, from zero, among those at this offset on this side, in the order
+    /// of filing.
+    pub number: usize,
+}
+
+/// The comments of a source, each filed at an offset, as leading or as trailing. An offset counts
+/// bytes of the text, and need not be a character boundary.
 #[derive(Debug, PartialEq, Eq, Drop)]
 pub struct Comments {
-    leading: ByPosition<Items<DependencyComment>>,
-    trailing: ByPosition<Items<DependencyComment>>,
+    leading: ByOffset<Items<DependencyComment>>,
+    trailing: ByOffset<Items<DependencyComment>>,
 }
 
 impl Model for Comments {
@@ -58,23 +76,23 @@ impl Model for Comments {
 }
 
 impl Comments {
-    ghost use Rattle.deno_graph_source.specs.ByPosition.{AddsItem, value_at};
-    ghost use Rattle.deno_graph_source.specs.Comments.{Ascends, comments_of};
+    ghost use Rattle.deno_graph_source.specs.ByOffset.{AddsItem, value_at};
+    ghost use Rattle.deno_graph_source.specs.Comments.{Ascends, comments_of, leading_at};
     ghost use Rattle.deno_graph_source.specs.FaultPlace.{comment_at};
 
-    /// No comments. Takes no memory.
+    /// Returns no comments. Allocates nothing.
     pub fn new(alloc: Global) -> Comments
         ensures leading { result.leading ≡ [] }
         ensures trailing { result.trailing ≡ [] }
     {
         Comments {
-            leading: ByPosition::new(alloc),
-            trailing: ByPosition::new(alloc),
+            leading: ByOffset::new(alloc),
+            trailing: ByOffset::new(alloc),
         }
     }
 
-    /// Files a comment as leading at `pos`, in bytes from zero, after those that are there. Where an
-    /// allocation fails all stays as it was, and the comment is dropped.
+    /// Files a comment as leading at the offset `pos`, in bytes, after those that are filed there. If
+    /// an allocation fails, drops the comment and leaves the others unchanged.
     pub fn add_leading(&mut self, pos: usize, comment: DependencyComment) -> Result<(), AllocError>
         ensures leading { OnOk result (AddsItem self.old.leading self.new.leading pos comment) }
         ensures trailing { OnOk result (self.new.trailing ≡ self.old.trailing) }
@@ -86,8 +104,8 @@ impl Comments {
         self.leading.add(pos, comment)
     }
 
-    /// Files a comment as trailing at `pos`, in bytes from zero, after those that are there. Where an
-    /// allocation fails all stays as it was, and the comment is dropped.
+    /// Files a comment as trailing at the offset `pos`, in bytes, after those that are filed there. If
+    /// an allocation fails, drops the comment and leaves the others unchanged.
     pub fn add_trailing(&mut self, pos: usize, comment: DependencyComment) -> Result<(), AllocError>
         ensures trailing { OnOk result (AddsItem self.old.trailing self.new.trailing pos comment) }
         ensures leading { OnOk result (self.new.leading ≡ self.old.leading) }
@@ -99,22 +117,24 @@ impl Comments {
         self.trailing.add(pos, comment)
     }
 
-    /// The comments filed as leading at `pos`, in the order of filing. `None` where there are none.
+    /// Returns the comments that are filed as leading at the offset `pos`, in the order of filing, or
+    /// `None` if there are none.
     pub fn get_leading(&self, pos: usize) -> Option<&[DependencyComment]>
         ensures { option_copied result ≡ value_at self.now.leading pos }
     {
         Some(self.leading.get(pos)?.as_slice())
     }
 
-    /// The comments filed as trailing at `pos`, in the order of filing. `None` where there are
-    /// none.
+    /// Returns the comments that are filed as trailing at the offset `pos`, in the order of filing,
+    /// or `None` if there are none.
     pub fn get_trailing(&self, pos: usize) -> Option<&[DependencyComment]>
         ensures { option_copied result ≡ value_at self.now.trailing pos }
     {
         Some(self.trailing.get(pos)?.as_slice())
     }
 
-    /// Every comment, as often as it was filed, in no promised order.
+    /// Returns every comment as often as it was filed, in no promised order. Fails only if an
+    /// allocation fails.
     pub fn iter_unstable(&self, alloc: Global) -> Result<Vec<&DependencyComment>, AllocError>
         ensures { IfOk result (λ all.
             IsPermutation (comments_of self.now) (map (λ comment. comment.now) all.items)) }
@@ -125,20 +145,19 @@ impl Comments {
         Ok(all)
     }
 
-    /// The first place, of the leading ones and then of the trailing ones, where a comment is filed
-    /// that is equal to this one.
+    /// Returns the place of a comment that is equal to `comment`. Searches leading comments first.
     pub(crate) fn place_of(&self, comment: &DependencyComment) -> CommentPlace
         requires { Contains (comments_of self.now) comment.now }
         ensures { comment_at self.now result ≡ Some comment.now }
     {
-        if let Some((position, number)) = self.leading.place_of(comment) {
+        if let Some((position, number)) = self.leading.find(comment) {
             return CommentPlace {
                 side: CommentSide::Leading,
                 position,
                 number,
             };
         }
-        match self.trailing.place_of(comment) {
+        match self.trailing.find(comment) {
             Some((position, number)) => CommentPlace {
                 side: CommentSide::Trailing,
                 position,
@@ -146,6 +165,14 @@ impl Comments {
             },
             None => unreachable!(),
         }
+    }
+
+    /// Returns the comments that are filed as leading at the offset `pos`, in the order of filing.
+    /// The slice is empty if there are none.
+    pub fn leading_comments(&self, pos: usize) -> &[DependencyComment]
+        ensures { result.now ≡ leading_at self.now pos }
+    {
+        self.get_leading(pos).unwrap_or(&[])
     }
 }
 

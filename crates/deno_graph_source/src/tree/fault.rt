@@ -3,7 +3,7 @@ ghost use Rattle.std.specs.Prelude.{◌≡◌};
 use std::alloc::{AllocError, AllocFailed};
 use thiserror::Error;
 
-/// A fault of a source: of a text with the tree and the comments that a parser made of it.
+/// A fault of a source, which is a text with the tree and the comments that a parser made of it.
 #[derive(Debug, PartialEq, Eq, Drop, Error)]
 pub enum SourceFault {
     /// A range starts after its end.

@@ -1,10 +1,11 @@
 ghost use Rattle.std.specs.Prelude.{◌≡◌, IfOk};
 
+use crate::tree::comments::CommentPlace;
 use crate::tree::fault::SourceFault;
-use deno_graph_text::values::{Items, TryClone};
+use deno_graph_base::values::{Items, TryClone};
 use std::alloc::{AllocError, Global};
 
-/// A fault of a source, and where it is.
+/// A fault of a source with its place.
 #[derive(Debug, PartialEq, Eq, Drop)]
 pub struct SourceFaultPlace {
     pub fault: SourceFault,
@@ -18,8 +19,8 @@ impl SourceFaultPlace {
     ghost use Rattle.deno_graph_source.specs.Source.{HasFault};
     ghost use Rattle.deno_graph_source.specs.declared.tree.node.Program.{Program};
 
-    /// A source that has the fault at the place has the fault. This call does nothing: what it
-    /// ensures holds of every source, and a caller learns it by the call.
+    /// Ensures that a source with this fault at this place has this fault. This call does nothing: a
+    /// caller learns the law from the contract.
     pub fn law_of_places(&self)
         ensures { (text : List ℕ) (program : Program) (comments : FiledComments)
             → HasFaultAt text program comments self.now.fault self.now.place
@@ -36,6 +37,7 @@ impl TryClone for SourceFaultPlace {
     }
 }
 
+/// Returns a copy of `fault`.
 fn copied(fault: &SourceFault) -> SourceFault
     ensures { result ≡ fault.now }
 {
@@ -50,17 +52,17 @@ fn copied(fault: &SourceFault) -> SourceFault
     }
 }
 
-/// Where a fault of a source is.
+/// The place of a fault: the part of a source that has it.
 #[derive(Debug, PartialEq, Eq, Drop)]
 pub enum FaultPlace {
     /// The program's own range.
     Program,
-    /// A part of a node. `path` leads to the node: its first number is that of an item of the
-    /// body, and each next one that of a child of the node so far. All numbers count from zero.
+    /// A part of a node. `path` leads to the node: the first number is the index of an item of the
+    /// body, and each further number the index of a child. Indices count from zero.
     Node { path: Items<usize>, part: NodePart },
-    /// A comment, by where it is filed.
+    /// A comment, by the place where it is filed.
     Comment(CommentPlace),
-    /// Two unequal comments that share a byte of the text, by where they are filed.
+    /// Two unequal comments that share a byte of the text, by the places where they are filed.
     Comments(CommentPlace, CommentPlace),
 }
 
@@ -78,6 +80,7 @@ impl TryClone for FaultPlace {
     }
 }
 
+/// Copies a path. Fails only if an allocation fails.
 fn try_clone_path(alloc: Global, path: &Items<usize>) -> Result<Items<usize>, AllocError>
     ensures { IfOk result (λ copy. copy ≡ path.now) }
 {
@@ -88,48 +91,30 @@ fn try_clone_path(alloc: Global, path: &Items<usize>) -> Result<Items<usize>, Al
     Ok(copy)
 }
 
-/// The part of a node that is at fault.
+/// The part of a node that has a fault.
 #[derive(Clone, Copy, Debug, PartialEq, Eq)]
 pub enum NodePart {
     /// The node's own range.
     Range,
-    /// The range of its string literal.
+    /// The range of the node's string literal.
     Literal,
-    /// The range of its argument with this number, from zero.
+    /// The range of the node's argument with this index, from zero.
     Argument(usize),
-    /// Its children, which break this rule.
+    /// The node's children, which break this rule.
     Children(ShapeRule),
 }
 
 /// A rule on the children of a node.
 #[derive(Clone, Copy, Debug, PartialEq, Eq)]
 pub enum ShapeRule {
-    /// The first child of what has a `with` clause is that clause's object literal.
+    /// A node with a `with` clause has the clause's object literal as its first child.
     WithClause,
     /// A template has one quasi more than children.
     Template,
     /// A binary expression has two children.
     Binary,
-    /// A property has its value as a child.
+    /// A property has its value as its last child.
     KeyValue,
-    /// The children of a call are its callee, where that is an expression, and its arguments.
+    /// A call has as children its callee, if that is an expression, and its arguments.
     Call,
-}
-
-/// Where a comment is filed.
-#[derive(Clone, Copy, Debug, PartialEq, Eq)]
-pub struct CommentPlace {
-    pub side: CommentSide,
-    /// The offset that the comment is filed at, in bytes from zero.
-    pub position: usize,
-    /// The comment's number among those that are filed there on this side, from zero, in the order
-    /// of filing.
-    pub number: usize,
-}
-
-/// The side on which a comment is filed.
-#[derive(Clone, Copy, Debug, PartialEq, Eq)]
-pub enum CommentSide {
-    Leading,
-    Trailing,
 }

@@ -1,4 +1,4 @@
-/// What kind of file a source is.
+/// The kind of file that a source is.
 #[derive(Clone, Copy, Debug, PartialEq, Eq)]
 pub enum MediaType {
     JavaScript,
@@ -20,8 +20,8 @@ impl MediaType {
     ghost use Rattle.std.specs.Prelude.{◌≡◌};
     ghost use Rattle.deno_graph_source.specs.MediaType.{is_typed};
 
-    /// Whether a file of this type holds types: TypeScript and its declaration files, but not
-    /// JavaScript with JSX.
+    /// Returns whether files of this type hold types, as TypeScript and its declaration files do, and
+    /// JavaScript with JSX doesn't.
     pub fn is_typed(self) -> bool
         ensures { result ≡ is_typed self }
     {

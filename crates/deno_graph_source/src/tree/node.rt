@@ -1,12 +1,11 @@
-ghost use Rattle.std.specs.Prelude.{◌≡◌, IfOk, IsTrue};
+ghost use Rattle.std.specs.Prelude.{◌≡◌};
 ghost use Rattle.std.specs.Option.{option_copied};
-ghost use Rattle.deno_graph_source.specs.KindGroups.{is_export, is_import};
 
-use deno_graph_text::text::{JsString, SourceRange};
-use deno_graph_text::values::{Items, Text, TryClone};
+use deno_graph_base::text::{JsString, SourceRange};
+use deno_graph_base::values::{Items, Text, TryClone};
 use std::alloc::{AllocError, Global};
 
-/// A string literal: its value, and its range with the quotes.
+/// A string literal: its value, and its range, which includes the quotes.
 #[derive(Debug, PartialEq, Eq, Drop)]
 pub struct StrLit {
     pub value: JsString,
@@ -14,7 +13,7 @@ pub struct StrLit {
 }
 
 impl StrLit {
-    /// The literal of this value, at this range of the text, quotes and all.
+    /// Returns the literal with this value, at this range, which includes the quotes.
     pub fn new(value: JsString, range: SourceRange) -> StrLit
         ensures { result ≡ record { value = value; range = range } }
     {
@@ -39,7 +38,7 @@ pub enum ImportPhase {
     Defer,
 }
 
-/// What is called.
+/// The callee of a call.
 #[derive(Clone, Copy, Debug, PartialEq, Eq)]
 pub enum Callee {
     /// `import(..)`, `import.source(..)` or `import.defer(..)`.
@@ -50,7 +49,7 @@ pub enum Callee {
     Super,
 }
 
-/// An argument of a call: whether it is spread, and its range with the dots.
+/// An argument of a call: whether it is spread, and its range, which includes the dots.
 #[derive(Clone, Copy, Debug, PartialEq, Eq)]
 pub struct Arg {
     pub spread: bool,
@@ -91,8 +90,8 @@ impl TryClone for PropKey {
     }
 }
 
-/// What a node is, with what the analysis reads of it. With `has_with`, the first child is the
-/// object literal of a `with` clause.
+/// The kind of a node, with what the analysis reads of the node. If `has_with` is true, the first
+/// child is the object literal of a `with` clause.
 #[derive(Debug, PartialEq, Eq, Drop)]
 pub enum Kind {
     /// An import declaration.
@@ -117,7 +116,7 @@ pub enum Kind {
     },
     /// `export` of a declaration, and `export default`.
     ExportOther,
-    /// `import name = ..`; `external` is the literal of `require("..")`.
+    /// `import name = ..`. `external` is the literal of `require("..")`, if there is one.
     ImportEquals {
         type_only: bool,
         is_export: bool,
@@ -128,27 +127,27 @@ pub enum Kind {
         arg: StrLit,
         has_with: bool,
     },
-    /// A module or namespace declaration; `name` where it is a string.
+    /// A module or namespace declaration. `name` is its name, if that is a string literal.
     ModuleDecl {
         name: Option<StrLit>,
     },
-    /// A call, but no optional one and no `new`. Its first children are the callee, where that is
-    /// an expression, and then the arguments in order.
+    /// A call that is neither optional nor `new`. Its first children are the callee, if that is an
+    /// expression, and then the arguments, in order.
     Call {
         callee: Callee,
         args: Items<Arg>,
     },
     /// A string literal.
     Str(JsString),
-    /// An untagged template: its cooked quasis. Its children are its expressions.
+    /// An untagged template, with its cooked quasis. Its children are its expressions.
     Template(Items<JsString>),
-    /// A binary expression: its children are the left and the right operand.
+    /// A binary expression. Its children are the left and the right operand.
     Binary(BinaryOp),
     /// An identifier.
     Ident(Text),
-    /// An object literal, also of a `with` clause: its children are its properties.
+    /// An object literal, also of a `with` clause. Its children are its properties.
     Object,
-    /// A property `key: value`: its last child is the value.
+    /// A property `key: value`. Its last child is the value.
     KeyValue(PropKey),
     /// An await expression, a `for await` loop or an `await using` declaration.
     Await,
@@ -163,8 +162,8 @@ pub enum Kind {
 impl Kind {
     ghost use Rattle.deno_graph_source.specs.Node.{args_of, has_with, is_object, literal_of};
 
-    /// The string literal that this kind holds: the specifier of an import or an export, or the
-    /// name of a module.
+    /// Returns the string literal of this kind, if it has one: the specifier of an import or an
+    /// export, or the name of a module.
     pub fn literal(&self) -> Option<&StrLit>
         ensures { option_copied result ≡ literal_of self.now }
     {
@@ -178,7 +177,7 @@ impl Kind {
         }
     }
 
-    /// Whether there is a `with` clause, which is the first child then.
+    /// Returns whether a node of this kind has a `with` clause as its first child.
     pub fn has_with(&self) -> bool
         ensures { result ≡ has_with self.now }
     {
@@ -191,14 +190,14 @@ impl Kind {
         }
     }
 
-    /// Whether it is an object literal.
+    /// Returns whether this is the kind of an object literal.
     pub fn is_object(&self) -> bool
         ensures { result ≡ is_object self.now }
     {
         matches!(self, Kind::Object)
     }
 
-    /// The arguments of a call; none for every other kind.
+    /// Returns the arguments of a call, and no arguments for every other kind.
     pub fn args(&self) -> &[Arg]
         ensures { result.now ≡ args_of self.now }
     {
@@ -212,12 +211,51 @@ impl Kind {
 impl TryClone for Kind {
     fn try_clone(&self, alloc: Global) -> Result<Kind, AllocError> {
         Ok(match self {
-            Kind::ImportDecl { .. } | Kind::ImportEquals { .. } | Kind::ImportType { .. } => {
-                try_clone_import(alloc, self)?
-            }
-            Kind::NamedExport { .. } | Kind::ExportAll { .. } | Kind::ExportOther => {
-                try_clone_export(alloc, self)?
-            }
+            Kind::ImportDecl {
+                type_only,
+                phase,
+                src,
+                has_specifiers,
+                has_with,
+            } => Kind::ImportDecl {
+                type_only: *type_only,
+                phase: *phase,
+                src: src.try_clone(alloc)?,
+                has_specifiers: *has_specifiers,
+                has_with: *has_with,
+            },
+            Kind::NamedExport {
+                type_only,
+                src,
+                has_with,
+            } => Kind::NamedExport {
+                type_only: *type_only,
+                src: src.try_clone(alloc)?,
+                has_with: *has_with,
+            },
+            Kind::ExportAll {
+                type_only,
+                src,
+                has_with,
+            } => Kind::ExportAll {
+                type_only: *type_only,
+                src: src.try_clone(alloc)?,
+                has_with: *has_with,
+            },
+            Kind::ExportOther => Kind::ExportOther,
+            Kind::ImportEquals {
+                type_only,
+                is_export,
+                external,
+            } => Kind::ImportEquals {
+                type_only: *type_only,
+                is_export: *is_export,
+                external: external.try_clone(alloc)?,
+            },
+            Kind::ImportType { arg, has_with } => Kind::ImportType {
+                arg: arg.try_clone(alloc)?,
+                has_with: *has_with,
+            },
             Kind::ModuleDecl { name } => Kind::ModuleDecl {
                 name: name.try_clone(alloc)?,
             },
@@ -239,71 +277,6 @@ impl TryClone for Kind {
     }
 }
 
-/// A copy of an import declaration, an `import name = ..` or an import type.
-fn try_clone_import(alloc: Global, import: &Kind) -> Result<Kind, AllocError>
-    requires { IsTrue (is_import import.now) }
-    ensures { IfOk result (λ copy. copy ≡ import.now) }
-{
-    Ok(match import {
-        Kind::ImportDecl {
-            type_only,
-            phase,
-            src,
-            has_specifiers,
-            has_with,
-        } => Kind::ImportDecl {
-            type_only: *type_only,
-            phase: *phase,
-            src: src.try_clone(alloc)?,
-            has_specifiers: *has_specifiers,
-            has_with: *has_with,
-        },
-        Kind::ImportEquals {
-            type_only,
-            is_export,
-            external,
-        } => Kind::ImportEquals {
-            type_only: *type_only,
-            is_export: *is_export,
-            external: external.try_clone(alloc)?,
-        },
-        Kind::ImportType { arg, has_with } => Kind::ImportType {
-            arg: arg.try_clone(alloc)?,
-            has_with: *has_with,
-        },
-        _ => unreachable!(),
-    })
-}
-
-/// A copy of an export.
-fn try_clone_export(alloc: Global, export: &Kind) -> Result<Kind, AllocError>
-    requires { IsTrue (is_export export.now) }
-    ensures { IfOk result (λ copy. copy ≡ export.now) }
-{
-    Ok(match export {
-        Kind::NamedExport {
-            type_only,
-            src,
-            has_with,
-        } => Kind::NamedExport {
-            type_only: *type_only,
-            src: src.try_clone(alloc)?,
-            has_with: *has_with,
-        },
-        Kind::ExportAll {
-            type_only,
-            src,
-            has_with,
-        } => Kind::ExportAll {
-            type_only: *type_only,
-            src: src.try_clone(alloc)?,
-            has_with: *has_with,
-        },
-        Kind::ExportOther => Kind::ExportOther,
-        _ => unreachable!(),
-    })
-}
-
 /// A node of a syntax tree.
 #[derive(Debug, PartialEq, Eq, Drop)]
 pub struct Node {
@@ -317,7 +290,7 @@ impl Node {
     ghost use Rattle.std.specs.Prelude.{[]};
     ghost use Rattle.deno_graph_source.specs.Node.{kind_of, range_of, children_of};
 
-    /// A node of this kind with no children, at this range. Takes no memory.
+    /// Returns a node without children. Allocates nothing.
     pub fn new(alloc: Global, range: SourceRange, kind: Kind) -> Node
         ensures range { range_of result ≡ range }
         ensures kind { kind_of result ≡ kind }
@@ -326,7 +299,7 @@ impl Node {
         Node::with_children(range, kind, Items::new(alloc))
     }
 
-    /// A node of this kind with these children, in the order of the text. Takes no memory.
+    /// Returns a node with these children, in the order of the text. Allocates nothing.
     pub fn with_children(range: SourceRange, kind: Kind, children: Items<Node>) -> Node
         ensures range { range_of result ≡ range }
         ensures kind { kind_of result ≡ kind }

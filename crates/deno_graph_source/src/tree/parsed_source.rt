@@ -8,14 +8,14 @@ use crate::tree::comments::Comments;
 use crate::tree::fault::SourceFault;
 use crate::tree::media_type::MediaType;
 use crate::tree::node::Program;
-use deno_graph_text::text::SourceTextInfo;
-use deno_graph_text::values::TryClone;
+use deno_graph_base::text::SourceTextInfo;
+use deno_graph_base::values::TryClone;
 use std::alloc::{AllocError, Global};
 use std::marker::Model;
 use std::rc::{Rc, RcStr};
 use url::Url;
 
-/// What all copies of one source share.
+/// The part of a source that all its copies share.
 #[derive(Debug, PartialEq, Eq, Drop)]
 struct SharedModule {
     specifier: Url,
@@ -25,8 +25,8 @@ struct SharedModule {
     comments: Comments,
 }
 
-/// A module with its tree and comments, which fit its text: every parsed source is valid. A copy
-/// shares all but the mark of scope analysis, so it takes no room for the tree.
+/// A module with its tree and its comments. Every parsed source is valid: the tree and the comments
+/// fit the text. Copies share everything but the mark of scope analysis.
 #[derive(Debug, Drop)]
 pub struct ParsedSource {
     module: Rc<SharedModule>,
@@ -59,8 +59,8 @@ impl Model for ParsedSource {
 }
 
 impl ParsedSource {
-    /// The source, where nothing is wrong with it. A fault of it otherwise, or `OutOfMemory` where
-    /// memory was refused; what was handed in is then dropped.
+    /// Returns the source if it is valid, and else one of its faults. Fails with `OutOfMemory` if an
+    /// allocation fails. If this fails, all arguments are dropped.
     pub fn new(
         alloc: Global,
         specifier: Url,
@@ -99,32 +99,35 @@ impl ParsedSource {
         })
     }
 
-    /// Where the module is.
+    /// Returns the URL of the module.
     pub fn specifier(&self) -> &Url
         ensures { result.now ≡ self.now.specifier }
     {
         &self.module.specifier
     }
 
+    /// Returns the kind of file that the module is.
     pub fn media_type(&self) -> MediaType
         ensures { result ≡ self.now.media_type }
     {
         self.module.media_type
     }
 
+    /// Returns the text of the module.
     pub fn text(&self) -> &RcStr
         ensures { rc_str_bytes result.now ≡ self.now.text }
     {
         self.module.text_info.rc_text()
     }
 
-    /// The text with what finds its lines, which `new` made.
+    /// Returns the text with its checkpoints, which `new` computed.
     pub fn text_info_lazy(&self) -> &SourceTextInfo
         ensures { result.now ≡ self.now.text }
     {
         &self.module.text_info
     }
 
+    /// Returns the syntax tree of the module.
     pub fn program(&self) -> &Program
         ensures program { result.now ≡ self.now.program }
         ensures valid { IsValid self.now.text result.now self.now.comments }
@@ -132,6 +135,7 @@ impl ParsedSource {
         &self.module.program
     }
 
+    /// Returns the comments of the module.
     pub fn comments(&self) -> &Comments
         ensures comments { result.now ≡ self.now.comments }
         ensures valid { IsValid self.now.text self.now.program result.now }
@@ -139,14 +143,14 @@ impl ParsedSource {
         &self.module.comments
     }
 
-    /// Whether the scopes of the module were analysed too.
+    /// Returns whether the source has the mark of scope analysis.
     pub fn has_scope_analysis(&self) -> bool
         ensures { result ≡ self.now.scope_analysis }
     {
         self.scope_analysis
     }
 
-    /// The same source with the mark that its scopes were analysed.
+    /// Returns the source with the mark of scope analysis.
     pub fn into_with_scope_analysis(self) -> ParsedSource
         ensures { result ≡ marked self }
     {
@@ -159,7 +163,7 @@ impl ParsedSource {
 }
 
 impl TryClone for ParsedSource {
-    /// The same source, which shares its tree and comments. Takes no room for them.
+    /// Returns a copy that shares the tree and the comments with this source.
     fn try_clone(&self, _alloc: Global) -> Result<ParsedSource, AllocError> {
         Ok(ParsedSource {
             module: self.module.clone()?,

@@ -1,4 +1,4 @@
-//! An analyzer over another one.
+//! An analyzer over another analyzer.
 
 use deno_graph_analysis::ast::{AnalyzeError, ModuleAnalyzer};
 use deno_graph_info::analysis::ModuleInfo;
@@ -7,7 +7,7 @@ use std::alloc::Global;
 use std::rc::RcStr;
 use url::Url;
 
-/// Finds nothing in JSON, and asks the analyzer below it for all else.
+/// Returns an empty info for JSON, and calls another analyzer for any other text.
 #[derive(Drop)]
 pub struct WithoutJson<A: ModuleAnalyzer + Drop> {
     analyzer: A,

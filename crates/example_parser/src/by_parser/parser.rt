@@ -1,5 +1,4 @@
-//! A parser as most are: which trees it has for which texts isn't stated, so it promises nothing of
-//! its answers.
+//! A parser without a promise: no definition says which tree belongs to a text.
 
 use crate::tree::import_program;
 use deno_graph_analysis::ast::{EsParser, ParseDiagnostic, ParseError, ParseOptions};
@@ -49,12 +48,12 @@ impl EsParser for ImportParser {
     }
 }
 
-/// The program that the text is, or none. A real parser has its grammar here.
+/// Returns the program of the text, or `None` for a syntax error. A real parser has its grammar here.
 fn parse(alloc: Global, text: &str) -> Result<Option<Program>, AllocError> {
-    let Some(behind) = text.strip_prefix("import \"") else {
+    let Some(rest) = text.strip_prefix("import \"") else {
         return Ok(None);
     };
-    let Some(specifier) = behind.strip_suffix("\";") else {
+    let Some(specifier) = rest.strip_suffix("\";") else {
         return Ok(None);
     };
     Ok(Some(import_program(alloc, specifier)?))

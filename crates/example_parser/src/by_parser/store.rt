@@ -1,11 +1,11 @@
-//! A store over another one.
+//! A store over another store.
 
 use deno_graph_analysis::ast::ParsedSourceStore;
 use deno_graph_source::tree::ParsedSource;
 use std::alloc::{AllocError, Global};
 use url::Url;
 
-/// Counts what is set in the store below it.
+/// Counts the sources that are stored in another store.
 #[derive(Drop)]
 pub struct CountingStore<S: ParsedSourceStore> {
     store: S,

@@ -1,85 +1,41 @@
-//! Documents of `convert` and `reach`: stored information.
+//! Checking documents of `convert`.
 
-ghost use Rattle.std.specs.Prelude.{◌≡◌, IfOk, Some, option_map, true};
+ghost use Rattle.std.specs.Prelude.{◌≡◌, IfOk, Some, true};
 ghost use Rattle.serde_json.specs.Data.{Data};
 ghost use Rattle.serde_json.specs.Read.{read as read_text};
 ghost use Rattle.serde_json.specs.View.{view};
 ghost use Rattle.serde_json.specs.Written.{has_float};
-ghost use Rattle.modinfo_report.specs.Report.{MatchReport};
-ghost use Rattle.modinfo.specs.Check.{AsksNone, AsksSome, IsPlacedIn, ReportsOnQuestion, ReportsOnStored, ReportsOnValue};
+ghost use Rattle.modinfo.specs.Check.{HasPointerInto, ReportsOnStored};
+ghost use Rattle.modinfo.specs.internal.Check.{ReportsOnValue};
 
-use crate::reach::read_modules;
-use deno_graph_dependency::json_form::{Expected, Mismatch, ReadError};
-use deno_graph_info::analysis::{ConvertFault, InfoFault};
-use modinfo_report::{Report, Warnings, Wrong, convert_fault, wrong_json, wrong_stored};
+use crate::check::conversion::{conversion_report, convert_in_place};
+use crate::check::text::read_json;
+use deno_graph_info::analysis::ConvertFault;
+use modinfo_document::report::{Report, Warnings, json_report};
 use serde_json::Value;
 use std::alloc::{AllocError, Global};
 
-/// Checks a document of `reach`, a root and the information of many modules: `Valid` where it can be
-/// read, `Wrong` where it has a fault. The only error is that an allocation failed.
-pub fn check_modules(alloc: Global, text: &str) -> Result<Report, AllocError>
-    ensures verdict { IfOk result (ReportsOnQuestion text.now) }
-    ensures place { (value : Data) → read_text text.now ≡ Some value → IfOk result (IsPlacedIn value) }
-{
-    match read_json(alloc, text)? {
-        Some(value) => report_question(alloc, &value),
-        None => Ok(Report::Wrong(wrong_json(alloc, text)?)),
-    }
-}
-
-fn report_question(alloc: Global, value: &Value) -> Result<Report, AllocError>
-    ensures verdict { IfOk result (MatchReport (AsksSome (view value.now)) (AsksNone (view value.now))) }
-    ensures place { IfOk result (IsPlacedIn (view value.now)) }
-{
-    match read_modules(alloc, value) {
-        Ok(_) => Ok(Report::Valid(Warnings::new(alloc))),
-        Err(ReadError::Mismatch(mismatch)) => {
-            let fault = format!(in alloc; "{}", fault_of(&mismatch))?;
-            Ok(Report::Wrong(Wrong::of_mismatch(alloc, fault, &mismatch)?))
-        }
-        Err(ReadError::OutOfMemory) => Err(AllocError),
-    }
-}
-
-/// The fault that `reach` has where something else was expected.
-fn fault_of(mismatch: &Mismatch) -> InfoFault {
-    match mismatch.expected {
-        Expected::Integer => InfoFault::Float,
-        _ => InfoFault::Shape,
-    }
-}
-
-/// Checks a document of `convert`, the stored information of one module: `Valid` where it can be
-/// converted, `Wrong` where it can't. The only error is that an allocation failed.
+/// Checks a text as a document of `convert`: the stored information of one module. The only error is a
+/// failed allocation.
 pub fn check_stored(alloc: Global, text: &str) -> Result<Report, AllocError>
     ensures verdict { IfOk result (ReportsOnStored text.now) }
     ensures place { (value : Data) → read_text text.now ≡ Some value → has_float value ≡ true
-        → IfOk result (IsPlacedIn value) }
+        → IfOk result (HasPointerInto value) }
 {
     match read_json(alloc, text)? {
         Some(mut value) => report_stored(alloc, &mut value),
-        None => Ok(Report::Wrong(wrong_json(alloc, text)?)),
+        None => Ok(Report::Invalid(json_report(alloc, text)?)),
     }
 }
 
+/// Checks stored information, and converts it in place.
 fn report_stored(alloc: Global, value: &mut Value) -> Result<Report, AllocError>
     ensures verdict { IfOk result (ReportsOnValue (view value.old)) }
-    ensures place { has_float (view value.old) ≡ true → IfOk result (IsPlacedIn (view value.old)) }
+    ensures place { has_float (view value.old) ≡ true → IfOk result (HasPointerInto (view value.old)) }
 {
-    match convert_fault(alloc, value) {
+    match convert_in_place(alloc, value) {
         None => Ok(Report::Valid(Warnings::new(alloc))),
         Some(ConvertFault::OutOfMemory) => Err(AllocError),
-        Some(fault) => Ok(Report::Wrong(wrong_stored(alloc, value, fault)?)),
-    }
-}
-
-/// The JSON value that the text is, if it is one.
-fn read_json(alloc: Global, text: &str) -> Result<Option<Value>, AllocError>
-    ensures { IfOk result (λ value. read_text text.now ≡ option_map view value) }
-{
-    match Value::from_str(alloc, text) {
-        Ok(value) => Ok(Some(value)),
-        Err(error) if error.is_memory() => Err(AllocError),
-        Err(_) => Ok(None),
+        Some(fault) => Ok(Report::Invalid(conversion_report(alloc, value, fault)?)),
     }
 }

@@ -1,10 +1,10 @@
-use Rattle.modinfo_c.specs.Call.{answered, refused}
+use Rattle.modinfo_c.specs.Call.{answered, faulted}
 use Rattle.modinfo_c.proofs.call.Goals as goal
 
--- the line is the answer, and was put
+-- The line is the answer, and was written.
 pub returns-in-Ok : goal.returns-in-Ok
 returns-in-Ok c = answered _ c.in-Ok.ensures (rw c.as_bytes.ensures.value at c.put.ensures)
 
--- the name of the fault was put
+-- The name of the fault was written.
 pub returns-in-Err : goal.returns-in-Err
-returns-in-Err c = refused c.in-Err.fault c.in-Err.ensures c.put_name.ensures
+returns-in-Err c = faulted c.in-Err.fault c.in-Err.ensures c.put_name.ensures

@@ -1,17 +1,17 @@
-//! What is known of arguments.
+//! Calls on arguments.
 
 use crate::answer::valued;
-use crate::row_fault::RowFault;
+use crate::case_error::CaseError;
 use deno_graph_analysis::dep::{DynamicArgument, DynamicTemplatePart, argument_of};
 use deno_graph_source::tree::ParsedSource;
 use serde_json::{Value, json};
 use std::alloc::{AllocError, Global};
 
-/// What `argument_of` knows of the first node of a document's body.
-pub fn argument(alloc: Global, source: &ParsedSource) -> Result<String, RowFault> {
+/// The result of `argument_of` for the first node of the body.
+pub fn argument(alloc: Global, source: &ParsedSource) -> Result<String, CaseError> {
     match first_argument(alloc, source)? {
         Some(argument) => valued(alloc, &argument_value(alloc, &argument)?),
-        None => Err(RowFault::Row("its document has no node")),
+        None => Err(CaseError::Invalid("its document has no node")),
     }
 }
 
@@ -25,7 +25,7 @@ fn first_argument(
     }
 }
 
-/// The JSON form of an argument, and null for an expression.
+/// The JSON of an argument, null for an expression.
 fn argument_value(alloc: Global, argument: &DynamicArgument<'_>) -> Result<Value, AllocError> {
     match argument {
         DynamicArgument::String(text) => Ok(Value::String(String::from_str(alloc, text)?)),

@@ -1,7 +1,7 @@
-//! Import attributes, by each of the three readers.
+//! Calls on import attributes.
 
 use crate::answer::{named, valued};
-use crate::row_fault::RowFault;
+use crate::case_error::CaseError;
 use deno_graph_analysis::dep::{
     parse_dynamic_import_attributes, parse_import_attributes,
     parse_import_attributes_from_object_lit,
@@ -12,32 +12,31 @@ use deno_graph_source::values::TextMap;
 use serde_json::{Map, Value, json};
 use std::alloc::{AllocError, Global};
 
-/// What `parse_dynamic_import_attributes` finds in the call that is the first node of a document.
-pub fn of_call(alloc: Global, source: &ParsedSource) -> Result<String, RowFault> {
+/// The result of `parse_dynamic_import_attributes` for the first node of the body, a call.
+pub fn of_call(alloc: Global, source: &ParsedSource) -> Result<String, CaseError> {
     let Some(call) = source.program().body.first() else {
-        return Err(RowFault::Row("its document has no node"));
+        return Err(CaseError::Invalid("its document has no node"));
     };
     let found = parse_dynamic_import_attributes(alloc, second_argument(call))?;
     answer(alloc, &found)
 }
 
-/// What `parse_import_attributes` finds in the object that is the first node of a document, and
-/// without a node.
-pub fn of_declaration(alloc: Global, source: &ParsedSource) -> Result<String, RowFault> {
+/// The results of `parse_import_attributes` for the first node of the body, an object, and without a
+/// node.
+pub fn of_declaration(alloc: Global, source: &ParsedSource) -> Result<String, CaseError> {
     let found = parse_import_attributes(alloc, source.program().body.first())?;
     answer(alloc, &found)
 }
 
-/// What `parse_import_attributes_from_object_lit` finds in the object that is the first node of a
-/// document.
-pub fn of_object(alloc: Global, source: &ParsedSource) -> Result<String, RowFault> {
+/// The result of `parse_import_attributes_from_object_lit` for the first node of the body, an object.
+pub fn of_object(alloc: Global, source: &ParsedSource) -> Result<String, CaseError> {
     let found = attributes_of_object(alloc, source)?;
     answer(alloc, &found)
 }
 
-/// Whether `has_asset` is true of the attributes that an import type reads from the object that is the
-/// first node of a document.
-pub fn has_asset(alloc: Global, source: &ParsedSource) -> Result<String, RowFault> {
+/// The result of `has_asset` for the attributes in the first node of the body, an object of an import
+/// type.
+pub fn has_asset(alloc: Global, source: &ParsedSource) -> Result<String, CaseError> {
     let found = attributes_of_object(alloc, source)?;
     named(alloc, if found.has_asset() { "true" } else { "false" })
 }
@@ -45,14 +44,14 @@ pub fn has_asset(alloc: Global, source: &ParsedSource) -> Result<String, RowFaul
 fn attributes_of_object(
     alloc: Global,
     source: &ParsedSource,
-) -> Result<ImportAttributes, RowFault> {
+) -> Result<ImportAttributes, CaseError> {
     let Some(object) = source.program().body.first() else {
-        return Err(RowFault::Row("its document has no node"));
+        return Err(CaseError::Invalid("its document has no node"));
     };
     Ok(parse_import_attributes_from_object_lit(alloc, object)?)
 }
 
-/// The second argument of a call, and its node.
+/// The second argument of a call, and the node of that argument.
 fn second_argument(call: &Node) -> Option<(&Arg, &Node)> {
     let Kind::Call { callee, args } = &call.kind else {
         return None;
@@ -64,8 +63,8 @@ fn second_argument(call: &Node) -> Option<(&Arg, &Node)> {
     args.get(1).zip(call.children.get(at))
 }
 
-/// The JSON form of attributes, and `"none"` where there are none.
-fn answer(alloc: Global, found: &ImportAttributes) -> Result<String, RowFault> {
+/// The JSON of attributes, `"none"` if there are none.
+fn answer(alloc: Global, found: &ImportAttributes) -> Result<String, CaseError> {
     match found {
         ImportAttributes::None => named(alloc, "\"none\""),
         ImportAttributes::Unknown => named(alloc, "\"unknown\""),

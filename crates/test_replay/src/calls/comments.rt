@@ -1,13 +1,13 @@
-//! Where comments are filed.
+//! Calls on comments.
 
 use crate::answer::push_line;
-use crate::row_fault::RowFault;
+use crate::case_error::CaseError;
 use deno_graph_source::tree::{CommentKind, DependencyComment, ParsedSource};
 use std::alloc::Global;
 
-/// A line for each comment of a document: how and where it is filed, at each position of the source,
-/// and then how many there are in all.
-pub fn listed(alloc: Global, source: &ParsedSource) -> Result<String, RowFault> {
+/// A line for each comment: its side and position, for each position of the source in order. Then a line
+/// with the number of comments.
+pub fn listed(alloc: Global, source: &ParsedSource) -> Result<String, CaseError> {
     let comments = source.comments();
     let mut answer = String::new(alloc);
     for pos in 0..=source.text().as_str().len() {
@@ -38,7 +38,7 @@ fn push_comments(
     side: &str,
     pos: usize,
     comments: Option<&[DependencyComment]>,
-) -> Result<(), RowFault> {
+) -> Result<(), CaseError> {
     for comment in comments.unwrap_or(&[]) {
         push_comment(alloc, answer, side, pos, comment)?;
     }
@@ -51,7 +51,7 @@ fn push_comment(
     side: &str,
     pos: usize,
     comment: &DependencyComment,
-) -> Result<(), RowFault> {
+) -> Result<(), CaseError> {
     let kind = match comment.kind {
         CommentKind::Line => "line",
         CommentKind::Block => "block",

@@ -1,7 +1,7 @@
-//! The finders of pragmas.
+//! Calls of the finders of pragmas.
 
 use crate::answer::{named, range_value, valued};
-use crate::row_fault::RowFault;
+use crate::case_error::CaseError;
 use deno_graph_info::analysis::{
     Match, find_deno_types, find_jsx_import_source, find_jsx_import_source_types,
     find_path_reference, find_resolution_mode, find_source_mapping_url, find_ts_self_types,
@@ -10,10 +10,10 @@ use deno_graph_info::analysis::{
 use serde_json::{Value, json};
 use std::alloc::Global;
 
-/// What the finder of this name finds in a text.
-pub fn find(alloc: Global, name: &str, value: &Value) -> Result<String, RowFault> {
+/// The result of the finder of this name for a text.
+pub fn find(alloc: Global, name: &str, value: &Value) -> Result<String, CaseError> {
     let Some(text) = value.as_str() else {
-        return Err(RowFault::Row("its input is no text"));
+        return Err(CaseError::Invalid("its input is no text"));
     };
     match name {
         "is_comment_triple_slash_reference" => {
@@ -45,11 +45,11 @@ pub fn find(alloc: Global, name: &str, value: &Value) -> Result<String, RowFault
         "find_source_mapping_url" => matched(alloc, find_source_mapping_url(text)),
         "find_ts_self_types" => matched(alloc, find_ts_self_types(text)),
         "find_ts_types" => matched(alloc, find_ts_types(text)),
-        _ => Err(RowFault::Row("it calls nothing that is known")),
+        _ => Err(CaseError::Invalid("it calls nothing that is known")),
     }
 }
 
-fn matched(alloc: Global, found: Option<Match<'_>>) -> Result<String, RowFault> {
+fn matched(alloc: Global, found: Option<Match<'_>>) -> Result<String, CaseError> {
     match found {
         None => named(alloc, "null"),
         Some(found) => {

@@ -1,9 +1,9 @@
-//! Information on modules, read from JSON: what is read, converted and reached.
+//! Calls on the information on modules.
 
 use crate::answer::{named, valued};
-use crate::row_fault::RowFault;
+use crate::case_error::CaseError;
 use deno_graph_info::analysis::{
-    ConvertFault, InfoFault, ModuleInfo, module_graph_1_into_2, module_graph_1_to_2,
+    ConvertFault, InfoFault, ModuleInfo, module_graph_1_to_2, module_graph_1_to_2_owned,
 };
 use deno_graph_info::reach::reach;
 use serde_json::{Map, Value};
@@ -25,28 +25,28 @@ fn convert(alloc: Global, value: &mut Value) -> Result<(), ConvertFault> {
 }
 
 fn convert_by_value(alloc: Global, value: Value) -> Result<Value, ConvertFault> {
-    module_graph_1_into_2(alloc, value)
+    module_graph_1_to_2_owned(alloc, value)
 }
 
-/// What `from_value` reads, written again.
-pub fn read(alloc: Global, value: &Value) -> Result<String, RowFault> {
+/// The JSON of the result of `from_value`.
+pub fn read(alloc: Global, value: &Value) -> Result<String, CaseError> {
     match from_value(alloc, value) {
         Ok(info) => written(alloc, &info),
-        Err(InfoFault::OutOfMemory) => Err(RowFault::OutOfMemory),
+        Err(InfoFault::OutOfMemory) => Err(CaseError::OutOfMemory),
         Err(fault) => named(alloc, format!(in alloc; "{fault}")?.as_str()),
     }
 }
 
-fn written(alloc: Global, info: &ModuleInfo) -> Result<String, RowFault> {
+fn written(alloc: Global, info: &ModuleInfo) -> Result<String, CaseError> {
     valued(alloc, &to_value(alloc, info)?)
 }
 
-/// What `module_graph_1_to_2` makes of a value. Where it refuses, the value has to be unchanged, and
-/// `module_graph_1_into_2` has to make the same of it.
-pub fn converted(alloc: Global, value: &Value) -> Result<String, RowFault> {
+/// The result of `module_graph_1_to_2`. Checks that the value is unchanged after an error, and that
+/// `module_graph_1_to_2_owned` has the same result.
+pub fn converted(alloc: Global, value: &Value) -> Result<String, CaseError> {
     let by_value = match convert_by_value(alloc, value.clone()?) {
         Ok(after) => Some(after),
-        Err(ConvertFault::OutOfMemory) => return Err(RowFault::OutOfMemory),
+        Err(ConvertFault::OutOfMemory) => return Err(CaseError::OutOfMemory),
         Err(_) => None,
     };
     let mut again = value.clone()?;
@@ -58,22 +58,22 @@ fn converted_in_place(
     value: &Value,
     again: &mut Value,
     by_value: Option<&Value>,
-) -> Result<String, RowFault> {
+) -> Result<String, CaseError> {
     match convert(alloc, again) {
         Ok(()) => match by_value {
             Some(after) if *after == *again => valued(alloc, after),
             _ => named(alloc, "another by value"),
         },
         Err(_) if *again != *value => named(alloc, "refused, and changed"),
-        Err(ConvertFault::OutOfMemory) => Err(RowFault::OutOfMemory),
+        Err(ConvertFault::OutOfMemory) => Err(CaseError::OutOfMemory),
         Err(fault) => named(alloc, format!(in alloc; "{fault}")?.as_str()),
     }
 }
 
-/// What `reach` reaches from the root that is named, over an object of keys and information.
-pub fn reached(alloc: Global, words: &[&str], value: &Value) -> Result<String, RowFault> {
+/// The result of `reach` for a root, over an object of keys and information.
+pub fn reached(alloc: Global, words: &[&str], value: &Value) -> Result<String, CaseError> {
     let ([root], Some(members)) = (words, value.as_object()) else {
-        return Err(RowFault::Row("it names no root or has no object"));
+        return Err(CaseError::Invalid("it names no root or has no object"));
     };
     let modules = modules_of(alloc, members)?;
     let keys = reach_from(alloc, &modules, root)?;
@@ -83,7 +83,7 @@ pub fn reached(alloc: Global, words: &[&str], value: &Value) -> Result<String, R
 fn modules_of(
     alloc: Global,
     members: &Map<String, Value>,
-) -> Result<BTreeMap<String, ModuleInfo>, RowFault> {
+) -> Result<BTreeMap<String, ModuleInfo>, CaseError> {
     let mut modules = BTreeMap::new(alloc);
     for (key, info) in members.iter() {
         let key = key.clone()?;

@@ -1,7 +1,7 @@
-//! Imports in JSDoc comments.
+//! Calls on JSDoc imports.
 
 use crate::answer::{named, range_value, valued};
-use crate::row_fault::RowFault;
+use crate::case_error::CaseError;
 use deno_graph_analysis::jsdoc::{
     JsDocImport, NoParse, parse_jsdoc_dynamic_import, parse_jsdoc_import_decl, scan,
 };
@@ -9,10 +9,10 @@ use deno_graph_info::analysis::TypeScriptTypesResolutionMode;
 use serde_json::{Value, json};
 use std::alloc::{AllocError, Global};
 
-/// What a parser or the scan finds in a text.
-pub fn of_text(alloc: Global, name: &str, value: &Value) -> Result<String, RowFault> {
+/// The result of a parser, or of the scan, for a text.
+pub fn of_text(alloc: Global, name: &str, value: &Value) -> Result<String, CaseError> {
     let Some(text) = value.as_str() else {
-        return Err(RowFault::Row("its input is no text"));
+        return Err(CaseError::Invalid("its input is no text"));
     };
     match name {
         "parse_jsdoc_import_decl" => parsed(alloc, parse_jsdoc_import_decl(text)),
@@ -24,7 +24,7 @@ pub fn of_text(alloc: Global, name: &str, value: &Value) -> Result<String, RowFa
 fn parsed(
     alloc: Global,
     found: Result<(&str, JsDocImport<'_>), NoParse>,
-) -> Result<String, RowFault> {
+) -> Result<String, CaseError> {
     match found {
         Err(NoParse) => named(alloc, "NoParse"),
         Ok((rest, import)) => {
@@ -39,7 +39,7 @@ fn parsed(
     }
 }
 
-fn scanned(alloc: Global, text: &str) -> Result<String, RowFault> {
+fn scanned(alloc: Global, text: &str) -> Result<String, CaseError> {
     let found = scan(alloc, text)?;
     let mut imports = Vec::new(alloc);
     for import in found.imports.iter() {

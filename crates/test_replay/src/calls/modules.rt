@@ -1,8 +1,8 @@
-//! Modules as a whole.
+//! Calls on whole modules.
 
 use crate::answer::{named, valued};
 use crate::calls::infos::to_value;
-use crate::row_fault::RowFault;
+use crate::case_error::CaseError;
 use deno_graph_analysis::ast::{module_info, module_info_from_program};
 use deno_graph_analysis::dep::{DependencyDescriptor, analyze_program_dependencies};
 use deno_graph_info::analysis::{self, ModuleInfo};
@@ -15,8 +15,8 @@ use deno_graph_source::values::TryClone;
 use modinfo::parse_document;
 use std::alloc::{AllocError, Global};
 
-/// What `source_fault` finds in a document.
-pub fn fault(alloc: Global, text: &str) -> Result<String, RowFault> {
+/// The result of `source_fault` for a document.
+pub fn fault(alloc: Global, text: &str) -> Result<String, CaseError> {
     let document = parse_document(alloc, text)?;
     let (program, comments) = (&document.program, &document.comments);
     fault_in(alloc, document.source.as_str(), program, comments)
@@ -27,16 +27,16 @@ fn fault_in(
     text: &str,
     program: &Program,
     comments: &Comments,
-) -> Result<String, RowFault> {
+) -> Result<String, CaseError> {
     match source_fault(alloc, text, program, comments)? {
         None => named(alloc, "null"),
         Some(fault) => named(alloc, format!(in alloc; "{fault}")?.as_str()),
     }
 }
 
-/// What `source_fault_place` finds in a document, if `source_fault` finds the same fault and a copy
-/// is equal.
-pub fn fault_place(alloc: Global, text: &str) -> Result<String, RowFault> {
+/// The result of `source_fault_place` for a document, if `source_fault` has the same fault and a copy
+/// of the result is equal.
+pub fn fault_place(alloc: Global, text: &str) -> Result<String, CaseError> {
     let document = parse_document(alloc, text)?;
     let (program, comments) = (&document.program, &document.comments);
     fault_place_in(alloc, document.source.as_str(), program, comments)
@@ -47,7 +47,7 @@ fn fault_place_in(
     text: &str,
     program: &Program,
     comments: &Comments,
-) -> Result<String, RowFault> {
+) -> Result<String, CaseError> {
     let fault = source_fault(alloc, text, program, comments)?;
     match source_fault_place(alloc, text, program, comments)? {
         None => named(alloc, if fault.is_none() { "null" } else { "no place" }),
@@ -73,8 +73,8 @@ fn place_line(
     }
 }
 
-/// The media type of a document, and whether it has types.
-pub fn media_type(alloc: Global, source: &ParsedSource) -> Result<String, RowFault> {
+/// The media type of a source, and whether it has types.
+pub fn media_type(alloc: Global, source: &ParsedSource) -> Result<String, CaseError> {
     let media_type = source.media_type();
     let kind = if media_type.is_typed() {
         "typed"
@@ -98,8 +98,8 @@ fn info_of_parts(alloc: Global, source: &ParsedSource) -> Result<ModuleInfo, All
     )
 }
 
-/// What `module_info` finds, if every other way to it leads there too.
-pub fn every_way(alloc: Global, source: &ParsedSource) -> Result<String, RowFault> {
+/// The result of `module_info`, if all other calls for the same information have the same result.
+pub fn every_way(alloc: Global, source: &ParsedSource) -> Result<String, CaseError> {
     let info = info_of(alloc, source)?;
     every_way_to(alloc, source, &info)
 }
@@ -108,7 +108,7 @@ fn every_way_to(
     alloc: Global,
     source: &ParsedSource,
     info: &ModuleInfo,
-) -> Result<String, RowFault> {
+) -> Result<String, CaseError> {
     if by_copies(alloc, source, info)? && by_dependencies(alloc, source, info)? {
         valued(alloc, &to_value(alloc, info)?)
     } else {
@@ -116,7 +116,7 @@ fn every_way_to(
     }
 }
 
-/// Whether copies are equal, and the parts of the source give the same as the whole.
+/// Whether copies are equal, and a call on the parts of the source has the same result.
 fn by_copies(alloc: Global, source: &ParsedSource, info: &ModuleInfo) -> Result<bool, AllocError> {
     Ok(
         is_made_of_parts(alloc, source, info)?
@@ -139,7 +139,7 @@ fn is_copied<T: TryClone + PartialEq + Drop>(alloc: Global, value: &T) -> Result
     Ok(value.try_clone(alloc)? == *value)
 }
 
-/// Whether the descriptors that borrow from the tree say the same as those of the information.
+/// Whether the descriptors that borrow from the tree are the same as those of the information.
 fn by_dependencies(
     alloc: Global,
     source: &ParsedSource,

@@ -1,10 +1,9 @@
-//! What comments state, found by calls on parts of a source, which have to fit one another as those
-//! of a valid one do. It is given as a member of a module's information.
+//! Calls on parts of a source. The answer is a member of the module's information.
 
 ghost use Rattle.deno_graph_source.specs.Source.{IsValid};
 
 use crate::answer::{named, push_line};
-use crate::row_fault::RowFault;
+use crate::case_error::CaseError;
 use deno_graph_analysis::ast::analyze_ts_or_deno_types;
 use deno_graph_analysis::jsdoc::jsdoc_imports;
 use deno_graph_info::analysis::{JsDocImportInfo, ModuleInfo, SpecifierWithRange};
@@ -13,8 +12,8 @@ use deno_graph_source::tree::{Comments, MediaType, ParsedSource, Program};
 use deno_graph_source::values::Items;
 use std::alloc::{AllocError, Global};
 
-/// What `jsdoc_imports` finds in all comments of a document.
-pub fn imports(alloc: Global, source: &ParsedSource) -> Result<String, RowFault> {
+/// The result of `jsdoc_imports` for all comments.
+pub fn imports(alloc: Global, source: &ParsedSource) -> Result<String, CaseError> {
     let found = imports_of(alloc, source)?;
     named(alloc, imports_json(alloc, found)?.as_str())
 }
@@ -49,9 +48,8 @@ fn imports_in(
     jsdoc_imports(alloc, media_type, text_info, all.as_slice())
 }
 
-/// A line for each position at which comments of a document lead: what `analyze_ts_or_deno_types`
-/// finds in them.
-pub fn types(alloc: Global, source: &ParsedSource) -> Result<String, RowFault> {
+/// A line for each position with leading comments: the result of `analyze_ts_or_deno_types`.
+pub fn types(alloc: Global, source: &ParsedSource) -> Result<String, CaseError> {
     let mut answer = String::new(alloc);
     for pos in 0..=source.text().as_str().len() {
         if source.comments().get_leading(pos).is_some() {

@@ -2,13 +2,13 @@
 
 use crate::answer::{push_line, push_lines};
 use crate::calls::{of_json, text_of};
-use crate::row_fault::RowFault;
+use crate::case_error::CaseError;
 use std::alloc::{AllocError, Global};
 
-/// More than a row writes, so that neither writer asks for memory.
+/// More bytes than any test case writes, so that no writer allocates during a run.
 const ROOM: usize = 65536;
 
-/// What one run of the program left: its status and what it wrote.
+/// The status and the outputs of a run of the program.
 #[derive(PartialEq, Eq, Drop)]
 struct Run {
     status: u8,
@@ -17,7 +17,7 @@ struct Run {
 }
 
 impl Run {
-    fn of(alloc: Global, words: &[&str], input: &[u8]) -> Result<Run, RowFault> {
+    fn of(alloc: Global, words: &[&str], input: &[u8]) -> Result<Run, CaseError> {
         let mut output = Vec::with_capacity(alloc, ROOM)?;
         let mut errors = Vec::with_capacity(alloc, ROOM)?;
         let mut left = input;
@@ -27,21 +27,21 @@ impl Run {
             output,
             errors,
         };
-        if run.is_refused() {
-            return Err(RowFault::OutOfMemory);
+        if run.is_out_of_memory() {
+            return Err(CaseError::OutOfMemory);
         }
         Ok(run)
     }
 
-    /// Whether it was refused memory, for its one document or for one of its lines.
-    fn is_refused(&self) -> bool {
+    /// Whether an allocation failed, for the document or for one of its lines.
+    fn is_out_of_memory(&self) -> bool {
         let output = self.output.as_slice();
         output.is_empty() && self.errors.as_slice() == b"modinfo: OutOfMemory\n".as_slice()
             || output.ends_with(b"{\"fault\":\"OutOfMemory\"}\n")
     }
 
-    /// The line that answers the same document among others.
-    fn line(&self, alloc: Global, word: &str) -> Result<String, RowFault> {
+    /// The line for the same document in a run with `--lines`.
+    fn line(&self, alloc: Global, word: &str) -> Result<String, CaseError> {
         let output = text_of(self.output.as_slice())?.trim_end();
         if word == "check" {
             return Ok(String::from_str(alloc, output)?);
@@ -52,13 +52,13 @@ impl Run {
         Ok(format!(in alloc; "{{\"fault\":\"{}\"}}", self.fault()?)?)
     }
 
-    /// The name on the error output.
-    fn fault(&self) -> Result<&str, RowFault> {
+    /// The name of the fault on the error output.
+    fn fault(&self) -> Result<&str, CaseError> {
         let errors = text_of(self.errors.as_slice())?.trim_end();
         Ok(errors.strip_prefix("modinfo: ").unwrap_or(errors))
     }
 
-    fn answer(&self, alloc: Global) -> Result<String, RowFault> {
+    fn answer(&self, alloc: Global) -> Result<String, CaseError> {
         let mut answer = String::new(alloc);
         push_line(
             &mut answer,
@@ -71,10 +71,9 @@ impl Run {
     }
 }
 
-/// One run. Where it is of one document, the same document is handed in as a line too, and where it
-/// analyzes a module, all ways to the same answer are gone. What is found so is added where it is
-/// something else.
-pub fn serve(alloc: Global, words: &[&str], input: &[u8]) -> Result<String, RowFault> {
+/// Runs the program. Runs a single document as a line too, and for `analyze` makes all other calls for
+/// the same answer. Appends the other answers if they differ.
+pub fn serve(alloc: Global, words: &[&str], input: &[u8]) -> Result<String, CaseError> {
     let run = Run::of(alloc, words, input)?;
     answer_with_others(alloc, words, input, &run)
 }
@@ -84,7 +83,7 @@ fn answer_with_others(
     words: &[&str],
     input: &[u8],
     run: &Run,
-) -> Result<String, RowFault> {
+) -> Result<String, CaseError> {
     let mut answer = run.answer(alloc)?;
     if let [word] = words {
         push_others(alloc, &mut answer, word, input, run)?;
@@ -98,7 +97,7 @@ fn push_others(
     word: &str,
     input: &[u8],
     run: &Run,
-) -> Result<(), RowFault> {
+) -> Result<(), CaseError> {
     if run.status < 2 && !input.is_empty() {
         push_other_lines(alloc, answer, word, input, run)?;
     }
@@ -111,8 +110,8 @@ fn push_others(
     Ok(())
 }
 
-/// What the other ways lead to, where that isn't what the run printed.
-fn push_other_ways(alloc: Global, answer: &mut String, input: &[u8]) -> Result<(), RowFault> {
+/// Appends the answer of the other calls if it isn't what the run printed.
+fn push_other_ways(alloc: Global, answer: &mut String, input: &[u8]) -> Result<(), CaseError> {
     let ways = of_json(alloc, "every_way", &[], input)?;
     if found(ways.as_str(), "answer ") != found(answer.as_str(), "output ") {
         answer.push_str(ways.as_str())?;
@@ -120,15 +119,15 @@ fn push_other_ways(alloc: Global, answer: &mut String, input: &[u8]) -> Result<(
     Ok(())
 }
 
-/// What a run over two lines, which are both this document, prints other than the line of this run
-/// twice. Line feeds in a document are white space, and so become blanks.
+/// Appends the output of a run over two lines, both with this document, if it isn't the line of this run
+/// twice. Replaces line feeds, which are white space in JSON, by spaces.
 fn push_other_lines(
     alloc: Global,
     answer: &mut String,
     word: &str,
     document: &[u8],
     single: &Run,
-) -> Result<(), RowFault> {
+) -> Result<(), CaseError> {
     let lines = two_lines(alloc, document)?;
     let run = Run::of(alloc, &[word, "--lines"], lines.as_slice())?;
     push_unless_twice(alloc, answer, word, &run, single)
@@ -155,7 +154,7 @@ fn push_unless_twice(
     word: &str,
     run: &Run,
     single: &Run,
-) -> Result<(), RowFault> {
+) -> Result<(), CaseError> {
     let line = single.line(alloc, word)?;
     let expected = format!(in alloc; "{line}\n{line}\n")?;
     let status = if word == "check" { single.status } else { 0 };
@@ -166,15 +165,14 @@ fn push_unless_twice(
     Ok(())
 }
 
-/// The report on the document, where it has another fault than this run, or none where this run has
-/// one.
+/// Appends the report on the document if its fault isn't that of this run.
 fn push_other_report(
     alloc: Global,
     answer: &mut String,
     word: &str,
     document: &[u8],
     single: &Run,
-) -> Result<(), RowFault> {
+) -> Result<(), CaseError> {
     let expected = beginning_of_report(alloc, single)?;
     let run = Run::of(alloc, &["check", word], document)?;
     if run.status != single.status || !run.output.as_slice().starts_with(expected.as_bytes()) {
@@ -183,21 +181,21 @@ fn push_other_report(
     Ok(())
 }
 
-fn beginning_of_report(alloc: Global, single: &Run) -> Result<String, RowFault> {
+fn beginning_of_report(alloc: Global, single: &Run) -> Result<String, CaseError> {
     if single.status == 0 {
         return Ok(String::from_str(alloc, "{\"valid\":true")?);
     }
     Ok(format!(in alloc; "{{\"fault\":\"{}\",", single.fault()?)?)
 }
 
-/// What is behind the word on the last line.
+/// The rest of the last line after a word.
 fn found<'a>(answer: &'a str, word: &str) -> Option<&'a str> {
     answer.lines().last()?.strip_prefix(word)
 }
 
-/// A run on each strict beginning of the input. The answer of the first, where all answer that, and
-/// else the first other one.
-pub fn beginnings(alloc: Global, words: &[&str], input: &[u8]) -> Result<String, RowFault> {
+/// Runs the program on each proper beginning of the input. Returns the answer of the first run, or the
+/// first answer that differs.
+pub fn beginnings(alloc: Global, words: &[&str], input: &[u8]) -> Result<String, CaseError> {
     let first = Run::of(alloc, words, &[])?;
     let other = other_beginning(alloc, words, input, &first)?;
     other.as_ref().unwrap_or(&first).answer(alloc)
@@ -208,7 +206,7 @@ fn other_beginning(
     words: &[&str],
     input: &[u8],
     first: &Run,
-) -> Result<Option<Run>, RowFault> {
+) -> Result<Option<Run>, CaseError> {
     for end in 0..input.len() {
         let run = Run::of(alloc, words, &input[..end])?;
         if run != *first {

@@ -1,17 +1,17 @@
-//! Positions, ranges and strings.
+//! Calls on positions, ranges and strings.
 
 use crate::answer::{named, valued};
-use crate::row_fault::RowFault;
+use crate::case_error::CaseError;
+use deno_graph_json::Tape;
 use deno_graph_source::text::{JsString, Position, PositionRange, SourceRange, SourceTextInfo};
-use flat_json::Tape;
 use json::Scratch;
-use modinfo::notation::literal::read_string;
+use modinfo::document::read_string;
 use serde_json::{Value, json};
 use std::alloc::Global;
 use std::rc::RcStr;
 
-/// What `js_string` answers on a text or an array of units: the string as it is, and its lossy text.
-pub fn js_string(alloc: Global, text: &str) -> Result<String, RowFault> {
+/// A string from a text or an array of UTF-16 code units, and its lossy text.
+pub fn js_string(alloc: Global, text: &str) -> Result<String, CaseError> {
     let mut scratch = Scratch::new(alloc);
     let tape = Tape::read(alloc, text, &mut scratch)?;
     let string: JsString = read_string(alloc, tape.root())?;
@@ -27,15 +27,15 @@ pub fn js_string(alloc: Global, text: &str) -> Result<String, RowFault> {
     )
 }
 
-/// What a call answers that looks at positions of the text that the input is.
+/// Makes a call on positions of a text.
 pub fn of_positions(
     alloc: Global,
     name: &str,
     words: &[&str],
     value: &Value,
-) -> Result<String, RowFault> {
+) -> Result<String, CaseError> {
     let Some(text) = value.as_str() else {
-        return Err(RowFault::Row("its input is no text"));
+        return Err(CaseError::Invalid("its input is no text"));
     };
     let info = SourceTextInfo::new(alloc, RcStr::from_str(alloc, text)?)?;
     let numbers = numbers_of(alloc, words)?;
@@ -47,7 +47,7 @@ fn of_numbers(
     name: &str,
     info: &SourceTextInfo,
     numbers: &[usize],
-) -> Result<String, RowFault> {
+) -> Result<String, CaseError> {
     match numbers {
         [pos] => of_offset(alloc, name, info, *pos),
         [first, second] => of_two(alloc, name, info, *first, *second),
@@ -56,16 +56,16 @@ fn of_numbers(
             let end = position(*end_line, *end_character);
             of_position_range(alloc, name, info, PositionRange { start, end })
         }
-        _ => Err(RowFault::Row("its call isn't known")),
+        _ => Err(CaseError::Invalid("its call isn't known")),
     }
 }
 
-fn numbers_of(alloc: Global, words: &[&str]) -> Result<Vec<usize>, RowFault> {
+fn numbers_of(alloc: Global, words: &[&str]) -> Result<Vec<usize>, CaseError> {
     let mut numbers = Vec::with_capacity(alloc, words.len())?;
     for word in words {
         match word.parse::<usize>() {
             Ok(number) => numbers.push(number)?,
-            Err(_) => return Err(RowFault::Row("a word of its call is no number")),
+            Err(_) => return Err(CaseError::Invalid("a word of its call is no number")),
         }
     }
     Ok(numbers)
@@ -80,12 +80,12 @@ fn of_offset(
     name: &str,
     info: &SourceTextInfo,
     pos: usize,
-) -> Result<String, RowFault> {
+) -> Result<String, CaseError> {
     if name != "from_source_pos" {
-        return Err(RowFault::Row("its call isn't known"));
+        return Err(CaseError::Invalid("its call isn't known"));
     }
     if !info.text().is_char_boundary(pos) {
-        return Err(RowFault::Row("its position is no boundary"));
+        return Err(CaseError::Invalid("its position is no boundary"));
     }
     let Position { line, character } = Position::from_source_pos(pos, info);
     named(alloc, format!(in alloc; "[{line},{character}]")?.as_str())
@@ -97,7 +97,7 @@ fn of_two(
     info: &SourceTextInfo,
     first: usize,
     second: usize,
-) -> Result<String, RowFault> {
+) -> Result<String, CaseError> {
     let range = SourceRange {
         start: first,
         end: second,
@@ -112,7 +112,7 @@ fn of_two(
             None => named(alloc, "null"),
         },
         "from_source_range" => from_source_range(alloc, info, range),
-        _ => Err(RowFault::Row("its call isn't known")),
+        _ => Err(CaseError::Invalid("its call isn't known")),
     }
 }
 
@@ -120,10 +120,10 @@ fn from_source_range(
     alloc: Global,
     info: &SourceTextInfo,
     range: SourceRange,
-) -> Result<String, RowFault> {
+) -> Result<String, CaseError> {
     let text = info.text();
     if !text.is_char_boundary(range.start) || !text.is_char_boundary(range.end) {
-        return Err(RowFault::Row("its range has an end that is no boundary"));
+        return Err(CaseError::Invalid("its range has an end that is no boundary"));
     }
     let PositionRange { start, end } = PositionRange::from_source_range(range, info);
     let (start_line, start_character) = (start.line, start.character);
@@ -139,9 +139,9 @@ fn of_position_range(
     name: &str,
     info: &SourceTextInfo,
     range: PositionRange,
-) -> Result<String, RowFault> {
+) -> Result<String, CaseError> {
     if name != "as_source_range" {
-        return Err(RowFault::Row("its call isn't known"));
+        return Err(CaseError::Invalid("its call isn't known"));
     }
     match range.as_source_range(info) {
         Some(SourceRange { start, end }) => {

@@ -1,5 +1,6 @@
 /** Runs TypeScript's parser. */
 
+import { MEDIA_TYPES, endingOf } from "../../document/media_types.mjs";
 import { isAtLeast } from "../installed_parsers.mjs";
 
 /**
@@ -8,26 +9,8 @@ import { isAtLeast } from "../installed_parsers.mjs";
  * @typedef {any} Compiler the module `typescript`
  */
 
-/**
- * The file that each media type is parsed as: a name decides what is a declaration file.
- * @type {Record<string, [string, string]>}
- */
-const FILES = {
-  JavaScript: ["module.js", "JS"],
-  Jsx: ["module.jsx", "JSX"],
-  Mjs: ["module.mjs", "JS"],
-  Cjs: ["module.cjs", "JS"],
-  TypeScript: ["module.ts", "TS"],
-  Mts: ["module.mts", "TS"],
-  Cts: ["module.cts", "TS"],
-  Dts: ["module.d.ts", "TS"],
-  Dmts: ["module.d.mts", "TS"],
-  Dcts: ["module.d.cts", "TS"],
-  Tsx: ["module.tsx", "TSX"],
-};
-
-/** The media types that TypeScript's parser reads. */
-export const TYPESCRIPT_MEDIA_TYPES = Object.keys(FILES);
+/** The media types that TypeScript's parser reads: those of a file's name. */
+export const TYPESCRIPT_MEDIA_TYPES = MEDIA_TYPES.filter(endingOf);
 
 /**
  * The parser's errors about comments that begin with `///`: an invalid reference, a resolution mode
@@ -88,14 +71,24 @@ function parseText(compiler, text, mediaType) {
  * @returns {Node}
  */
 function parseAs(compiler, text, mediaType, asModule) {
-  const [name, scriptKind] = FILES[mediaType];
+  const ending = endingOf(mediaType) ?? "";
   const options = {
     languageVersion: compiler.ScriptTarget.Latest,
     jsDocParsingMode: compiler.JSDocParsingMode?.ParseNone,
     ...(asModule && { setExternalModuleIndicator: markAsModule }),
   };
-  const kind = compiler.ScriptKind[scriptKind];
-  return withoutRemains(compiler, compiler.createSourceFile(name, text, options, false, kind));
+  const kind = compiler.ScriptKind[scriptKindOf(ending)];
+  return withoutRemains(compiler, compiler.createSourceFile(`module${ending}`, text, options, false, kind));
+}
+
+/**
+ * TypeScript's name of the syntax of files whose names end so. A name also decides what is a
+ * declaration file.
+ * @param {string} ending
+ */
+function scriptKindOf(ending) {
+  const syntax = ending.includes("ts") ? "TS" : "JS";
+  return ending.endsWith("x") ? `${syntax}X` : syntax;
 }
 
 /**

@@ -1,4 +1,4 @@
--- Each step takes one path of those to come.
+-- Each step removes one path from the walk.
 use Rattle.std.proofs.Common.{length}
 use Rattle.bench_program.proofs.walk.walked.Given as goal
 

@@ -1,4 +1,4 @@
--- A template that keeps the shape rules has a quasi, and the form that was found spells the node's text.
+-- A template that keeps the shape rules has a quasi, and the form of a node spells its text.
 use Rattle.std.proofs.Common.{length, rules}
 use Rattle.std.proofs.lemmas.Result.{IfOk-weaker}
 use Rattle.deno_graph_source.specs.Node.{kind_of, children_of}

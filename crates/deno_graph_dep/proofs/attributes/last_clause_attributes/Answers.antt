@@ -1,17 +1,17 @@
--- A clause with a known object is the last so far, and other properties are passed over.
+-- A clause with a known object becomes the last clause, and any other property changes nothing.
 use Rattle.std.proofs.Common.{Option, ◌||◌, sym, ap, ◌∙◌, subst, ◌+◌}
 use Rattle.std.specs.Option.{option_copied}
 use Rattle.std.proofs.lemmas.Bool.{both_ways}
 use Rattle.std.proofs.lemmas.Result.{IfOk-weaker}
 use Rattle.deno_graph_source.specs.declared.tree.node.Node.{Node}
-use Rattle.deno_graph_dep.specs.Attributes.{ObjectGives, LookedAtGive}
+use Rattle.deno_graph_dep.specs.Attributes.{AreObjectAttributes, AreClauseAttributes}
 use Rattle.deno_graph_dep.proofs.LastClause.{
-  LookedAtBelow,
-  LookedAtBelow-skip,
-  LookedAtBelow-clause,
-  LookedAtGive-unknown,
-  LookedAtGive-none,
-  LookedAtGive-last,
+  ClausesBelow,
+  ClausesBelow-skip,
+  ClausesBelow-clause,
+  AreClauseAttributes-unknown,
+  AreClauseAttributes-none,
+  AreClauseAttributes-last,
 }
 use Rattle.deno_graph_dep.proofs.attributes.last_clause_attributes.Goals as goal
 use Rattle.deno_graph_dep.proofs.attributes.last_clause_attributes.Goals.{
@@ -27,18 +27,18 @@ loop-property-preserved c =
     let after_with = c.loop-property.after_with in
     let last = option_copied c.loop-property.last in
     let next : Option Node → Type 0 =
-    λ o. LookedAtBelow xs (i + 1) (after_with || c.has_key-after_with.result) o in
+    λ o. ClausesBelow xs (i + 1) (after_with || c.has_key-after_with.result) o in
     elim c.if-is_clause.branch [
       | then-is_clause+in-Some w ↦
           subst next (sym (ap option_copied w.last-is))
-          (LookedAtBelow-clause xs i property c.loop-property-test.true c.property-item.is after_with last
+          (ClausesBelow-clause xs i property c.loop-property-test.true c.property-item.is after_with last
           c.loop-property.invariant
           c.has_key-after_with.result c.has_key-after_with.ensures w.in-Some.object.now
           (c.is_clause.ensures.0 w.if-is_clause.true)
           (sym w.known_object.ensures ∙ ap option_copied w.in-Some.is))
       | else-is_clause w ↦
           subst next (sym (ap option_copied w.last-is))
-          (LookedAtBelow-skip xs i property c.loop-property-test.true c.property-item.is after_with last
+          (ClausesBelow-skip xs i property c.loop-property-test.true c.property-item.is after_with last
           c.loop-property.invariant
           c.has_key-after_with.result c.has_key-after_with.ensures
           (λ clause. both_ways c.is_clause.result w.if-is_clause.false (c.is_clause.ensures.1 clause)))
@@ -46,7 +46,7 @@ loop-property-preserved c =
 
 pub returns-in_default : goal.returns-in_default
 returns-in_default c =
-    LookedAtGive-unknown c.args.properties.now c.loop-property.property-index c.property-item.result
+    AreClauseAttributes-unknown c.args.properties.now c.loop-property.property-index c.property-item.result
     c.loop-property-test.true c.property-item.is
     c.loop-property.after_with (option_copied c.loop-property.last) c.loop-property.invariant
     (c.is_clause.ensures.0 c.if-is_clause.true)
@@ -54,9 +54,10 @@ returns-in_default c =
 
 pub returns-in-Some-last : goal.returns-in-Some-last
 returns-in-Some-last c =
-    IfOk-weaker c.parse_import_attributes_from_object_lit.result (ObjectGives c.in-Some-last.object.now)
-    (LookedAtGive c.args.properties.now)
-    (λ result gives. LookedAtGive-last c.args.properties.now c.loop-property.property-index
+    IfOk-weaker c.parse_import_attributes_from_object_lit.result
+    (AreObjectAttributes c.in-Some-last.object.now)
+    (AreClauseAttributes c.args.properties.now)
+    (λ result gives. AreClauseAttributes-last c.args.properties.now c.loop-property.property-index
     c.loop-property.after_with
     (option_copied c.loop-property.last) c.in-Some-last.object.now result c.loop-property-test.false
     (ap option_copied c.in-Some-last.is)
@@ -65,6 +66,6 @@ returns-in-Some-last c =
 
 pub returns-in-None : goal.returns-in-None
 returns-in-None c =
-    LookedAtGive-none c.args.properties.now c.loop-property.property-index c.loop-property.after_with
+    AreClauseAttributes-none c.args.properties.now c.loop-property.property-index c.loop-property.after_with
     (option_copied c.loop-property.last)
     c.loop-property-test.false (ap option_copied c.in-None.is) c.loop-property.invariant

@@ -1,4 +1,4 @@
--- The attributes so far are those that the properties so far give.
+-- The entries so far are those that the properties so far give.
 use Rattle.std.proofs.Common.{take}
 use Rattle.deno_graph_dep.specs.Attributes.{HoldsLast, declared}
 use Rattle.deno_graph_dep.proofs.attributes.parse_import_attributes.Given as goal

@@ -1,4 +1,4 @@
--- The keys so far, and those that are left, are the keys.
+-- The keys so far, followed by those that are left, are all keys.
 use Rattle.std.proofs.Common.{◌≡◌, ◌++◌, map, string_bytes}
 use Rattle.std.specs.Map.{keys_of}
 use Rattle.deno_graph_info.proofs.reach.keys_reached.Given as goal

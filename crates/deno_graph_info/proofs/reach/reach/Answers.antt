@@ -1,5 +1,5 @@
 use Rattle.std.proofs.Common.{◌≡◌, length, vec_len, arith, sym, ◌∙◌}
-use Rattle.deno_graph_text.specs.TextMap.{entries_of}
+use Rattle.deno_graph_base.specs.TextMap.{entries_of}
 use Rattle.deno_graph_info.proofs.Reaching.{
   underway-begin,
   underway-step,
@@ -7,7 +7,7 @@ use Rattle.deno_graph_info.proofs.Reaching.{
   less_to_do,
   reach_answered,
 }
-use Rattle.deno_graph_info.specs.ReachSteps.{infos_of}
+use Rattle.deno_graph_info.specs.internal.ReachSteps.{infos_of}
 use Rattle.deno_graph_info.proofs.reach.reach.Goals as goal
 
 pub search-init : goal.search-init

@@ -1,9 +1,9 @@
--- What is reached is closed but for the modules that are pending. Each that is visited was pending,
--- and each that becomes pending wasn't reached.
+-- The reached keys are closed except for the pending modules. Each module that is visited was pending, and
+-- each module that becomes pending wasn't reached.
 use Rattle.std.proofs.Common.{◌+◌, length}
-use Rattle.deno_graph_text.specs.TextMap.{entries_of}
+use Rattle.deno_graph_base.specs.TextMap.{entries_of}
 use Rattle.deno_graph_info.proofs.Reaching.{IsUnderway}
-use Rattle.deno_graph_info.specs.ReachSteps.{infos_of, unreached}
+use Rattle.deno_graph_info.specs.internal.ReachSteps.{infos_of, unreached}
 use Rattle.deno_graph_info.proofs.reach.reach.Given as goal
 
 abbrev pub invariant-search : goal.invariant-search

@@ -1,9 +1,9 @@
 use Rattle.std.proofs.Common.{◌≡◌, [], ◌∷◌, Some, None, not, cond, bytes_eq, refl, sym, ap, ◌∙◌}
 use Rattle.std.proofs.lemmas.List.{map-append}
-use Rattle.deno_graph_text.proofs.TextEntries.{lookup-entries}
-use Rattle.deno_graph_text.specs.TextMap.{entries_of, value_at}
+use Rattle.deno_graph_base.proofs.TextEntries.{lookup-entries}
+use Rattle.deno_graph_base.specs.TextMap.{entries_of, value_at}
 use Rattle.deno_graph_info.proofs.Reaching.{grows-by, grows-not, none_there, no_key}
-use Rattle.deno_graph_info.specs.ReachSteps.{infos_of}
+use Rattle.deno_graph_info.specs.internal.ReachSteps.{infos_of}
 use Rattle.deno_graph_info.proofs.reach.visit.Goals as goal
 
 pub returns-in_ok-insert-in-Some : goal.returns-in_ok-insert-in-Some

@@ -1,7 +1,7 @@
 use Rattle.std.proofs.Common.{sym}
-use Rattle.deno_graph_text.specs.TextMap.{entries_of}
+use Rattle.deno_graph_base.specs.TextMap.{entries_of}
 use Rattle.deno_graph_info.proofs.Reaching.{dependency_visited, dependency_passed}
-use Rattle.deno_graph_info.specs.ReachSteps.{infos_of}
+use Rattle.deno_graph_info.specs.internal.ReachSteps.{infos_of}
 use Rattle.deno_graph_info.proofs.reach.visit_dependencies.Goals as goal
 use Rattle.deno_graph_info.proofs.reach.visit_dependencies.Goals.{in-Some+in_ok-visit-in-Some, in-None}
 

@@ -1,7 +1,7 @@
--- The dependencies so far are visited.
+-- The dependencies so far were visited.
 use Rattle.std.proofs.Common.{take}
-use Rattle.deno_graph_text.specs.TextMap.{entries_of}
-use Rattle.deno_graph_info.specs.ReachSteps.{Grows, NamesIn, infos_of}
+use Rattle.deno_graph_base.specs.TextMap.{entries_of}
+use Rattle.deno_graph_info.specs.internal.ReachSteps.{Grows, NamesIn, infos_of}
 use Rattle.deno_graph_info.proofs.reach.visit_dependencies.Given as goal
 
 abbrev pub invariant-loop-dependency : goal.invariant-loop-dependency

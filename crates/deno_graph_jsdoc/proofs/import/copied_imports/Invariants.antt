@@ -1,4 +1,4 @@
--- The copies so far state what the imports so far do.
+-- The copies so far are equal to the imports so far.
 use Rattle.std.proofs.Common.{◌≡◌, map, take}
 use Rattle.deno_graph_jsdoc.specs.JsDocImport.{import_of}
 use Rattle.deno_graph_jsdoc.proofs.import.copied_imports.Given as goal

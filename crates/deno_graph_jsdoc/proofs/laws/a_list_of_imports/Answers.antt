@@ -1,5 +1,5 @@
-use Rattle.deno_graph_jsdoc.proofs.Collected.{hits_of}
+use Rattle.deno_graph_jsdoc.proofs.Collected.{all_imports}
 use Rattle.deno_graph_jsdoc.proofs.laws.a_list_of_imports.Goals as goal
 
 pub returns : goal.returns
-returns c = hits_of
+returns c = all_imports

@@ -7,7 +7,7 @@ use Rattle.std.proofs.lemmas.Str.Pattern.{ends_char}
 use Rattle.std.specs.Str.{IsUtf8, chars}
 use lib.Utf8.{encodes}
 use Rattle.deno_graph_jsdoc.specs.Characters.{at_sign}
-use Rattle.deno_graph_jsdoc.specs.JsDocPass.{EndsWithAt}
+use Rattle.deno_graph_jsdoc.specs.internal.Pass.{EndsWithAt}
 use Rattle.deno_graph_jsdoc.proofs.Texts.{bytes_from_chars}
 use Rattle.deno_graph_jsdoc.proofs.Words.{IsAscii-from_test}
 use Rattle.deno_graph_jsdoc.proofs.pass.ends_with_at.Goals as goal

@@ -1,18 +1,18 @@
--- The place is where no start before is as large, and none from there on smaller.
+-- All starts before the index are smaller, and no start from the index on is smaller.
 use Rattle.std.proofs.Common.{◌≡◌, true, false, List, length, get_or, map, sym, ap, ◌∙◌, subst, arith, rules}
 use Rattle.std.proofs.lemmas.List.Sorted.{IsPartitionPoint-from_clause}
 use Rattle.std.specs.List.Sorted.{IsPartitionedBy, IsPartitionPoint}
 use Rattle.deno_graph_jsdoc.specs.JsDocImport.{import_of}
-use Rattle.deno_graph_jsdoc.specs.JsDocPass.{GainsImport}
+use Rattle.deno_graph_jsdoc.specs.internal.Pass.{GainsImport}
 use Rattle.deno_graph_jsdoc.specs.declared.import.JsDocImport.{JsDocImport}
 use Rattle.deno_graph_jsdoc.proofs.Ascending.{GainsImport-placed, GainsImport-there, is_before, placed}
 use Rattle.deno_graph_jsdoc.proofs.pass.insert.Goals as goal
 use Rattle.deno_graph_jsdoc.proofs.pass.insert.Goals.{After-get, in-Some+else-other-start, in_default}
 
-place : (c : After-get) → IsPartitionPoint (λ other. is_before c.args.import.specifier_range.start other
+point : (c : After-get) → IsPartitionPoint (λ other. is_before c.args.import.specifier_range.start other
     ≡ true) (λ other. is_before c.args.import.specifier_range.start other ≡ false)
     c.args.imports.now.items c.partition_point-at.result
-place c =
+point c =
     subst (λ items. IsPartitionPoint (λ other. is_before c.args.import.specifier_range.start other ≡ true)
     (λ other. is_before c.args.import.specifier_range.start other ≡ false) items
     c.partition_point-at.result)
@@ -39,7 +39,7 @@ returns-clause-ok c =
     let at = c.partition_point-at.result in
     let last = GainsImport-placed items c.requires.ascending c.args.import
     at (omega (arith, c.partition_point-at.ensures.bound, ap length c.as_slice.ensures.value))
-    (place (goal.at.returns-clause-ok c).After-get)
+    (point (goal.at.returns-clause-ok c).After-get)
     (λ d inside. elim c.match-get.branch [
       | in-Some+else-other-start w ↦
           let found = w.in-Some.ensures.lookup.3 in

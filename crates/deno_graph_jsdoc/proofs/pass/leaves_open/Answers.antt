@@ -7,7 +7,7 @@ use Rattle.std.proofs.lemmas.Iterator.Consumers.{fold_from_yields_List}
 use Rattle.std.specs.Str.{chars}
 use Rattle.deno_graph_jsdoc.specs.Characters.{opening_brace, closing_brace}
 use Rattle.deno_graph_jsdoc.specs.JsDocGrammar.{Lacks}
-use Rattle.deno_graph_jsdoc.specs.JsDocPass.{LeavesOpen}
+use Rattle.deno_graph_jsdoc.specs.internal.Pass.{LeavesOpen}
 use Rattle.deno_graph_jsdoc.proofs.pass.leaves_open.Goals as goal
 
 abbrev step : Bool → ℕ → Bool

@@ -9,18 +9,19 @@ use Rattle.std.specs.Str.{IsUtf8, chars}
 use Rattle.deno_graph_jsdoc.specs.declared.grammar.declaration.NamesEnd.{NamesEnd}
 use Rattle.deno_graph_jsdoc.specs.declared.import.JsDocImport.{JsDocImport}
 use Rattle.deno_graph_jsdoc.specs.JsDocImport.{import_of, moved, byte_count}
-use Rattle.deno_graph_jsdoc.specs.JsDocBraces.{Keeps}
-use Rattle.deno_graph_jsdoc.specs.JsDocKnown.{AreKnown, AreSpaces}
-use Rattle.deno_graph_jsdoc.specs.JsDocHits.{occurrences}
-use Rattle.deno_graph_jsdoc.specs.JsDocPass.{GainsImport}
+use Rattle.deno_graph_jsdoc.specs.internal.Braces.{Keeps}
+use Rattle.deno_graph_jsdoc.specs.internal.Cache.{AreCached, AreCachedSpaces}
+use Rattle.deno_graph_jsdoc.specs.JsDocImports.{occurrences}
+use Rattle.deno_graph_jsdoc.specs.internal.Pass.{GainsImport}
 use Rattle.deno_graph_jsdoc.proofs.Braces.{IsUnclosed-back, Keeps-back}
 use Rattle.deno_graph_jsdoc.proofs.Imports.{byte_count_before}
-use Rattle.deno_graph_jsdoc.proofs.Known.{AreKnown-back, AreSpaces-back}
-use Rattle.deno_graph_jsdoc.proofs.Passes.{Found, Found-start, Found-hits, Found-dynamics, Found-decls, Takes}
+use Rattle.deno_graph_jsdoc.proofs.Cached.{AreCached-back, AreCachedSpaces-back}
+use Rattle.deno_graph_jsdoc.proofs.Passes.{Found, Found-start, Found-imports, Found-dynamics}
+use Rattle.deno_graph_jsdoc.proofs.Passes.{Found-decls, Takes}
 use Rattle.deno_graph_jsdoc.proofs.Passes.{dynamic_skip, dynamic_take, decl_skip, decl_take, next, next_whole}
 use Rattle.deno_graph_jsdoc.proofs.Passes.{next_cut, next_longer, next_skips, declaration_here}
 use Rattle.deno_graph_jsdoc.proofs.Passes.{at_declaration, dynamic_here, at_dynamic}
-use Rattle.deno_graph_jsdoc.proofs.Occurrences.{occurrences-behind}
+use Rattle.deno_graph_jsdoc.proofs.Occurrences.{occurrences-after}
 use Rattle.deno_graph_jsdoc.proofs.Sites.{word, Skips}
 use Rattle.deno_graph_jsdoc.proofs.Texts.{split_word}
 use Rattle.deno_graph_jsdoc.proofs.Words.{IsAscii-from_test}
@@ -41,46 +42,47 @@ loop-before-init c = record {
   few = omega arith;
 }
 
--- what `add` leaves
-takes : (rest after : List ℕ) (old new : List JsDocImport) (found : Option JsDocImport)
-    (by : ℕ) → by ≡ byte_count after
+-- the list after `add`
+takes : (rest beyond : List ℕ) (old new : List JsDocImport) (found : Option JsDocImport)
+    (by : ℕ) → by ≡ byte_count beyond
     → MatchOption found (new ≡ old)
     (λ import. GainsImport (map import_of old) (moved by (import_of import)) (map import_of new))
-    → Takes after (map import_of old)
+    → Takes beyond (map import_of old)
     (option_map (λ import. (rest, import)) (option_map import_of found)) (map import_of new)
-takes rest after old new None by is same = ap (map import_of) same
-takes rest after old new (Some import) by is gains =
+takes rest beyond old new None by is same = ap (map import_of) same
+takes rest beyond old new (Some import) by is gains =
     subst (λ n. GainsImport (map import_of old) (moved n (import_of import)) (map import_of new)) is gains
 
 -- the `import` that was found
 split : (c : In-Some)
-    → (chars c.loop-before.rest.now ≡ chars c.in-Some.before.now ++ (word ++ chars c.in-Some.behind.now))
-    × ((sooner after : List ℕ) → chars c.in-Some.before.now ++ word ≡ sooner ++ (word ++ after) → after ≡ [])
+    → (chars c.loop-before.rest.now ≡ chars c.in-Some.before.now ++ (word ++ chars c.in-Some.after.now))
+    × ((sooner beyond : List ℕ) → chars c.in-Some.before.now ++ word ≡ sooner ++ (word ++ beyond)
+    → beyond ≡ [])
 split c =
     let utf8 : IsUtf8 c.in-Some.before.now = search rules in
-    split_word (codes "import") c.loop-before.rest.now (Some (c.in-Some.before, c.in-Some.behind))
+    split_word (codes "import") c.loop-before.rest.now (Some (c.in-Some.before, c.in-Some.after))
     (search rules) (IsAscii-from_test (codes "import") refl) utf8 c.in-Some.ensures.cases
 
 whole : (c : In-Some) → chars c.args.text.now ≡ c.loop-before.invariant.front
-    ++ (chars c.in-Some.before.now ++ (word ++ chars c.in-Some.behind.now))
+    ++ (chars c.in-Some.before.now ++ (word ++ chars c.in-Some.after.now))
 whole c = c.loop-before.invariant.whole ∙ ap (λ t. c.loop-before.invariant.front ++ t) (split c).0
 
-abbrev after : In-Some → List ℕ
-after c = next (chars c.args.text.now) c.loop-before.invariant.front (chars c.in-Some.before.now)
-    (chars c.in-Some.behind.now) c.loop-before.invariant.cut (whole c) (split c).1
+abbrev beyond : In-Some → List ℕ
+beyond c = next (chars c.args.text.now) c.loop-before.invariant.front (chars c.in-Some.before.now)
+    (chars c.in-Some.after.now) c.loop-before.invariant.cut (whole c) (split c).1
 
-through : (c : In-Some) → chars c.args.text.now ≡ after c ++ chars c.in-Some.behind.now
+through : (c : In-Some) → chars c.args.text.now ≡ beyond c ++ chars c.in-Some.after.now
 through c = next_whole (chars c.args.text.now) c.loop-before.invariant.front (chars c.in-Some.before.now)
-    (chars c.in-Some.behind.now) c.loop-before.invariant.cut (whole c) (split c).1
+    (chars c.in-Some.after.now) c.loop-before.invariant.cut (whole c) (split c).1
 
-bytes : (c : In-Some) → byte_count (after c) + length c.in-Some.behind.now ≡ length c.args.text.now
+bytes : (c : In-Some) → byte_count (beyond c) + length c.in-Some.after.now ≡ length c.args.text.now
 bytes c =
-    let utf8 : IsUtf8 c.in-Some.behind.now = search rules in
-    byte_count_before c.args.text.now c.in-Some.behind.now (after c) c.utf8.text utf8 (through c)
+    let utf8 : IsUtf8 c.in-Some.after.now = search rules in
+    byte_count_before c.args.text.now c.in-Some.after.now (beyond c) c.utf8.text utf8 (through c)
 
-longer : (c : In-Some) → length c.loop-before.invariant.front < length (after c)
+longer : (c : In-Some) → length c.loop-before.invariant.front < length (beyond c)
 longer c = next_longer (chars c.args.text.now) c.loop-before.invariant.front (chars c.in-Some.before.now)
-    (chars c.in-Some.behind.now) c.loop-before.invariant.cut (whole c) (split c).1
+    (chars c.in-Some.after.now) c.loop-before.invariant.cut (whole c) (split c).1
 
 pub overflow_sub-by : goal.overflow_sub-by
 overflow_sub-by c = omega (arith, bytes c)
@@ -89,26 +91,26 @@ pub overflow_add-decl_starts : goal.overflow_add-decl_starts
 overflow_add-decl_starts c =
     let here = (goal.at.overflow_add-decl_starts c).In-Some in
     let few = c.loop-before.invariant.found.few_decls in
-    omega (arith, few, bytes here, longer here, length-le-encodes (after here))
+    omega (arith, few, bytes here, longer here, length-le-encodes (beyond here))
 
 pub overflow_add-dynamic_starts : goal.overflow_add-dynamic_starts
 overflow_add-dynamic_starts c =
     let here = (goal.at.overflow_add-dynamic_starts c).In-Some in
     let few = c.loop-before.invariant.found.few_dynamics in
-    omega (arith, few, bytes here, longer here, length-le-encodes (after here))
+    omega (arith, few, bytes here, longer here, length-le-encodes (beyond here))
 
 pub find_import-found-requires-clause-unclosed : goal.find_import-found-requires-clause-unclosed
 find_import-found-requires-clause-unclosed c =
     let here = (goal.at.find_import-found-requires-clause-unclosed c).In-Some in
-    IsUnclosed-back (chars c.args.text.now) (after here) (chars c.in-Some.behind.now)
+    IsUnclosed-back (chars c.args.text.now) (beyond here) (chars c.in-Some.after.now)
     c.unclosed_len-unclosed.result (through here) c.unclosed_len-unclosed.ensures
 
--- what is known of the braces behind a later place
-still : (c : In-Some) → Keeps (chars c.in-Some.behind.now) c.loop-before.known
+-- the cache of the next brace at a later offset
+still : (c : In-Some) → Keeps (chars c.in-Some.after.now) c.loop-before.cache
 still c =
     Keeps-back (chars c.loop-before.rest.now) (chars c.in-Some.before.now ++ word)
-    (chars c.in-Some.behind.now) c.loop-before.known
-    ((split c).0 ∙ sym (append_assoc (chars c.in-Some.before.now) word (chars c.in-Some.behind.now)))
+    (chars c.in-Some.after.now) c.loop-before.cache
+    ((split c).0 ∙ sym (append_assoc (chars c.in-Some.before.now) word (chars c.in-Some.after.now)))
     c.loop-before.invariant.keeps
 
 pub find_import-found-requires-clause-keeps : goal.find_import-found-requires-clause-keeps
@@ -117,15 +119,15 @@ find_import-found-requires-clause-keeps c = still (goal.at.find_import-found-req
 pub find_import-requires-clause-unclosed : goal.find_import-requires-clause-unclosed
 find_import-requires-clause-unclosed c =
     let here = (goal.at.find_import-requires-clause-unclosed c).In-Some in
-    IsUnclosed-back (chars c.args.text.now) (after here) (chars c.in-Some.behind.now)
+    IsUnclosed-back (chars c.args.text.now) (beyond here) (chars c.in-Some.after.now)
     c.unclosed_len-unclosed.result (through here) c.unclosed_len-unclosed.ensures
 
--- what was read of the attributes behind it
-lists : (c : In-Some) → AreKnown (chars c.in-Some.behind.now) c.as_slice-lists.result.now
+-- the cached attributes after the `import`
+lists : (c : In-Some) → AreCached (chars c.in-Some.after.now) c.as_slice-lists.result.now
 lists c =
-    AreKnown-back (chars c.args.text.now) (after c) (chars c.in-Some.behind.now) c.as_slice-lists.result.now
+    AreCached-back (chars c.args.text.now) (beyond c) (chars c.in-Some.after.now) c.as_slice-lists.result.now
     (through c)
-    (subst (AreKnown (chars c.args.text.now)) (sym c.as_slice-lists.ensures.value) c.in_ok-table.ensures)
+    (subst (AreCached (chars c.args.text.now)) (sym c.as_slice-lists.ensures.value) c.in_ok-table.ensures)
 
 pub find_import-found-requires-clause-lists : goal.find_import-found-requires-clause-lists
 find_import-found-requires-clause-lists c = lists (goal.at.find_import-found-requires-clause-lists c).In-Some
@@ -133,30 +135,30 @@ find_import-found-requires-clause-lists c = lists (goal.at.find_import-found-req
 pub find_import-requires-clause-lists : goal.find_import-requires-clause-lists
 find_import-requires-clause-lists c = lists (goal.at.find_import-requires-clause-lists c).In-Some
 
--- what is known of the white space in it
-spaces : (c : In-Some) → AreSpaces (chars c.in-Some.behind.now) c.as_slice-spaces.result.now
+-- the cached white space after the `import`
+spaces : (c : In-Some) → AreCachedSpaces (chars c.in-Some.after.now) c.as_slice-spaces.result.now
 spaces c =
-    AreSpaces-back (chars c.args.text.now) (after c) (chars c.in-Some.behind.now) c.as_slice-spaces.result.now
-    (through c)
-    (subst (AreSpaces (chars c.args.text.now)) (sym c.as_slice-spaces.ensures.value)
+    AreCachedSpaces-back (chars c.args.text.now) (beyond c) (chars c.in-Some.after.now)
+    c.as_slice-spaces.result.now (through c)
+    (subst (AreCachedSpaces (chars c.args.text.now)) (sym c.as_slice-spaces.ensures.value)
     c.in_ok-space_table.ensures)
 
 pub find_import-requires-clause-spaces : goal.find_import-requires-clause-spaces
 find_import-requires-clause-spaces c = spaces (goal.at.find_import-requires-clause-spaces c).In-Some
 
-skips : (c : In-Some) → Skips (chars c.args.text.now) c.loop-before.invariant.front (after c)
+skips : (c : In-Some) → Skips (chars c.args.text.now) c.loop-before.invariant.front (beyond c)
 skips c = next_skips (chars c.args.text.now) c.loop-before.invariant.front (chars c.in-Some.before.now)
-    (chars c.in-Some.behind.now) c.loop-before.invariant.cut (whole c) (split c).1
+    (chars c.in-Some.after.now) c.loop-before.invariant.cut (whole c) (split c).1
 
-by : (c : In-Some) → length c.args.text.now - length c.in-Some.behind.now ≡ byte_count (after c)
+by : (c : In-Some) → length c.args.text.now - length c.in-Some.after.now ≡ byte_count (beyond c)
 by c = omega (arith, bytes c)
 
--- what is found and kept behind the declaration that may begin here
+-- the imports found and the cache, after the declaration that may begin here
 abbrev Declared : (c : After-leaves_open) → In-Some → Type 0
 Declared c here =
     Found (chars c.args.text.now) (map import_of c.if-ends_with_at.imports.items) c.loop-before.dynamic_starts
-    c.if-ends_with_at.decl_starts c.loop-before.invariant.front (after here)
-    × Keeps (chars c.in-Some.behind.now) c.if-ends_with_at.known
+    c.if-ends_with_at.decl_starts c.loop-before.invariant.front (beyond here)
+    × Keeps (chars c.in-Some.after.now) c.if-ends_with_at.cache
 
 declared : (c : After-leaves_open) → Declared c (goal.at.After-leaves_open c).In-Some
 declared c =
@@ -164,44 +166,44 @@ declared c =
     let i = c.loop-before.invariant in
     let text = chars c.args.text.now in
     let before = chars c.in-Some.before.now in
-    let behind = chars c.in-Some.behind.now in
-    let State : Vec JsDocImport Global → ℕ → Option NamesEnd → Type 0 = λ imports count known. Found text
-    (map import_of imports.items) c.loop-before.dynamic_starts count i.front (after here)
-    × Keeps behind known in
+    let after = chars c.in-Some.after.now in
+    let State : Vec JsDocImport Global → ℕ → Option NamesEnd → Type 0 = λ imports count cache. Found text
+    (map import_of imports.items) c.loop-before.dynamic_starts count i.front (beyond here)
+    × Keeps after cache in
     elim c.if-ends_with_at.branch [
       | then-ends_with_at+in_ok-add w ↦
           let answer = w.find_import-found.ensures.found in
-          let found = decl_take text i.front (after here) behind (through here) (skips here) (longer here)
+          let found = decl_take text i.front (beyond here) after (through here) (skips here) (longer here)
           (map import_of w.add.new.imports.items)
           (option_map (λ import. (answer.0, import)) (option_map import_of w.find_import-found.result))
           i.found
-          (declaration_here text i.front before behind i.cut (whole here) (split here).1
+          (declaration_here text i.front before after i.cut (whole here) (split here).1
           (c.ends_with_at.ensures.0 w.if-ends_with_at.true)) answer.1
-          (takes answer.0 (after here) c.loop-before.imports.items w.add.new.imports.items
-          w.find_import-found.result (length c.args.text.now - length c.in-Some.behind.now) (by here)
+          (takes answer.0 (beyond here) c.loop-before.imports.items w.add.new.imports.items
+          w.find_import-found.result (length c.args.text.now - length c.in-Some.after.now) (by here)
           w.in_ok-add.ensures) in
-          subst (λ v. State v c.if-ends_with_at.decl_starts c.if-ends_with_at.known) (sym w.imports-is)
-          (subst (λ n. State w.add.new.imports n c.if-ends_with_at.known) (sym w.decl_starts-is)
-          (subst (State w.add.new.imports (c.loop-before.decl_starts + 1)) (sym w.known-is)
+          subst (λ v. State v c.if-ends_with_at.decl_starts c.if-ends_with_at.cache) (sym w.imports-is)
+          (subst (λ n. State w.add.new.imports n c.if-ends_with_at.cache) (sym w.decl_starts-is)
+          (subst (State w.add.new.imports (c.loop-before.decl_starts + 1)) (sym w.cache-is)
           (found, w.find_import-found.ensures.keeps)))
       | else-ends_with_at w ↦
-          let found = decl_skip text i.front (after here) behind (through here) (skips here)
+          let found = decl_skip text i.front (beyond here) after (through here) (skips here)
           (longer here) i.found
           (λ site. both_ways c.ends_with_at.result w.if-ends_with_at.false (c.ends_with_at.ensures.1
-          (at_declaration text i.front before behind i.cut (whole here) (split here).1 site))) in
-          subst (λ v. State v c.if-ends_with_at.decl_starts c.if-ends_with_at.known) (sym w.imports-is)
-          (subst (λ n. State c.loop-before.imports n c.if-ends_with_at.known) (sym w.decl_starts-is)
-          (subst (State c.loop-before.imports c.loop-before.decl_starts) (sym w.known-is)
+          (at_declaration text i.front before after i.cut (whole here) (split here).1 site))) in
+          subst (λ v. State v c.if-ends_with_at.decl_starts c.if-ends_with_at.cache) (sym w.imports-is)
+          (subst (λ n. State c.loop-before.imports n c.if-ends_with_at.cache) (sym w.decl_starts-is)
+          (subst (State c.loop-before.imports c.loop-before.decl_starts) (sym w.cache-is)
           (found, still here)))
     ]
 
--- how many dynamic starts there can still be
-fewer : (c : In-Some) → c.loop-before.dynamic_starts + 1 + occurrences word (chars c.in-Some.behind.now)
+-- the number of dynamic starts that can still come
+fewer : (c : In-Some) → c.loop-before.dynamic_starts + 1 + occurrences word (chars c.in-Some.after.now)
     ≤ occurrences word (chars c.args.text.now)
 fewer c =
     let one_less =
-    occurrences-behind (chars c.loop-before.rest.now) (chars c.in-Some.before.now)
-    (chars c.in-Some.behind.now) (split c).0 in
+    occurrences-after (chars c.loop-before.rest.now) (chars c.in-Some.before.now)
+    (chars c.in-Some.after.now) (split c).0 in
     omega (arith, one_less, c.loop-before.invariant.few)
 
 pub loop-before-preserved-in_ok-add-2 : goal.loop-before-preserved-in_ok-add-2
@@ -211,23 +213,23 @@ loop-before-preserved-in_ok-add-2 c =
     let i = c.loop-before.invariant in
     let text = chars c.args.text.now in
     let before = chars c.in-Some.before.now in
-    let behind = chars c.in-Some.behind.now in
+    let after = chars c.in-Some.after.now in
     let so_far = declared at.After-leaves_open in
     let answer = c.find_import.ensures.found in
     record {
       utf8 = search rules;
-      front = after here;
+      front = beyond here;
       whole = through here;
-      cut = next_cut text i.front before behind i.cut (whole here) (split here).1;
+      cut = next_cut text i.front before after i.cut (whole here) (split here).1;
       found =
-          dynamic_take text i.front (after here) behind (through here) (skips here) (longer here)
+          dynamic_take text i.front (beyond here) after (through here) (skips here) (longer here)
           (map import_of c.add-then-leaves_open.new.imports.items)
           (option_map (λ import. (answer.0, import)) (option_map import_of c.find_import.result)) so_far.0
-          (dynamic_here text i.front before behind i.cut (whole here) (split here).1
+          (dynamic_here text i.front before after i.cut (whole here) (split here).1
           (c.leaves_open.ensures.0 c.if-leaves_open.true)) answer.1
-          (takes answer.0 (after here) c.if-ends_with_at.imports.items
+          (takes answer.0 (beyond here) c.if-ends_with_at.imports.items
           c.add-then-leaves_open.new.imports.items c.find_import.result
-          (length c.args.text.now - length c.in-Some.behind.now) (by here) c.in_ok-add-2.ensures);
+          (length c.args.text.now - length c.in-Some.after.now) (by here) c.in_ok-add-2.ensures);
       keeps = so_far.1;
       few = fewer here;
     }
@@ -239,32 +241,32 @@ loop-before-preserved c =
     let i = c.loop-before.invariant in
     let text = chars c.args.text.now in
     let before = chars c.in-Some.before.now in
-    let behind = chars c.in-Some.behind.now in
+    let after = chars c.in-Some.after.now in
     let so_far = declared at.After-leaves_open in
     let fewer_here = fewer here in
     record {
       utf8 = search rules;
-      front = after here;
+      front = beyond here;
       whole = through here;
-      cut = next_cut text i.front before behind i.cut (whole here) (split here).1;
+      cut = next_cut text i.front before after i.cut (whole here) (split here).1;
       found =
-          dynamic_skip text i.front (after here) behind (through here) (skips here) (longer here) so_far.0
+          dynamic_skip text i.front (beyond here) after (through here) (skips here) (longer here) so_far.0
           (λ site. both_ways c.leaves_open.result c.if-leaves_open.false (c.leaves_open.ensures.1
-          (at_dynamic text i.front before behind i.cut (whole here) (split here).1 site)));
+          (at_dynamic text i.front before after i.cut (whole here) (split here).1 site)));
       keeps = so_far.1;
       few = omega (arith, fewer_here);
     }
 
 -- no `import` is left
-none : (c : In_default) → (sooner after : List ℕ) → chars c.loop-before.rest.now ≢ sooner ++ (word ++ after)
+none : (c : In_default) → (sooner beyond : List ℕ) → chars c.loop-before.rest.now ≢ sooner ++ (word ++ beyond)
 none c = split_word (codes "import") c.loop-before.rest.now None (search rules)
     (IsAscii-from_test (codes "import") refl) tt c.in_default.ensures.cases
 
-pub returns-clause-hits : goal.returns-clause-hits
-returns-clause-hits c =
+pub returns-clause-imports : goal.returns-clause-imports
+returns-clause-imports c =
     let i = c.loop-before.invariant in
-    Found-hits (chars c.args.text.now) i.front (chars c.loop-before.rest.now) i.cut i.whole
-    (none (goal.at.returns-clause-hits c).In_default)
+    Found-imports (chars c.args.text.now) i.front (chars c.loop-before.rest.now) i.cut i.whole
+    (none (goal.at.returns-clause-imports c).In_default)
     (map import_of c.loop-before.imports.items) c.loop-before.dynamic_starts c.loop-before.decl_starts i.found
 
 pub returns-clause-dynamic : goal.returns-clause-dynamic

@@ -1,28 +1,28 @@
 ghost use Rattle.std.specs.Prelude.{◌≡◌, ◌≢◌, ℕ, List, map, MatchOption};
-ghost use Rattle.deno_graph_source.specs.Check.{JudgesComment, JudgesComments, JudgesNeighbours};
+ghost use Rattle.deno_graph_source.specs.internal.Check.{JudgesComment, JudgesComments, JudgesNeighbours};
 ghost use Rattle.deno_graph_source.specs.Source.{spelling};
 
-use crate::tree::check::found::FoundComment;
+use crate::tree::check::finding::CommentFinding;
 use crate::tree::check::ranges::check_range;
 use crate::tree::comments::{CommentKind, DependencyComment};
 use crate::tree::fault::SourceFault;
 
-/// Looks for a comment that isn't written in the text at its range.
+/// Finds a comment that the text doesn't have at the comment's range.
 pub(crate) fn check_comments<'a>(
     text: &str,
     comments: &[&'a DependencyComment],
-) -> Option<FoundComment<'a>>
+) -> Option<CommentFinding<'a>>
     ensures { JudgesComments text.now (map (λ comment. comment.now) comments.now) result }
 {
     for comment in comments {
         if let Err(fault) = check_comment(text, comment) {
-            return Some(FoundComment { fault, comment });
+            return Some(CommentFinding { fault, comment });
         }
     }
     None
 }
 
-/// Looks for a fault of a comment: of its range, or of what the text has there.
+/// Returns an error if the range of a comment has a fault, or the text there isn't the comment.
 fn check_comment(text: &str, comment: &DependencyComment) -> Result<(), SourceFault>
     ensures { JudgesComment text.now comment.now result }
 {
@@ -34,7 +34,8 @@ fn check_comment(text: &str, comment: &DependencyComment) -> Result<(), SourceFa
     }
 }
 
-/// The text of a comment that is written so, without its marks. `None` where it is no such comment.
+/// Returns the text between the marks of a comment, or `None` if `written` isn't a comment of this
+/// kind.
 fn inside(kind: CommentKind, written: &str) -> Option<&str>
     ensures { MatchOption result
         ((text : List ℕ) → written.now ≢ spelling kind text)
@@ -46,8 +47,8 @@ fn inside(kind: CommentKind, written: &str) -> Option<&str>
     }
 }
 
-/// Looks for two comments that overlap, where they are in ascending order of their starts: then two
-/// that overlap are next to each other.
+/// Finds two comments that overlap. The comments ascend by their starts, so that some two that
+/// overlap are neighbours.
 pub(crate) fn check_neighbours<'a>(
     comments: &[&'a DependencyComment],
 ) -> Option<(&'a DependencyComment, &'a DependencyComment)>

@@ -1,24 +1,24 @@
 #![tactic(auto, unfolding(crate::specs::Node::kind_of, crate::specs::Node::children_of, crate::specs::Node::HasCountOfKind))]
 
 ghost use Rattle.std.specs.Prelude.{◌≡◌, ◌↔◌, map, IfOk, IsTrue, MatchOption};
-ghost use Rattle.deno_graph_source.specs.Check.{JudgesArgs, JudgesBelow, JudgesBody, JudgesLiteral, JudgesNode, JudgesPart};
+ghost use Rattle.deno_graph_source.specs.internal.Check.{JudgesArgs, JudgesBelow, JudgesBody, JudgesLiteral, JudgesNode, JudgesPart};
 ghost use Rattle.deno_graph_source.specs.FaultPlace.{count_rule, BreaksRule};
 ghost use Rattle.deno_graph_source.specs.Node.{HasClause, HasCountOfKind, IsShaped};
 
-use crate::tree::check::found::{FoundNode, FoundPart};
+use crate::tree::check::finding::{NodeFinding, PartFinding};
 use crate::tree::check::ranges::check_range;
 use crate::tree::fault::SourceFault;
 use crate::tree::fault_place::{NodePart, ShapeRule};
 use crate::tree::node::{Arg, Callee, Kind, Node, Program};
-use deno_graph_text::text::SourceRange;
+use deno_graph_base::text::SourceRange;
 use std::alloc::{AllocError, Global};
 
-/// Looks for a fault of the nodes of a program.
+/// Finds a fault of the nodes of a program. Fails only if an allocation fails.
 pub(crate) fn check_nodes(
     alloc: Global,
     text: &str,
     program: &Program,
-) -> Result<Option<FoundNode>, AllocError>
+) -> Result<Option<NodeFinding>, AllocError>
     ensures { IfOk result (JudgesBody text.now program.now) }
 {
     for (number, node) in program.body.as_slice().iter().enumerate() {
@@ -29,13 +29,13 @@ pub(crate) fn check_nodes(
     Ok(None)
 }
 
-/// Looks for a fault of a node and of all nodes below it.
-fn check_node(alloc: Global, text: &str, node: &Node) -> Result<Option<FoundNode>, AllocError>
+/// Finds a fault of a node or of a node below it. Fails only if an allocation fails.
+fn check_node(alloc: Global, text: &str, node: &Node) -> Result<Option<NodeFinding>, AllocError>
     ensures { IfOk result (JudgesBelow text.now node.now) }
 {
     if let Err(at) = check_node_alone(text, node) {
-        let way_back = Vec::new(alloc);
-        return Ok(Some(FoundNode { at, way_back }));
+        let reversed_path = Vec::new(alloc);
+        return Ok(Some(NodeFinding { at, reversed_path }));
     }
     for (number, child) in node.children.as_slice().iter().enumerate() {
         if let Some(found) = check_node(alloc, text, child)? {
@@ -45,15 +45,15 @@ fn check_node(alloc: Global, text: &str, node: &Node) -> Result<Option<FoundNode
     Ok(None)
 }
 
-/// Looks for a fault of a node itself.
-fn check_node_alone(text: &str, node: &Node) -> Result<(), FoundPart>
+/// Returns an error if a node itself has a fault, whatever the nodes below it have.
+fn check_node_alone(text: &str, node: &Node) -> Result<(), PartFinding>
     ensures { JudgesNode text.now node.now result }
 {
     check_part(text, node.range, NodePart::Range)?;
     check_literal(text, &node.kind)?;
     check_args(text, node.kind.args())?;
     match broken_rule(node) {
-        Some(rule) => Err(FoundPart {
+        Some(rule) => Err(PartFinding {
             fault: SourceFault::Shape,
             part: NodePart::Children(rule),
         }),
@@ -61,18 +61,18 @@ fn check_node_alone(text: &str, node: &Node) -> Result<(), FoundPart>
     }
 }
 
-/// Looks for a fault of a range, which is that of this part of a node.
-fn check_part(text: &str, range: SourceRange, part: NodePart) -> Result<(), FoundPart>
+/// Returns an error if `range`, the range of a part of a node, has a fault.
+fn check_part(text: &str, range: SourceRange, part: NodePart) -> Result<(), PartFinding>
     ensures { JudgesPart text.now range part result }
 {
     match check_range(text, range) {
         Ok(()) => Ok(()),
-        Err(fault) => Err(FoundPart { fault, part }),
+        Err(fault) => Err(PartFinding { fault, part }),
     }
 }
 
-/// Looks for a fault of the range of the string literal that a kind holds.
-fn check_literal(text: &str, kind: &Kind) -> Result<(), FoundPart>
+/// Returns an error if the range of the string literal of a kind has a fault.
+fn check_literal(text: &str, kind: &Kind) -> Result<(), PartFinding>
     ensures { JudgesLiteral text.now kind.now result }
 {
     match kind.literal() {
@@ -81,8 +81,8 @@ fn check_literal(text: &str, kind: &Kind) -> Result<(), FoundPart>
     }
 }
 
-/// Looks for a fault of the ranges of arguments.
-fn check_args(text: &str, args: &[Arg]) -> Result<(), FoundPart>
+/// Returns an error if the range of an argument has a fault.
+fn check_args(text: &str, args: &[Arg]) -> Result<(), PartFinding>
     ensures { JudgesArgs text.now args.now result }
 {
     for (number, arg) in args.iter().enumerate() {
@@ -91,7 +91,7 @@ fn check_args(text: &str, args: &[Arg]) -> Result<(), FoundPart>
     Ok(())
 }
 
-/// The rule that the children of a node break: `None` where they break none.
+/// Returns the rule that the children of a node break, or `None` if they break none.
 fn broken_rule(node: &Node) -> Option<ShapeRule>
     ensures { MatchOption result (IsShaped node.now) (BreaksRule node.now) }
 {
@@ -105,7 +105,7 @@ fn broken_rule(node: &Node) -> Option<ShapeRule>
     count_rule(&node.kind)
 }
 
-/// The rule on the number of children that a kind has.
+/// Returns the rule on the number of children of a kind, or `None` if every number is allowed.
 fn count_rule(kind: &Kind) -> Option<ShapeRule>
     ensures { result ≡ count_rule kind.now }
 {
@@ -118,7 +118,7 @@ fn count_rule(kind: &Kind) -> Option<ShapeRule>
     }
 }
 
-/// Whether a kind may have this number of children.
+/// Returns whether a node of a kind may have `count` children.
 fn has_count(kind: &Kind, count: usize) -> bool
     ensures { IsTrue result ↔ HasCountOfKind kind.now count }
 {
@@ -135,7 +135,7 @@ fn has_count(kind: &Kind, count: usize) -> bool
     }
 }
 
-/// Whether the first child is the object literal of a `with` clause, where there is to be one.
+/// Returns whether the first child is the object literal of a `with` clause, or `has_with` is false.
 fn has_clause(has_with: bool, children: &[Node]) -> bool
     ensures { IsTrue result ↔ HasClause has_with children.now }
 {

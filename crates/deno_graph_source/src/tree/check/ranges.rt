@@ -1,10 +1,11 @@
 ghost use Rattle.std.specs.Prelude.{◌∷◌, []};
-ghost use Rattle.deno_graph_source.specs.Check.{JudgesRanges};
+ghost use Rattle.deno_graph_source.specs.internal.Check.{JudgesRanges};
 
 use crate::tree::fault::SourceFault;
-use deno_graph_text::text::SourceRange;
+use deno_graph_base::text::SourceRange;
 
-/// Looks for a fault of a range against the text.
+/// Returns an error if a range is reversed, isn't inside the text, or starts or ends inside a
+/// character.
 pub(crate) fn check_range(text: &str, range: SourceRange) -> Result<(), SourceFault>
     ensures { JudgesRanges text.now (range ∷ []) result }
 {

@@ -4,7 +4,7 @@ use Rattle.std.proofs.KnownBytes.{Consumes-nil, Consumes-trans, Consumes-kept, C
 use Rattle.modinfo.proofs.input.read_to_end.Goals.{in-Ok+in_ok-extend_from_slice-in-Ok, in-Err}
 use Rattle.modinfo.proofs.input.read_to_end.Goals as goal
 
--- nothing was read yet
+-- Nothing was read yet.
 pub reads-init : goal.reads-init
 reads-init g c = (
   subst (Consumes (g.R.Read.remaining c.args.input.now) (g.R.Read.remaining c.args.input.now))
@@ -12,7 +12,7 @@ reads-init g c = (
   search rules,
 )
 
--- a read that gives nothing is at the end
+-- A read of no bytes is at the end of the input.
 pub returns-in-Ok-eq0 : goal.returns-in-Ok-eq0
 returns-in-Ok-eq0 g c =
     let before = g.R.Read.remaining c.reads.input in
@@ -23,7 +23,7 @@ returns-in-Ok-eq0 g c =
     (read.1 c.in-Ok-eq0.field-0-test (subst (λ n. 0 < n) (sym c.read.auto.buf) c.reads.invariant.1))
     (sym (ap (λ n. items ++ take n c.read.new.buf) c.in-Ok-eq0.field-0-test ∙ append-nil items))
 
--- what a read gives is put behind what was read, and a read that fails takes nothing
+-- The bytes of a read are appended to those before, and a failed read takes no bytes.
 pub reads-preserved : goal.reads-preserved
 reads-preserved g c =
     let room = subst (λ n. 0 < n) (sym c.read.auto.buf) c.reads.invariant.1 in

@@ -1,4 +1,4 @@
--- What was read is before what is left, and there is room to read more.
+-- The bytes that were read come before the remaining bytes, and the chunk has room.
 use Rattle.std.proofs.Common.{◌<◌, length}
 use Rattle.std.specs.Io.KnownBytes.{Consumes}
 use Rattle.modinfo.proofs.input.read_to_end.Given as goal

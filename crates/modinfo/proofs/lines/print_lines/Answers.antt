@@ -12,7 +12,7 @@ lines-init c = (
   subst (PrintsLines c.args.task [] true) (sym c.new-printed.ensures.items) none,
 )
 
--- the first line of the rest was printed
+-- The first line of the rest was printed.
 pub lines-preserved : goal.lines-preserved
 lines-preserved c =
     let (done, passes, split, prints) = c.lines.invariant in

@@ -1,4 +1,4 @@
--- The lines before the rest, and what is printed for them.
+-- The lines before the rest, and the printed lines for them.
 use Rattle.std.proofs.Common.{◌≡◌, ◌++◌, ℕ, Bool, List, length}
 use Rattle.modinfo.specs.Lines.{PrintsLines, lines_of}
 use Rattle.modinfo.proofs.lines.print_lines.Given as goal

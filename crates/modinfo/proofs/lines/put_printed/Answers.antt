@@ -14,7 +14,7 @@ returns-in-Ok-put_framed c line printed = (
 
 pub returns-in-Ok : goal.returns-in-Ok
 returns-in-Ok c line printed =
-    refused_after _ c.args.task line _ _ _ c.in-Err-put_framed.ensures c.print_refused.ensures
+    refused_after _ c.args.task line _ _ _ c.in-Err-put_framed.ensures c.put_out_of_memory.ensures
 
 pub returns : goal.returns
 returns c line printed = (

@@ -27,7 +27,7 @@ use Rattle.modinfo.proofs.LinesTaken.{AppendsFront-more, AppendsFront-sent}
 use Rattle.modinfo.proofs.output.write_front.Goals.{in-Ok, in-Err}
 use Rattle.modinfo.proofs.output.write_front.Goals as goal
 
--- what was taken goes to what is done
+-- The bytes of a write move from the rest to those that were written.
 moves_front : (all done rest : List ℕ) (n : ℕ) → all ≡ done ++ rest
     → all ≡ (done ++ take n rest) ++ take (length rest - n) (drop n rest)
 moves_front all done rest n e =

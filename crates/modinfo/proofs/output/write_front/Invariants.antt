@@ -1,4 +1,4 @@
--- What was written is before what is left to write.
+-- The bytes that were written come before the rest.
 use Rattle.std.proofs.Common.{◌≡◌, ◌++◌, ℕ, List}
 use Rattle.std.specs.Io.KnownBytes.{Appends}
 use Rattle.modinfo.proofs.output.write_front.Given as goal

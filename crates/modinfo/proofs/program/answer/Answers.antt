@@ -1,29 +1,29 @@
 use Rattle.std.proofs.Common.{◌≡◌, sym, ap, ◌∙◌}
-use Rattle.modinfo.specs.declared.invocation.Invocation.{Invocation}
-use Rattle.modinfo.specs.declared.invocation.Invocation.TheVariants.{Help, Version, Document, Lines}
+use Rattle.modinfo.specs.declared.command_line.CommandLine.{CommandLine}
+use Rattle.modinfo.specs.declared.command_line.CommandLine.TheVariants.{Help, Version, Document, Lines}
 use Rattle.modinfo.specs.declared.task.Task.{Task}
 use Rattle.modinfo.proofs.program.answer.Goals as goal
 
--- what is done with the one document, or `other`
-abbrev document_task : Task → Invocation → Task
+-- The task for the only document, or `other`.
+abbrev document_task : Task → CommandLine → Task
 document_task other (Document task) = task
 document_task other Help = other
 document_task other Version = other
 document_task other (Lines _) = other
 
--- the task that was matched is the subcommand's
+-- The matched task is that of the subcommand.
 pub returns-in-Document-clause-answer : goal.returns-in-Document-clause-answer
 returns-in-Document-clause-answer g c subcommand is =
-    c.answer_document.ensures.answer subcommand
+    c.run_document.ensures.answer subcommand
     (ap (document_task c.in-Document.task) (sym c.in-Document.is ∙ is))
 
 pub returns-in-Document-clause-check : goal.returns-in-Document-clause-check
 returns-in-Document-clause-check g c subcommand is_strict is =
-    c.answer_document.ensures.check subcommand is_strict
+    c.run_document.ensures.check subcommand is_strict
     (ap (document_task c.in-Document.task) (sym c.in-Document.is ∙ is))
 
--- the task of the lines, or `other`
-abbrev lines_task : Task → Invocation → Task
+-- The task for the lines, or `other`.
+abbrev lines_task : Task → CommandLine → Task
 lines_task other (Lines task) = task
 lines_task other (Document _) = other
 lines_task other Help = other
@@ -32,4 +32,4 @@ lines_task other Version = other
 pub returns-in-Lines-clause-lines : goal.returns-in-Lines-clause-lines
 returns-in-Lines-clause-lines g c task is =
     let same : c.in-Lines.task ≡ task = ap (lines_task c.in-Lines.task) (sym c.in-Lines.is ∙ is) in
-    rw (sym same) c.answer_lines.ensures
+    rw (sym same) c.run_lines.ensures

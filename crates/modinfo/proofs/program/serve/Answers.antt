@@ -1,14 +1,15 @@
 use Rattle.std.proofs.Common.{◌∙◌, Some, false, true, ap, refl, sym}
 use Rattle.std.proofs.KnownBytes.{Keeps-refl}
 use Rattle.std.proofs.lemmas.Option.{none-some, same_Some}
-use Rattle.modinfo.specs.Invocation.{are_strict, invocation_of}
+use Rattle.modinfo.specs.CommandLine.{are_strict}
+use Rattle.modinfo.specs.internal.CommandLine.{command_line_of}
 use Rattle.modinfo.specs.Lines.IsLinesRun.{printed as lines_printed, failed as lines_failed}
 use Rattle.modinfo.specs.Run.{printed, failed}
 use Rattle.modinfo.specs.declared.subcommand.Subcommand.TheVariants.{Analyze}
 use Rattle.modinfo.specs.declared.task.Task.TheVariants.{Answer, Check}
 use Rattle.modinfo.proofs.program.serve.Goals as goal
 
--- words that ask for nothing are none of these
+-- Wrong arguments are none of these.
 
 pub returns-in_default-clause-answer : goal.returns-in_default-clause-answer
 returns-in_default-clause-answer g c subcommand words =
@@ -34,7 +35,7 @@ pub returns-in_default-clause-check_analyze_lines : goal.returns-in_default-clau
 returns-in_default-clause-check_analyze_lines g c flags words many =
     absurd (none-some _ (sym c.in_default.is ∙ c.from_words.ensures.check_analyze flags words))
 
--- a line was printed
+-- A line was printed.
 
 pub returns-in-Ok-clause-answer : goal.returns-in-Ok-clause-answer
 returns-in-Ok-clause-answer g c subcommand words =
@@ -46,7 +47,7 @@ pub returns-in-Ok-clause-check : goal.returns-in-Ok-clause-check
 returns-in-Ok-clause-check g c subcommand flags words one =
     let task = Check subcommand (are_strict flags) in
     let is = same_Some _ _ (sym c.in-Some.is ∙ c.from_words.ensures.check subcommand flags words
-    ∙ ap (λ b. Some (invocation_of b task)) one) in
+    ∙ ap (λ b. Some (command_line_of b task)) one) in
     let ran = c.in-Ok.ensures.check subcommand (are_strict flags) is in
     (ran.0, ran.1, printed c.in-Ok.passes ran.2.0 ran.2.1 c.status_of.ensures ran.2.2 (Keeps-refl _))
 
@@ -54,11 +55,11 @@ pub returns-in-Ok-clause-check_analyze : goal.returns-in-Ok-clause-check_analyze
 returns-in-Ok-clause-check_analyze g c flags words one =
     let task = Check Analyze (are_strict flags) in
     let is = same_Some _ _ (sym c.in-Some.is ∙ c.from_words.ensures.check_analyze flags words
-    ∙ ap (λ b. Some (invocation_of b task)) one) in
+    ∙ ap (λ b. Some (command_line_of b task)) one) in
     let ran = c.in-Ok.ensures.check Analyze (are_strict flags) is in
     (ran.0, ran.1, printed c.in-Ok.passes ran.2.0 ran.2.1 c.status_of.ensures ran.2.2 (Keeps-refl _))
 
--- there was a fault
+-- There was a fault.
 
 pub returns-in-Err-clause-answer : goal.returns-in-Err-clause-answer
 returns-in-Err-clause-answer g c subcommand words =
@@ -70,7 +71,7 @@ pub returns-in-Err-clause-check : goal.returns-in-Err-clause-check
 returns-in-Err-clause-check g c subcommand flags words one =
     let task = Check subcommand (are_strict flags) in
     let is = same_Some _ _ (sym c.in-Some.is ∙ c.from_words.ensures.check subcommand flags words
-    ∙ ap (λ b. Some (invocation_of b task)) one) in
+    ∙ ap (λ b. Some (command_line_of b task)) one) in
     let ran = c.in-Err.ensures.check subcommand (are_strict flags) is in
     (ran.0, ran.1, failed c.in-Err.fault ran.2.0 refl ran.2.1 c.print_fault.ensures)
 
@@ -78,11 +79,11 @@ pub returns-in-Err-clause-check_analyze : goal.returns-in-Err-clause-check_analy
 returns-in-Err-clause-check_analyze g c flags words one =
     let task = Check Analyze (are_strict flags) in
     let is = same_Some _ _ (sym c.in-Some.is ∙ c.from_words.ensures.check_analyze flags words
-    ∙ ap (λ b. Some (invocation_of b task)) one) in
+    ∙ ap (λ b. Some (command_line_of b task)) one) in
     let ran = c.in-Err.ensures.check Analyze (are_strict flags) is in
     (ran.0, ran.1, failed c.in-Err.fault ran.2.0 refl ran.2.1 c.print_fault.ensures)
 
--- lines were printed, all of them or the first
+-- All lines, or the first lines, were printed.
 
 pub returns-in-Ok-clause-lines : goal.returns-in-Ok-clause-lines
 returns-in-Ok-clause-lines g c subcommand words =
@@ -94,14 +95,14 @@ pub returns-in-Ok-clause-check_lines : goal.returns-in-Ok-clause-check_lines
 returns-in-Ok-clause-check_lines g c subcommand flags words many =
     let task = Check subcommand (are_strict flags) in
     let is = same_Some _ _ (sym c.in-Some.is ∙ c.from_words.ensures.check subcommand flags words
-    ∙ ap (λ b. Some (invocation_of b task)) many) in
+    ∙ ap (λ b. Some (command_line_of b task)) many) in
     lines_printed c.in-Ok.passes (c.in-Ok.ensures.lines task is) c.status_of.ensures (Keeps-refl _)
 
 pub returns-in-Ok-clause-check_analyze_lines : goal.returns-in-Ok-clause-check_analyze_lines
 returns-in-Ok-clause-check_analyze_lines g c flags words many =
     let task = Check Analyze (are_strict flags) in
     let is = same_Some _ _ (sym c.in-Some.is ∙ c.from_words.ensures.check_analyze flags words
-    ∙ ap (λ b. Some (invocation_of b task)) many) in
+    ∙ ap (λ b. Some (command_line_of b task)) many) in
     lines_printed c.in-Ok.passes (c.in-Ok.ensures.lines task is) c.status_of.ensures (Keeps-refl _)
 
 pub returns-in-Err-clause-lines : goal.returns-in-Err-clause-lines
@@ -113,12 +114,12 @@ pub returns-in-Err-clause-check_lines : goal.returns-in-Err-clause-check_lines
 returns-in-Err-clause-check_lines g c subcommand flags words many =
     let task = Check subcommand (are_strict flags) in
     let is = same_Some _ _ (sym c.in-Some.is ∙ c.from_words.ensures.check subcommand flags words
-    ∙ ap (λ b. Some (invocation_of b task)) many) in
+    ∙ ap (λ b. Some (command_line_of b task)) many) in
     lines_failed c.in-Err.fault (c.in-Err.ensures.lines task is) refl c.print_fault.ensures
 
 pub returns-in-Err-clause-check_analyze_lines : goal.returns-in-Err-clause-check_analyze_lines
 returns-in-Err-clause-check_analyze_lines g c flags words many =
     let task = Check Analyze (are_strict flags) in
     let is = same_Some _ _ (sym c.in-Some.is ∙ c.from_words.ensures.check_analyze flags words
-    ∙ ap (λ b. Some (invocation_of b task)) many) in
+    ∙ ap (λ b. Some (command_line_of b task)) many) in
     lines_failed c.in-Err.fault (c.in-Err.ensures.lines task is) refl c.print_fault.ensures

@@ -1,4 +1,4 @@
--- The texts so far, and then the keys that are left, are all keys.
+-- The texts so far, followed by the other keys, are all keys.
 use Rattle.std.proofs.Common.{◌≡◌, ◌++◌, map}
 use Rattle.std.specs.String.{string_bytes}
 use Rattle.modinfo.proofs.reach.keys_text.Given as goal

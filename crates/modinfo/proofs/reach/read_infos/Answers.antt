@@ -1,7 +1,7 @@
 use Rattle.std.proofs.Common.{String, Global}
 use Rattle.std.proofs.lemmas.Result.{err_from_is_err_and}
 use Rattle.serde_json.specs.declared.value.Value.{Value}
-use Rattle.deno_graph_dependency.proofs.ReadMaps.{member_more, members_begin, members_done}
+use Rattle.deno_graph_json.proofs.ReadMaps.{member_more, members_begin, members_done}
 use Rattle.modinfo.specs.Reach.{reads_stored}
 use Rattle.modinfo.proofs.Faults.{no_infos}
 use Rattle.modinfo.proofs.Modules.{stored_info, fault_after, fault_here, none_left}

@@ -1,9 +1,8 @@
--- The modules so far are those that were read of the members so far, and a first fault of the members that
--- are left
--- is the first of all.
+-- The modules so far are those of the members so far, and the first fault of the other members is the first
+-- of all.
 use Rattle.serde_json.specs.View.{members_view}
 use Rattle.deno_graph_info.specs.declared.analysis.fault.InfoFault.{InfoFault}
-use Rattle.deno_graph_dependency.proofs.ReadMaps.{IsSoFar}
+use Rattle.deno_graph_json.proofs.ReadMaps.{IsSoFar}
 use Rattle.modinfo.specs.Reach.{IsFirstFault, reads_stored}
 use Rattle.modinfo.proofs.reach.read_infos.Given as goal
 

@@ -2,12 +2,12 @@ use Rattle.std.proofs.Common.{rules}
 use Rattle.std.proofs.lemmas.Result.{err_from_is_err_and}
 use Rattle.modinfo.proofs.request.info_of.Goals as goal
 
--- the document states no source
+-- The document has no source.
 pub returns-in_err-source : goal.returns-in_err-source
-returns-in_err-source c text is_stated =
+returns-in_err-source c text is_document =
     let is = err_from_is_err_and c.from_residual.result c.from_residual.ensures.1 in
-    rw (is.1, is.2) (c.in_err-source.ensures text is_stated)
+    rw (is.1, is.2) (c.in_err-source.ensures text is_document)
 
--- the information is that of the source
+-- The information is that of the source.
 pub returns : goal.returns
-returns c text is_stated = (c.in_ok-source.source, c.in_ok-source.ensures text is_stated, search rules)
+returns c text is_document = (c.in_ok-source.source, c.in_ok-source.ensures text is_document, search rules)

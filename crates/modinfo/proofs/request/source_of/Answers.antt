@@ -1,31 +1,31 @@
 use Rattle.std.proofs.Common.{inr, refl, List, ℕ}
 use Rattle.std.proofs.lemmas.Result.{err_from_is_err_and}
-use Rattle.modinfo_notation.specs.declared.fault.NotationFault.{NotationFault}
-use Rattle.modinfo_notation.specs.declared.fault.NotationFault.TheVariants as notation
-use Rattle.modinfo_notation.specs.Document.{HasNotationFault}
+use Rattle.modinfo_document.specs.declared.error.DocumentError.{DocumentError}
+use Rattle.modinfo_document.specs.declared.error.DocumentError.TheVariants as error
+use Rattle.modinfo_document.specs.Document.{HasDocumentError}
 use Rattle.modinfo.specs.Answer.{IsNoModule}
-use Rattle.modinfo.specs.Fault.{fault_of_notation}
+use Rattle.modinfo.specs.Fault.{fault_of_document}
 use Rattle.modinfo.proofs.request.source_of.Goals as goal
 
-no_module : (text : List ℕ) (told : NotationFault) → HasNotationFault text told
-    → IsNoModule text (fault_of_notation told)
-no_module text (notation.Json place) has = (notation.Json place, refl, has)
-no_module text (notation.NotInNotation misfit) has = (notation.NotInNotation misfit, refl, has)
-no_module text notation.Specifier has = (notation.Specifier, refl, has)
-no_module text (notation.Source fault) has = (notation.Source fault, refl, has)
-no_module text notation.OutOfMemory has = tt
+no_module : (text : List ℕ) (told : DocumentError) → HasDocumentError text told
+    → IsNoModule text (fault_of_document told)
+no_module text (error.Json place) has = (error.Json place, refl, has)
+no_module text (error.Tree mismatch) has = (error.Tree mismatch, refl, has)
+no_module text error.Specifier has = (error.Specifier, refl, has)
+no_module text (error.Source fault) has = (error.Source fault, refl, has)
+no_module text error.OutOfMemory has = tt
 
--- the document that was read is no source
+-- The document has no source.
 pub returns-in_err-into_source : goal.returns-in_err-into_source
-returns-in_err-into_source c text is_stated =
+returns-in_err-into_source c text is_document =
     let is = err_from_is_err_and c.from_residual.result c.from_residual.ensures.1 in
     rw (is.1, is.2) (no_module text c.in_err-into_source.field-0.0
-    (inr (c.args.document, is_stated, c.in_err-into_source.ensures)))
+    (inr (c.args.document, is_document, c.in_err-into_source.ensures)))
 
--- the document that was read is the source's
+-- The document has this source.
 pub returns : goal.returns
-returns c text is_stated = record {
+returns c text is_document = record {
   document = c.args.document;
-  is_stated = is_stated;
+  is_document = is_document;
   is_source = c.in_ok-into_source.ensures;
 }

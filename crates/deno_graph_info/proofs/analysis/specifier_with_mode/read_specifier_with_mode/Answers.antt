@@ -1,8 +1,8 @@
-use Rattle.deno_graph_dependency.proofs.Reading.{exits}
+use Rattle.deno_graph_json.proofs.Reading.{exits}
 use Rattle.deno_graph_info.specs.Json.SpecifierWithMode.{specifier_with_mode}
 use Rattle.deno_graph_info.proofs.analysis.specifier_with_mode.read_specifier_with_mode.Goals as goal
 
--- the specifier is read, and the mode refused
+-- the specifier is read, and the mode can't be
 pub returns-in_err-resolution_mode : goal.returns-in_err-resolution_mode
 unfolding specifier_with_mode
 returns-in_err-resolution_mode c = rw c.in_ok-specifier.ensures

@@ -1,4 +1,4 @@
--- The dependencies so far are converted, and behind them there are the others.
+-- The dependencies so far were converted, and the others are left.
 use Rattle.std.proofs.Common.{◌≡◌, ◌++◌}
 use Rattle.serde_json.specs.View.{items_view}
 use Rattle.deno_graph_info.specs.Conversion.{AreConverted}

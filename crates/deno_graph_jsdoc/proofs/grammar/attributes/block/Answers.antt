@@ -1,8 +1,8 @@
 -- A brace, and then a brace or attributes.
 use Rattle.std.specs.Str.{chars}
-use Rattle.deno_graph_jsdoc.specs.JsDocReading.{rest_and_mode}
+use Rattle.deno_graph_jsdoc.specs.internal.Reading.{rest_and_mode}
 use Rattle.deno_graph_jsdoc.proofs.Blocks.{block_unopened, block_empty, block_attributes}
-use Rattle.deno_graph_jsdoc.proofs.Known.{AreKnown-behind}
+use Rattle.deno_graph_jsdoc.proofs.Cached.{AreCached-after}
 use Rattle.deno_graph_jsdoc.proofs.grammar.attributes.block.Goals as goal
 
 pub returns-in_err-rest : goal.returns-in_err-rest
@@ -19,4 +19,4 @@ returns-in-None c =
     (rest_and_mode c.attributes.result) c.in-None.ensures c.attributes.ensures
 
 pub attributes-requires : goal.attributes-requires
-attributes-requires c = AreKnown-behind c.args.known.now c.in_ok-rest.ensures.0 c.requires
+attributes-requires c = AreCached-after c.args.cache.now c.in_ok-rest.ensures.0 c.requires

@@ -1,6 +1,6 @@
 -- A quoted text, or else an identifier.
 use Rattle.std.specs.Str.{chars}
-use Rattle.deno_graph_jsdoc.specs.JsDocReading.{rest_and_text}
+use Rattle.deno_graph_jsdoc.specs.internal.Reading.{rest_and_text}
 use Rattle.deno_graph_jsdoc.proofs.Attributes.{key_quoted, key_named}
 use Rattle.deno_graph_jsdoc.proofs.grammar.attributes.key.Goals as goal
 

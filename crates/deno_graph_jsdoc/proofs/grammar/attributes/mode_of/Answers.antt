@@ -1,8 +1,8 @@
 -- A mode is named by the bytes of a text as by its characters.
 use Rattle.std.proofs.Common.{sym, ap, ◌∙◌, rules, option_and_then}
 use Rattle.std.specs.Str.{IsUtf8}
-use Rattle.deno_graph_text.specs.ResolutionMode.{mode_named}
-use Rattle.deno_graph_jsdoc.specs.JsDocReading.{text_of}
+use Rattle.deno_graph_base.specs.ResolutionMode.{mode_named}
+use Rattle.deno_graph_jsdoc.specs.internal.Reading.{text_of}
 use Rattle.deno_graph_jsdoc.proofs.Words.{mode_named-chars}
 use Rattle.deno_graph_jsdoc.proofs.grammar.attributes.mode_of.Goals as goal
 

@@ -1,8 +1,8 @@
 -- The first of two names stays, and else there is one mode.
 use Rattle.std.proofs.Common.{sym, ap, ◌∙◌, option_and_then}
 use Rattle.std.specs.Str.{chars}
-use Rattle.deno_graph_text.specs.ResolutionMode.{mode_named}
-use Rattle.deno_graph_jsdoc.specs.JsDocReading.{text_of}
+use Rattle.deno_graph_base.specs.ResolutionMode.{mode_named}
+use Rattle.deno_graph_jsdoc.specs.internal.Reading.{text_of}
 use Rattle.deno_graph_jsdoc.proofs.Words.{mode_name-kept, mode_name-later}
 use Rattle.deno_graph_jsdoc.proofs.grammar.attributes.mode_with.Goals as goal
 

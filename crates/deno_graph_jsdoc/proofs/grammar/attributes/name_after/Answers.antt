@@ -1,7 +1,7 @@
 -- The first of two names stays.
 use Rattle.std.proofs.Common.{◌∷◌, [], sym, ap, ◌∙◌}
 use Rattle.std.specs.Str.{chars}
-use Rattle.deno_graph_jsdoc.specs.JsDocReading.{text_of}
+use Rattle.deno_graph_jsdoc.specs.internal.Reading.{text_of}
 use Rattle.deno_graph_jsdoc.proofs.Words.{mode_name-kept, mode_name-first, is_mode-chars, text_of-then_some}
 use Rattle.deno_graph_jsdoc.proofs.grammar.attributes.name_after.Goals as goal
 

@@ -1,6 +1,6 @@
 -- One of the three forms.
 use Rattle.std.specs.Str.{chars}
-use Rattle.deno_graph_jsdoc.specs.JsDocReading.{rest_of}
+use Rattle.deno_graph_jsdoc.specs.internal.Reading.{rest_of}
 use Rattle.deno_graph_jsdoc.proofs.Clauses.{clause_names, clause_namespace, clause_name}
 use Rattle.deno_graph_jsdoc.proofs.grammar.declaration.clause.Goals as goal
 

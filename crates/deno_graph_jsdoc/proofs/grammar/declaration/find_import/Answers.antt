@@ -1,20 +1,20 @@
--- The next brace, and what is behind it.
+-- The next brace, and the text after it.
 use Rattle.std.proofs.Common.{◌≡◌, ◌<◌, ◌≤◌, ◌+◌, ◌^◌, List, ℕ, Option, Some, None, [], ◌++◌, codes, length}
 use Rattle.std.proofs.Common.{sym, subst, arith, rules}
 use Rattle.std.specs.Str.{chars}
 use denote.Ref.{Bor}
 use Rattle.deno_graph_jsdoc.specs.Characters.{closing_brace}
 use Rattle.deno_graph_jsdoc.specs.JsDocGrammar.{◌·◌, Is, IsSpace, IsGap, IsClause, Lacks, NoSpace}
-use Rattle.deno_graph_jsdoc.specs.JsDocReading.{IsDeclarationEnd, IsSource, ReadsImport, rest_and_import}
-use Rattle.deno_graph_jsdoc.specs.JsDocReading.{Reads}
+use Rattle.deno_graph_jsdoc.specs.internal.Reading.{IsDeclarationEnd, IsSource, ReadsImport, rest_and_import}
+use Rattle.deno_graph_jsdoc.specs.internal.Reading.{Reads}
 use Rattle.deno_graph_jsdoc.specs.JsDocImport.{EndsDeclaration, import_of, byte_count}
-use Rattle.deno_graph_jsdoc.specs.JsDocBraces.{Keeps, IsNextEnd}
+use Rattle.deno_graph_jsdoc.specs.internal.Braces.{Keeps, IsNextEnd}
 use Rattle.deno_graph_jsdoc.specs.declared.import.JsDocImport.{JsDocImport}
 use Rattle.deno_graph_jsdoc.proofs.Braces.{IsUnclosed-back, Keeps-back, Keeps-next, opening}
 use Rattle.deno_graph_jsdoc.proofs.Clauses.{Head, head_no_gap}
-use Rattle.deno_graph_jsdoc.proofs.Declarations.{no_clause, names_without_end, names_head, behind_clause}
+use Rattle.deno_graph_jsdoc.proofs.Declarations.{no_clause, names_without_end, names_head, after_clause}
 use Rattle.deno_graph_jsdoc.proofs.Imports.{StatesImport-within, byte_count_before, counted_from}
-use Rattle.deno_graph_jsdoc.proofs.Known.{AreKnown-behind}
+use Rattle.deno_graph_jsdoc.proofs.Cached.{AreCached-after}
 use Rattle.deno_graph_jsdoc.proofs.grammar.declaration.find_import.Goals as goal
 use Rattle.deno_graph_jsdoc.proofs.grammar.declaration.find_import.Goals.{In-Some, In_ok-end, In_ok-import-2}
 
@@ -26,7 +26,7 @@ returns-in_err-clause-clause-found c =
           (head_no_gap (chars c.args.input.now) c.in_err-clause.ensures),
     )
 
--- the text up to behind the opening brace
+-- the text up to the opening brace, with the brace
 before : (c : In-Some) → (front : List ℕ) × Lacks closing_brace front
     × (chars c.args.input.now ≡ front ++ chars c.in-Some.inside.now)
 before c = opening (chars c.args.input.now) (chars c.in_ok-clause.clause.now)
@@ -40,14 +40,14 @@ advance-requires-clause-unclosed c =
 
 pub advance-requires-clause-lists : goal.advance-requires-clause-lists
 advance-requires-clause-lists c =
-    AreKnown-behind c.args.lists.now c.in-Some.ensures.0
-    (AreKnown-behind c.args.lists.now c.in_ok-clause.ensures.0 c.requires.lists)
+    AreCached-after c.args.lists.now c.in-Some.ensures.0
+    (AreCached-after c.args.lists.now c.in_ok-clause.ensures.0 c.requires.lists)
 
 pub advance-requires-clause-keeps : goal.advance-requires-clause-keeps
 advance-requires-clause-keeps c =
     let front = before (goal.at.advance-requires-clause-keeps c).In-Some in
     Keeps-back (chars c.args.input.now) front.0
-    (chars c.in-Some.inside.now) c.args.known.now front.2 c.requires.keeps
+    (chars c.in-Some.inside.now) c.args.cache.now front.2 c.requires.keeps
 
 pub returns-in_err-end-clause-found : goal.returns-in_err-end-clause-found
 returns-in_err-end-clause-found c =
@@ -59,7 +59,7 @@ returns-in_err-end-clause-found c =
           (chars c.in-Some.inside.now) c.in_ok-clause.ensures c.in-Some.ensures next.is_next,
     )
 
--- the next brace, and the text up to what is behind it and white space
+-- the next brace, and the text up to the end of the white space after the brace
 next : (c : In_ok-end) → IsNextEnd (chars c.in-Some.inside.now) (Some c.in_ok-end.end.now)
 next c = subst (IsNextEnd (chars c.in-Some.inside.now)) (sym c.in_ok-end.ensures.value) c.advance.ensures
 
@@ -69,14 +69,14 @@ head c =
     let end = next c in
     subst (λ (t : List ℕ). Reads NoSpace Head (chars c.args.input.now) (Some (t, tt))) (sym end.is_end.from)
     (names_head (chars c.args.input.now) (chars c.in_ok-clause.clause.now) (chars c.in-Some.inside.now)
-    c.in_ok-clause.ensures c.in-Some.ensures (chars c.in_ok-end.end.now.behind.now) end.is_next)
+    c.in_ok-clause.ensures c.in-Some.ensures (chars c.in_ok-end.end.now.after.now) end.is_next)
 
-kept : (c : In_ok-end) → Keeps (chars c.args.input.now) c.advance.new.known
+kept : (c : In_ok-end) → Keeps (chars c.args.input.now) c.advance.new.cache
 kept c =
     let front = opening (chars c.args.input.now) (chars c.in_ok-clause.clause.now)
     (chars c.in-Some.inside.now) c.in_ok-clause.ensures.0 c.in-Some.ensures.0 in
     Keeps-next (chars c.args.input.now) front.0
-    (chars c.in-Some.inside.now) c.advance.new.known front.2 front.1 c.advance.ensures
+    (chars c.in-Some.inside.now) c.advance.new.cache front.2 front.1 c.advance.ensures
 
 pub returns-in_err-import-2-clause-found : goal.returns-in_err-import-2-clause-found
 returns-in_err-import-2-clause-found c =
@@ -85,7 +85,7 @@ returns-in_err-import-2-clause-found c =
     let from = chars c.in_ok-end.end.now.from.now in
     rw c.from_residual-in_err-import-2.ensures (
       [],
-      behind_clause (chars c.args.input.now) from (head here) None
+      after_clause (chars c.args.input.now) from (head here) None
           (subst (λ (s : Option (Bor (List ℕ) × JsDocImport)). ReadsImport IsSource from (rest_and_import s))
           (sym c.in_err-import-2.ensures.value) end.is_end.source),
     )
@@ -93,7 +93,7 @@ returns-in_err-import-2-clause-found c =
 pub returns-in_err-import-2-clause-keeps : goal.returns-in_err-import-2-clause-keeps
 returns-in_err-import-2-clause-keeps c = kept (goal.at.returns-in_err-import-2-clause-keeps c).In_ok-end
 
--- the import that was read behind the brace
+-- the import that was read after the brace
 source : (c : In_ok-import-2)
     → ReadsImport IsSource (chars c.in_ok-end.end.now.from.now)
     (rest_and_import (Some c.in_ok-import-2.field-0.now))
@@ -137,7 +137,7 @@ returns-clause-found c =
       counted_from IsDeclarationEnd c.args.input.now c.in_ok-end.end.now.from.now
           (head here.In_ok-end).0.piece (chars found.0.now) (import_of found.1) (import_of c.moved.result)
           (bytes here.In_ok-end) c.moved.ensures
-          (behind_clause (chars c.args.input.now) (chars c.in_ok-end.end.now.from.now) (head here.In_ok-end)
+          (after_clause (chars c.args.input.now) (chars c.in_ok-end.end.now.from.now) (head here.In_ok-end)
           (Some (chars found.0.now, import_of found.1)) (source here.In_ok-import-2)),
     )
 

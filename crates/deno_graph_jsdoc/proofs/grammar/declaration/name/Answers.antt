@@ -1,6 +1,6 @@
 -- An identifier, and then white space.
 use Rattle.std.specs.Str.{chars}
-use Rattle.deno_graph_jsdoc.specs.JsDocReading.{rest_of}
+use Rattle.deno_graph_jsdoc.specs.internal.Reading.{rest_of}
 use Rattle.deno_graph_jsdoc.proofs.Clauses.{name_none, name_read}
 use Rattle.deno_graph_jsdoc.proofs.grammar.declaration.name.Goals as goal
 

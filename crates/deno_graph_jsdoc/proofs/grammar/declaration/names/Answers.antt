@@ -1,4 +1,4 @@
--- A brace, anything up to the next, and white space.
+-- A brace, any text up to the closing brace, and white space.
 use Rattle.std.specs.Str.{chars}
 use Rattle.deno_graph_jsdoc.proofs.Clauses.{names_unopened, names_unclosed, names_read}
 use Rattle.deno_graph_jsdoc.proofs.grammar.declaration.names.Goals as goal

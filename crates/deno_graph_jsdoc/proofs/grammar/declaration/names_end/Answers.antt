@@ -1,10 +1,10 @@
--- What is behind the next brace, if one is left.
+-- The text after the next brace, if one is left.
 use Rattle.std.proofs.Common.{◌≤◌, ap, length, arith}
 use Rattle.std.proofs.lemmas.Str.{encodes-chars}
 use Rattle.std.specs.Str.{chars}
 use Rattle.deno_graph_jsdoc.specs.JsDocImport.{byte_count}
 use Rattle.deno_graph_jsdoc.proofs.Braces.{no_brace_left}
-use Rattle.deno_graph_jsdoc.proofs.Known.{AreKnown-behind, AreKnown-skipped}
+use Rattle.deno_graph_jsdoc.proofs.Cached.{AreCached-after, AreCached-skipped}
 use Rattle.deno_graph_jsdoc.proofs.grammar.declaration.names_end.Goals as goal
 
 pub returns-then-input-unclosed : goal.returns-then-input-unclosed
@@ -18,6 +18,6 @@ returns-then-input-unclosed c =
 
 pub source-requires : goal.source-requires
 source-requires c =
-    AreKnown-skipped (chars c.in_ok-behind.behind.now) (chars c.skip_space-from.result.now) c.args.lists.now
+    AreCached-skipped (chars c.in_ok-after.after.now) (chars c.skip_space-from.result.now) c.args.lists.now
     c.skip_space-from.ensures
-    (AreKnown-behind c.args.lists.now c.in_ok-behind.ensures.0 c.requires.lists)
+    (AreCached-after c.args.lists.now c.in_ok-after.ensures.0 c.requires.lists)

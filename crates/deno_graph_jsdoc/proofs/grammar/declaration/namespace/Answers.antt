@@ -1,6 +1,6 @@
 -- `*`, `as` and a name, with white space.
 use Rattle.std.specs.Str.{chars}
-use Rattle.deno_graph_jsdoc.specs.JsDocReading.{rest_of}
+use Rattle.deno_graph_jsdoc.specs.internal.Reading.{rest_of}
 use Rattle.deno_graph_jsdoc.proofs.Clauses.{namespace_no_star, namespace_no_as, namespace_no_gap}
 use Rattle.deno_graph_jsdoc.proofs.Clauses.{namespace_read}
 use Rattle.deno_graph_jsdoc.proofs.grammar.declaration.namespace.Goals as goal

@@ -1,8 +1,8 @@
 -- `with`, and then a block.
 use Rattle.std.specs.Str.{chars}
-use Rattle.deno_graph_jsdoc.specs.JsDocReading.{rest_and_mode}
+use Rattle.deno_graph_jsdoc.specs.internal.Reading.{rest_and_mode}
 use Rattle.deno_graph_jsdoc.proofs.Blocks.{with_none, with_read}
-use Rattle.deno_graph_jsdoc.proofs.Known.{AreKnown-behind}
+use Rattle.deno_graph_jsdoc.proofs.Cached.{AreCached-after}
 use Rattle.deno_graph_jsdoc.proofs.grammar.declaration.with_attributes.Goals as goal
 
 pub returns-in_err-token : goal.returns-in_err-token
@@ -14,4 +14,4 @@ returns c = with_read (chars c.args.input.now) (chars c.in_ok-token.field-0.now)
     (rest_and_mode c.block.result) c.in_ok-token.ensures c.block.ensures
 
 pub block-requires : goal.block-requires
-block-requires c = AreKnown-behind c.args.lists.now c.in_ok-token.ensures.0 c.requires
+block-requires c = AreCached-after c.args.lists.now c.in_ok-token.ensures.0 c.requires

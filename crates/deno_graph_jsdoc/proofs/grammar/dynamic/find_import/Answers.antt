@@ -1,4 +1,4 @@
--- Arguments, with a brace somewhere behind them.
+-- Arguments, with a brace somewhere after them.
 use Rattle.std.proofs.Common.{◌≡◌, ℕ, Bool, true, false, nat_lt, Some, None, List, [], length, refl, ap}
 use Rattle.std.proofs.Common.{arith, rules}
 use Rattle.std.proofs.lemmas.Bool.{ltb-true, ltb-false}
@@ -6,11 +6,11 @@ use Rattle.std.proofs.lemmas.Str.{encodes-chars}
 use Rattle.std.specs.Bool.{then_some}
 use Rattle.std.specs.Option.{option_map}
 use Rattle.std.specs.Str.{IsUtf8, chars}
-use Rattle.deno_graph_jsdoc.specs.JsDocReading.{ReadsImportAlone, HasArguments, IsDynamicEnd, ReadsImport}
+use Rattle.deno_graph_jsdoc.specs.internal.Reading.{ReadsImportAlone, HasArguments, IsDynamicEnd, ReadsImport}
 use Rattle.deno_graph_jsdoc.specs.JsDocImport.{import_of}
-use Rattle.deno_graph_jsdoc.specs.JsDocBraces.{IsUnclosed}
+use Rattle.deno_graph_jsdoc.specs.internal.Braces.{IsUnclosed}
 use Rattle.deno_graph_jsdoc.specs.declared.import.JsDocImport.{JsDocImport}
-use Rattle.deno_graph_jsdoc.proofs.Arguments.{HasArguments-back, no_arguments, behind_arguments}
+use Rattle.deno_graph_jsdoc.proofs.Arguments.{HasArguments-back, no_arguments, after_arguments}
 use Rattle.deno_graph_jsdoc.proofs.Braces.{IsUnclosed-back, brace_left, no_brace_left}
 use Rattle.deno_graph_jsdoc.proofs.grammar.dynamic.find_import.Goals as goal
 
@@ -18,7 +18,7 @@ pub returns-in_err-rest-clause-found : goal.returns-in_err-rest-clause-found
 returns-in_err-rest-clause-found c =
     rw c.from_residual.ensures ([], no_arguments (chars c.args.input.now) c.in_err-rest.ensures.parsed)
 
--- by whether more is left than the end that has no brace
+-- whether more is left than the end that has no brace
 closed : (input rest : List ℕ) (import : JsDocImport) (count : ℕ) → IsUtf8 rest → IsUnclosed
     (chars input) count → ReadsImport HasArguments (chars input) (Some (chars rest, import_of import))
     → ReadsImportAlone IsDynamicEnd (chars input)
@@ -36,12 +36,12 @@ closed input rest import count utf8 unclosed found = by_size (nat_lt count (leng
         let brace = brace_left (chars rest) count left
         (omega (arith, ltb-true count (length rest) is, ap length (encodes-chars rest utf8))) in (
           brace.0,
-          behind_arguments (chars input) (chars rest) (import_of import)
+          after_arguments (chars input) (chars rest) (import_of import)
               (Some (brace.0, tt)) found brace.1,
         )
     by_size false is = (
       [],
-      behind_arguments (chars input) (chars rest) (import_of import) None found
+      after_arguments (chars input) (chars rest) (import_of import) None found
           (no_brace_left (chars rest) count left
           (omega (arith, ltb-false count (length rest) is, ap length (encodes-chars rest utf8)))),
     )

@@ -1,6 +1,6 @@
 -- A brace, and the text up to the first `import`.
 use Rattle.std.specs.Str.{chars}
-use Rattle.deno_graph_jsdoc.specs.JsDocReading.{rest_of}
+use Rattle.deno_graph_jsdoc.specs.internal.Reading.{rest_of}
 use Rattle.deno_graph_jsdoc.proofs.Arguments.{first_unopened, first_read}
 use Rattle.deno_graph_jsdoc.proofs.grammar.dynamic.first_import.Goals as goal
 

@@ -3,7 +3,7 @@ use Rattle.std.proofs.Common.{Some, None}
 use Rattle.std.specs.Str.{chars}
 use Rattle.deno_graph_jsdoc.proofs.Arguments.{options_no_comma, options_no_brace, options_no_with}
 use Rattle.deno_graph_jsdoc.proofs.Arguments.{options_no_colon, options_no_block, options_read}
-use Rattle.deno_graph_jsdoc.proofs.Known.{AreKnown-behind, AreSpaces-behind}
+use Rattle.deno_graph_jsdoc.proofs.Cached.{AreCached-after, AreCachedSpaces-after}
 use Rattle.deno_graph_jsdoc.proofs.grammar.dynamic.options.Goals as goal
 
 pub returns-in_err-rest : goal.returns-in_err-rest
@@ -45,7 +45,7 @@ returns-in_err-word c =
     (chars c.in_ok-rest-3.rest.now) c.in_ok-rest-3.ensures
     (chars c.in_ok-token.field-0.now) c.in_ok-token.ensures
     (chars c.in_ok-rest-4.rest.now) c.in_ok-rest-4.mode None c.in_ok-rest-4.ensures
-    (rw c.skip_known.ensures at c.in_err-word.ensures))
+    (rw c.skip_cached.ensures at c.in_err-word.ensures))
 
 pub returns : goal.returns
 returns c =
@@ -54,18 +54,19 @@ returns c =
     (chars c.in_ok-rest-3.rest.now) c.in_ok-rest-3.ensures
     (chars c.in_ok-token.field-0.now) c.in_ok-token.ensures
     (chars c.in_ok-rest-4.rest.now) c.in_ok-rest-4.mode (Some (chars c.in_ok-word.field-0.now, tt))
-    c.in_ok-rest-4.ensures (rw c.skip_known.ensures at c.in_ok-word.ensures)
+    c.in_ok-rest-4.ensures (rw c.skip_cached.ensures at c.in_ok-word.ensures)
 
 pub block-requires : goal.block-requires
 block-requires c =
-    let known = c.args.lists.now in
-    AreKnown-behind known c.in_ok-token.ensures.0 (AreKnown-behind known c.in_ok-rest-3.ensures.0
-    (AreKnown-behind known c.in_ok-rest-2.ensures.0
-    (AreKnown-behind known c.in_ok-rest.ensures.0 c.requires.lists)))
+    let cache = c.args.lists.now in
+    AreCached-after cache c.in_ok-token.ensures.0 (AreCached-after cache c.in_ok-rest-3.ensures.0
+    (AreCached-after cache c.in_ok-rest-2.ensures.0
+    (AreCached-after cache c.in_ok-rest.ensures.0 c.requires.lists)))
 
-pub skip_known-requires : goal.skip_known-requires
-skip_known-requires c =
-    let known = c.args.spaces.now in
-    AreSpaces-behind known c.in_ok-rest-4.ensures.0 (AreSpaces-behind known c.in_ok-token.ensures.0
-    (AreSpaces-behind known c.in_ok-rest-3.ensures.0 (AreSpaces-behind known c.in_ok-rest-2.ensures.0
-    (AreSpaces-behind known c.in_ok-rest.ensures.0 c.requires.spaces))))
+pub skip_cached-requires : goal.skip_cached-requires
+skip_cached-requires c =
+    let cache = c.args.spaces.now in
+    AreCachedSpaces-after cache c.in_ok-rest-4.ensures.0 (AreCachedSpaces-after cache c.in_ok-token.ensures.0
+    (AreCachedSpaces-after cache c.in_ok-rest-3.ensures.0
+    (AreCachedSpaces-after cache c.in_ok-rest-2.ensures.0
+    (AreCachedSpaces-after cache c.in_ok-rest.ensures.0 c.requires.spaces))))

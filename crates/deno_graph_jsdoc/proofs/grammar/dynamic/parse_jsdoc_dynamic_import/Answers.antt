@@ -1,60 +1,47 @@
--- The first `import`, and what is behind it, whose places are counted from there.
-use Rattle.std.proofs.Common.{◌≡◌, ◌+◌, Some, None, length, subst, arith, rules}
+-- The first `import`, and then the rest of a dynamic import, whose range is counted from before the brace.
+use Rattle.std.proofs.Common.{Some, subst, rules}
 use Rattle.std.specs.Str.{IsUtf8, chars}
 use Rattle.deno_graph_jsdoc.specs.JsDocGrammar.{Anything}
-use Rattle.deno_graph_jsdoc.specs.JsDocReading.{ReadsImport, IsDynamicEnd, rest_and_import, Reads, rest_of}
-use Rattle.deno_graph_jsdoc.specs.JsDocImport.{IsDynamicImport, import_of, byte_count}
+use Rattle.deno_graph_jsdoc.specs.JsDocImport.{IsDynamicImport}
+use Rattle.deno_graph_jsdoc.specs.internal.Reading.{rest_and_import, Reads, rest_of}
 use Rattle.deno_graph_jsdoc.proofs.Arguments.{First, no_import, from_import}
-use Rattle.deno_graph_jsdoc.proofs.Imports.{byte_count_before, counted_from}
+use Rattle.deno_graph_jsdoc.proofs.Counted.{counted_parses, end_fits}
 use Rattle.deno_graph_jsdoc.proofs.grammar.dynamic.parse_jsdoc_dynamic_import.Goals as goal
-use Rattle.deno_graph_jsdoc.proofs.grammar.dynamic.parse_jsdoc_dynamic_import.Goals.{In_ok-behind}
+use Rattle.deno_graph_jsdoc.proofs.grammar.dynamic.parse_jsdoc_dynamic_import.Goals.{In_ok-after}
 
-first : (c : In_ok-behind) → Reads Anything First (chars c.args.input.now)
-    (Some (chars c.in_ok-behind.behind.now, tt))
+first : (c : In_ok-after) → Reads Anything First (chars c.args.input.now)
+    (Some (chars c.in_ok-after.after.now, tt))
 first c = subst (λ answer. Reads Anything First (chars c.args.input.now) (rest_of answer))
-    c.in_ok-behind.ensures.ok_part c.first_import.ensures
+    c.in_ok-after.ensures.ok_part c.first_import.ensures
 
-pub returns-in_err-behind-clause-only : goal.returns-in_err-behind-clause-only
-returns-in_err-behind-clause-only c = λ import rest states.
+pub returns-in_err-after-clause-only : goal.returns-in_err-after-clause-only
+returns-in_err-after-clause-only c = λ import rest states.
     absurd (no_import (chars c.args.input.now)
     (subst (λ answer. Reads Anything First (chars c.args.input.now) (rest_of answer))
-    c.in_err-behind.ensures.ok_part c.first_import.ensures) import rest states)
+    c.in_err-after.ensures.ok_part c.first_import.ensures) import rest states)
 
-pub returns-in_err-rest-clause-only : goal.returns-in_err-rest-clause-only
-returns-in_err-rest-clause-only c = λ import rest states.
-    absurd (from_import (chars c.args.input.now) (chars c.in_ok-behind.behind.now)
-    (first (goal.at.returns-in_err-rest-clause-only c).In_ok-behind) None
-    (subst (λ answer. ReadsImport IsDynamicEnd (chars c.in_ok-behind.behind.now) (rest_and_import answer))
-    c.in_err-rest.ensures.ok_part c.behind_import.ensures.parsed) import rest states)
-
-before : (c : In_ok-behind)
-    → byte_count (first c).0.piece + length c.in_ok-behind.behind.now ≡ length c.args.input.now
-before c =
-    let utf8 : IsUtf8 c.in_ok-behind.behind.now = search rules in
-    byte_count_before c.args.input.now c.in_ok-behind.behind.now
-    (first c).0.piece c.utf8.input utf8 (first c).0.whole
-
-pub overflow_sub-input : goal.overflow_sub-input
-overflow_sub-input c = omega (arith, before (goal.at.overflow_sub-input c).In_ok-behind)
+pub counted_from-requires-clause-end : goal.counted_from-requires-clause-end
+counted_from-requires-clause-end c =
+    let start = first (goal.at.counted_from-requires-clause-end c).In_ok-after in
+    let utf8 : IsUtf8 c.in_ok-after.after.now = search rules in
+    end_fits c.args.input.now c.in_ok-after.after.now c.utf8.input utf8 start.0
 
 pub returns-clause-found : goal.returns-clause-found
 returns-clause-found c =
-    let behind = (goal.at.returns-clause-found c).In_ok-behind in
-    let found = subst (λ answer. ReadsImport IsDynamicEnd (chars c.in_ok-behind.behind.now)
-    (rest_and_import answer)) c.in_ok-rest.ensures.ok_part c.behind_import.ensures.parsed in
-    (counted_from IsDynamicImport c.args.input.now c.in_ok-behind.behind.now (first behind).0.piece
-    (chars c.in_ok-rest.rest.now) (import_of c.in_ok-rest.import) (import_of c.moved.result)
-    (before behind) c.moved.ensures
-    (from_import (chars c.args.input.now) (chars c.in_ok-behind.behind.now) (first behind)
-    (Some (chars c.in_ok-rest.rest.now, import_of c.in_ok-rest.import)) found)).0
+    let start = first (goal.at.returns-clause-found c).In_ok-after in
+    let utf8 : IsUtf8 c.in_ok-after.after.now = search rules in
+    (counted_parses IsDynamicImport c.args.input.now c.in_ok-after.after.now c.after_import.result
+    c.counted_from.result _ _ c.utf8.input utf8 start.0
+    (from_import (chars c.args.input.now) (chars c.in_ok-after.after.now) start
+    (rest_and_import c.after_import.result) c.after_import.ensures.parsed) c.counted_from.ensures.read
+    c.ok_or-2.ensures.value).0
 
 pub returns-clause-only : goal.returns-clause-only
 returns-clause-only c =
-    let behind = (goal.at.returns-clause-only c).In_ok-behind in
-    let found = subst (λ answer. ReadsImport IsDynamicEnd (chars c.in_ok-behind.behind.now)
-    (rest_and_import answer)) c.in_ok-rest.ensures.ok_part c.behind_import.ensures.parsed in
-    (counted_from IsDynamicImport c.args.input.now c.in_ok-behind.behind.now (first behind).0.piece
-    (chars c.in_ok-rest.rest.now) (import_of c.in_ok-rest.import) (import_of c.moved.result)
-    (before behind) c.moved.ensures
-    (from_import (chars c.args.input.now) (chars c.in_ok-behind.behind.now) (first behind)
-    (Some (chars c.in_ok-rest.rest.now, import_of c.in_ok-rest.import)) found)).1
+    let start = first (goal.at.returns-clause-only c).In_ok-after in
+    let utf8 : IsUtf8 c.in_ok-after.after.now = search rules in
+    (counted_parses IsDynamicImport c.args.input.now c.in_ok-after.after.now c.after_import.result
+    c.counted_from.result _ _ c.utf8.input utf8 start.0
+    (from_import (chars c.args.input.now) (chars c.in_ok-after.after.now) start
+    (rest_and_import c.after_import.result) c.after_import.ensures.parsed) c.counted_from.ensures.read
+    c.ok_or-2.ensures.value).1

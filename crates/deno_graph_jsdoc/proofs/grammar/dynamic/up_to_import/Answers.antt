@@ -1,4 +1,4 @@
--- The first `import`, where it is before the first brace.
+-- The first `import`, if it is before the first brace.
 use Rattle.std.proofs.Common.{◌≡◌, ◌⊎◌, inl, inr, Some, None, List, ℕ, ◌++◌, ◌∷◌, codes, refl, lit<, rules}
 use Rattle.std.proofs.Common.{sym, subst, arith}
 use Rattle.std.specs.Str.{IsUtf8, chars}
@@ -11,10 +11,10 @@ use Rattle.deno_graph_jsdoc.proofs.Words.{IsAscii-from_test}
 use Rattle.deno_graph_jsdoc.proofs.grammar.dynamic.up_to_import.Goals as goal
 use Rattle.deno_graph_jsdoc.proofs.grammar.dynamic.up_to_import.Goals.{After-split_once-2, in-Some, in-None}
 
--- the text up to the first brace, or all
+-- the text up to the first brace, or the whole text
 abbrev IsUpToBrace : List ℕ → List ℕ → Type 0
 IsUpToBrace input unclosed = Lacks closing_brace unclosed
-    × ((input ≡ unclosed) ⊎ ((behind : List ℕ) × (input ≡ unclosed ++ closing_brace ∷ behind)))
+    × ((input ≡ unclosed) ⊎ ((after : List ℕ) × (input ≡ unclosed ++ closing_brace ∷ after)))
 
 unclosed_at : (c : After-split_once-2)
     → IsUpToBrace (chars c.args.input.now) (chars c.match-split_once.unclosed.now)

@@ -1,4 +1,4 @@
--- There is white space exactly where what is behind it is shorter.
+-- There is white space exactly if the rest is shorter.
 use Rattle.deno_graph_jsdoc.proofs.Parts.{gap_read, gap_none}
 use Rattle.deno_graph_jsdoc.proofs.grammar.parts.gap.Goals as goal
 

@@ -1,6 +1,6 @@
 -- The marks are of one kind.
 use Rattle.std.specs.Str.{chars}
-use Rattle.deno_graph_jsdoc.specs.JsDocReading.{rest_and_text}
+use Rattle.deno_graph_jsdoc.specs.internal.Reading.{rest_and_text}
 use Rattle.deno_graph_jsdoc.proofs.Parts.{quote_double, quote_single}
 use Rattle.deno_graph_jsdoc.proofs.grammar.parts.quote.Goals as goal
 

@@ -1,4 +1,4 @@
--- The brace is the first, where there is one.
+-- The brace is the first, if there is one.
 use Rattle.std.proofs.Common.{Some, None, lit<}
 use Rattle.std.specs.Str.{chars}
 use Rattle.deno_graph_jsdoc.specs.Characters.{closing_brace}

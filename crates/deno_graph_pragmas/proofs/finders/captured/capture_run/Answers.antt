@@ -1,7 +1,7 @@
 use Rattle.std.proofs.Common.{[], ap, refl, sym}
 use Rattle.std.specs.Char.{is_not_whitespace}
 use Rattle.std.specs.Option.{option_and_then}
-use Rattle.deno_graph_pragmas.specs.Reading.{after_pieces}
+use Rattle.deno_graph_pragmas.specs.internal.Reading.{after_pieces}
 use Rattle.deno_graph_pragmas.proofs.Found.{length_front, IsCapturedAt-front}
 use Rattle.deno_graph_pragmas.proofs.Runs.{after_some-nonempty, after_some-empty}
 use Rattle.deno_graph_pragmas.proofs.finders.captured.capture_run.Goals as goal

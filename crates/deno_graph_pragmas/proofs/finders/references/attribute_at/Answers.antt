@@ -1,5 +1,5 @@
 use Rattle.std.proofs.Common.{sym, arith}
-use Rattle.deno_graph_pragmas.specs.Reading.{attribute_front}
+use Rattle.deno_graph_pragmas.specs.internal.Reading.{attribute_front}
 use Rattle.deno_graph_pragmas.proofs.Found.{length_left}
 use Rattle.deno_graph_pragmas.proofs.finders.references.attribute_at.Goals as goal
 

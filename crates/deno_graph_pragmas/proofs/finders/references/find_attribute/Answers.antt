@@ -5,7 +5,7 @@ use Rattle.std.specs.Str.Iter.{chars_rest}
 use lib.Utf8.{encode}
 use Rattle.deno_graph_pragmas.specs.Finders.{attribute}
 use Rattle.deno_graph_pragmas.specs.Match.{match_part_of}
-use Rattle.deno_graph_pragmas.specs.Reading.{HasNoAttribute}
+use Rattle.deno_graph_pragmas.specs.internal.Reading.{HasNoAttribute}
 use Rattle.deno_graph_pragmas.specs.Split.{IsCaptured}
 use Rattle.deno_graph_pragmas.proofs.Captured.{attribute_in_quotes, captured_slice}
 use Rattle.deno_graph_pragmas.proofs.Attributes.{passed_more, rest_le, found_here, no_more}

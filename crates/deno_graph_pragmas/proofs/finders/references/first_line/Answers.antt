@@ -7,13 +7,13 @@ use Rattle.deno_graph_pragmas.proofs.finders.references.first_line.Goals as goal
 pub returns-in-Some : goal.returns-in-Some
 returns-in-Some c =
     let line = c.in-Some.line in
-    let behind = c.in-Some.field-0-1 in
+    let tail = c.in-Some.field-0-1 in
     let parts =
-    split_once_char line_feed c.args.text.now (Some (line, behind)) c.utf8.text c.in-Some.ensures.cases in (
+    split_once_char line_feed c.args.text.now (Some (line, tail)) c.utf8.text c.in-Some.ensures.cases in (
       parts.3,
       inr (
-        chars behind.now,
-        parts.1 ∙ ap (λ feed. chars line.now ++ feed ∷ chars behind.now)
+        chars tail.now,
+        parts.1 ∙ ap (λ feed. chars line.now ++ feed ∷ chars tail.now)
             (eqb-true parts.0 line_feed parts.2),
       ),
     )

@@ -7,7 +7,7 @@ use Rattle.std.specs.Option.{option_map}
 use Rattle.std.specs.Str.{chars}
 use Rattle.std.specs.Str.Iter.{chars_rest}
 use Rattle.unicode.specs.CaseFolding.{simple_fold}
-use Rattle.deno_graph_pragmas.specs.Reading.{after_keyword}
+use Rattle.deno_graph_pragmas.specs.internal.Reading.{after_keyword}
 use Rattle.deno_graph_pragmas.proofs.finders.scan.strip_keyword.Goals as goal
 
 after_keyword-none : (word : List ℕ) (i : ℕ) → i < length word → after_keyword (drop i word) [] ≡ None

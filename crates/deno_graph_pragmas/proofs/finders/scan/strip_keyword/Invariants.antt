@@ -2,7 +2,7 @@
 use Rattle.std.proofs.Common.{◌≡◌, drop}
 use Rattle.std.specs.Str.{chars, IsUtf8}
 use Rattle.std.specs.Str.Iter.{chars_rest}
-use Rattle.deno_graph_pragmas.specs.Reading.{after_keyword}
+use Rattle.deno_graph_pragmas.specs.internal.Reading.{after_keyword}
 use Rattle.deno_graph_pragmas.proofs.finders.scan.strip_keyword.Given as goal
 
 abbrev pub invariant-loop-letter : goal.invariant-loop-letter

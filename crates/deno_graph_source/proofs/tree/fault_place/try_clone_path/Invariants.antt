@@ -1,4 +1,4 @@
--- The numbers so far are copied.
+-- The copy has the numbers so far.
 use Rattle.std.proofs.Common.{◌≡◌, take}
 use Rattle.deno_graph_source.proofs.tree.fault_place.try_clone_path.Given as goal
 

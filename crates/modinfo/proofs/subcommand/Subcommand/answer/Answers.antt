@@ -4,7 +4,7 @@ use Rattle.modinfo.proofs.Faults.{failed_input}
 use Rattle.modinfo.proofs.Written.{known_or_none}
 use Rattle.modinfo.proofs.subcommand.Subcommand.answer.Goals as goal
 
--- the input wasn't read
+-- The input wasn't read.
 pub returns-in_err-bytes : goal.returns-in_err-bytes
 returns-in_err-bytes g c =
     let f = err_from_is_err_and c.from_residual.result c.from_residual.ensures.1 in

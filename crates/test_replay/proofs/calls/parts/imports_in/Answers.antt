@@ -1,6 +1,6 @@
--- What holds of the comments that are filed holds of them in any order.
+-- A fact about all filed comments holds in any order.
 use Rattle.std.proofs.lemmas.List.Sorted.{All-permutation}
-use Rattle.deno_graph_ast.proofs.JsDocComments.{apart_in_any_order}
+use Rattle.deno_graph_module_info.proofs.JsDocComments.{apart_in_any_order}
 use Rattle.deno_graph_source.specs.Source.{IsSpelled}
 use Rattle.test_replay.proofs.calls.parts.imports_in.Goals as goal
 

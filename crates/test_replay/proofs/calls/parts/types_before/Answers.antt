@@ -1,4 +1,4 @@
--- What is filed at a position is among all that is filed, and so written in the text.
+-- The comments at a position are among all filed comments, and so have their text in the source.
 use Rattle.std.proofs.Common.{ap, sym, ◌∙◌}
 use Rattle.std.specs.Option.{option_copied}
 use Rattle.deno_graph_source.specs.Comments.{comments_of}

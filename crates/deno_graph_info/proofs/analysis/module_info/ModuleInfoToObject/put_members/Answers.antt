@@ -1,10 +1,10 @@
 use Rattle.std.proofs.Common.{◌≡◌, ℕ, List, Option, ap, ◌∙◌}
 use Rattle.std.proofs.lemmas.Result.{on_ok_weaker}
 use Rattle.serde_json.specs.Data.{Data}
-use Rattle.deno_graph_dependency.specs.Object.{with_present}
+use Rattle.deno_graph_json.specs.Object.{with_present}
 use Rattle.deno_graph_info.proofs.analysis.module_info.ModuleInfoToObject.put_members.Goals as goal
 
--- an entry more
+-- one more entry
 more : {S : Type 0} (with_member : List ℕ → Data → S → S) (k : List ℕ) (o : Option Data) (new old so_far : S)
     → new ≡ with_present with_member k o old → old ≡ so_far → new ≡ with_present with_member k o so_far
 more with_member k o new old so_far put before = put ∙ ap (with_present with_member k o) before

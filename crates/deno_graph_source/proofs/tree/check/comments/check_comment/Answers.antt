@@ -6,7 +6,7 @@ use Rattle.deno_graph_source.proofs.Judgements.{returned, range_fault_in_comment
 use Rattle.deno_graph_source.proofs.Spelling.{spelling-injective}
 use Rattle.deno_graph_source.specs.FaultPlace.{CommentHas, RangeHas}
 use Rattle.deno_graph_source.specs.Source.{spelling}
-use Rattle.deno_graph_text.specs.SourceRange.{IsTextRange}
+use Rattle.deno_graph_base.specs.SourceRange.{IsTextRange}
 use Rattle.deno_graph_source.proofs.tree.check.comments.check_comment.Goals as goal
 
 pub returns-in_err-check_range : goal.returns-in_err-check_range

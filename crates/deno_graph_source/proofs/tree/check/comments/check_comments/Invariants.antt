@@ -1,4 +1,4 @@
--- The comments so far are written in the text.
+-- The text has the comments so far.
 use Rattle.std.proofs.Common.{take}
 use Rattle.std.specs.List.{All}
 use Rattle.deno_graph_source.specs.Source.{IsSpelled}

@@ -1,7 +1,7 @@
 use Rattle.std.proofs.Common.{◌≡◌, ◌+◌, ◌-◌, get_or, map, ◌∙◌, ap, sym, subst, arith}
 use Rattle.std.proofs.lemmas.List.{get_or-map, length-map}
 use Rattle.deno_graph_source.proofs.Neighbours.{AllAdjacentBelow-map, differs}
-use Rattle.deno_graph_source.specs.Check.{Passes}
+use Rattle.deno_graph_source.specs.internal.Check.{Passes}
 use Rattle.deno_graph_source.proofs.tree.check.comments.check_neighbours.Goals as goal
 
 pub returns-then-ne : goal.returns-then-ne

@@ -7,13 +7,13 @@ use Rattle.std.proofs.lemmas.Option.{slice_get-get_or}
 use Rattle.deno_graph_source.proofs.Judgements.{returned}
 use Rattle.deno_graph_source.proofs.NodePaths.{some_and}
 use Rattle.deno_graph_source.specs.FaultPlace.{RangeHas}
-use Rattle.deno_graph_text.specs.SourceRange.{IsTextRange}
-use Rattle.deno_graph_source.specs.declared.tree.check.found.FoundPart.{FoundPart}
+use Rattle.deno_graph_base.specs.SourceRange.{IsTextRange}
+use Rattle.deno_graph_source.specs.declared.tree.check.finding.PartFinding.{PartFinding}
 use Rattle.deno_graph_source.specs.declared.tree.fault_place.NodePart.TheVariants.{Argument}
 use Rattle.deno_graph_source.specs.declared.tree.node.Arg.{Arg}
 use Rattle.deno_graph_source.proofs.tree.check.nodes.check_args.Goals as goal
 
--- what an index past the end reads
+-- an index after the end of a list has no element
 abbrev no_arg : Arg
 no_arg = record { spread = false; range = record { start = 0; end = 0 } }
 
@@ -22,7 +22,7 @@ returns-in_err-check_part c =
     let text = c.args.text.now in
     let args = c.args.args.now in
     let here = c.loop-number.number in
-    let G : FoundPart → Type 0 = λ found. (number : ℕ) × (found.part ≡ Argument number)
+    let G : PartFinding → Type 0 = λ found. (number : ℕ) × (found.part ≡ Argument number)
     × IsSomeAnd (slice_get args number) (λ arg. RangeHas text found.fault arg.range) in
     returned _ G _ _ c.from_residual.ensures.1 (
       here,

@@ -3,7 +3,7 @@ use Rattle.std.proofs.lemmas.List.Elements.{All-append, All-cons, All-map}
 use Rattle.deno_graph_source.proofs.Judgements.{returned}
 use Rattle.deno_graph_source.specs.FaultPlace.{PartHas}
 use Rattle.deno_graph_source.specs.Node.{kind_of, range_of}
-use Rattle.deno_graph_text.specs.SourceRange.{IsTextRange}
+use Rattle.deno_graph_base.specs.SourceRange.{IsTextRange}
 use Rattle.deno_graph_source.proofs.tree.check.nodes.check_node_alone.Goals as goal
 
 pub returns-in_err-check_part : goal.returns-in_err-check_part

@@ -1,7 +1,7 @@
 -- The nodes of the items so far have no fault.
 use Rattle.std.proofs.Common.{take}
 use Rattle.std.specs.List.{All, flat_map}
-use Rattle.deno_graph_source.specs.Check.{IsSound}
+use Rattle.deno_graph_source.specs.internal.Check.{IsSound}
 use Rattle.deno_graph_source.specs.Node.{nodes_in}
 use Rattle.deno_graph_source.proofs.tree.check.nodes.check_nodes.Given as goal
 

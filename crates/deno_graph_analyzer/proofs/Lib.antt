@@ -1,0 +1,6 @@
+pub mod Analyses
+pub mod CaptureCases
+pub mod Captured
+pub mod Replies
+pub mod StoredSources
+pub mod WholeRuns

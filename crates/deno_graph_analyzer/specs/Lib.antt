@@ -1,0 +1,12 @@
+pub mod Analysis
+pub mod AnalyzeError
+pub mod Captures
+pub mod Capturing
+pub mod CapturingEsParser
+pub mod CapturingModuleAnalyzer
+pub mod Commands
+pub mod ParserModuleAnalyzer
+pub mod Parsing
+pub mod Runs
+pub mod Sources
+pub mod internal

@@ -1,9 +1,0 @@
--- No comment so far has the pragma.
-use Rattle.std.proofs.Common.{take, All}
-use Rattle.deno_graph_ast.specs.Pragma.{HasPragma}
-use Rattle.deno_graph_ast.specs.FoundPragma.{head_pragma}
-use Rattle.deno_graph_ast.proofs.head_pragmas.first_specifier.Given as goal
-
-abbrev pub invariant-loop-comment : goal.invariant-loop-comment
-invariant-loop-comment l =
-    All (λ comment. ¬ HasPragma (head_pragma l.pragma) comment) (take l.comment-index l.head.comments.now)

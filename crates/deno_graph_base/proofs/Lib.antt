@@ -1,0 +1,9 @@
+pub mod ByteCounts
+pub mod CheckpointLemmas
+pub mod FrontLemmas
+pub mod LossyText
+pub mod CursorLemmas
+pub mod PositionLemmas
+pub mod PositionOrder
+pub mod TextEntries
+pub mod Units

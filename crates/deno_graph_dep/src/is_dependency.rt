@@ -1,0 +1,92 @@
+//! Which nodes are dependencies, and in which order: decided by the node alone, not by the nodes
+//! around it.
+#![tactic(auto, unfolding(crate::proofs::Unfolded::node_meaning))]
+
+ghost use Rattle.std.specs.Prelude.{◌≡◌, Some, option_map, slice_get};
+ghost use Rattle.deno_graph_source.specs.Node.{kind_of, children_of};
+ghost use Rattle.deno_graph_dep.specs.DependencyRules.{is_closed, is_dependency, is_after_inside, is_module_call, is_relative, is_require, may_name_module};
+
+use deno_graph_source::tree::{Callee, Kind, Node};
+
+/// Whether a node is a dependency, by its kind and its children.
+pub fn is_dependency(node: &Node) -> bool
+    ensures { result ≡ is_dependency node.now }
+{
+    match &node.kind {
+        Kind::ImportDecl { .. } | Kind::ExportAll { .. } | Kind::ImportType { .. } => true,
+        Kind::NamedExport { src, .. } => src.is_some(),
+        Kind::ImportEquals { external, .. } => external.is_some(),
+        Kind::ModuleDecl { name: Some(name) } => may_name_module(name.value.to_str_lossy()),
+        Kind::Call { callee, args } => {
+            is_module_call(*callee, node.children.as_slice()) && args.get(0).is_some()
+        }
+        _ => false,
+    }
+}
+
+/// Whether a module declaration with this name may add to a module. A name with `*` is a pattern
+/// for many modules, unless the name is a relative path.
+pub(crate) fn may_name_module(name: &str) -> bool
+    ensures { result ≡ may_name_module name.now }
+{
+    !name.as_bytes().contains(&b'*') || is_relative(name)
+}
+
+/// Whether a name begins like a path: with `./`, `../` or `/`.
+fn is_relative(name: &str) -> bool
+    ensures { result ≡ is_relative name.now }
+{
+    let bytes = name.as_bytes();
+    bytes.starts_with(b"./") || bytes.starts_with(b"../") || bytes.starts_with(b"/")
+}
+
+/// Whether a call with this callee and these children calls `import` or `require`.
+fn is_module_call(callee: Callee, children: &[Node]) -> bool
+    ensures { result ≡ is_module_call callee children.now }
+{
+    match callee {
+        Callee::Import(_) => true,
+        Callee::Expr => begins_with_require(children),
+        Callee::Super => false,
+    }
+}
+
+/// Whether the first of these nodes is the identifier `require`.
+pub(crate) fn begins_with_require(nodes: &[Node]) -> bool
+    ensures { result ≡ is_require (option_map kind_of (slice_get nodes.now 0)) }
+{
+    match nodes.first() {
+        Some(node) => is_require(node),
+        None => false,
+    }
+}
+
+/// Whether a node is the identifier `require`.
+fn is_require(node: &Node) -> bool
+    ensures { result ≡ is_require (Some (kind_of node.now)) }
+{
+    match &node.kind {
+        Kind::Ident(name) => name.as_str() == "require",
+        _ => false,
+    }
+}
+
+/// Whether the nodes inside a node of this kind are left unread.
+pub fn is_closed(kind: &Kind) -> bool
+    ensures { result ≡ is_closed kind.now }
+{
+    matches!(
+        kind,
+        Kind::ImportDecl { .. }
+            | Kind::NamedExport { .. }
+            | Kind::ExportAll { .. }
+            | Kind::ImportEquals { .. }
+    )
+}
+
+/// Whether a node of this kind comes after the dependencies inside it.
+pub fn is_after_inside(kind: &Kind) -> bool
+    ensures { result ≡ is_after_inside kind.now }
+{
+    matches!(kind, Kind::Call { .. })
+}

@@ -1,0 +1,33 @@
+//! Laws of listings, and of their order.
+
+ghost use Rattle.std.specs.Prelude.{◌≡◌, ◌≢◌, ◌⊎◌, ◌↔◌, ◌++◌, List};
+ghost use Rattle.deno_graph_source.specs.declared.tree.node.Node.{Node};
+ghost use Rattle.deno_graph_dep.specs.DependencyNodes.{dependencies_below, dependencies_in, own_after, own_before};
+ghost use Rattle.deno_graph_dep.specs.DependencyRules.{children_to_visit};
+ghost use Rattle.deno_graph_dep.specs.Listing.{IsListing, Precedes, Rules};
+ghost use Rattle.deno_graph_source.specs.NodePath.{NodePath};
+
+/// A body has exactly one listing.
+pub fn one_listing()
+    ensures some { (rules : Rules) (body : List Node)
+        → (paths : List NodePath) × IsListing rules body paths }
+    ensures only { (rules : Rules) (body : List Node) (paths others : List NodePath)
+        → IsListing rules body paths → IsListing rules body others → paths ≡ others }
+{}
+
+/// The tree order is a strict total order: of two different paths exactly one precedes the other.
+pub fn tree_order()
+    ensures one { (rules : Rules) (body : List Node) (p q : NodePath)
+        → p ≢ q → Precedes rules body p q ⊎ Precedes rules body q p }
+    ensures not_both { (rules : Rules) (body : List Node) (p q : NodePath)
+        → Precedes rules body p q → ¬ Precedes rules body q p }
+    ensures transitive { (rules : Rules) (body : List Node) (p q r : NodePath)
+        → Precedes rules body p q → Precedes rules body q r → Precedes rules body p r }
+{}
+
+/// A dependency comes right before the dependencies inside it, or right after them.
+pub fn own_nodes_and_inside()
+    ensures { (node : Node)
+        → dependencies_in node
+        ≡ own_before node ++ dependencies_below (children_to_visit node) ++ own_after node }
+{}

@@ -1,6 +1,0 @@
--- The entries so far are those that were read of the members so far.
-use Rattle.deno_graph_dependency.proofs.ReadMaps.{IsSoFar}
-use Rattle.deno_graph_dependency.proofs.json_form.read.read_map.Given as goal
-
-abbrev pub invariant-loop-key : goal.invariant-loop-key
-invariant-loop-key g l = IsSoFar g.T.FromJson.reads l.members.entries l.map l.key-iterator

@@ -1,6 +1,0 @@
-use Rattle.deno_graph_dependency.proofs.Reading.{refused_around}
-use Rattle.deno_graph_dependency.proofs.json_form.read.read_member.Goals as goal
-
-pub returns-in-Err : goal.returns-in-Err
-returns-in-Err g c = λ outer here. refused_around outer _ _ _ _ (c.in_member.ensures.place outer _ here)
-    c.in_member.ensures.mismatch c.in-Err.ensures

@@ -1,0 +1,3 @@
+-- Definitions that no contract of a public function names.
+pub mod ConvertFault
+pub mod ReachSteps

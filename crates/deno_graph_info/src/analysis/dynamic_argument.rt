@@ -1,0 +1,181 @@
+ghost use Rattle.std.specs.Prelude.{◌≡◌, Some, codes, refl, true};
+ghost use Rattle.serde_json.specs.Data.{string};
+ghost use Rattle.serde_json.specs.Find.{get_member};
+ghost use Rattle.deno_graph_json.specs.Ascending.{has_ascending_keys};
+ghost use Rattle.deno_graph_info.specs.DynamicDependency.{is_expr};
+ghost use Rattle.deno_graph_info.specs.Json.DynamicArgument.{json_of_argument, json_of_part, reads_argument, reads_part, part_entries, part_of_type};
+ghost use Rattle.deno_graph_json.specs.ObjectReader.{readable, value_of};
+ghost use Rattle.deno_graph_json.specs.Read.Result.{IsReadResult};
+
+use deno_graph_base::values::{Items, Text, TryClone};
+use deno_graph_json::read::read_items;
+use deno_graph_json::{
+    Expected, Form, FromJson, MemberWriter, ObjectReader, ReadError, TextWriter, ToJson, ToObject,
+    object_value, write_object,
+};
+use serde_json::Value;
+use std::alloc::{AllocError, Global};
+
+/// The first argument of a dynamic dependency, as far as it is known.
+#[derive(Debug, PartialEq, Eq, Drop)]
+pub enum DynamicArgument {
+    /// A string, with U+FFFD for each lone surrogate.
+    String(Text),
+    /// A text in several parts, in order. Some parts may be unknown.
+    Template(Items<DynamicTemplatePart>),
+    /// An unknown expression.
+    Expr,
+}
+
+impl DynamicArgument {
+    /// Returns whether the argument is unknown.
+    pub fn is_expr(&self) -> bool
+        ensures { result ≡ is_expr self.now }
+    {
+        matches!(self, DynamicArgument::Expr)
+    }
+}
+
+impl Default for DynamicArgument {
+    ghost use Rattle.std.specs.Prelude.{◌≡◌};
+    ghost use Rattle.deno_graph_info.specs.declared.analysis.dynamic_argument.DynamicArgument.TheVariants.{Expr};
+
+    ghost is_default = { λ argument. argument ≡ Expr };
+
+    fn default() -> DynamicArgument {
+        DynamicArgument::Expr
+    }
+}
+
+impl TryClone for DynamicArgument {
+    fn try_clone(&self, alloc: Global) -> Result<DynamicArgument, AllocError> {
+        match self {
+            DynamicArgument::String(text) => Ok(DynamicArgument::String(text.try_clone(alloc)?)),
+            DynamicArgument::Template(parts) => {
+                Ok(DynamicArgument::Template(parts.try_clone(alloc)?))
+            }
+            DynamicArgument::Expr => Ok(DynamicArgument::Expr),
+        }
+    }
+}
+
+impl ToJson for DynamicArgument {
+    ghost json = { json_of_argument };
+
+    fn to_value(&self, alloc: Global) -> Result<Value, AllocError> {
+        match self {
+            DynamicArgument::String(text) => text.to_value(alloc),
+            DynamicArgument::Template(parts) => parts.to_value(alloc),
+            DynamicArgument::Expr => Ok(Value::Null),
+        }
+    }
+
+    fn write_text(&self, out: &mut TextWriter) -> Result<(), AllocError> {
+        match self {
+            DynamicArgument::String(text) => text.write_text(out),
+            DynamicArgument::Template(parts) => parts.write_text(out),
+            DynamicArgument::Expr => out.null(),
+        }
+    }
+}
+
+/// What is expected of an argument.
+const EXPECTED_ARGUMENT: Expected = Expected::OneOf(
+    "a string, an array of parts or null",
+    &[Form::String, Form::Array, Form::Null],
+);
+
+impl FromJson for DynamicArgument {
+    ghost reads = { reads_argument };
+
+    #[tactic(auto, unfolding(crate::specs::Json::DynamicArgument::reads_argument))]
+    fn from_json(alloc: Global, value: &Value) -> Result<DynamicArgument, ReadError> {
+        match value {
+            Value::Null => Ok(DynamicArgument::Expr),
+            Value::String(text) => Ok(DynamicArgument::String(Text::from_str(alloc, text)?)),
+            Value::Array(values) => {
+                let parts = read_items(alloc, values)?;
+                Ok(DynamicArgument::Template(parts))
+            }
+            _ => Err(ReadError::expected(alloc, EXPECTED_ARGUMENT)),
+        }
+    }
+}
+
+/// A part of a template.
+#[derive(Debug, PartialEq, Eq, Drop)]
+pub enum DynamicTemplatePart {
+    /// A known text.
+    String { value: Text },
+    /// An unknown expression.
+    Expr,
+}
+
+impl TryClone for DynamicTemplatePart {
+    fn try_clone(&self, alloc: Global) -> Result<DynamicTemplatePart, AllocError> {
+        match self {
+            DynamicTemplatePart::String { value } => Ok(DynamicTemplatePart::String {
+                value: value.try_clone(alloc)?,
+            }),
+            DynamicTemplatePart::Expr => Ok(DynamicTemplatePart::Expr),
+        }
+    }
+}
+
+impl ToJson for DynamicTemplatePart {
+    ghost json = { json_of_part };
+
+    fn to_value(&self, alloc: Global) -> Result<Value, AllocError> {
+        object_value(alloc, self)
+    }
+
+    fn write_text(&self, out: &mut TextWriter) -> Result<(), AllocError> {
+        write_object(self, out)
+    }
+}
+
+impl ToObject for DynamicTemplatePart {
+    ghost entries = { part_entries };
+
+    ghost use Rattle.deno_graph_info.specs.declared.analysis.dynamic_argument.DynamicTemplatePart.TheVariants.{String, Expr};
+
+    ghost ascends = { λ part _. elim part as (λ p. has_ascending_keys (part_entries p) ≡ true)
+        [ String v ↦ refl | Expr ↦ refl ] };
+
+    fn put_members<W: MemberWriter>(&self, out: &mut W) -> Result<(), AllocError> {
+        match self {
+            DynamicTemplatePart::String { value } => {
+                out.put_str("type", "string")?;
+                out.put("value", value)
+            }
+            DynamicTemplatePart::Expr => out.put_str("type", "expr"),
+        }
+    }
+}
+
+impl FromJson for DynamicTemplatePart {
+    ghost reads = { reads_part };
+
+    #[tactic(auto, using(deno_graph_json::proofs::Reading::reading), unfolding(crate::specs::Json::DynamicArgument::reads_part))]
+    fn from_json(alloc: Global, value: &Value) -> Result<DynamicTemplatePart, ReadError> {
+        let object = ObjectReader::new(alloc, value)?;
+        let part_type = object.read_str("type")?;
+        read_part(part_type, &object)
+    }
+}
+
+/// Reads a part of the type `part_type`.
+#[tactic(auto, unfolding(crate::specs::Json::DynamicArgument::part_of_type))]
+fn read_part(part_type: &str, object: &ObjectReader) -> Result<DynamicTemplatePart, ReadError>
+    ensures { get_member (codes "type") (readable object.now) ≡ Some (string part_type.now)
+        → IsReadResult (value_of object.now) (part_of_type part_type.now (readable object.now)) result }
+{
+    match part_type {
+        "string" => {
+            let value = object.read("value")?;
+            Ok(DynamicTemplatePart::String { value })
+        }
+        "expr" => Ok(DynamicTemplatePart::Expr),
+        _ => Err(object.member_error("type", Expected::Either("string", "expr"))),
+    }
+}

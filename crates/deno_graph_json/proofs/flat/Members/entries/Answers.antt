@@ -1,0 +1,7 @@
+use Rattle.std.proofs.Common.{refl}
+use Rattle.deno_graph_json.specs.View.{members_left, members_of}
+use Rattle.deno_graph_json.proofs.flat.Members.entries.Goals as goal
+
+pub returns-clause-members : goal.returns-clause-members
+unfolding members_left members_of
+returns-clause-members c = refl

@@ -1,0 +1,9 @@
+use Rattle.std.proofs.Common.{map, ap}
+use Rattle.deno_graph_json.specs.Flat.{plain}
+use Rattle.deno_graph_json.specs.Value.{value_in}
+use Rattle.deno_graph_json.specs.View.{tape_value, value_of}
+use Rattle.deno_graph_json.proofs.flat.Tape.root.Goals as goal
+
+pub returns-clause-value : goal.returns-clause-value
+unfolding tape_value value_of
+returns-clause-value c = ap (λ l. value_in (map plain l)) c.as_slice.ensures.value

@@ -1,0 +1,3 @@
+-- The JSON of a type: one file per type.
+pub mod Position
+pub mod ResolutionMode

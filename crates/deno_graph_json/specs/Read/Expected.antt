@@ -1,0 +1,89 @@
+-- What is expected of a value, and which values aren't as expected.
+use Rattle.std.specs.Prelude.{
+  ◌≡◌,
+  ℕ,
+  List,
+  ◌++◌,
+  ◌==◌,
+  codes,
+  Bool,
+  false,
+  true,
+  bytes_eq,
+  Some,
+  None,
+  IsSomeAnd,
+}
+use Rattle.std.specs.List.{AllByRecursion}
+use Rattle.serde_json.specs.Data.{Data, null, boolean, number, string, array, object}
+use Rattle.serde_json.specs.Events.{members_len}
+use Rattle.serde_json.specs.Find.{as_array, as_bool, as_number, as_object, as_str, get, is_float}
+use Rattle.deno_graph_json.specs.Read.Partial.{as_usize, pair_in}
+use Rattle.deno_graph_json.specs.declared.expected.Expected.{Expected}
+use Rattle.deno_graph_json.specs.declared.expected.Expected.TheVariants as expected
+use Rattle.deno_graph_json.specs.declared.expected.Form.{Form}
+use Rattle.deno_graph_json.specs.declared.expected.Form.TheVariants as form
+
+-- the value, if a string, is neither of two strings
+abbrev pub IsNeither : List ℕ → List ℕ → Data → Type 0
+IsNeither first second value = (text : List ℕ) → as_str value ≡ Some text
+    → (bytes_eq text first ≡ false) × (bytes_eq text second ≡ false)
+
+-- whether the value has the form
+abbrev pub has_form : Form → Data → Bool
+has_form form.Null null = true
+has_form form.Null (boolean _) = false
+has_form form.Null (number _) = false
+has_form form.Null (string _) = false
+has_form form.Null (array _) = false
+has_form form.Null (object _) = false
+has_form form.String null = false
+has_form form.String (boolean _) = false
+has_form form.String (number _) = false
+has_form form.String (string _) = true
+has_form form.String (array _) = false
+has_form form.String (object _) = false
+has_form (form.Name name) null = false
+has_form (form.Name name) (boolean _) = false
+has_form (form.Name name) (number _) = false
+has_form (form.Name name) (string text) = bytes_eq text name.now
+has_form (form.Name name) (array _) = false
+has_form (form.Name name) (object _) = false
+has_form form.Array null = false
+has_form form.Array (boolean _) = false
+has_form form.Array (number _) = false
+has_form form.Array (string _) = false
+has_form form.Array (array _) = true
+has_form form.Array (object _) = false
+has_form form.ObjectOfOne null = false
+has_form form.ObjectOfOne (boolean _) = false
+has_form form.ObjectOfOne (number _) = false
+has_form form.ObjectOfOne (string _) = false
+has_form form.ObjectOfOne (array _) = false
+has_form form.ObjectOfOne (object members) = members_len members == 1
+
+-- the value isn't as expected
+abbrev pub IsNot : Expected → Data → Type 0
+IsNot expected.Bool value = as_bool value ≡ None
+IsNot expected.Whole value = as_usize value ≡ None
+IsNot expected.Integer value = IsSomeAnd (as_number value) (λ n. is_float n ≡ true)
+IsNot expected.String value = as_str value ≡ None
+IsNot expected.Array value = as_array value ≡ None
+IsNot expected.Object value = as_object value ≡ None
+IsNot (expected.Pair _) value = pair_in value ≡ None
+IsNot (expected.Member name) value = get name.now value ≡ None
+IsNot (expected.Either first second) value = IsNeither first.now second.now value
+IsNot (expected.OneOf _ forms) value = AllByRecursion (λ f. has_form f value ≡ false) forms.now
+
+-- what is expected, in words
+abbrev pub words : Expected → List ℕ
+words expected.Bool = codes "true or false"
+words expected.Whole = codes "a whole number from 0 to 18446744073709551615"
+words expected.Integer = codes "a whole number, written without a point or an exponent"
+words expected.String = codes "a string"
+words expected.Array = codes "an array"
+words expected.Object = codes "an object"
+words (expected.Pair items) = items.now
+words (expected.Member name) = codes "a member `" ++ name.now ++ codes "`"
+words (expected.Either first second) = first.now ++ codes " or " ++ second.now
+words (expected.OneOf text _) = text.now

@@ -1,0 +1,234 @@
+-- A JSON value (RFC 8259) as a flat list keeps it, and how to look into the value.
+use Rattle.std.specs.Prelude.{◌≡◌, ℕ, zero, suc, ◌+◌, ◌*◌, Bool, true, false, if◌then◌else◌}
+use Rattle.std.specs.Prelude.{List, [], ◌∷◌, ◌++◌, length, take, drop, Option, Some, None}
+use Rattle.std.specs.Str.{bytes_eq}
+use Rattle.std.specs.Str.Parse.{digits_value}
+use Rattle.json.specs.Json.{Json}
+use Rattle.json.specs.Json as json
+use Rattle.deno_graph_json.specs.Flat.{PlainNode, is_whole}
+use Rattle.deno_graph_json.specs.Flat as flat
+
+mutual
+  -- `whole` is a number below 2^64 that is written with digits only. Of any other number nothing is kept.
+  pub data Value : Type 0 where
+    null : Value
+    boolean : Bool → Value
+    whole : ℕ → Value
+    number : Value
+    string : List ℕ → Value
+    array : Items → Value
+    object : Members → Value
+
+  pub data Items : Type 0 where
+    no_items : Items
+    item : Value → Items → Items
+
+  pub data Members : Type 0 where
+    no_members : Members
+    member : List ℕ → Value → Members → Members
+
+abbrev pub item_count : Items → ℕ
+item_count no_items = 0
+item_count (item v vs) = item_count vs + 1
+
+abbrev pub number_value : List ℕ → Value
+number_value text = if is_whole text then whole (digits_value 10 text) else number
+
+-- the part of a JSON value that a flat list keeps
+unfoldable mutual
+  pub plain_value : Json → Value
+  plain_value json.null = null
+  plain_value (json.boolean b) = boolean b
+  plain_value (json.number text) = number_value text
+  plain_value (json.string s) = string s
+  plain_value (json.array js) = array (plain_items js)
+  plain_value (json.object ms) = object (plain_members ms)
+
+  pub plain_items : json.Items → Items
+  plain_items json.no_items = no_items
+  plain_items (json.item j js) = item (plain_value j) (plain_items js)
+
+  pub plain_members : json.Members → Members
+  plain_members json.no_members = no_members
+  plain_members (json.member k j ms) = member k (plain_value j) (plain_members ms)
+
+-- The node of a value, followed by the nodes of its items or members.
+unfoldable mutual
+  pub flat_value : Value → List PlainNode
+  flat_value null = flat.null ∷ []
+  flat_value (boolean b) = flat.boolean b ∷ []
+  flat_value (whole n) = flat.whole n ∷ []
+  flat_value number = flat.number ∷ []
+  flat_value (string s) = flat.string s ∷ []
+  flat_value (array vs) = flat.array (item_count vs) (length (flat_items vs)) ∷ flat_items vs
+  flat_value (object ms) = flat.object (length (flat_members ms)) ∷ flat_members ms
+
+  pub flat_items : Items → List PlainNode
+  flat_items no_items = []
+  flat_items (item v vs) = flat_value v ++ flat_items vs
+
+  pub flat_members : Members → List PlainNode
+  flat_members no_members = []
+  flat_members (member k v ms) = flat.key k ∷ (flat_value v ++ flat_members ms)
+
+-- ---- the value of a flat list
+
+-- the number of nodes in the value, after this node
+abbrev pub plain_inside : PlainNode → ℕ
+plain_inside flat.null = 0
+plain_inside (flat.boolean _) = 0
+plain_inside (flat.whole _) = 0
+plain_inside flat.number = 0
+plain_inside (flat.string _) = 0
+plain_inside (flat.key _) = 0
+plain_inside (flat.array _ nodes) = nodes
+plain_inside (flat.object nodes) = nodes
+
+-- the nodes after the first value
+abbrev pub after_value : List PlainNode → List PlainNode
+after_value [] = []
+after_value (n ∷ ns) = drop (plain_inside n) ns
+
+-- The first argument bounds the recursion: twice the number of the nodes is always enough.
+unfoldable mutual
+  pub value_within : ℕ → List PlainNode → Value
+  value_within zero ns = null
+  value_within (suc turns) [] = null
+  value_within (suc turns) (flat.null ∷ ns) = null
+  value_within (suc turns) (flat.boolean b ∷ ns) = boolean b
+  value_within (suc turns) (flat.whole n ∷ ns) = whole n
+  value_within (suc turns) (flat.number ∷ ns) = number
+  value_within (suc turns) (flat.string s ∷ ns) = string s
+  value_within (suc turns) (flat.key s ∷ ns) = null
+  value_within (suc turns) (flat.array _ nodes ∷ ns) = array (items_within turns (take nodes ns))
+  value_within (suc turns) (flat.object nodes ∷ ns) = object (members_within turns (take nodes ns))
+
+  pub items_within : ℕ → List PlainNode → Items
+  items_within zero ns = no_items
+  items_within (suc turns) [] = no_items
+  items_within (suc turns) (n ∷ ns) =
+      item (value_within turns (n ∷ ns)) (items_within turns (after_value (n ∷ ns)))
+
+  pub members_within : ℕ → List PlainNode → Members
+  members_within zero ns = no_members
+  members_within (suc turns) [] = no_members
+  members_within (suc turns) (flat.null ∷ ns) = no_members
+  members_within (suc turns) (flat.boolean b ∷ ns) = no_members
+  members_within (suc turns) (flat.whole n ∷ ns) = no_members
+  members_within (suc turns) (flat.number ∷ ns) = no_members
+  members_within (suc turns) (flat.string s ∷ ns) = no_members
+  members_within (suc turns) (flat.key k ∷ ns) =
+      member k (value_within turns ns) (members_within turns (after_value ns))
+  members_within (suc turns) (flat.array _ nodes ∷ ns) = no_members
+  members_within (suc turns) (flat.object nodes ∷ ns) = no_members
+
+-- the value, the items and the members with these nodes
+unfoldable pub value_in : List PlainNode → Value
+value_in nodes = value_within (2 * length nodes) nodes
+
+unfoldable pub items_in : List PlainNode → Items
+items_in nodes = items_within (2 * length nodes) nodes
+
+unfoldable pub members_in : List PlainNode → Members
+members_in nodes = members_within (2 * length nodes) nodes
+
+-- the nodes are the flat list of a value, of items or of members
+abbrev pub AreOfValue : List PlainNode → Type 0
+AreOfValue nodes = flat_value (value_in nodes) ≡ nodes
+
+abbrev pub AreOfItems : List PlainNode → Type 0
+AreOfItems nodes = flat_items (items_in nodes) ≡ nodes
+
+abbrev pub AreOfMembers : List PlainNode → Type 0
+AreOfMembers nodes = flat_members (members_in nodes) ≡ nodes
+
+-- ---- looking into a value
+
+abbrev pub is_null : Value → Bool
+is_null null = true
+is_null (boolean b) = false
+is_null (whole n) = false
+is_null number = false
+is_null (string s) = false
+is_null (array vs) = false
+is_null (object ms) = false
+
+abbrev pub as_bool : Value → Option Bool
+as_bool null = None
+as_bool (boolean b) = Some b
+as_bool (whole n) = None
+as_bool number = None
+as_bool (string s) = None
+as_bool (array vs) = None
+as_bool (object ms) = None
+
+abbrev pub as_whole : Value → Option ℕ
+as_whole null = None
+as_whole (boolean b) = None
+as_whole (whole n) = Some n
+as_whole number = None
+as_whole (string s) = None
+as_whole (array vs) = None
+as_whole (object ms) = None
+
+abbrev pub as_str : Value → Option (List ℕ)
+as_str null = None
+as_str (boolean b) = None
+as_str (whole n) = None
+as_str number = None
+as_str (string s) = Some s
+as_str (array vs) = None
+as_str (object ms) = None
+
+abbrev pub as_array : Value → Option Items
+as_array null = None
+as_array (boolean b) = None
+as_array (whole n) = None
+as_array number = None
+as_array (string s) = None
+as_array (array vs) = Some vs
+as_array (object ms) = None
+
+abbrev pub as_object : Value → Option Members
+as_object null = None
+as_object (boolean b) = None
+as_object (whole n) = None
+as_object number = None
+as_object (string s) = None
+as_object (array vs) = None
+as_object (object ms) = Some ms
+
+abbrev pub both : Option ℕ → Option ℕ → Option (ℕ × ℕ)
+both None second = None
+both (Some m) None = None
+both (Some m) (Some n) = Some (m, n)
+
+abbrev pub pair_in : Items → Option (ℕ × ℕ)
+pair_in no_items = None
+pair_in (item v no_items) = None
+pair_in (item v (item w no_items)) = both (as_whole v) (as_whole w)
+pair_in (item v (item w (item u vs))) = None
+
+-- an array of exactly two whole numbers
+abbrev pub as_pair : Value → Option (ℕ × ℕ)
+as_pair null = None
+as_pair (boolean b) = None
+as_pair (whole n) = None
+as_pair number = None
+as_pair (string s) = None
+as_pair (array vs) = pair_in vs
+as_pair (object ms) = None
+
+abbrev pub nth_item : ℕ → Items → Option Value
+nth_item n no_items = None
+nth_item zero (item v vs) = Some v
+nth_item (suc n) (item v vs) = nth_item n vs
+
+abbrev pub later_or : Option Value → Option Value → Option Value
+later_or None earlier = earlier
+later_or (Some v) earlier = Some v
+
+-- the value of the last member of this name
+abbrev pub last_named : List ℕ → Members → Option Value
+last_named name no_members = None
+last_named name (member k v ms) = later_or (last_named name ms) (if bytes_eq k name then Some v else None)

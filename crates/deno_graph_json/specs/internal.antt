@@ -1,0 +1,4 @@
+-- Definitions that no contract of a public function names.
+pub mod MapEntries
+pub mod Nodes
+pub mod Parsing

@@ -1,0 +1,236 @@
+ghost use Rattle.std.specs.Prelude.{◌≡◌, ◌≢◌, ◌<◌, ◌≤◌, ◌+◌, ◌++◌, ◌∷◌, [], false, ℕ};
+ghost use Rattle.std.specs.Prelude.{length, map, vec_len, IfOk, OnOk, OnErr, IsTrue, Err};
+ghost use Rattle.json.specs.Print.{IsNumber, IsPrintableOrBad};
+ghost use Rattle.json.specs.Reads.{token_of};
+ghost use Rattle.json.specs.Token.{begin_array, begin_object};
+ghost use Rattle.deno_graph_json.specs.Flat.{plain, number_node, number_fits};
+ghost use Rattle.deno_graph_json.specs.internal.Parsing.{IsPut, NoneAhead};
+ghost use Rattle.deno_graph_json.specs.Flat.{IsFlatText, IsUnreadable};
+ghost use Rattle.deno_graph_json.specs.declared.flat.fault.TapeFault.TheVariants.{Json};
+
+use crate::Node;
+use crate::flat::digits::short_whole;
+use crate::flat::fault::TapeFault;
+use json::{Reader, Scratch, Token};
+use std::alloc::{AllocFailed, Global};
+
+/// The deepest nesting of arrays and objects that is read.
+const MAX_DEPTH: usize = 127;
+
+/// Reads the nodes of a text. Returns the errors of `Tape::read`.
+pub fn read<'a>(
+    alloc: Global,
+    text: &'a str,
+    scratch: &'a mut Scratch,
+) -> Result<Vec<Node<'a>>, TapeFault>
+    ensures some { IfOk result (λ nodes. 0 < vec_len nodes) }
+    ensures flat { IfOk result (λ nodes. IsFlatText text.now nodes.items) }
+    ensures unreadable { (offset : ℕ) → result ≡ Err (Json offset) → IsUnreadable text.now }
+{
+    let mut parser = Parser {
+        reader: Reader::new(text, scratch)?,
+        nodes: Vec::new(alloc),
+        offset: 0,
+    };
+    match parser.root() {
+        Ok(()) => parser.finish(text),
+        Err(Stop::Json) => Err(TapeFault::Json {
+            offset: parser.offset,
+        }),
+        Err(Stop::OutOfMemory) => Err(TapeFault::OutOfMemory),
+    }
+}
+
+/// Returns the byte offset of what follows the value of the text. The reader stops at `offset`, which
+/// may be after a comma that follows the value.
+fn offset_after_value(text: &str, offset: usize) -> usize {
+    let passed = text.as_bytes().get(..offset).unwrap_or(&[]);
+    match passed.iter().rposition(|byte| !byte.is_ascii_whitespace()) {
+        Some(last) if passed[last] == b',' => last,
+        _ => offset,
+    }
+}
+
+/// Why a value can't be read.
+#[derive(Clone, Copy)]
+enum Stop {
+    /// The token at the parser's offset can't follow the text before it, or a number is too large.
+    Json,
+    OutOfMemory,
+}
+
+impl<T: Drop> From<AllocFailed<T>> for Stop {
+    ghost use Rattle.std.specs.Prelude.{◌≡◌};
+    ghost use Rattle.deno_graph_json.specs.declared.flat.parse.Stop.TheVariants.{OutOfMemory};
+
+    ghost from_gives = { λ _ stop. stop ≡ OutOfMemory };
+
+    fn from(_error: AllocFailed<T>) -> Stop {
+        Stop::OutOfMemory
+    }
+}
+
+/// Reads a text token by token and collects the nodes.
+#[derive(Drop)]
+struct Parser<'a> {
+    reader: Reader<'a>,
+    nodes: Vec<Node<'a>>,
+    /// Byte offset of the last token.
+    offset: usize,
+}
+
+impl<'a> Parser<'a> {
+    /// Reads the value of the text.
+    fn root(&mut self) -> Result<(), Stop>
+        ensures put { OnOk result (IsPut 127 self.old.reader self.new.reader
+            self.old.nodes.items self.new.nodes.items) }
+        ensures none { result ≡ Err Stop.Json → NoneAhead 127 self.old.reader }
+    {
+        let first = self.token()?;
+        self.value(first, MAX_DEPTH)
+    }
+
+    /// Reads the next token, and keeps its offset.
+    #[inline(always)]
+    fn token(&mut self) -> Result<Token<'a>, Stop>
+        ensures shorter { OnOk result (length self.new.reader < length self.old.reader) }
+        ensures same { self.new.nodes ≡ self.old.nodes }
+        ensures token { IfOk result (λ token. self.old.reader ≡ token_of token ∷ self.new.reader) }
+        ensures good { IfOk result (λ token. IsPrintableOrBad (token_of token)) }
+        ensures end { OnErr result (self.old.reader ≡ []) }
+    {
+        self.offset = self.reader.offset();
+        self.reader.next().ok_or(Stop::Json)
+    }
+
+    /// Reads the rest of the value that begins with the token `first`. In the value, arrays and
+    /// objects may nest to `depth`.
+    #[cycle(read)]
+    #[inline(always)]
+    fn value(&mut self, first: Token<'a>, depth: usize) -> Result<(), Stop>
+        requires { IsPrintableOrBad (token_of first) }
+        ensures put { OnOk result (IsPut depth (token_of first.entry ∷ self.old.reader) self.new.reader
+            self.old.nodes.items self.new.nodes.items) }
+        ensures none { result ≡ Err Stop.Json
+            → NoneAhead depth (token_of first.entry ∷ self.old.reader) }
+        ensures shorter { OnOk result (length self.new.reader ≤ length self.old.reader) }
+    {
+        match first {
+            Token::String(text) => Ok(self.nodes.push(Node::String(text))?),
+            Token::Number(digits) => self.number(digits),
+            Token::Bool(value) => Ok(self.nodes.push(Node::Bool(value))?),
+            Token::Null => Ok(self.nodes.push(Node::Null)?),
+            Token::BeginArray if depth > 0 => self.array(depth - 1),
+            Token::BeginObject if depth > 0 => self.object(depth - 1),
+            Token::BeginArray | Token::BeginObject => Err(Stop::Json),
+            Token::EndArray | Token::EndObject | Token::Key(_) | Token::Bad => Err(Stop::Json),
+        }
+    }
+
+    /// Pushes the node of a number.
+    #[inline(always)]
+    fn number(&mut self, digits: &str) -> Result<(), Stop>
+        requires { IsNumber digits.now }
+        ensures nodes { OnOk result (map plain self.new.nodes.items
+            ≡ map plain self.old.nodes.items ++ number_node digits.now ∷ []) }
+        ensures fits { OnOk result (IsTrue (number_fits digits.now)) }
+        ensures large { result ≡ Err Stop.Json → number_fits digits.now ≡ false }
+        ensures reader { self.new.reader ≡ self.old.reader }
+    {
+        match short_whole(digits.as_bytes()) {
+            Some(whole) => Ok(self.nodes.push(Node::Whole(whole))?),
+            None => Ok(self.nodes.push(any_number(digits)?)?),
+        }
+    }
+
+    /// Reads the rest of an array, after the bracket that opens it.
+    #[cycle(read)]
+    #[inline(never)]
+    fn array(&mut self, depth: usize) -> Result<(), Stop>
+        ensures put { OnOk result (IsPut (depth + 1) (begin_array ∷ self.old.reader)
+            self.new.reader self.old.nodes.items self.new.nodes.items) }
+        ensures none { result ≡ Err Stop.Json
+            → NoneAhead (depth + 1) (begin_array ∷ self.old.reader) }
+        ensures shorter { OnOk result (length self.new.reader ≤ length self.old.reader) }
+    {
+        let at = self.nodes.len();
+        self.nodes.push(Node::Array {
+            elements: 0,
+            nodes: 0,
+        })?;
+        let mut elements = 0usize;
+        'elements: loop {
+            match self.token()? {
+                Token::EndArray => break,
+                first => self.value(first, depth)?,
+            }
+            elements = elements.saturating_add(1);
+        }
+        let nodes = self.nodes.len() - at - 1;
+        self.nodes[at] = Node::Array { elements, nodes };
+        Ok(())
+    }
+
+    /// Reads the rest of an object, after the brace that opens it.
+    #[cycle(read)]
+    #[inline(never)]
+    fn object(&mut self, depth: usize) -> Result<(), Stop>
+        ensures put { OnOk result (IsPut (depth + 1) (begin_object ∷ self.old.reader)
+            self.new.reader self.old.nodes.items self.new.nodes.items) }
+        ensures none { result ≡ Err Stop.Json
+            → NoneAhead (depth + 1) (begin_object ∷ self.old.reader) }
+        ensures shorter { OnOk result (length self.new.reader ≤ length self.old.reader) }
+    {
+        let at = self.nodes.len();
+        self.nodes.push(Node::Object { nodes: 0 })?;
+        'members: loop {
+            match self.token()? {
+                Token::Key(name) => self.nodes.push(Node::Key(name))?,
+                Token::EndObject => break,
+                _ => return Err(Stop::Json),
+            }
+            let first = self.token()?;
+            self.value(first, depth)?;
+        }
+        let nodes = self.nodes.len() - at - 1;
+        self.nodes[at] = Node::Object { nodes };
+        Ok(())
+    }
+
+    /// Returns the nodes. Returns `Json` if anything follows the value of the text.
+    fn finish(self, text: &str) -> Result<Vec<Node<'a>>, TapeFault>
+        ensures nodes { IfOk result (λ nodes. nodes ≡ self.entry.nodes) }
+        ensures end { OnOk result (self.entry.reader ≡ []) }
+        ensures more { OnErr result (self.entry.reader ≢ []) }
+    {
+        let Parser {
+            mut reader,
+            nodes,
+            offset: _,
+        } = self;
+        let offset = reader.offset();
+        match reader.next() {
+            None => Ok(nodes),
+            Some(_) => Err(TapeFault::Json {
+                offset: offset_after_value(text, offset),
+            }),
+        }
+    }
+}
+
+/// Returns the node of a number. Returns `Json` if the number is too large for a float.
+#[inline(never)]
+fn any_number<'a>(digits: &str) -> Result<Node<'a>, Stop>
+    requires { IsNumber digits.now }
+    ensures node { IfOk result (λ node. plain node ≡ number_node digits.now) }
+    ensures fits { OnOk result (IsTrue (number_fits digits.now)) }
+    ensures large { result ≡ Err Stop.Json → number_fits digits.now ≡ false }
+{
+    if let Ok(whole) = fast_float::parse_u64(digits.as_bytes()) {
+        return Ok(Node::Whole(whole));
+    }
+    match fast_float::parse::<f64, _>(digits.as_bytes()) {
+        Ok(number) if number.is_finite() => Ok(Node::Number),
+        _ => Err(Stop::Json),
+    }
+}

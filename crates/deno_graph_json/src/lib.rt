@@ -1,0 +1,28 @@
+//! JSON: texts read into flat lists, JSON Pointers, and traits to read and write typed values.
+#![tactic(auto)]
+
+pub mod error;
+pub mod expected;
+pub mod flat;
+pub mod float;
+pub mod object;
+pub mod object_reader;
+pub mod object_writer;
+pub mod pointer;
+mod position;
+pub mod read;
+mod resolution_mode;
+pub mod text_writer;
+pub mod write;
+
+pub use error::{Mismatch, ReadError, Step};
+pub use expected::{Expected, Form};
+pub use flat::{Element, Elements, Entries, Members, Node, Tape, TapeFault};
+pub use float::{find_float, has_float};
+pub use object::{MemberWriter, ToObject, object_value, write_object};
+pub use object_reader::ObjectReader;
+pub use object_writer::ObjectWriter;
+pub use pointer::{ReferenceToken, push_token};
+pub use read::FromJson;
+pub use text_writer::TextWriter;
+pub use write::{ToJson, text_of};

@@ -1,0 +1,113 @@
+//! Reading objects, member by member.
+
+ghost use Rattle.std.specs.Prelude.{◌≡◌, [], Some, MatchResult, option_map};
+ghost use Rattle.serde_json.specs.Data.{Data, string};
+ghost use Rattle.serde_json.specs.Events.{members_len};
+ghost use Rattle.serde_json.specs.Find.{as_str, as_object, get_member};
+ghost use Rattle.serde_json.specs.View.{view, members_view};
+ghost use Rattle.deno_graph_json.specs.ObjectReader.{readable, value_of};
+ghost use Rattle.deno_graph_json.specs.Read.Result.{IsReadResult, IsReadResultSeen, IsReadError};
+ghost use Rattle.deno_graph_json.specs.Read.Error.{IsIn};
+ghost use Rattle.deno_graph_json.specs.Read.Expected.{IsNot};
+ghost use Rattle.deno_graph_json.specs.Read.Partial.{reads_array, member_at, member_or};
+
+use crate::error::ReadError;
+use crate::expected::Expected;
+use crate::read::{FromJson, read_member, read_object, read_str};
+use deno_graph_base::values::Items;
+use serde_json::{Map, Value};
+use std::alloc::Global;
+
+/// Reads an object member by member.
+#[derive(Drop)]
+pub struct ObjectReader<'v> {
+    alloc: Global,
+    members: &'v Map<String, Value>,
+}
+
+impl<'v> ObjectReader<'v> {
+    /// Begins to read an object. Allocates nothing. Returns `Mismatch` if the value is no object.
+    pub fn new(alloc: Global, value: &'v Value) -> Result<ObjectReader<'v>, ReadError>
+        ensures { IsReadResultSeen readable (view value.now) (as_object (view value.now)) result }
+    {
+        let members = read_object(alloc, value)?;
+        Ok(ObjectReader::of_members(alloc, members))
+    }
+
+    /// Begins to read the object with these members. Allocates nothing.
+    pub fn of_members(alloc: Global, members: &'v Map<String, Value>) -> ObjectReader<'v>
+        ensures { readable result ≡ members_view members.now.entries }
+    {
+        ObjectReader { alloc, members }
+    }
+
+    /// Returns the number of members.
+    pub fn member_count(&self) -> usize
+        ensures { result ≡ members_len (readable self.now) }
+    {
+        self.members.len()
+    }
+
+    /// Reads a required member.
+    #[tactic(auto, unfolding(crate::specs::Read::Partial::member_at))]
+    pub fn read<T: FromJson>(&self, key: &'static str) -> Result<T, ReadError>
+        ensures { IsReadResult (value_of self.now) (member_at T.reads key.now (readable self.now)) result }
+    {
+        match find_member(self.members, key) {
+            Some(value) => read_member(self.alloc, key, value),
+            None => Err(ReadError::expected(self.alloc, Expected::Member(key))),
+        }
+    }
+
+    /// Reads the text of a required member that is a string.
+    #[tactic(auto, unfolding(crate::specs::Read::Partial::member_at))]
+    pub fn read_str(&self, key: &'static str) -> Result<&'v str, ReadError>
+        ensures { MatchResult result
+            (λ text. get_member key.now (readable self.now) ≡ Some (string text.now))
+            (IsReadError (value_of self.now) (member_at as_str key.now (readable self.now))) }
+    {
+        match find_member(self.members, key) {
+            Some(value) => match read_str(self.alloc, value) {
+                Ok(text) => Ok(text),
+                Err(error) => Err(error.in_member(self.alloc, key)),
+            },
+            None => Err(ReadError::expected(self.alloc, Expected::Member(key))),
+        }
+    }
+
+    /// Reads a member, or returns `default` if the object has no such member.
+    #[tactic(auto, unfolding(crate::specs::Read::Partial::member_or))]
+    pub fn read_or<T: FromJson + Drop>(&self, key: &'static str, default: T) -> Result<T, ReadError>
+        ensures { IsReadResult (value_of self.now)
+            (member_or T.reads key.now default (readable self.now)) result }
+    {
+        match find_member(self.members, key) {
+            Some(member) => read_member(self.alloc, key, member),
+            None => Ok(default),
+        }
+    }
+
+    /// Reads the items of a member that is an array, or returns none if the object has no such member.
+    pub fn read_list<T: FromJson + Drop>(&self, key: &'static str) -> Result<Items<T>, ReadError>
+        ensures { IsReadResult (value_of self.now)
+            (member_or (reads_array T.reads) key.now [] (readable self.now)) result }
+    {
+        self.read_or(key, Items::new(self.alloc))
+    }
+
+    /// Returns the error of a member that isn't what is expected.
+    pub fn member_error(&self, key: &str, expected: Expected) -> ReadError
+        ensures { (member : Data) → get_member key.now (readable self.now) ≡ Some member
+            → IsNot expected member → IsIn (value_of self.now) result }
+    {
+        ReadError::expected(self.alloc, expected).in_member(self.alloc, key)
+    }
+}
+
+/// Returns the value of a member, if there is one.
+pub fn find_member<'v>(object: &'v Map<String, Value>, key: &str) -> Option<&'v Value>
+    ensures { option_map (λ v. view v.now) result
+        ≡ get_member key.now (members_view object.now.entries) }
+{
+    object.get(key)
+}

@@ -1,0 +1,63 @@
+ghost use Rattle.deno_graph_json.specs.Json.Position.{json_of_position, json_of_range, reads_position, reads_range, IsHeldPosition, IsHeldRange};
+
+use crate::read::read_pair;
+use crate::{FromJson, ReadError, TextWriter, ToJson};
+use deno_graph_base::text::{Position, PositionRange};
+use serde_json::{Value, json};
+use std::alloc::{AllocError, Global};
+
+impl ToJson for Position {
+    ghost json = { json_of_position };
+
+    ghost is_held = { IsHeldPosition };
+
+    fn to_value(&self, alloc: Global) -> Result<Value, AllocError> {
+        json!(in alloc; [self.line, self.character])
+    }
+
+    fn write_text(&self, out: &mut TextWriter) -> Result<(), AllocError> {
+        out.begin_array()?;
+        out.number(self.line)?;
+        out.number(self.character)?;
+        out.end_array()
+    }
+}
+
+impl FromJson for Position {
+    ghost reads = { reads_position };
+
+    #[tactic(auto, using(crate::proofs::Reading::reading), unfolding(crate::specs::Json::Position::reads_position))]
+    fn from_json(alloc: Global, value: &Value) -> Result<Position, ReadError> {
+        let (line, character) = read_pair(alloc, value, "two whole numbers, [line,character]")?;
+        Ok(Position { line, character })
+    }
+}
+
+impl ToJson for PositionRange {
+    ghost json = { json_of_range };
+
+    ghost is_held = { IsHeldRange };
+
+    fn to_value(&self, alloc: Global) -> Result<Value, AllocError> {
+        let start = self.start.to_value(alloc)?;
+        let end = self.end.to_value(alloc)?;
+        json!(in alloc; [start, end])
+    }
+
+    fn write_text(&self, out: &mut TextWriter) -> Result<(), AllocError> {
+        out.begin_array()?;
+        self.start.write_text(out)?;
+        self.end.write_text(out)?;
+        out.end_array()
+    }
+}
+
+impl FromJson for PositionRange {
+    ghost reads = { reads_range };
+
+    #[tactic(auto, using(crate::proofs::Reading::reading), unfolding(crate::specs::Json::Position::reads_range))]
+    fn from_json(alloc: Global, value: &Value) -> Result<PositionRange, ReadError> {
+        let (start, end) = read_pair(alloc, value, "two positions, [start,end]")?;
+        Ok(PositionRange { start, end })
+    }
+}

@@ -1,0 +1,11 @@
+pub mod CommentImports
+pub mod HeadTail
+pub mod InfoOfModule
+pub mod JsDocInfo
+pub mod ModuleInfo
+pub mod Pragma
+pub mod References
+pub mod Script
+pub mod Spelled
+pub mod SpelledDependencies
+pub mod internal

@@ -1,0 +1,4 @@
+pub mod CommentImportSteps
+pub mod HeadPragma
+pub mod ReadTypes
+pub mod ScriptSteps

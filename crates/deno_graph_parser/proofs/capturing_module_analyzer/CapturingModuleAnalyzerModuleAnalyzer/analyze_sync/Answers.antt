@@ -1,9 +1,0 @@
--- Begun sound, the parser's answer is its outcome.
-use Rattle.deno_graph_parser.specs.CapturingModuleAnalyzer.{parser_of}
-use Rattle.deno_graph_parser.proofs.Analyses.{analysis_of_outcome}
-use Rattle.deno_graph_parser.proofs.capturing_module_analyzer.CapturingModuleAnalyzerModuleAnalyzer.analyze_sync.Goals as goal
-
-pub returns-clause-answer : goal.returns-clause-answer
-returns-clause-answer g c = λ sound.
-    analysis_of_outcome (g.P.EsParser.parses (parser_of c.args.self.now)) _ c.parse_program.result
-    c.info_of.result c.info_of.ensures (c.parse_program.ensures.answer sound)

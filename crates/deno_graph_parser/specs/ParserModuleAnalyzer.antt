@@ -1,6 +1,0 @@
--- What an analyzer over a parser borrows.
-use Rattle.std.specs.Borrow.{MutBor}
-use Rattle.deno_graph_parser.specs.declared.parser_module_analyzer.ParserModuleAnalyzer.{ParserModuleAnalyzer}
-
-abbrev pub borrowed_parser : {P : Type 0} → ParserModuleAnalyzer P → MutBor P
-borrowed_parser analyzer = analyzer.parser

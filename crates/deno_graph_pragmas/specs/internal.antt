@@ -1,0 +1,2 @@
+-- The steps of the code. No contract of a public function names them.
+pub mod Reading

@@ -1,0 +1,3 @@
+pub mod ByOffset
+pub mod Check
+pub mod Finding

@@ -1,0 +1,3 @@
+//! Lists, texts and maps as values.
+
+pub use deno_graph_base::values::{Items, Text, TextMap, TryClone};

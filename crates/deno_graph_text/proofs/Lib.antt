@@ -1,9 +1,0 @@
-pub mod ByteCounts
-pub mod CheckpointLemmas
-pub mod FrontLemmas
-pub mod LossyText
-pub mod PlaceLemmas
-pub mod PositionLemmas
-pub mod PositionOrder
-pub mod TextEntries
-pub mod Units

@@ -1,5 +1,0 @@
-use Rattle.deno_graph_text.proofs.PlaceLemmas.{position_cmp-position_at}
-use Rattle.deno_graph_text.proofs.text.laws.positions_keep_order.Goals as goal
-
-pub returns : goal.returns
-returns c = λ a b first second. position_cmp-position_at c.args.text.now a b c.utf8.text first second

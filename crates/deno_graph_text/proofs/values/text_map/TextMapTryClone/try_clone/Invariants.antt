@@ -1,6 +1,0 @@
--- The copies so far, with the entries that are left, are all the entries.
-use Rattle.std.proofs.Common.{◌≡◌, ◌++◌}
-use Rattle.deno_graph_text.proofs.values.text_map.TextMapTryClone.try_clone.Given as goal
-
-abbrev pub invariant-loop-key : goal.invariant-loop-key
-invariant-loop-key g l = l.copy ++ l.key-iterator ≡ l.self

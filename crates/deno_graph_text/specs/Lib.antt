@@ -1,9 +1,0 @@
-pub mod JsString
-pub mod Place
-pub mod Position
-pub mod PositionRange
-pub mod ResolutionMode
-pub mod SourceRange
-pub mod StoredString
-pub mod TextMap
-pub mod formers

@@ -1,7 +1,0 @@
-use Rattle.std.proofs.Common.{refl}
-use Rattle.flat_json.specs.View.{members_left, members_of}
-use Rattle.flat_json.proofs.Members.entries.Goals as goal
-
-pub returns-clause-members : goal.returns-clause-members
-unfolding members_left members_of
-returns-clause-members c = refl

@@ -1,9 +1,0 @@
-use Rattle.std.proofs.Common.{map, ap}
-use Rattle.flat_json.specs.Flat.{plain}
-use Rattle.flat_json.specs.Value.{value_in}
-use Rattle.flat_json.specs.View.{tape_value, value_of}
-use Rattle.flat_json.proofs.Tape.root.Goals as goal
-
-pub returns-clause-value : goal.returns-clause-value
-unfolding tape_value value_of
-returns-clause-value c = ap (λ l. value_in (map plain l)) c.as_slice.ensures.value

@@ -1,7 +1,0 @@
-use Rattle.std.proofs.Common.{◌≡◌, ◌^◌, ◌<◌, take}
-use Rattle.std.specs.Str.Parse.{digits_value, AllDigits}
-use Rattle.flat_json.proofs.digits.short_whole.Given as goal
-
-abbrev pub invariant-loop-byte : goal.invariant-loop-byte
-invariant-loop-byte l = AllDigits 10 (take l.byte-index l.digits)
-    × (l.whole ≡ digits_value 10 (take l.byte-index l.digits)) × (l.whole < 10 ^ l.byte-index)

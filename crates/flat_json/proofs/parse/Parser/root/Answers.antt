@@ -1,8 +1,0 @@
-use Rattle.std.proofs.Common.{[], refl, sym, subst}
-use Rattle.flat_json.specs.Flat.{NoneAhead}
-use Rattle.flat_json.proofs.Ahead.{none_begins}
-use Rattle.flat_json.proofs.parse.Parser.root.Goals as goal
-
-pub returns-in_err-first-clause-none : goal.returns-in_err-first-clause-none
-returns-in_err-first-clause-none c e =
-    subst (NoneAhead 127) (sym c.in_err-first.ensures.end) (none_begins 127 [] refl)

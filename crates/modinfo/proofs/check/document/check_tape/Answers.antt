@@ -1,8 +1,0 @@
-use Rattle.flat_json.specs.View.{tape_value}
-use Rattle.modinfo.proofs.check.document.check_tape.Goals as goal
-
--- the text states the document that was read
-pub returns-in-Ok : goal.returns-in-Ok
-returns-in-Ok c text is =
-    let read = rw c.root.ensures.value at c.in-Ok.ensures.read in
-    c.check_parts.ensures text (tape_value c.args.tape.now, is, read)

@@ -1,7 +1,0 @@
-use Rattle.modinfo_notation.proofs.OneDocument.{one_document, one_source}
-use Rattle.modinfo.proofs.laws.each_text_states_one_module.Goals as goal
-
-pub returns : goal.returns
-returns c text one other a b =
-    one_source a.document b.document one other
-    (one_document text a.document b.document a.is_stated b.is_stated) a.is_source b.is_source

@@ -1,0 +1,8 @@
+-- Definitions for contracts of private functions and for proofs.
+pub mod Answer
+pub mod Check
+pub mod CommandLine
+pub mod Lines
+pub mod Reach
+pub mod Request
+pub mod Run

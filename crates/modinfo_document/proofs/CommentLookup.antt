@@ -1,0 +1,263 @@
+-- Comments by position and number, among the entries of a side.
+use Rattle.std.proofs.Common.{
+  ◌≡◌,
+  ℕ,
+  zero,
+  suc,
+  ◌+◌,
+  ◌-◌,
+  ◌<◌,
+  ◌≤◌,
+  List,
+  [],
+  ◌∷◌,
+  ◌++◌,
+  length,
+  Bool,
+  true,
+  false,
+  eqb,
+  if◌then◌else◌,
+  codes,
+  Option,
+  Some,
+  None,
+  slice_get,
+  arith,
+  refl,
+  sym,
+  ap,
+  subst,
+  ◌∙◌,
+}
+use Rattle.std.proofs.lemmas.Option.{none-some, option_and_then_some, same_Some}
+use Rattle.deno_graph_json.specs.Value.{
+  Value,
+  Items,
+  no_items,
+  item,
+  item_count,
+  nth_item,
+  as_array,
+  as_object,
+  as_str,
+  as_whole,
+  last_named,
+  Members,
+}
+use Rattle.deno_graph_source.specs.declared.tree.comments.CommentSide.{CommentSide}
+use Rattle.deno_graph_source.specs.declared.tree.comments.CommentSide.TheVariants.{Leading, Trailing}
+use Rattle.modinfo_document.specs.Comments.{
+  FiledEntry,
+  Sides,
+  comments_at,
+  reads_comment,
+  reads_entry,
+  reads_side,
+  reads_sides,
+  side_name,
+}
+use Rattle.modinfo_document.specs.Document.{Contents, reads_document}
+use Rattle.modinfo_document.specs.Kind.{media_types, reads_named}
+use Rattle.modinfo_document.specs.Node.{reads_program}
+use Rattle.modinfo_document.specs.Partial.{◌>>=◌, or_default, reads_array, reads_items, required}
+use Rattle.modinfo_document.specs.Lookup.{side_entries}
+use Rattle.modinfo_document.specs.internal.Lookup.{entry_items}
+use Rattle.modinfo_document.specs.Comments.{entry_with}
+use Rattle.modinfo_document.proofs.NodeLookup.{items_from, read_from, step}
+use Rattle.modinfo_document.proofs.Reading.{goes_on}
+
+-- The length of the list that is read is the number of items.
+items_count : {A : Type 0} (reads : Value → Option A) (values : Items) (xs : List A)
+    → reads_items reads values ≡ Some xs → item_count values ≡ length xs
+unfolding reads_items
+items_count reads no_items xs is = ap length (same_Some [] xs is)
+items_count reads (item value values) xs is =
+    let first = step (reads value) (λ x. reads_items reads values >>= (λ ys. Some (x ∷ ys))) xs is in
+    let rest = step (reads_items reads values) (λ ys. Some (first.0 ∷ ys)) xs first.2 in
+    ap (λ n. n + 1) (items_count reads values rest.0 rest.1) ∙ omega arith
+    ∙ ap length (same_Some (first.0 ∷ rest.0) xs rest.2)
+
+-- The comments of an entry at a position: none if the entry has another position.
+abbrev IsFoundIn : FiledEntry → ℕ → Option Items → Type 0
+IsFoundIn entry position None = eqb entry.position position ≡ false
+IsFoundIn entry position (Some values) = (eqb entry.position position ≡ true)
+    × (reads_items reads_comment values ≡ Some entry.comments)
+
+by_test : (entry : FiledEntry) (position : ℕ) (values : Items) → reads_items reads_comment values
+    ≡ Some entry.comments
+    → (b : Bool) → eqb entry.position position ≡ b → (found : Option Items)
+    → found ≡ (if b then Some values else None) → IsFoundIn entry position found
+by_test entry position values read true test None is = absurd (none-some values is)
+by_test entry position values read true test
+    (Some found) is = (test, ap (reads_items reads_comment) (same_Some found values is) ∙ read)
+by_test entry position values read false test None is = test
+by_test entry position values read false test (Some found) is = absurd (none-some found (sym is))
+
+found_in : (value : Value) (entry : FiledEntry) → reads_entry value ≡ Some entry
+    → (position : ℕ) (found : Option Items)
+    → found ≡ entry_items position value → IsFoundIn entry position found
+unfolding reads_entry entry_items required reads_array
+found_in value entry is position found at =
+    option_and_then_some _ (as_object value) entry is
+    (λ members object with_members. option_and_then_some _
+    (last_named (codes "pos") members >>= as_whole) entry with_members
+    (λ pos pos_is with_pos. option_and_then_some _
+    (last_named (codes "comments") members >>= reads_array reads_comment) entry with_pos
+    (λ comments read made. option_and_then_some (reads_array reads_comment)
+    (last_named (codes "comments") members) comments read
+    (λ array there is_array. option_and_then_some (reads_items reads_comment)
+    (as_array array) comments is_array
+    (λ values array_is read_values.
+    subst (λ e. IsFoundIn e position found) (same_Some (entry_with pos comments) entry made)
+    (by_test (entry_with pos comments) position values read_values (eqb pos position) refl found
+    (at ∙ goes_on (as_object value) _ members _ object
+    (goes_on (last_named (codes "pos") members >>= as_whole) _ pos _ pos_is
+    (ap (λ o. if eqb pos position then o else None)
+    (goes_on (last_named (codes "comments") members) as_array array (Some values) there array_is))))))))))
+
+within_front : {A : Type 0} (xs ys : List A) (n : ℕ) → n < length xs → slice_get xs n ≡ slice_get (xs ++ ys) n
+within_front [] ys n fits = absurd (omega (arith, fits))
+within_front (x ∷ xs) ys zero fits = refl
+within_front (x ∷ xs) ys (suc n) fits = within_front xs ys n (omega (arith, fits))
+
+past_front : {A : Type 0} (xs ys : List A) (n : ℕ) → length xs ≤ n
+    → slice_get (xs ++ ys) n ≡ slice_get ys (n - length xs)
+past_front [] ys n fits = ap (slice_get ys) (omega arith)
+past_front (x ∷ xs) ys zero fits = absurd (omega (arith, fits))
+past_front (x ∷ xs) ys (suc n) fits = past_front xs ys n (omega (arith, fits))
+    ∙ ap (slice_get ys) (omega arith)
+
+module _ (position : ℕ) (value : Value) (values : Items) (rest : List FiledEntry)
+    (is : reads_items reads_entry (item value values) ≡ Some rest) where
+  split : (entry : FiledEntry) × (more : List FiledEntry) × (reads_entry value ≡ Some entry)
+      × (reads_items reads_entry values ≡ Some more) × (entry ∷ more ≡ rest)
+  unfolding reads_items
+  split =
+      let first = step (reads_entry value)
+      (λ x. reads_items reads_entry values >>= (λ ys. Some (x ∷ ys))) rest is in
+      let others = step (reads_items reads_entry values) (λ ys. Some (first.0 ∷ ys)) rest first.2 in
+      (first.0, others.0, first.1, others.1, same_Some (first.0 ∷ others.0) rest others.2)
+
+  -- The first entry has another position.
+  pub elsewhere : None ≡ entry_items position value
+      → (more : List FiledEntry) × (reads_items reads_entry values ≡ Some more)
+      × (comments_at position rest ≡ comments_at position more)
+  elsewhere none =
+      let found = found_in value split.0 split.2 position None none in (
+        split.1,
+        split.3,
+        ap (comments_at position) (sym split.4)
+            ∙ ap (λ b. (if b then split.0.comments else []) ++ comments_at position split.1) found,
+      )
+
+  module _ (comments : Items) (at : Some comments ≡ entry_items position value) where
+    here : (reads_items reads_comment comments ≡ Some split.0.comments)
+        × (split.0.comments ++ comments_at position split.1 ≡ comments_at position rest)
+    here =
+        let found = found_in value split.0 split.2 position (Some comments) at in (
+          found.1,
+          sym (ap (λ b. (if b then split.0.comments else []) ++ comments_at position split.1) found.0)
+              ∙ ap (comments_at position) split.4,
+        )
+
+    -- The comment is one of the first entry.
+    pub within : (n : ℕ) → n < item_count comments
+        → (nth_item n comments >>= reads_comment) ≡ slice_get (comments_at position rest) n
+    within n fits =
+        let count = items_count reads_comment comments split.0.comments here.0 in
+        read_from reads_comment (nth_item n comments) (slice_get split.0.comments n)
+        (items_from reads_comment comments split.0.comments here.0 n)
+        ∙ within_front split.0.comments (comments_at position split.1) n (subst (λ m. n < m) count fits)
+        ∙ ap (λ cs. slice_get cs n) here.1
+
+    -- The comment is one of a later entry.
+    pub past : (n : ℕ) → item_count comments ≤ n
+        → (more : List FiledEntry) × (reads_items reads_entry values ≡ Some more)
+        × (slice_get (comments_at position rest) n ≡ slice_get (comments_at position more)
+        (n - item_count comments))
+    past n fits =
+        let count = items_count reads_comment comments split.0.comments here.0 in (
+          split.1,
+          split.3,
+          ap (λ cs. slice_get cs n) (sym here.1)
+              ∙ past_front split.0.comments (comments_at position split.1) n (subst (λ m. m ≤ n) count fits)
+              ∙ ap (λ m. slice_get (comments_at position split.1) (n - m)) (sym count),
+        )
+
+-- There is no entry.
+pub none_left : (values : Items) (rest : List FiledEntry) → values ≡ no_items
+    → reads_items reads_entry values ≡ Some rest → [] ≡ rest
+unfolding reads_items
+none_left values rest empty is = same_Some [] rest (sym (ap (reads_items reads_entry) empty) ∙ is)
+
+-- ---- The entries of a side
+
+-- The entries are read from these items. Without items there are no entries.
+abbrev pub IsOfEntries : List FiledEntry → Option Items → Type 0
+IsOfEntries entries None = entries ≡ []
+IsOfEntries entries (Some values) = reads_items reads_entry values ≡ Some entries
+
+of_array : (entries : List FiledEntry) (listed : Value) → reads_array reads_entry listed ≡ Some entries
+    → (found : Option Items)
+    → found ≡ as_array listed → IsOfEntries entries found
+unfolding reads_array
+of_array entries listed is None at =
+    option_and_then_some (reads_items reads_entry) (as_array listed) entries is
+    (λ values there _. absurd (none-some values (at ∙ there)))
+of_array entries listed is (Some found) at =
+    option_and_then_some (reads_items reads_entry) (as_array listed) entries is
+    (λ values there read. ap (reads_items reads_entry) (same_Some found values (at ∙ there)) ∙ read)
+
+of_member : (entries : List FiledEntry) (member : Option Value)
+    → or_default (reads_array reads_entry) [] member ≡ Some entries
+    → (found : Option Items) → found ≡ (member >>= as_array) → IsOfEntries entries found
+of_member entries None is None at = sym (same_Some [] entries is)
+of_member entries None is (Some found) at = absurd (none-some found (sym at))
+of_member entries (Some listed) is found at = of_array entries listed is found at
+
+abbrev sides_with : List FiledEntry → List FiledEntry → Sides
+sides_with leading trailing = record { leading = leading; trailing = trailing }
+
+side_in : (side : CommentSide) (members : Members) (sides : Sides)
+    → reads_sides members ≡ Some sides
+    → reads_side side members ≡ Some (side_entries sides side)
+unfolding reads_sides
+side_in side members sides is =
+    option_and_then_some _ (reads_side Leading members) sides is
+    (λ leading leading_is with_leading. option_and_then_some _
+    (reads_side Trailing members) sides with_leading
+    (λ trailing trailing_is made. subst (λ s. reads_side side members ≡ Some (side_entries s side))
+    (same_Some (sides_with leading trailing) sides made)
+    (of_side side leading trailing leading_is trailing_is)))
+  where
+    of_side : (side : CommentSide) (leading trailing : List FiledEntry)
+        → reads_side Leading members ≡ Some leading → reads_side Trailing members ≡ Some trailing
+        → reads_side side members ≡ Some (side_entries (sides_with leading trailing) side)
+    of_side Leading leading trailing first second = first
+    of_side Trailing leading trailing first second = second
+
+-- The entries of a side, from the member of a document.
+abbrev pub side_items : CommentSide → Value → Option Items
+side_items side value = as_object value >>= (λ members. last_named (side_name side) members >>= as_array)
+
+pub entries_from : (value : Value) (contents : Contents) → reads_document value ≡ Some contents
+    → (side : CommentSide) (found : Option Items)
+    → found ≡ side_items side value → IsOfEntries (side_entries contents.comments side) found
+unfolding reads_document required reads_side
+entries_from value contents is side found at =
+    option_and_then_some _ (as_object value) contents is
+    (λ members object with_members. option_and_then_some _
+    (last_named (codes "specifier") members >>= as_str) contents with_members
+    (λ specifier _ with_specifier. option_and_then_some _
+    (last_named (codes "mediaType") members >>= reads_named media_types) contents with_specifier
+    (λ media_type _ with_media_type. option_and_then_some _
+    (last_named (codes "source") members >>= as_str) contents with_media_type
+    (λ source _ with_source. option_and_then_some _ (reads_sides members) contents with_source
+    (λ comments read with_comments. option_and_then_some _
+    (last_named (codes "program") members >>= reads_program) contents with_comments
+    (λ program _ made.
+    subst (λ s. IsOfEntries (side_entries s.comments side) found) (same_Some _ contents made)
+    (of_member (side_entries comments side) (last_named (side_name side) members)
+    (side_in side members comments read) found
+    (at ∙ ap (λ o. o >>= (λ ms. last_named (side_name side) ms >>= as_array)) object))))))))

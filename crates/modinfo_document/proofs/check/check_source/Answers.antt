@@ -1,0 +1,19 @@
+use Rattle.std.proofs.Common.{inr, rules}
+use Rattle.modinfo_document.specs.declared.error.DocumentError.TheVariants.{Source}
+use Rattle.modinfo_document.proofs.check.check_source.Goals as goal
+
+-- The text has this document, whose source has the fault.
+pub returns-in_ok-source_report-in-Some : goal.returns-in_ok-source_report-in-Some
+returns-in_ok-source_report-in-Some c text is url has_url = (
+  Source c.in-Some.found.fault,
+  search rules,
+  inr (c.args.document.now, is, search rules),
+)
+
+pub returns-in_ok-find_warnings-in-None : goal.returns-in_ok-find_warnings-in-None
+returns-in_ok-find_warnings-in-None c text is url has_url = record {
+  document = c.args.document.now;
+  is_document = is;
+  has_url = (url, has_url);
+  is_valid = search rules;
+}

@@ -1,0 +1,47 @@
+-- The errors in reading a document's text, its specifier and its source, each as an error of the document.
+use Rattle.deno_graph_json.specs.declared.flat.fault.TapeFault.{TapeFault}
+use Rattle.deno_graph_json.specs.declared.flat.fault.TapeFault.TheVariants.{
+  Json as NoJson,
+  OutOfMemory as NoMemory,
+}
+use Rattle.url.specs.declared.error.ParseError.{ParseError}
+use Rattle.url.specs.declared.error.ParseError.TheVariants as url
+use Rattle.deno_graph_source.specs.declared.tree.fault.SourceFault.{SourceFault}
+use Rattle.deno_graph_source.specs.declared.tree.fault.SourceFault.TheVariants as source
+use Rattle.modinfo_document.specs.declared.error.DocumentError.{DocumentError}
+use Rattle.modinfo_document.specs.declared.error.DocumentError.TheVariants.{
+  Json,
+  Specifier,
+  Source,
+  OutOfMemory,
+}
+
+-- The text isn't JSON, or an allocation failed.
+abbrev pub of_tape : TapeFault → DocumentError
+of_tape (NoJson offset) = Json offset
+of_tape NoMemory = OutOfMemory
+
+-- The specifier isn't a URL, or an allocation failed. A URL of 4 GB counts as a failed allocation.
+abbrev pub of_url : ParseError → DocumentError
+of_url url.EmptyHost = Specifier
+of_url url.IdnaError = Specifier
+of_url url.InvalidPort = Specifier
+of_url url.InvalidIpv4Address = Specifier
+of_url url.InvalidIpv6Address = Specifier
+of_url url.InvalidDomainCharacter = Specifier
+of_url url.RelativeUrlWithoutBase = Specifier
+of_url url.RelativeUrlWithCannotBeABaseBase = Specifier
+of_url url.SetHostOnCannotBeABaseUrl = Specifier
+of_url url.CannotSet = Specifier
+of_url url.Overflow = OutOfMemory
+of_url url.OutOfMemory = OutOfMemory
+
+-- The tree or the comments don't fit the source, or an allocation failed.
+abbrev pub of_source : SourceFault → DocumentError
+of_source source.RangeReversed = Source source.RangeReversed
+of_source source.RangeOutside = Source source.RangeOutside
+of_source source.RangeOffBoundary = Source source.RangeOffBoundary
+of_source source.CommentText = Source source.CommentText
+of_source source.CommentsOverlap = Source source.CommentsOverlap
+of_source source.Shape = Source source.Shape
+of_source source.OutOfMemory = OutOfMemory

@@ -1,0 +1,6 @@
+-- Definitions for contracts of private functions and for proofs.
+pub mod Comments
+pub mod Document
+pub mod Lookup
+pub mod Mismatch
+pub mod Returned

@@ -1,0 +1,19 @@
+-- Comments and program of a document.
+use Rattle.std.specs.Prelude.{◌≡◌, codes, Option, Some}
+use Rattle.deno_graph_json.specs.Value.{Members}
+use Rattle.deno_graph_source.specs.Comments.{FiledComments}
+use Rattle.deno_graph_source.specs.declared.tree.node.Program.{Program}
+use Rattle.modinfo_document.specs.Partial.{◌>>=◌, required}
+use Rattle.modinfo_document.specs.Comments.{Sides, reads_sides, AreThoseOf}
+use Rattle.modinfo_document.specs.Node.{reads_program}
+
+-- The entries of the comments, and the program.
+unfoldable pub reads_tree : Members → Option (Sides × Program)
+reads_tree members = do
+  comments ← reads_sides members
+  program ← required reads_program (codes "program") members
+  Some (comments, program)
+
+-- The comments are those of these entries, and the program is this one.
+abbrev pub HasTree : Sides × Program → FiledComments × Program → Type 0
+HasTree contents tree = AreThoseOf contents.0 tree.0 × (tree.1 ≡ contents.1)

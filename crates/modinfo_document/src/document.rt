@@ -1,0 +1,108 @@
+//! Module documents.
+
+ghost use Rattle.std.specs.Prelude.{◌≡◌, IfErr, MatchResult, None, Ok};
+ghost use Rattle.url.specs.Parser.{parse_url};
+ghost use Rattle.deno_graph_json.specs.Tape.{object_of_members};
+ghost use Rattle.deno_graph_json.specs.View.{members_of, value_of};
+ghost use Rattle.modinfo_document.specs.Returned.{ReturnsBy};
+ghost use Rattle.modinfo_document.specs.Document.{Has, IsDocumentOf, IsNoDocument};
+ghost use Rattle.modinfo_document.specs.internal.Document.{HasTree};
+ghost use Rattle.modinfo_document.specs.Document.{IsNoSource, IsSourceOf};
+ghost use Rattle.modinfo_document.specs.Document.{reads_document};
+ghost use Rattle.modinfo_document.specs.internal.Document.{reads_tree};
+ghost use Rattle.modinfo_document.specs.Mismatch.{IsIn};
+
+use crate::comments::read_comments;
+use crate::error::DocumentError;
+use crate::media_type::read_media_type;
+use crate::member::{members_of, required, text};
+use crate::node::read_program;
+use deno_graph_json::{Element, Members, Tape};
+use deno_graph_source::tree::{Comments, MediaType, ParsedSource, Program};
+use deno_graph_source::values::Text;
+use json::Scratch;
+use std::alloc::Global;
+use std::rc::RcStr;
+use url::Url;
+
+/// A module document. Its specifier may be no URL, and its tree and comments may not fit its source:
+/// `into_source` checks them.
+#[derive(Debug, Drop)]
+pub struct Document {
+    pub specifier: Text,
+    pub media_type: MediaType,
+    pub source: RcStr,
+    pub program: Program,
+    pub comments: Comments,
+}
+
+/// Reads a document. `Tree` with the first mismatch if the value has another form, `OutOfMemory` if
+/// an allocation fails.
+pub fn read_document(alloc: Global, value: Element<'_>) -> Result<Document, DocumentError>
+    ensures mismatch { IfErr result (IsIn value.entry) }
+    ensures read { ReturnsBy Has (reads_document (value_of value.entry)) result }
+{
+    let members = members_of(value)?;
+    let specifier = Text::from_str(alloc, text(members, "specifier")?)?;
+    let media_type = read_media_type(required(members, "mediaType")?)?;
+    let source = RcStr::from_str(alloc, text(members, "source")?)?;
+    let (comments, program) = read_tree(alloc, members)?;
+    Ok(Document {
+        specifier,
+        media_type,
+        source,
+        program,
+        comments,
+    })
+}
+
+/// Reads the comments and the program.
+#[tactic(auto, using(crate::proofs::Reading::reading_by), unfolding(crate::specs::internal::Document::reads_tree, crate::specs::Partial::required))]
+fn read_tree(alloc: Global, members: Members<'_>) -> Result<(Comments, Program), DocumentError>
+    ensures mismatch { IfErr result (IsIn (object_of_members members.entry)) }
+    ensures read { ReturnsBy HasTree (reads_tree (members_of members.entry)) result }
+{
+    let comments = read_comments(alloc, members)?;
+    let program = read_program(alloc, required(members, "program")?)?;
+    Ok((comments, program))
+}
+
+/// Reads a document from its text. `Json` if the text isn't JSON, nests deeper than 127 or has a
+/// number too large for a float; `Tree` if the JSON has another form; `OutOfMemory` if an allocation
+/// fails.
+pub fn parse_document(alloc: Global, text: &str) -> Result<Document, DocumentError>
+    ensures { MatchResult result (IsDocumentOf text.now) (IsNoDocument text.now) }
+{
+    let mut scratch = Scratch::new(alloc);
+    let tape = Tape::read(alloc, text, &mut scratch)?;
+    read_document(alloc, tape.root())
+}
+
+impl Document {
+    /// Parses the specifier. `Specifier` if it is no URL, `OutOfMemory` if an allocation fails or the
+    /// URL would take 4 GB.
+    pub fn url(&self, alloc: Global) -> Result<Url, DocumentError>
+        ensures { MatchResult result (λ url. parse_url None self.now.specifier ≡ Ok url)
+            (IsNoSource self.now) }
+    {
+        Ok(Url::parse(alloc, self.specifier.as_str())?)
+    }
+
+    /// The source, without scope analysis. `Specifier` if the specifier is no URL; else `Source` if the
+    /// tree or the comments don't fit the source; `OutOfMemory` as for `url`.
+    pub fn into_source(self, alloc: Global) -> Result<ParsedSource, DocumentError>
+        ensures { MatchResult result (IsSourceOf self) (IsNoSource self) }
+    {
+        let Document {
+            specifier,
+            media_type,
+            source,
+            program,
+            comments,
+        } = self;
+        let specifier = Url::parse(alloc, specifier.as_str())?;
+        Ok(ParsedSource::new(
+            alloc, specifier, source, media_type, program, comments, false,
+        )?)
+    }
+}

@@ -1,0 +1,29 @@
+//! Module documents: JSON with a module's specifier, source, syntax tree and comments; reports on
+//! documents. docs/FORMATS.md describes both.
+#![tactic(auto)]
+
+mod array;
+mod call;
+mod check;
+mod comments;
+mod declaration;
+pub mod document;
+pub mod error;
+mod expression;
+mod kind;
+mod literal;
+mod lookup;
+mod media_type;
+mod member;
+pub mod names;
+mod node;
+mod property;
+pub mod report;
+
+pub use check::check_document;
+pub use document::{Document, parse_document, read_document};
+pub use error::{DocumentError, ElementMismatch, Expected};
+pub use kind::KINDS;
+pub use literal::read_string;
+pub use lookup::{comment_at, node_at};
+pub use names::{Role, member_names};

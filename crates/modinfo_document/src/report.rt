@@ -1,0 +1,205 @@
+//! Reports on documents: the fault of a document, and where it is. docs/FORMATS.md describes them.
+
+ghost use Rattle.std.specs.Prelude.{◌≡◌, ◌↔◌, IfOk, IsTrue, Some};
+ghost use Rattle.modinfo_document.specs.Report.{LetsPass, Reports};
+
+mod element;
+mod pointer;
+mod source;
+mod syntax;
+mod text_place;
+mod token;
+mod tree;
+mod warning;
+mod warnings;
+
+use crate::report::pointer::pointer_of;
+use deno_graph_json::{Mismatch, TextWriter};
+use deno_graph_source::text::SourceRange;
+pub(crate) use source::source_report;
+use std::alloc::{AllocError, Global};
+pub(crate) use syntax::json_report_at;
+pub use syntax::{json_report, report_invalid_utf8};
+pub use text_place::TextPlace;
+pub(crate) use tree::{specifier_report, tree_report};
+pub use warning::{Warning, Warnings};
+pub(crate) use warnings::find_warnings;
+
+/// The fault of a document.
+#[derive(Debug, PartialEq, Eq, Drop)]
+pub struct FaultReport {
+    /// The name of the fault, as the program prints it.
+    pub fault: String,
+    /// The JSON Pointer of the faulty value. `None` for `Json` and `Input`.
+    pub pointer: Option<String>,
+    /// The JSON Pointer of the other value, if two values don't go together.
+    pub other: Option<String>,
+    /// The faulty range, or the range of the faulty node or comment: two offsets in bytes.
+    pub range: Option<SourceRange>,
+    /// For `Json` and `Input`: the place of the first byte that isn't JSON or UTF-8.
+    pub at: Option<TextPlace>,
+    /// What is expected in place of the value or the byte, in words.
+    pub expected: String,
+}
+
+impl FaultReport {
+    /// A report without a pointer, a range or a place in the text.
+    pub fn new(fault: String, expected: String) -> FaultReport {
+        FaultReport {
+            fault,
+            pointer: None,
+            other: None,
+            range: None,
+            at: None,
+            expected,
+        }
+    }
+
+    /// The report on the value to which this JSON Pointer leads.
+    pub fn of_value(fault: String, pointer: String, expected: String) -> FaultReport
+        ensures pointer { result.pointer ≡ Some pointer }
+        ensures expected { result.expected ≡ expected }
+    {
+        FaultReport {
+            fault,
+            pointer: Some(pointer),
+            other: None,
+            range: None,
+            at: None,
+            expected,
+        }
+    }
+
+    /// The report on a value that isn't what is expected there. The only error is a failed allocation.
+    pub fn of_mismatch(
+        alloc: Global,
+        fault: String,
+        mismatch: &Mismatch,
+    ) -> Result<FaultReport, AllocError>
+        ensures { IfOk result (Reports mismatch.now) }
+    {
+        let pointer = pointer_of(alloc, &mismatch.path)?;
+        let expected = mismatch.expected.to_words(alloc)?;
+        Ok(FaultReport::of_value(fault, pointer, expected))
+    }
+
+    /// The report on a text with an invalid byte at this place.
+    pub(crate) fn of_text(fault: String, at: TextPlace, expected: String) -> FaultReport {
+        FaultReport {
+            fault,
+            pointer: None,
+            other: None,
+            range: None,
+            at: Some(at),
+            expected,
+        }
+    }
+}
+
+/// The result of a check.
+#[derive(Debug, PartialEq, Eq, Drop)]
+pub enum Report {
+    /// The document is valid.
+    Valid(Warnings),
+    /// The document has a fault.
+    Invalid(FaultReport),
+}
+
+impl Report {
+    /// Whether the check passed: the document is valid and, if the check is strict, has no warnings.
+    pub fn passes(&self, is_strict: bool) -> bool
+        ensures { IsTrue result ↔ LetsPass is_strict self.now }
+    {
+        match self {
+            Report::Valid(warnings) => !is_strict || warnings.is_empty(),
+            Report::Invalid(_) => false,
+        }
+    }
+
+    /// The report as one line of JSON, without a line feed. The only error is a failed allocation.
+    pub fn to_line(&self, alloc: Global) -> Result<String, AllocError> {
+        let mut line = TextWriter::new(alloc)?;
+        match self {
+            Report::Valid(warnings) => write_warnings(&mut line, warnings)?,
+            Report::Invalid(fault) => write_fault(&mut line, fault)?,
+        }
+        Ok(line.into_string())
+    }
+}
+
+fn write_fault(line: &mut TextWriter, report: &FaultReport) -> Result<(), AllocError> {
+    line.begin_object()?;
+    write_member(line, "fault", report.fault.as_str())?;
+    write_location(line, report)?;
+    write_member(line, "expected", report.expected.as_str())?;
+    line.end_object()
+}
+
+/// Writes the members with the location of the fault.
+fn write_location(line: &mut TextWriter, report: &FaultReport) -> Result<(), AllocError> {
+    if let Some(pointer) = &report.pointer {
+        write_member(line, "pointer", pointer.as_str())?;
+    }
+    if let Some(other) = &report.other {
+        write_member(line, "other", other.as_str())?;
+    }
+    if let Some(range) = report.range {
+        write_range(line, range)?;
+    }
+    match report.at {
+        Some(at) => write_text_place(line, at),
+        None => Ok(()),
+    }
+}
+
+fn write_range(line: &mut TextWriter, range: SourceRange) -> Result<(), AllocError> {
+    line.key("range")?;
+    line.begin_array()?;
+    line.number(range.start)?;
+    line.number(range.end)?;
+    line.end_array()
+}
+
+fn write_text_place(line: &mut TextWriter, at: TextPlace) -> Result<(), AllocError> {
+    line.key("at")?;
+    line.begin_object()?;
+    write_count(line, "line", at.position.line)?;
+    write_count(line, "column", at.position.character)?;
+    write_count(line, "offset", at.offset)?;
+    line.end_object()
+}
+
+fn write_warnings(line: &mut TextWriter, warnings: &Warnings) -> Result<(), AllocError> {
+    line.begin_object()?;
+    line.key("valid")?;
+    line.boolean(true)?;
+    if !warnings.is_empty() {
+        line.key("warnings")?;
+        write_kept(line, warnings.kept.as_slice())?;
+    }
+    if warnings.more > 0 {
+        write_count(line, "more", warnings.more)?;
+    }
+    line.end_object()
+}
+
+fn write_kept(line: &mut TextWriter, kept: &[Warning]) -> Result<(), AllocError> {
+    line.begin_array()?;
+    for warning in kept {
+        line.begin_object()?;
+        write_member(line, "pointer", warning.pointer.as_str())?;
+        write_member(line, "says", warning.says)?;
+        line.end_object()?;
+    }
+    line.end_array()
+}
+
+fn write_member(line: &mut TextWriter, name: &str, text: &str) -> Result<(), AllocError> {
+    line.key(name)?;
+    line.string(text)
+}
+
+fn write_count(line: &mut TextWriter, name: &str, count: usize) -> Result<(), AllocError> {
+    line.key(name)?;
+    line.number(count)
+}

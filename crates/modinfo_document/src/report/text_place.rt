@@ -1,0 +1,30 @@
+use deno_graph_source::text::Position;
+
+/// A boundary of the text of a document: its position, and the number of bytes before it.
+#[derive(Debug, Clone, Copy, PartialEq, Eq)]
+pub struct TextPlace {
+    pub position: Position,
+    pub offset: usize,
+}
+
+impl TextPlace {
+    /// Returns the place at an offset, in bytes; the end of the text if the offset is after the end or
+    /// inside a character.
+    pub fn new(text: &str, offset: usize) -> TextPlace {
+        let before = text.get(..offset).unwrap_or(text);
+        let mut line = 0usize;
+        let mut character = 0usize;
+        for next in before.chars() {
+            if next == '\n' {
+                line = line.saturating_add(1);
+                character = 0;
+            } else {
+                character = character.saturating_add(1);
+            }
+        }
+        TextPlace {
+            position: Position::new(line, character),
+            offset: before.len(),
+        }
+    }
+}

@@ -1,0 +1,60 @@
+ghost use Rattle.std.specs.Prelude.{◌↔◌, IsTrue};
+ghost use Rattle.modinfo_document.specs.Report.{HasNone};
+
+use deno_graph_json::{Element, Tape};
+use std::alloc::{AllocError, Global};
+
+/// The number of warnings that are kept for a document.
+const MAX_KEPT: usize = 100;
+
+/// A warning about a value that the author of the document may not have meant.
+#[derive(Debug, PartialEq, Eq, Drop)]
+pub struct Warning {
+    /// The JSON Pointer of the value.
+    pub pointer: String,
+    /// The warning, in words.
+    pub says: &'static str,
+}
+
+/// The warnings about a document, in the order of reading.
+#[derive(Debug, PartialEq, Eq, Drop)]
+pub struct Warnings {
+    /// The first 100 warnings.
+    pub kept: Vec<Warning>,
+    /// The number of other warnings.
+    pub more: usize,
+}
+
+impl Warnings {
+    /// No warnings. Allocates nothing.
+    pub fn new(alloc: Global) -> Warnings {
+        Warnings {
+            kept: Vec::new(alloc),
+            more: 0,
+        }
+    }
+
+    /// Whether there are no warnings.
+    pub fn is_empty(&self) -> bool
+        ensures { IsTrue result ↔ HasNone self.now }
+    {
+        self.kept.is_empty() && self.more == 0
+    }
+
+    /// Adds a warning about a value of the document. The only error is a failed allocation.
+    pub fn add(
+        &mut self,
+        alloc: Global,
+        tape: &Tape<'_>,
+        value: Element<'_>,
+        says: &'static str,
+    ) -> Result<(), AllocError> {
+        if self.kept.len() >= MAX_KEPT {
+            self.more = self.more.saturating_add(1);
+            return Ok(());
+        }
+        let pointer = tape.pointer(alloc, value.number())?;
+        self.kept.push(Warning { pointer, says })?;
+        Ok(())
+    }
+}

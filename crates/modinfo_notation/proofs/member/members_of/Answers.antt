@@ -1,6 +1,0 @@
-use Rattle.modinfo_notation.proofs.Reading.{seen_or_misfit}
-use Rattle.modinfo_notation.proofs.member.members_of.Goals as goal
-
-pub returns-clause-read : goal.returns-clause-read
-returns-clause-read c =
-    seen_or_misfit _ _ _ _ _ c.members.ensures.members c.misfit.ensures.misfit c.ok_or.ensures.value

@@ -1,0 +1,89 @@
+use deno_graph_info::analysis::InfoFault;
+use deno_graph_json::TapeFault;
+use deno_graph_source::tree::SourceFault;
+use modinfo::document::DocumentError;
+use std::alloc::{AllocError, AllocFailed};
+use std::io::{self, ErrorKind};
+use thiserror::Error;
+
+/// Why a test case wasn't run.
+#[derive(Debug, Drop, Error)]
+pub enum CaseError {
+    /// An allocation failed.
+    #[error("OutOfMemory")]
+    OutOfMemory,
+    /// A file can't be read, or the output can't be written.
+    #[error("a file can't be read or written")]
+    File,
+    /// The test case is invalid: the reason, in words.
+    #[error("{0}")]
+    Invalid(&'static str),
+}
+
+impl From<AllocError> for CaseError {
+    fn from(_error: AllocError) -> CaseError {
+        CaseError::OutOfMemory
+    }
+}
+
+impl<T: Drop> From<AllocFailed<T>> for CaseError {
+    fn from(_error: AllocFailed<T>) -> CaseError {
+        CaseError::OutOfMemory
+    }
+}
+
+impl From<io::Error> for CaseError {
+    fn from(error: io::Error) -> CaseError {
+        if error.kind() == ErrorKind::OutOfMemory {
+            CaseError::OutOfMemory
+        } else {
+            CaseError::File
+        }
+    }
+}
+
+impl From<serde_json::Error> for CaseError {
+    fn from(error: serde_json::Error) -> CaseError {
+        if error.is_memory() {
+            CaseError::OutOfMemory
+        } else {
+            CaseError::Invalid("its input is no JSON")
+        }
+    }
+}
+
+impl From<TapeFault> for CaseError {
+    fn from(fault: TapeFault) -> CaseError {
+        match fault {
+            TapeFault::Json { .. } => CaseError::Invalid("its input is no JSON"),
+            TapeFault::OutOfMemory => CaseError::OutOfMemory,
+        }
+    }
+}
+
+impl From<DocumentError> for CaseError {
+    fn from(fault: DocumentError) -> CaseError {
+        match fault {
+            DocumentError::OutOfMemory => CaseError::OutOfMemory,
+            _ => CaseError::Invalid("its input is no module document with a source"),
+        }
+    }
+}
+
+impl From<SourceFault> for CaseError {
+    fn from(fault: SourceFault) -> CaseError {
+        match fault {
+            SourceFault::OutOfMemory => CaseError::OutOfMemory,
+            _ => CaseError::Invalid("its document has a fault"),
+        }
+    }
+}
+
+impl From<InfoFault> for CaseError {
+    fn from(fault: InfoFault) -> CaseError {
+        match fault {
+            InfoFault::OutOfMemory => CaseError::OutOfMemory,
+            _ => CaseError::Invalid("an information of it can't be read"),
+        }
+    }
+}
