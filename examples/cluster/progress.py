@@ -19,7 +19,7 @@ class Progress:
         self._lines = self._bytes = 0
 
     def add(self, lines: int, size: int, workers: int) -> None:
-        """So many more lines are answered, of so many bytes, and so many workers are there."""
+        """Adds answered lines and their bytes, and shows the sums beside the number of workers."""
         self._lines += lines
         self._bytes += size
         now = time.monotonic()

@@ -6,7 +6,7 @@ from collections.abc import Callable, Iterable, Iterator
 from distributed import Client, Future
 from partitions import Partition
 
-# Answers the lines of a partition.
+# From the lines of a partition to the lines that are printed for them.
 Work = Callable[[bytes], bytes]
 
 

@@ -1,5 +1,5 @@
 /**
- * What `modinfo analyze` answers, without the JSDoc imports: a second, plain reading of the rules
+ * What `modinfo analyze` prints, without the JSDoc imports: a second, plain reading of the rules
  * in docs/FORMATS.md, for tests alone. It trusts the document.
  */
 

@@ -95,7 +95,7 @@ async function cacheOf(folder) {
  * What a cache knows of the two files.
  * @param {string} folder
  */
-function knownIn(folder) {
+function cachedIn(folder) {
   const cache = new AnalysisCache(join(folder, "cache"), STAND_IN);
   return ["a", "b"].map((name) => cache.find(join(folder, `src/${name}.js`)).analysis?.info);
 }
@@ -104,10 +104,10 @@ test("lines of a cache that are broken are passed over", async () => {
   const folder = project();
   await cacheOf(folder);
   const [first, second] = ["a", "b"].map((name) => `{"script":true,"name":"${name}"}`);
-  assert.deepEqual(knownIn(folder), [first, second]);
+  assert.deepEqual(cachedIn(folder), [first, second]);
   const cache = join(folder, "cache");
   const whole = readFileSync(cache, "utf8");
-  /** @type {[text: string, known: (string | undefined)[]][]} */
+  /** @type {[text: string, cached: (string | undefined)[]][]} */
   const broken = [
     [whole.replace('"name":"a"', '"name":"x"'), [undefined, second]], [whole.slice(0, -20), [first, undefined]],
     [whole.replaceAll("\n", ""), [undefined, undefined]], ["", [undefined, undefined]],
@@ -116,7 +116,7 @@ test("lines of a cache that are broken are passed over", async () => {
   ];
   for (const [text, expected] of broken) {
     writeFileSync(cache, text);
-    assert.deepEqual(knownIn(folder), expected);
+    assert.deepEqual(cachedIn(folder), expected);
   }
 });
 
@@ -140,6 +140,6 @@ test("of two runs at once nothing is lost", async () => {
     return cache;
   });
   await Promise.all(caches.map((cache) => cache.save()));
-  assert.deepEqual(knownIn(folder), [`"a"`, `"b"`]);
+  assert.deepEqual(cachedIn(folder), [`"a"`, `"b"`]);
   assert.equal(existsSync(join(folder, "cache.lock")), false);
 });

@@ -1,4 +1,4 @@
-/** Reports on documents, by modinfo and by a program that says what it is handed. */
+/** Reports on documents, by modinfo and by a program that prints what it is handed. */
 
 import assert from "node:assert/strict";
 import { chmodSync, existsSync, readdirSync, readFileSync } from "node:fs";
@@ -226,7 +226,7 @@ test("a document with a lone surrogate is no UTF-8", async () => {
   await modinfo.close();
 });
 
-test("what modinfo says of a lone surrogate", { skip }, async () => {
+test("what modinfo reports of a lone surrogate", { skip }, async () => {
   const modinfo = new Modinfo({ program: MODINFO });
   const { expected, ...report } = asFault(await modinfo.check('{\n"größe":"\ud800"}'));
   assert.deepEqual(report, { fault: "Input", at: { line: 1, column: 9, offset: 13 } });

@@ -21,7 +21,7 @@ export function parserFolder(name) {
 }
 
 /**
- * What TypeScript says of some files, in its strictest way.
+ * What TypeScript reports of some files, in its strictest way.
  * @param {string} folder
  * @param {Record<string, string>} files by their paths in it
  * @param {object} [options] more of its options
@@ -41,7 +41,7 @@ export function compile(folder, files, options = {}) {
 }
 
 /**
- * What TypeScript says of the files of a configuration.
+ * What TypeScript reports of the files of a configuration.
  * @param {string} configuration its path
  * @returns {string} nothing where all is right
  */

@@ -83,7 +83,7 @@ for (const adapter of ["estree", "typescript"]) {
     assert.equal(JSON.parse(stdout).program.body.length, 2);
   });
 
-  test(`${adapter} says its usage`, () => {
+  test(`${adapter} prints its usage`, () => {
     for (const words of [
       [], ["a.js", "b.js"], ["--none", "a.js"], ["a.txt"], ["--media-type", "Json", "a.js"],
       ["--specifier", "./a.js", "a.js"], ["--jobs", "2", "a.js"], ["--all", "a.js"], ["--lines"],
@@ -96,7 +96,7 @@ for (const adapter of ["estree", "typescript"]) {
     }
   });
 
-  test(`${adapter} answers --help and --version`, () => {
+  test(`${adapter} prints its help and its version`, () => {
     const help = runIn(["--help", "a.js"]);
     assert.deepEqual([help.stderr, help.status], ["", 0]);
     assert.match(help.stdout, new RegExp(`^usage: ${name} .*\n$`, "s"));
@@ -116,7 +116,7 @@ for (const adapter of ["estree", "typescript"]) {
     assert.deepEqual(others, ["let b = ;", `${" ".repeat(8)}^`, none, ""]);
   });
 
-  test(`${adapter} says when its output fails, unless its reader has ended`, () => {
+  test(`${adapter} reports that its output fails, unless its reader has ended`, () => {
     for (const words of [`"a b.mjs"`, "--lines lines/b.js"]) {
       const full = shell(`$node $cli/${program} ${words} > /dev/full`, FOLDER);
       const message = "the standard output: ENOSPC: no space left on device";

@@ -64,7 +64,7 @@ export function answerTo(document) {
 }
 
 /**
- * What both adapters' documents of a JavaScript text answer, which are the same document.
+ * The answer to the document of a JavaScript text, which is the same by both adapters.
  * @param {string} text
  * @param {string} [mediaType]
  */

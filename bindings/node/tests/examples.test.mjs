@@ -1,4 +1,4 @@
-/** The examples: their sources give the answers that are beside them, through each adapter. */
+/** The examples: their sources have the answers that are beside them, through each adapter. */
 
 import assert from "node:assert/strict";
 import { spawnSync } from "node:child_process";

@@ -92,7 +92,7 @@ test("the output is the same for any number of threads", () => {
   assert.deepEqual(outputs, Array(3).fill(outputs[0]));
 });
 
-test("where there is nothing to read, that is said", () => {
+test("where there is nothing to read, that is reported", () => {
   const folder = folderOf({ "empty/.keep": "", "text/a.txt": "" });
   for (const words of [["empty"], ["--cycles", "text"]]) {
     const { stdout, stderr, status } = run("files.mjs", words, { cwd: folder });
@@ -123,8 +123,8 @@ test("what has no answer is a fault, and the others go on", () => {
     "deep.js": ["Depth", "the text nests too deep for the parser"],
     "large.js": ["Input", "the file has more than 67108864 bytes (--max-bytes allows more)"],
   };
-  const said = Object.entries(messages).map(([file, [, text]]) => `${NAME}: ${file}: ${text}\n`);
-  const found = answers(files, folder, { stderr: said.join(""), status: 1 });
+  const reported = Object.entries(messages).map(([file, [, text]]) => `${NAME}: ${file}: ${text}\n`);
+  const found = answers(files, folder, { stderr: reported.join(""), status: 1 });
   const expected = files.map((file) => {
     const specifier = urlOf(folder, file);
     if (!(file in messages)) {
@@ -136,14 +136,14 @@ test("what has no answer is a fault, and the others go on", () => {
   assert.deepEqual(found, expected);
 });
 
-test("bytes that are too many for a text aren't said to be no UTF-8", () => {
+test("bytes that are too many for a text aren't reported as no UTF-8", () => {
   /** @param {string} message */
   const refused = (message) => ({ name: "FileFault", fault: "Input", message });
   assert.throws(() => decode(Buffer.of(0xff)), refused("the file is not UTF-8"));
   assert.throws(() => decode(new Uint8Array(2 ** 29)), refused("the file is longer than a text can be"));
 });
 
-test("warnings are said, and the file has its answer", () => {
+test("warnings are reported, and the file has its answer", () => {
   const folder = folderOf({ "a.js": `require("a" +${" b +".repeat(60)} require("c"));\n` });
   const warning = "warning: a sum of more than 59 operands is left as unknown";
   const [{ info }] = answers(["a.js"], folder, { stderr: `${NAME}: a.js:1:9: ${warning}\n` });
@@ -187,7 +187,7 @@ test("--all goes into node_modules", () => {
   assert.equal(found.length, 7);
 });
 
-test("--resolve gives all that names a module what its name resolves to", () => {
+test("--resolve adds what names resolve to, wherever a module is named", () => {
   const folder = project();
   const found = answers(["--resolve", "src/main.ts", "src/b.ts", "src/only_types.ts"], folder);
   const resolved = found.map((each) => dependenciesOf(each)?.map(({ resolved: to }) => to));
@@ -203,7 +203,7 @@ test("--resolve gives all that names a module what its name resolves to", () => 
   assert.deepEqual(info.dependencies[0].resolved, { class: "file", file: urlOf(inCommonJs, "b/index.ts") });
 });
 
-test("what is wrong with a configuration is said once", () => {
+test("what is wrong with a configuration is reported once", () => {
   const folder = folderOf({ "tsconfig.json": "{", "a.ts": "", "b.ts": "", "c.ts": "" });
   const { stderr, status } = run("files.mjs", ["--resolve", "--jobs", "3", "."], { cwd: folder });
   assert.equal(stderr, `${NAME}: warning: ${folder}/tsconfig.json: '}' expected.\n`);
@@ -276,7 +276,7 @@ done
   assert.deepEqual(found.map(({ info, fault: name }) => info ?? name), [{}, "Program", {}]);
 });
 
-/** Whether the program is built, and answers lines. */
+/** Whether the program is built, and has `--lines`. */
 function hasLines() {
   return existsSync(MODINFO) && spawnSync(MODINFO, ["analyze", "--lines"]).status === 0;
 }

@@ -135,7 +135,7 @@ test("options that there aren't, and values that they can't have, are refused", 
   assert.throws(() => new Modinfo(unchecked({ job: 2 })), { name: "TypeError", message: /^there is no option job: / });
 });
 
-test("where the program can't be started, a graph says so", async () => {
+test("where the program can't be started, a graph is rejected", async () => {
   const none = new Modinfo({ program: "/none/modinfo" });
   await assert.rejects(none.graph({ paths: ["."] }), { name: "ProgramEnd", message: /ENOENT/ });
   await none.close();

@@ -11,7 +11,7 @@ const EXPR = { type: "expr" };
 const string = (value) => ({ type: "string", value });
 
 /**
- * The dependencies of a text without their places.
+ * The dependencies of a text without their ranges.
  * @param {string} text
  * @param {string} [mediaType]
  */
@@ -71,7 +71,7 @@ test("a clause is an object in its braces", () => {
   }
 });
 
-test("which calls are listed", () => {
+test("which calls are dependencies", () => {
   assert.deepEqual(dependencies(`import("a"); require("b"); new require("c"); require(); require.resolve("d");`), [
     { argument: "a" }, { kind: "require", argument: "b" },
   ]);
@@ -234,7 +234,7 @@ test("what awaits nests as deep as it likes", () => {
   assert.equal(answerOf(inFunction).script, true);
 });
 
-test("of a sum of many operands nothing is known, which is said", () => {
+test("of a sum of many operands nothing is known, which is reported", () => {
   /** @param {number} operands */
   const sum = (operands) => `require("a"${' + b + require("c")'.repeat(operands / 2)})`;
   for (const [, adapter] of ADAPTERS) {

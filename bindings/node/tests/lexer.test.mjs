@@ -107,7 +107,7 @@ for (const [name, text] of Object.entries(LEFT)) {
   });
 }
 
-test("what is valid in a script alone is left to a parser as a module, and the other way round", () => {
+test("what is valid in a script alone is left to a parser as a module, and the reverse", () => {
   assert.ok(lexed("with (a) b", "Cjs"));
   assert.equal(lexed("with (a) b", "Mjs"), undefined);
   assert.ok(lexed(`import "a"`, "Mjs"));

@@ -14,7 +14,7 @@ import { folderOf } from "./run_commands.mjs";
 const SERVE = new URL("../src/runtime/worker.mjs", import.meta.url).href;
 
 /**
- * A module for a pool, in which `handle` answers a task.
+ * A module for a pool, in which `handle` makes the result of a task.
  * @param {string} handle
  */
 function workerOf(handle) {

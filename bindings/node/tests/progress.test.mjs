@@ -16,7 +16,7 @@ function stream(isTTY) {
   return { isTTY, write: (/** @type {string} */ more) => (text += more), get text() { return text; } };
 }
 
-test("on a terminal it says the files done of all, and the faults", () => {
+test("on a terminal it prints the files done of all, and the faults", () => {
   const terminal = stream(true);
   const progress = new Progress(terminal, true);
   [1, 2, 3].forEach(() => progress.find());
@@ -31,7 +31,7 @@ test("on a terminal it says the files done of all, and the faults", () => {
   );
 });
 
-test("elsewhere it says what stays alone", () => {
+test("elsewhere it prints what stays alone", () => {
   for (const isShown of [true, false]) {
     const file = stream(false);
     const progress = new Progress(file, isShown);

@@ -86,7 +86,7 @@ test("no path from outside of the folder is in the page", () => {
   assert.deepEqual(modules[1].rows[0].to, { class: "file", file: "../other/g.ts" });
 });
 
-test("a file that is named twice is there once, and so is what is said of it", () => {
+test("a file that is named twice is there once, and so is what is reported of it", () => {
   const folder = folderOf({ ...PROJECT, "src/wrong.ts": "let b = ;\n" });
   const words = ["src", "src/b.ts", "--entry", "src/wrong.ts"];
   const { stderr } = make(folder, words);
@@ -104,7 +104,7 @@ test("the page is the same each time", () => {
   assert.equal(readFileSync(join(folder, "one.html"), "utf8"), readFileSync(join(folder, "two.html"), "utf8"));
 });
 
-test("a file without an answer is said, is in the page with its place, and the status is 1", () => {
+test("a file without an answer is reported, is in the page with its position, and the status is 1", () => {
   const folder = folderOf({ "a.ts": "let a = 1;\nlet b = ;\n", "b.ts": Buffer.of(0xff), "c.ts": "" });
   const { stderr, status } = make(folder, ["."]);
   const excerpt = "let b = ;\n        ^";
@@ -119,7 +119,7 @@ test("a file without an answer is said, is in the page with its place, and the s
   assert.deepEqual([modules[1].fault.fault, modules[1].source], ["Input", undefined]);
 });
 
-test("without a library the page is made without what it draws, and says which package has it", () => {
+test("without a library the page is made without what it draws, and names the package that has it", () => {
   const [layout, sizes] = readLibraries([folderOf()]);
   assert.equal(layout.fault, "dagre is not installed: npm install dagre, or Debian's node-dagre-layout");
   assert.equal(sizes.fault, "d3-hierarchy is not installed: npm install d3-hierarchy, or Debian's node-d3-hierarchy");
@@ -139,9 +139,9 @@ test("--dot writes the graph for Graphviz", () => {
 test("what can't be written is an error", () => {
   const folder = folderOf(PROJECT);
   mkdirSync(join(folder, "page"));
-  for (const [file, says] of [["page", "EISDIR: illegal operation on a directory"], ["none/a.html", "ENOENT: no such file or directory"]]) {
+  for (const [file, message] of [["page", "EISDIR: illegal operation on a directory"], ["none/a.html", "ENOENT: no such file or directory"]]) {
     const { stderr, status } = make(folder, ["-o", file, "src"]);
-    assert.deepEqual([stderr, status], [`${NAME}: ${file}: ${says}\n`, 1]);
+    assert.deepEqual([stderr, status], [`${NAME}: ${file}: ${message}\n`, 1]);
   }
 });
 

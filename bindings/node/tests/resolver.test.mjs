@@ -207,7 +207,7 @@ test("what comments name", async () => {
   ]);
 });
 
-test("what is wrong with a configuration is said once", async () => {
+test("what is wrong with a configuration is reported once", async () => {
   const folder = folderOf({
     "a/tsconfig.json": `{ "compilerOptions": { "module": "none such" }`, "a/b.ts": "", "a/c.ts": "",
   });

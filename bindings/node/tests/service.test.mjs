@@ -229,9 +229,9 @@ test("after what is no answer nothing that the process prints is one", async () 
       console.log({ 1: "modinfo", 2: '{"fault":2}', 3: '{"answer":3}\\n{"answer":4}' }[line] ?? '{"answer":' + line + "}");
     }`);
   const service = new Service(program);
-  for (const [wrong, said] of [["1", "modinfo"], ["2", '{"fault":2}']]) {
+  for (const [wrong, printed] of [["1", "modinfo"], ["2", '{"fault":2}']]) {
     const held = await settled([service.answer(wrong), service.answer("5"), service.answer("6")]);
-    const message = `ProgramEnd: ${program} prints what is no answer: ${said}`;
+    const message = `ProgramEnd: ${program} prints what is no answer: ${printed}`;
     assert.deepEqual(held.map(({ reason }) => String(reason)), [message, message, message]);
     assert.equal(String(await service.answer("5")), "5");
   }

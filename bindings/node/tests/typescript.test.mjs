@@ -18,7 +18,7 @@ const typescript = loadParser("typescript");
 const since = (major, minor) => ({ skip: !isAtLeast(typescript, major, minor) && `needs TypeScript ${major}.${minor}` });
 
 /**
- * The dependencies of a text without their places.
+ * The dependencies of a text without their ranges.
  * @param {string} text
  * @param {string} [mediaType]
  */

@@ -6,13 +6,13 @@ from pathlib import Path
 
 ROOT = Path(__file__).resolve().parents[3]
 EXAMPLES = ROOT / "examples"
-ROWS = ROOT / "crates/test_replay/data"
+CASES = ROOT / "crates/test_replay/data"
 
 sys.path.append(str(EXAMPLES / "embedding"))
 
-from rows import blocks, check_rows, program_rows  # noqa: E402
+from replay import blocks, check_cases, program_cases  # noqa: E402
 
-__all__ = ["EXAMPLES", "ROOT", "ROWS", "blocks", "check_rows", "examples", "program_rows"]
+__all__ = ["CASES", "EXAMPLES", "ROOT", "blocks", "check_cases", "examples", "program_cases"]
 
 # Each command's documents and what has to come out.
 ENDINGS = {

@@ -3,7 +3,7 @@ import json
 from typing import Any, get_args
 
 import pytest
-from repository import EXAMPLES, ROWS, check_rows, examples
+from repository import CASES, EXAMPLES, check_cases, examples
 
 import modinfo
 from modinfo import _library
@@ -143,8 +143,8 @@ def test_that_an_example_is_valid(command: modinfo.Command, document: Any, expec
     assert modinfo.check(document.read_bytes(), command) == {"valid": True}
 
 
-@pytest.mark.parametrize("name, command, document, report", check_rows(ROWS), ids=lambda part: str(part)[:60])
-def test_a_row(name: str, command: modinfo.Command, document: bytes, report: bytes) -> None:
+@pytest.mark.parametrize("name, command, document, report", check_cases(CASES), ids=lambda part: str(part)[:60])
+def test_a_case(name: str, command: modinfo.Command, document: bytes, report: bytes) -> None:
     assert modinfo.check(document, command) == json.loads(report)
 
 

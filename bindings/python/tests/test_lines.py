@@ -4,17 +4,17 @@ import io
 from collections.abc import Callable, Iterable, Iterator
 
 import pytest
-from repository import ROWS, blocks, check_rows, examples, program_rows
+from repository import CASES, blocks, check_cases, examples, program_cases
 
 import modinfo
 from modinfo import _library
 from modinfo._lines import BATCH_LINES
 
 
-def rows_of_lines(command: str) -> Iterator[tuple[bytes, bytes]]:
-    """The input and the output of each row that runs a command with --lines on text. --strict changes no line."""
+def cases_of_lines(command: str) -> Iterator[tuple[bytes, bytes]]:
+    """The input and the output of each test case that runs a command with --lines. --strict changes no line."""
     for name in "program.rows", "check.rows":
-        for block in blocks((ROWS / name).read_text()):
+        for block in blocks((CASES / name).read_text()):
             lines = {word: [rest for other, rest in block if other == word] for word, _ in block}
             words = lines["call"][0].removeprefix("serve ").replace(" --strict", "")
             if words == f"{command} --lines" and "bytes" not in lines:
@@ -32,32 +32,32 @@ FUNCTIONS: dict[str, Function] = {
     "check convert": lambda lines, jobs: modinfo.check_lines(lines, "convert", jobs),
     "check reach": lambda lines, jobs: modinfo.check_lines(lines, "reach", jobs),
 }
-ALL_ROWS = [(call, *row) for call in FUNCTIONS for row in rows_of_lines(call)]
+ALL_CASES = [(call, *case) for call in FUNCTIONS for case in cases_of_lines(call)]
 
 
 @pytest.mark.parametrize("jobs", [1, 3])
-@pytest.mark.parametrize("call, lines, wanted", ALL_ROWS)
-def test_a_row_of_lines(call: str, lines: bytes, wanted: bytes, jobs: int) -> None:
+@pytest.mark.parametrize("call, lines, wanted", ALL_CASES)
+def test_a_case_of_lines(call: str, lines: bytes, wanted: bytes, jobs: int) -> None:
     assert b"".join(FUNCTIONS[call](io.BytesIO(lines), jobs)) == wanted
 
 
-def test_that_there_are_rows_of_several_lines() -> None:
-    assert {call for call, _, output in ALL_ROWS if output.count(b"\n") > 1} >= {"analyze", "convert", "check"}
+def test_that_there_are_cases_of_several_lines() -> None:
+    assert {call for call, _, output in ALL_CASES if output.count(b"\n") > 1} >= {"analyze", "convert", "check"}
 
 
 @pytest.mark.parametrize("jobs", [1, 2])
 @pytest.mark.parametrize("command", ["analyze", "convert", "reach"])
-def test_each_row_of_a_check(command: modinfo.Command, jobs: int) -> None:
-    rows = [(document, report) for _, other, document, report in check_rows(ROWS) if other == command]
-    assert rows
-    documents = [document for document, _ in rows]
-    assert list(modinfo.check_lines(documents, command, jobs)) == [report for _, report in rows]
+def test_each_case_of_a_check(command: modinfo.Command, jobs: int) -> None:
+    cases = [(document, report) for _, other, document, report in check_cases(CASES) if other == command]
+    assert cases
+    documents = [document for document, _ in cases]
+    assert list(modinfo.check_lines(documents, command, jobs)) == [report for _, report in cases]
 
 
 @pytest.mark.parametrize("jobs", [1, 2, 8])
-def test_each_row_and_example_of_one_document(jobs: int) -> None:
+def test_each_case_and_example_of_one_document(jobs: int) -> None:
     documents, wanted = [], []
-    for _, command, document, status, answer in program_rows(ROWS):
+    for _, command, document, status, answer in program_cases(CASES):
         if command == "analyze":
             documents.append(document)
             wanted.append(b'{"answer":%b}\n' % answer.strip() if status == 0 else b'{"fault":"%b"}\n' % answer)
@@ -128,7 +128,7 @@ def test_a_document_of_several_lines(jobs: int) -> None:
 
 
 def test_that_a_batch_is_one_call(monkeypatch: pytest.MonkeyPatch) -> None:
-    """Where the function of one document would fail, those of many answer."""
+    """Where the function of one document would fail, that of many returns results."""
     command = _library.COMMANDS["convert"]
     one = _library.Call(lambda *arguments: _library.FAULT, command.answer.lines)
     monkeypatch.setitem(_library.COMMANDS, "convert", _library.Command(one, command.check))

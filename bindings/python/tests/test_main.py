@@ -5,7 +5,7 @@ import sys
 from pathlib import Path
 
 import pytest
-from repository import EXAMPLES, ROWS, check_rows, examples, program_rows
+from repository import CASES, EXAMPLES, check_cases, examples, program_cases
 
 import modinfo
 
@@ -22,16 +22,18 @@ def test_an_example(command: str, document: Path, expected: Path) -> None:
     assert run(command, input=document.read_bytes()) == (0, expected.read_bytes(), "")
 
 
-@pytest.mark.parametrize("row", [row for row in program_rows(ROWS) if row[3] == 1][::20], ids=lambda row: row[0])
-def test_a_refused_row(row: tuple[str, str, bytes, int, bytes]) -> None:
-    status, output, errors = run(row[1], input=row[2])
+@pytest.mark.parametrize(
+    "case", [case for case in program_cases(CASES) if case[3] == 1][::20], ids=lambda case: case[0]
+)
+def test_a_refused_case(case: tuple[str, str, bytes, int, bytes]) -> None:
+    status, output, errors = run(case[1], input=case[2])
     assert (status, output) == (1, b"")
-    assert errors.startswith(f"modinfo: {row[4].decode()} ") and errors.count("\n") == 1
+    assert errors.startswith(f"modinfo: {case[4].decode()} ") and errors.count("\n") == 1
 
 
-@pytest.mark.parametrize("row", list(check_rows(ROWS))[::20], ids=lambda row: row[0])
-def test_a_check(row: tuple[str, str, bytes, bytes]) -> None:
-    _, command, document, report = row
+@pytest.mark.parametrize("case", list(check_cases(CASES))[::20], ids=lambda case: case[0])
+def test_a_check(case: tuple[str, str, bytes, bytes]) -> None:
+    _, command, document, report = case
     assert run("check", command, input=document) == (0 if b'"valid"' in report else 1, report, "")
 
 

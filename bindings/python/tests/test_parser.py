@@ -72,12 +72,12 @@ NO_DOCUMENT = "wrote a line that is no module document"
 
 
 @pytest.mark.parametrize(
-    "path, said",
+    "path, printed",
     [("/a.end", "ended with status 3"), ("/a.text", NO_DOCUMENT), ("/b.text", NO_DOCUMENT), ("/c.text", NO_DOCUMENT)],
 )
-def test_a_parser_that_fails(path: str, said: str) -> None:
+def test_a_parser_that_fails(path: str, printed: str) -> None:
     with modinfo.Parser([path], COMMAND, keep_going=True) as parser:
-        with pytest.raises(modinfo.ParserError, match=said):
+        with pytest.raises(modinfo.ParserError, match=printed):
             list(parser)
 
 

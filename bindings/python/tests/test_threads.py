@@ -5,7 +5,7 @@ import time
 from concurrent.futures import ThreadPoolExecutor
 from typing import Any
 
-from repository import ROWS, examples, program_rows
+from repository import CASES, examples, program_cases
 
 import modinfo
 from modinfo import _library
@@ -25,7 +25,7 @@ def test_eight_threads_at_once() -> None:
     calls = [
         (command, document.read_bytes(), json.loads(answer.read_text())) for command, document, answer in examples()
     ]
-    for _, command, document, status, wanted in program_rows(ROWS):
+    for _, command, document, status, wanted in program_cases(CASES):
         calls.append((command, document, json.loads(wanted) if status == 0 else wanted.decode()))
     together = threading.Barrier(THREADS)
 

@@ -3,7 +3,7 @@
 mod repository;
 
 use modinfo::{analyze, check, check_convert, check_reach, convert, reach, Fault};
-use repository::{blocks, examples, field, root, rows};
+use repository::{blocks, examples, field, root, test_cases};
 use std::collections::BTreeSet;
 use std::sync::Barrier;
 use std::{fs, thread};
@@ -39,25 +39,25 @@ fn each_example_is_valid() {
 }
 
 #[test]
-fn each_row_has_its_answer() {
-    rows().iter().for_each(|row| row.check());
+fn each_test_case_has_its_answer() {
+    test_cases().iter().for_each(|case| case.check());
 }
 
 #[test]
-fn the_rows_have_each_fault_but_that_of_memory() {
-    let faults: BTreeSet<String> = rows()
+fn the_test_cases_have_each_fault_but_that_of_memory() {
+    let faults: BTreeSet<String> = test_cases()
         .iter()
-        .filter_map(|row| row.answer().err())
+        .filter_map(|case| case.answer().err())
         .inspect(|fault| assert!(!matches!(fault, Fault::Unknown(_)), "{fault}"))
         .map(|fault| fault.to_string())
         .collect();
     let source = include_str!("../src/fault.rs");
-    let (_, listed) = source.split_once("faults! {").expect("the list");
-    let (listed, _) = listed.split_once('}').expect("its end");
-    let listed = listed
+    let (_, lines) = source.split_once("faults! {").expect("the list");
+    let (lines, _) = lines.split_once('}').expect("its end");
+    let lines = lines
         .lines()
         .filter_map(|line| line.trim().strip_suffix(','));
-    let names = listed.filter(|name| name.bytes().all(|byte| byte.is_ascii_alphabetic()));
+    let names = lines.filter(|name| name.bytes().all(|byte| byte.is_ascii_alphabetic()));
     assert_eq!(
         faults,
         names
@@ -69,7 +69,7 @@ fn the_rows_have_each_fault_but_that_of_memory() {
 
 #[test]
 fn eight_threads_at_once() {
-    let calls: Vec<_> = examples().into_iter().chain(rows()).collect();
+    let calls: Vec<_> = examples().into_iter().chain(test_cases()).collect();
     let together = Barrier::new(8);
     thread::scope(|scope| {
         for number in 0..8 {
@@ -122,13 +122,13 @@ fn bytes_that_are_no_utf_8() {
 
 #[test]
 fn the_version_is_the_program_s() {
-    let text =
-        fs::read_to_string(root().join("crates/test_replay/data/program.rows")).expect("the rows");
-    let rows = blocks(&text);
-    let row = rows
+    let text = fs::read_to_string(root().join("crates/test_replay/data/program.rows"))
+        .expect("the test cases");
+    let cases = blocks(&text);
+    let case = cases
         .iter()
-        .find(|row| field(row, "call").as_deref() == Some("serve --version"));
-    let printed = row.and_then(|row| field(row, "output"));
+        .find(|case| field(case, "call").as_deref() == Some("serve --version"));
+    let printed = case.and_then(|case| field(case, "output"));
     assert_eq!(
         printed,
         Some(format!("modinfo {}", env!("CARGO_PKG_VERSION")))
@@ -158,15 +158,15 @@ fn an_error_has_the_report_on_its_document() {
 
 #[test]
 fn the_report_in_an_error_is_that_of_the_command() {
-    for row in rows().into_iter().filter(|row| row.wanted.is_err()) {
-        let (error, report) = match row.command.as_str() {
-            "analyze" => (analyze(&row.document), check(&row.document)),
-            "convert" => (convert(&row.document), check_convert(&row.document)),
-            "reach" => (reach(&row.document), check_reach(&row.document)),
+    for case in test_cases().into_iter().filter(|case| case.wanted.is_err()) {
+        let (error, report) = match case.command.as_str() {
+            "analyze" => (analyze(&case.document), check(&case.document)),
+            "convert" => (convert(&case.document), check_convert(&case.document)),
+            "reach" => (reach(&case.document), check_reach(&case.document)),
             _ => continue,
         };
-        let error = error.expect_err(&row.name);
-        assert_eq!(error.report(), report.ok().as_deref(), "{}", row.name);
+        let error = error.expect_err(&case.name);
+        assert_eq!(error.report(), report.ok().as_deref(), "{}", case.name);
         assert!(
             error.to_string().starts_with(error.fault().name()),
             "{error}"

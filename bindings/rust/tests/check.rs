@@ -40,7 +40,7 @@ fn comments(filed: &[(&str, &str)]) -> String {
     )
 }
 
-/// A command, a document of it, and what the report says of its fault, but for what was expected.
+/// A command, a document of it, and the fault of its report, without what was expected.
 fn faults() -> Vec<((Check, Command), Vec<u8>, &'static str)> {
     let of_program = |program| document("file:///a.ts", "é", program, "").into_bytes();
     let of_import = |members| import(members).into_bytes();

@@ -1,4 +1,4 @@
-//! The types of what `analyze` returns: what is found in each example and row, and in generated documents, is read and
+//! The types of what `analyze` returns: what is found in each example and test case, and in generated documents, is read and
 //! written back.
 #![cfg(feature = "serde")]
 
@@ -10,7 +10,7 @@ use modinfo::{
     SpecifierWithRange, StaticDependencyDescriptor, StaticDependencyKind, TypeScriptReference,
     TypeScriptTypesResolutionMode,
 };
-use repository::{examples, root, rows, Call};
+use repository::{examples, root, test_cases, Call};
 use std::process::Command;
 
 fn read(json: &str) -> ModuleInfo {
@@ -30,7 +30,7 @@ fn range(start: usize, end: usize) -> PositionRange {
     }
 }
 
-/// Reads and writes back what the library answers to documents of `analyze`, and returns how many there are.
+/// Reads and writes back the answers to documents of `analyze`, and returns how many there are.
 fn written_back(calls: Vec<Call>) -> usize {
     let mut count = 0;
     for call in calls.iter().filter(|call| call.command == "analyze") {
@@ -49,8 +49,8 @@ fn each_example_is_read_and_written_back() {
 }
 
 #[test]
-fn each_row_is_read_and_written_back() {
-    assert!(written_back(rows()) > 100);
+fn each_test_case_is_read_and_written_back() {
+    assert!(written_back(test_cases()) > 100);
 }
 
 #[test]

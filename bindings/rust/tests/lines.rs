@@ -3,7 +3,7 @@
 mod repository;
 
 use modinfo::{answer_lines, Command};
-use repository::{examples, rows, Call};
+use repository::{examples, test_cases, Call};
 use std::thread;
 
 const COMMANDS: [(&str, Command); 6] = [
@@ -17,7 +17,7 @@ const COMMANDS: [(&str, Command); 6] = [
 
 /// The calls of a command whose document is one line.
 fn calls_of(command: &str) -> Vec<Call> {
-    let calls = examples().into_iter().chain(rows());
+    let calls = examples().into_iter().chain(test_cases());
     calls
         .filter(|call| call.command == command && !call.document.contains(&b'\n'))
         .collect()

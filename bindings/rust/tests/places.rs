@@ -176,12 +176,18 @@ fn no_library() {
     let room = Room::new("none");
     for words in [&["doc", "--no-deps"][..], &["check"]] {
         let output = room.cargo("modinfo", words, &[]);
-        let said = String::from_utf8_lossy(&output.stderr);
-        assert!(output.status.success(), "{said}");
-        assert!(said.contains("set MODINFO_LIB_DIR to its folder"), "{said}");
+        let errors = String::from_utf8_lossy(&output.stderr);
+        assert!(output.status.success(), "{errors}");
+        assert!(
+            errors.contains("set MODINFO_LIB_DIR to its folder"),
+            "{errors}"
+        );
     }
     let output = room.cargo("program", &["build"], &[]);
-    let said = String::from_utf8_lossy(&output.stderr);
+    let errors = String::from_utf8_lossy(&output.stderr);
     assert!(!output.status.success());
-    assert!(said.contains("set MODINFO_LIB_DIR to its folder"), "{said}");
+    assert!(
+        errors.contains("set MODINFO_LIB_DIR to its folder"),
+        "{errors}"
+    );
 }

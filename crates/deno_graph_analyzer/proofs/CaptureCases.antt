@@ -56,7 +56,7 @@ module _ {P : Type 0} (parses : P → ParseFunction) (count : P → ℕ) (is_sou
       subst (IsFaithful (parses old.parser)) (sym sources)
       (faithful_asked (parses old.parser) scope old.sources input.specifier sound.sources) in
       record {
-        stored = λ stored. record { answer = at; error = tt; parser = parser; kept = sources };
+        stored = λ stored. record { source = at; error = tt; parser = parser; kept = sources };
         absent = λ absent. absurd (absent is_stored);
         outcome = λ absent sound. absurd (absent is_stored);
         err = tt;
@@ -67,7 +67,7 @@ module _ {P : Type 0} (parses : P → ParseFunction) (count : P → ℕ) (is_sou
           parser = subst is_sound (sym parser) sound.parser;
           sources = subst (λ (f : ParseFunction). IsFaithful f new.sources) (sym function) (still sound);
         };
-        answer = λ sound. faithful_answer (parses old.parser) new.sources input source
+        sound_result = λ sound. faithful_answer (parses old.parser) new.sources input source
             (still sound) found has;
       }
 
@@ -91,7 +91,7 @@ module _ {P : Type 0} (parses : P → ParseFunction) (count : P → ℕ) (is_sou
       record {
         stored = λ stored. absurd (not_stored stored);
         absent = λ absent. record {
-          answer = own;
+          allowed = own;
           kept = subst (λ m. IfOk result (λ source. new.sources ≡ with_source m input.specifier source)) asked
               kept;
         };
@@ -108,5 +108,5 @@ module _ {P : Type 0} (parses : P → ParseFunction) (count : P → ℕ) (is_sou
               (faithful_asked (parses old.parser) scope old.sources input.specifier sound.sources))
               (outcome sound.parser) kept err);
         };
-        answer = λ sound. outcome sound.parser;
+        sound_result = λ sound. outcome sound.parser;
       }

@@ -184,7 +184,7 @@ module _ {P : Type 0} (parses : P → ParseFunction) (count : P → ℕ) (is_sou
             let stored = captures.stored (is_stored old.sources asked e) in
             ap (λ sources. option_map unmarked (source_at sources other)) stored.kept
             ∙ unmarked_after_look_up scope old.sources key other
-            ∙ stored_at scope asked old.sources source stored.answer other (bytes_eq key other) refl
+            ∙ stored_at scope asked old.sources source stored.source other (bytes_eq key other) refl
         | false ↦ λ e.
             let absent = captures.absent (is_not_stored old.sources asked e) in
             ap (λ sources. option_map unmarked (source_at sources other)) absent.kept
@@ -260,7 +260,7 @@ module _ {P : Type 0} (parses : P → ParseFunction) (count : P → ℕ) (is_sou
         → ¬ (result ≡ Err parse.OutOfMemory) → CapturedStep past asked result old new
     captured_step past scope asked old new result kept captures fine =
         let answer = subst (λ (g : ParseFunction). IsParseResult g asked result) kept.function
-        (captures.answer kept.sound) in
+        (captures.sound_result kept.sound) in
         record {
           sound = captures.sound kept.sound;
           function = captures.function ∙ kept.function;
@@ -290,20 +290,20 @@ module _ {P : Type 0} (parses : P → ParseFunction) (count : P → ℕ) (is_sou
     unfolding latest
     step past (Analyze specifier source media_type) (Analyzed (Ok info)) old new kept ran =
         let asked = input specifier (rc_str_bytes source) media_type in
-        let s = captured_step past false asked old new ran.answer kept ran.captures
-        (analyzed_fine ran.answer (Ok info) ran.analysis) in
+        let s = captured_step past false asked old new ran.parse_result kept ran.captures
+        (analyzed_fine ran.parse_result (Ok info) ran.analysis) in
         record {
           kept = record { sound = s.sound; function = s.function; sources = s.sources };
-          answer = analysis_of_outcome f asked ran.answer (Ok info) ran.analysis s.answer;
+          answer = analysis_of_outcome f asked ran.parse_result (Ok info) ran.analysis s.answer;
           counted = s.counted;
         }
     step past (Analyze specifier source media_type) (Analyzed (Err d)) old new kept ran =
         let asked = input specifier (rc_str_bytes source) media_type in
-        let s = captured_step past false asked old new ran.answer kept ran.captures
-        (analyzed_fine ran.answer (Err d) ran.analysis) in
+        let s = captured_step past false asked old new ran.parse_result kept ran.captures
+        (analyzed_fine ran.parse_result (Err d) ran.analysis) in
         record {
           kept = record { sound = s.sound; function = s.function; sources = s.sources };
-          answer = analysis_of_outcome f asked ran.answer (Err (analyze.Parse d)) ran.analysis s.answer;
+          answer = analysis_of_outcome f asked ran.parse_result (Err (analyze.Parse d)) ran.analysis s.answer;
           counted = s.counted;
         }
     step past (Parse specifier source media_type scope) (Parsed (Ok module_source)) old new kept ran =

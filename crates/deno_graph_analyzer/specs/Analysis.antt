@@ -29,11 +29,11 @@ IsAnalyzeResult parses input (Err OutOfMemory) = Unit {0}
 abbrev pub IsAnalysisOf : Result ParsedModule ParseError → Result ModuleInfo AnalyzeError → Type 0
 IsAnalysisOf (Ok source) (Ok info) = IsInfoOfModule source info
 IsAnalysisOf (Ok source) (Err error) = error ≡ OutOfMemory
-IsAnalysisOf (Err error) answer = answer ≡ Err (analyze_error_of error)
+IsAnalysisOf (Err error) result = result ≡ Err (analyze_error_of error)
 
 -- the analyzer's result follows from some result that the parser may return
 pub record IsAnalysisOfSome (may_return : Result ParsedModule ParseError → Type 0)
     (result : Result ModuleInfo AnalyzeError) : Type 0 where
-  pub answer : Result ParsedModule ParseError
-  pub given : may_return answer
-  pub analysis : IsAnalysisOf answer result
+  pub parse_result : Result ParsedModule ParseError
+  pub given : may_return parse_result
+  pub analysis : IsAnalysisOf parse_result result

@@ -25,7 +25,7 @@ pub record IsSoundState {P : Type 0} (parses : P → ParseFunction) (is_sound : 
 -- look-up.
 pub record ReturnsStored {P : Type 0} (sources : Sources) (input : Input) (old : State P)
     (result : Result ParsedModule ParseError) (new : State P) : Type 0 where
-  pub answer : IfOk result (λ source. source_at sources input.specifier ≡ Some source)
+  pub source : IfOk result (λ source. source_at sources input.specifier ≡ Some source)
   pub error : IfErr result (λ error. error ≡ OutOfMemory)
   pub parser : new.parser ≡ old.parser
   pub kept : OnOk result (new.sources ≡ sources)
@@ -35,7 +35,7 @@ pub record ReturnsStored {P : Type 0} (sources : Sources) (input : Input) (old :
 pub record ReturnsParsed (may_return : Result ParsedModule ParseError → Type 0)
     (sources : Sources) (input : Input) (result : Result ParsedModule ParseError)
     (after : Sources) : Type 0 where
-  pub answer : (result ≡ Err OutOfMemory) ⊎ may_return result
+  pub allowed : (result ≡ Err OutOfMemory) ⊎ may_return result
   pub kept : IfOk result (λ source. after ≡ with_source sources input.specifier source)
 
 module _ {P : Type 0} (parses : P → ParseFunction) (count : P → ℕ) (is_sound : P → Type 0)
@@ -59,5 +59,5 @@ module _ {P : Type 0} (parses : P → ParseFunction) (count : P → ℕ) (is_sou
     pub sound_parser : is_sound old.parser → is_sound new.parser
     -- a sound state stays sound, and the result is the parser's outcome
     pub sound : IsSoundState parses is_sound old → IsSoundState parses is_sound new
-    pub answer : IsSoundState parses is_sound old
+    pub sound_result : IsSoundState parses is_sound old
         → IsParseResult (parses old.parser) input result

@@ -20,7 +20,7 @@ use Rattle.deno_graph_analyzer.specs.declared.run.Answer.TheVariants.{Analyzed, 
 
 -- the result of a call, whose error for a diagnostic is made by `error`
 abbrev pub with_error : {T E : Type 0} → (ParseDiagnostic → E) → Result T ParseDiagnostic → Result T E
-with_error error (Ok answer) = Ok answer
+with_error error (Ok value) = Ok value
 with_error error (Err diagnostic) = Err (error diagnostic)
 
 module _ {P : Type 0} (parses : P → ParseFunction) (count : P → ℕ) (is_sound : P → Type 0)
@@ -28,14 +28,14 @@ module _ {P : Type 0} (parses : P → ParseFunction) (count : P → ℕ) (is_sou
   -- one call of `analyze_sync`: the text is parsed without the scope option, and then analyzed
   pub record Analyzes (asked : Input) (old : State P) (result : Result ModuleInfo AnalyzeError)
       (new : State P) : Type 0 where
-    pub answer : Result ParsedModule ParseError
-    pub captures : Captures parses count is_sound may_return false asked old answer new
-    pub analysis : IsAnalysisOf answer result
+    pub parse_result : Result ParsedModule ParseError
+    pub captures : Captures parses count is_sound may_return false asked old parse_result new
+    pub analysis : IsAnalysisOf parse_result result
 
   -- one call of `remove_parsed_source`
-  pub record Removes (specifier : List ℕ) (old : State P) (answer : Option ParsedModule)
+  pub record Removes (specifier : List ℕ) (old : State P) (removed : Option ParsedModule)
       (new : State P) : Type 0 where
-    pub found : answer ≡ source_at old.sources specifier
+    pub found : removed ≡ source_at old.sources specifier
     pub sources : new.sources ≡ without_source old.sources specifier
     pub parser : new.parser ≡ old.parser
 

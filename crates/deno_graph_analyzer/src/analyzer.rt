@@ -24,7 +24,7 @@ pub trait ModuleAnalyzer {
     /// The outcome of parsing each input.
     ghost parses: { Self → ParseFunction };
 
-    /// Whether its results follow from the outcomes of `parses`.
+    /// Whether the results of the analyzer follow from the outcomes of `parses`.
     ghost is_sound: { Self → Type 0 };
 
     /// Parses a text without scope analysis, and returns its `ModuleInfo`. Returns the parser's
@@ -40,7 +40,7 @@ pub trait ModuleAnalyzer {
         ensures function { parses self.new ≡ parses self.old }
         ensures sound { is_sound self.old → is_sound self.new }
         // A sound analyzer returns the info, or the diagnostic, of the outcome.
-        ensures answer { is_sound self.old → IsAnalyzeResult (parses self.old)
+        ensures info { is_sound self.old → IsAnalyzeResult (parses self.old)
             (input specifier.now (rc_str_bytes source) media_type) result };
 }
 
@@ -125,7 +125,7 @@ impl<'a, P: EsParser> ModuleAnalyzer for ParserModuleAnalyzer<'a, P> {
             ≡ P.parses (borrowed_parser self.old).now }
         ensures sound { P.is_sound (borrowed_parser self.old).now
             → P.is_sound (borrowed_parser self.new).now }
-        ensures answer { P.is_sound (borrowed_parser self.old).now
+        ensures info { P.is_sound (borrowed_parser self.old).now
             → IsAnalyzeResult (P.parses (borrowed_parser self.old).now)
             (input specifier.now (rc_str_bytes source) media_type) result }
         // The parser's count rises by at most one.

@@ -90,7 +90,7 @@ fn parse_and_store<P: EsParser, S: ParsedSourceStore>(
     store: &mut S,
     options: ParseOptions<'_>,
 ) -> Result<ParsedSource, ParseError>
-    ensures answer { P.is_sound parser.old
+    ensures outcome { P.is_sound parser.old
         → IsParseResult (P.parses parser.old) (input_of_options options.entry) result }
     ensures allowed { (result ≡ Err ParseError.OutOfMemory)
         ⊎ P.may_return parser.old (input_of_options options.entry) options.entry.scope_analysis result }
@@ -219,7 +219,7 @@ impl<P: EsParser, S: ParsedSourceStore> ModuleAnalyzer for CapturingModuleAnalyz
         ensures analyzes { Analyzes P.parses P.count P.is_sound P.may_return
             (input specifier.now (rc_str_bytes source) media_type)
             (analyzer_state S.sources self.old) result (analyzer_state S.sources self.new) }
-        ensures answer { IsSoundState P.parses P.is_sound (analyzer_state S.sources self.old)
+        ensures info { IsSoundState P.parses P.is_sound (analyzer_state S.sources self.old)
             → IsAnalyzeResult (P.parses (parser_of self.old))
             (input specifier.now (rc_str_bytes source) media_type) result }
     {

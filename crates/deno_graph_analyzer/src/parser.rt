@@ -19,15 +19,16 @@ pub trait EsParser: Drop {
     /// The outcome of each input.
     ghost parses: { Self → ParseFunction };
 
-    /// Number of calls so far. It may stay at a greatest value, and is zero in a parser that doesn't
-    /// count its calls.
+    /// Number of calls so far. The number may stay at a greatest value, and is zero in a parser that
+    /// doesn't count calls.
     ghost count: { Self → ℕ };
 
-    /// Whether its results are the outcomes of `parses`. A plain parser is always sound. A parser
+    /// Whether the parser returns the outcomes of `parses`. A plain parser is always sound. A parser
     /// that returns sources from a store is sound while the store has only such outcomes.
     ghost is_sound: { Self → Type 0 };
 
-    /// Which results it may return for an input, with or without the scope option. By default any.
+    /// The results that the parser may return for an input, with or without the scope option. By
+    /// default any result.
     ghost may_return: { Self → ResultRelation } = { λ _ _ _ _. ⊤ };
 
     /// Parses a text. Returns a diagnostic if the text is no module, and `OutOfMemory` if an
@@ -44,7 +45,7 @@ pub trait EsParser: Drop {
             × (count self.new ≤ count self.old + 1) }
         ensures sound { is_sound self.old → is_sound self.new }
         // A sound parser returns the outcome of the input.
-        ensures answer { is_sound self.old
+        ensures outcome { is_sound self.old
             → IsParseResult (parses self.old) (input_of_options options.entry) result }
         ensures allowed { may_return self.old (input_of_options options.entry) options.entry.scope_analysis result };
 }
@@ -58,7 +59,7 @@ pub struct ParseOptions<'a> {
     pub source: RcStr,
     /// Language of the text.
     pub media_type: MediaType,
-    /// Whether to analyze the scopes of the module too. It changes only the mark of the result.
+    /// Whether to analyze the scopes of the module too. The option changes only the mark of the result.
     pub scope_analysis: bool,
 }
 

@@ -94,7 +94,7 @@ use Rattle.deno_graph_dep.proofs.Passed.{
   AreNext,
   to_come-not_past,
 }
-use Rattle.deno_graph_dep.proofs.Rounds.{entries_close}
+use Rattle.deno_graph_dep.proofs.IterationsLeft.{entries_close}
 use Rattle.deno_graph_dep.proofs.Steps.{
   Enters,
   Left,

@@ -91,12 +91,12 @@ module _ {A : Type 0} (rules : Rules) (f : Node → Option A)
       ((n : ℕ) (child : Node) → slice_get nodes n ≡ Some child
       → map Some (entries_at rules own child) ≡ map (below child) (paths_at rules child)) →
       map Some (flat_map (entries_at rules own) nodes) ≡ map at (under index (map (paths_at rules) nodes))
-  inside_same [] index at says each = refl
-  inside_same (x ∷ nodes) index at says each =
+  inside_same [] index at agrees each = refl
+  inside_same (x ∷ nodes) index at agrees each =
       map-append Some (entries_at rules own x) (flat_map (entries_at rules own) nodes) ∙
       (let a = each 0 x refl in
-      let b = map_map-as (λ q. index 0 ∷ q) at (below x) (says 0 x refl) (paths_at rules x) in
-      let c = inside_same nodes (λ n. index (suc n)) at (λ n child e. says (suc n) child e)
+      let b = map_map-as (λ q. index 0 ∷ q) at (below x) (agrees 0 x refl) (paths_at rules x) in
+      let c = inside_same nodes (λ n. index (suc n)) at (λ n child e. agrees (suc n) child e)
       (λ n child e. each (suc n) child e) in
       let d = map-append at (map (λ q. index 0 ∷ q) (paths_at rules x))
       (under (λ n. index (suc n)) (map (paths_at rules) nodes)) in

@@ -188,7 +188,7 @@ kind_descriptor_ranges text comments node (ModuleDecl (Some name)) descriptor de
     specifier_range text comments node _ _ name _ _ descriptor describes.1
     (All-head (IsTextRange text) name.range [] held)
 kind_descriptor_ranges text comments node (Call callee args) descriptor describes held =
-    subst (HasTextRanges text) (sym describes.says)
+    subst (HasTextRanges text) (sym describes.is)
     (first_arg_range (IsTextRange text) args describes.arg describes.is_arg held)
 kind_descriptor_ranges text comments node _ descriptor describes held = absurd describes
 

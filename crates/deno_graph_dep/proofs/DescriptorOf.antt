@@ -122,7 +122,7 @@ unknown_where_spread comments node callee args arg descriptor is at spread descr
     subst P is describes in
     let same : call.arg ≡ arg = some_same (sym call.is_arg ∙ at) in
     let spread_too : call.arg.spread ≡ true = ap (λ (a : Arg). a.spread) same ∙ spread in
-    same_argument descriptor _ call.says
+    same_argument descriptor _ call.is
     ∙ by_spread call.arg.spread (call.form ≡ expression)
     (HasForm call.argument call.form) spread_too call.has_form
   where

@@ -254,8 +254,8 @@ pub AreClauseAttributes-last : (xs : List Node) (bound : ℕ) (after_with : Bool
     (result : ImportAttributes)
     → length xs ≤ bound → last ≡ Some object → ClausesBelow xs bound after_with last
     → AreObjectAttributes object result → AreClauseAttributes xs result
-AreClauseAttributes-last xs bound after_with last object result end is all gives =
-    by_result result (subst (IsLastBelow xs bound) is all.last_is) gives
+AreClauseAttributes-last xs bound after_with last object result end is all given =
+    by_result result (subst (IsLastBelow xs bound) is all.last_is) given
   where
     by_result : (r : ImportAttributes) → LastBelow xs bound object → AreObjectAttributes object r
         → AreClauseAttributes xs r

@@ -7,6 +7,7 @@ pub mod Depth
 pub mod DescriptorOf
 pub mod Entries
 pub mod Inserted
+pub mod IterationsLeft
 pub mod LastClause
 pub mod LastGiven
 pub mod ListingPaths
@@ -16,7 +17,6 @@ pub mod Nodes
 pub mod Passed
 pub mod Progress
 pub mod Returned
-pub mod Rounds
 pub mod SomeAttributes
 pub mod SomeDescriptor
 pub mod SpelledArguments

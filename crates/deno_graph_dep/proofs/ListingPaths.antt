@@ -292,7 +292,7 @@ pub Ascending-inside : (rules : Rules) (nodes : List Node) (after : NodePath →
     → ((n : ℕ) (child : Node) → slice_get nodes n ≡ Some child
     → Ascending (Before (after_below rules child)) (paths_at rules child))
     → Ascending (Before after) (under (λ n. n) (map (paths_at rules) nodes))
-Ascending-inside rules nodes after says each =
+Ascending-inside rules nodes after agrees each =
     Ascending-under after (λ n. n) (λ m n l. l) (map (paths_at rules) nodes)
     (λ n ps e.
     let g = got_map (paths_at rules) (slice_get nodes n) ps
@@ -300,7 +300,7 @@ Ascending-inside rules nodes after says each =
     let P : List NodePath → Type 0 = λ qs. Ascending (Before (λ p. after (n ∷ p))) qs in
     subst P g.2
     (Ascending-weaker (Before (after_below rules g.0)) (Before (λ p. after (n ∷ p)))
-    (λ p q b. Before-same _ _ (λ r. sym (says n g.0 g.1 r)) p q b) (paths_at rules g.0) (each n g.0 g.1)))
+    (λ p q b. Before-same _ _ (λ r. sym (agrees n g.0 g.1 r)) p q b) (paths_at rules g.0) (each n g.0 g.1)))
 
 pub Ascending-paths_at : (rules : Rules) (node : Node)
     → Ascending (Before (after_below rules node)) (paths_at rules node)

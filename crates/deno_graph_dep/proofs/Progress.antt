@@ -35,7 +35,7 @@ use Rattle.deno_graph_dep.proofs.Counts.{
   count-leave,
   count-end,
 }
-use Rattle.deno_graph_dep.proofs.Rounds.{dependency_close}
+use Rattle.deno_graph_dep.proofs.IterationsLeft.{dependency_close}
 use Rattle.deno_graph_dep.proofs.Stacks.{node_at-next_path}
 use Rattle.deno_graph_dep.proofs.Steps.{
   Enters,

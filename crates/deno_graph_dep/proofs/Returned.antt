@@ -101,19 +101,19 @@ at_first comments first walk descriptors path node so_far at =
 pub step-dependency : (comments : FiledComments) (first old new : WalkState) (descriptors : List Descriptor)
     (node : Bor Node)
     → AreReturned comments first old descriptors → IsStep old new (Some node) → is_dependency node.now ≡ true
-step-dependency comments first old new descriptors node so_far gives =
-    dependency_next comments first old descriptors gives.path new.to_come node.now so_far gives.first
-    (at_first comments first old descriptors gives.path node.now so_far gives.at_path)
+step-dependency comments first old new descriptors node so_far step =
+    dependency_next comments first old descriptors step.path new.to_come node.now so_far step.first
+    (at_first comments first old descriptors step.path node.now so_far step.at_path)
 
 pub step-shaped : (comments : FiledComments) (program : Program) (first old new : WalkState)
     (descriptors : List Descriptor) (node : Bor Node)
     → first.program ≡ program → All IsShaped (nodes_of program) → AreReturned comments first old descriptors
     → IsStep old new (Some node)
     → All IsShaped (nodes_in node.now)
-step-shaped comments program first old new descriptors node is shaped so_far gives =
-    shaped_node program gives.path node.now shaped
-    (ap (λ (p : Program). node_at p.body gives.path) (sym is)
-    ∙ at_first comments first old descriptors gives.path node.now so_far gives.at_path)
+step-shaped comments program first old new descriptors node is shaped so_far step =
+    shaped_node program step.path node.now shaped
+    (ap (λ (p : Program). node_at p.body step.path) (sym is)
+    ∙ at_first comments first old descriptors step.path node.now so_far step.at_path)
 
 dependency_node-is : (node : Node) → is_dependency node ≡ true → dependency_node node ≡ Some node
 unfolding dependency_node
@@ -125,17 +125,17 @@ pub AreReturned-more : (comments : FiledComments) (first old new : WalkState) (d
     → AreReturned comments first old descriptors → new.program ≡ old.program → IsStep old new (Some node)
     → IsDescriptorOf comments node.now descriptor
     → AreReturned comments first new (descriptors ++ descriptor ∷ [])
-AreReturned-more comments first old new descriptors node descriptor so_far same gives describes =
-    let path = gives.path in
+AreReturned-more comments first old new descriptors node descriptor so_far same step describes =
+    let path = step.path in
     let here : dependency_at first.program.body path ≡ Some node.now =
     ap (λ o. option_and_then dependency_node o)
-    (at_first comments first old descriptors path node.now so_far gives.at_path)
-    ∙ dependency_node-is node.now (step-dependency comments first old new descriptors node so_far gives) in
+    (at_first comments first old descriptors path node.now so_far step.at_path)
+    ∙ dependency_node-is node.now (step-dependency comments first old new descriptors node so_far step) in
     record {
       same_program = same ∙ so_far.same_program;
       is_listing = so_far.is_listing;
       given = so_far.given ++ path ∷ [];
-      rest = so_far.rest ∙ ap (λ ps. so_far.given ++ ps) gives.first
+      rest = so_far.rest ∙ ap (λ ps. so_far.given ++ ps) step.first
           ∙ sym (append_assoc so_far.given (path ∷ []) new.to_come);
       nodes = so_far.nodes ++ node.now ∷ [];
       at_paths =

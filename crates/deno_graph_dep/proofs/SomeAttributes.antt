@@ -172,8 +172,8 @@ module _ (xs : List Node) where
   at_end i after_with None end all =
       (attributes.None, AreClauseAttributes-none xs i after_with None end refl all)
   at_end i after_with (Some object) end all =
-      let gives = some_object object in
-      (gives.0, AreClauseAttributes-last xs i after_with (Some object) object gives.0 end refl all gives.1)
+      let given = some_object object in
+      (given.0, AreClauseAttributes-last xs i after_with (Some object) object given.0 end refl all given.1)
 
   step : (i : ℕ) (y : Node) → slice_get xs i ≡ Some y → (after_with : Bool) (last : Option Node)
       → ClausesBelow xs i after_with last

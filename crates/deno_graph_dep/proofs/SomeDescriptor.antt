@@ -115,9 +115,9 @@ some_specified : (comments : FiledComments) (node : Node) (kind : StaticDependen
     (AreAttributes : ImportAttributes → Type 0) → (given : ImportAttributes) × AreAttributes given
     → (descriptor : Descriptor) × IsStaticDescriptorOf comments node kind range literal is_side_effect
     AreAttributes descriptor
-some_specified comments node kind range literal is_side_effect AreAttributes gives = (
-  static_descriptor (specified_descriptor comments node kind range literal is_side_effect gives.0),
-  (gives.0, gives.1, refl),
+some_specified comments node kind range literal is_side_effect AreAttributes given = (
+  static_descriptor (specified_descriptor comments node kind range literal is_side_effect given.0),
+  (given.0, given.1, refl),
 )
 
 none_given : (given : ImportAttributes) × AreNoAttributes given
@@ -140,14 +140,14 @@ some_dynamic comments node callee arg others is called shaped =
     let argument = node_within (children_of node) (callee_count callee + 0) (omega (arith, within)) in
     let form =
     some_form arg.spread argument.0 (argument_shaped node callee 0 argument.0 shaped argument.1) in
-    let gives = some_call (argument_at callee (arg ∷ others) (children_of node) 1) in (
+    let given = some_call (argument_at callee (arg ∷ others) (children_of node) 1) in (
       dynamic_descriptor (record {
         kind = kind.0;
         leading_comments = leading_at comments (range_of node).start;
         range = range_of node;
         argument = form.0;
         argument_range = arg.range;
-        import_attributes = gives.0;
+        import_attributes = given.0;
       }),
       record {
         kind = kind.0;
@@ -158,9 +158,9 @@ some_dynamic comments node callee arg others is called shaped =
         is_argument = argument.1;
         form = form.0;
         has_form = form.1;
-        given = gives.0;
-        gives = gives.1;
-        says = refl;
+        given = given.0;
+        are_given = given.1;
+        is = refl;
       },
     )
 

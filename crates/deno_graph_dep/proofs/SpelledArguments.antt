@@ -90,7 +90,7 @@ spells_at comments node (ModuleDecl None) descriptor is shaped describes = absur
 spells_at comments node (ModuleDecl (Some name)) descriptor is shaped describes =
     specified comments node _ _ name _ _ descriptor describes.1
 spells_at comments node (Call callee args) descriptor is shaped describes =
-    subst (SpellsIn node) (sym describes.says)
+    subst (SpellsIn node) (sym describes.is)
     (subst (λ k. SpellsArgumentAt k node describes.form) (sym is) (
       describes.argument,
       describes.is_argument,

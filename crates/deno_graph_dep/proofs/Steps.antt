@@ -16,7 +16,13 @@ use Rattle.deno_graph_dep.specs.internal.Stack.{
 use Rattle.deno_graph_dep.specs.internal.Stack.{to_come}
 use Rattle.deno_graph_dep.specs.declared.stack.Frame.{Frame}
 use Rattle.deno_graph_dep.specs.declared.stack.Stack.{Stack}
-use Rattle.deno_graph_dep.proofs.Rounds.{rounds, rounds_of, rounds_of-push, to_enter, to_enter-first}
+use Rattle.deno_graph_dep.proofs.IterationsLeft.{
+  iterations_left,
+  iterations_left_in,
+  iterations_left_in-push,
+  to_enter,
+  to_enter-first,
+}
 use Rattle.deno_graph_dep.proofs.Stacks.{
   ClosesAsVisited,
   paths_to_come-enter,
@@ -97,18 +103,20 @@ nested-leave body old new node siblings step nested =
     subst Q (sym step.nodes)
     (AreNested-leave body new.frames.items node siblings old.nodes.now (subst P step.frames nested))
 
--- each round leaves one round less
-pub rounds-enter : (old new : Stack) (node : Bor Node) (siblings : Bor (List Node))
-    → Enters old new node siblings → rounds new < rounds old
-rounds-enter old new node siblings step =
-    let pushed = ap rounds_of step.frames ∙ rounds_of-push old.frames.items (frame_of node siblings) in
+-- after each iteration fewer iterations are left
+pub iterations_left-enter : (old new : Stack) (node : Bor Node) (siblings : Bor (List Node))
+    → Enters old new node siblings → iterations_left new < iterations_left old
+iterations_left-enter old new node siblings step =
+    let pushed = ap iterations_left_in step.frames
+    ∙ iterations_left_in-push old.frames.items (frame_of node siblings) in
     let inner = ap to_enter step.nodes in
     let outer = ap to_enter step.first ∙ to_enter-first node siblings in
     omega arith
 
-pub rounds-leave : (old new : Stack) (node : Bor Node) (siblings : Bor (List Node))
-    → Left old new node siblings → rounds new < rounds old
-rounds-leave old new node siblings step =
-    let popped = ap rounds_of step.frames ∙ rounds_of-push new.frames.items (frame_of node siblings) in
+pub iterations_left-leave : (old new : Stack) (node : Bor Node) (siblings : Bor (List Node))
+    → Left old new node siblings → iterations_left new < iterations_left old
+iterations_left-leave old new node siblings step =
+    let popped = ap iterations_left_in step.frames
+    ∙ iterations_left_in-push new.frames.items (frame_of node siblings) in
     let inner = ap to_enter step.nodes in
     omega arith

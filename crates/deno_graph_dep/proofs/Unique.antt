@@ -140,8 +140,8 @@ IsDynamicDescriptorOf-unique comments node callee args a b is also =
     (subst (λ x. ArgumentHasForm also.arg x also.form) (sym argument) also.has_form) in
     let forms = ArgumentHasForm-unique is.arg is.argument is.form also.form is.has_form has in
     let given = AreCallAttributes-unique
-    (argument_at callee args (children_of node) 1) is.given also.given is.gives also.gives in
-    is.says ∙ (by_parts kinds forms arg given ∙ sym also.says)
+    (argument_at callee args (children_of node) 1) is.given also.given is.are_given also.are_given in
+    is.is ∙ (by_parts kinds forms arg given ∙ sym also.is)
   where
     descriptor : DynamicDependencyKind → Form → Arg → ImportAttributes → Descriptor
     descriptor kind form arg given = dynamic_descriptor (record {

@@ -95,16 +95,16 @@ one_count P count other is also =
 -- after the end no path is still to come
 pub stays : (old end new : WalkState) (found : Option (Bor Node)) → end.program ≡ old.program
     → new.program ≡ end.program → IsStep old end None → IsStep end new found → (found ≡ None) × (new ≡ end)
-stays old end new None same again none gives =
+stays old end new None same again none step =
     let reached : IsCountOf (IsReachable dependency_rules end.program.body) end.entered =
     subst (λ (p : Program). IsCountOf (IsReachable dependency_rules p.body) end.entered) (sym same)
     none.entered in
     let entered = one_count (IsReachable dependency_rules end.program.body) new.entered end.entered
-    gives.entered reached in
-    let to_come = gives.after ∙ sym none.after in
+    step.entered reached in
+    let to_come = step.after ∙ sym none.after in
     (refl, λ i. record { program = again i; to_come = to_come i; entered = entered i })
-stays old end new (Some node) same again none gives =
-    let both : [] ≡ gives.path ∷ new.to_come = sym none.after ∙ gives.first in
+stays old end new (Some node) same again none step =
+    let both : [] ≡ step.path ∷ new.to_come = sym none.after ∙ step.first in
     absurd (cc)
 
 -- the count of nodes that a step returns: one or none
@@ -115,13 +115,13 @@ count found = cond (is_some found) 1 0
 pub taken : (old new : WalkState) (found : List (Option (Bor Node))) → AreSteps old found new
     → count_by is_some found + length new.to_come ≡ length old.to_come
 taken old new [] are = omega (arith, ap (λ (w : WalkState). length w.to_come) are)
-taken old new (None ∷ more) (next, same, gives, rest) =
+taken old new (None ∷ more) (next, same, step, rest) =
     omega (
       arith,
       taken next new more rest,
       sum_by-cons count None more,
-      ap length gives.before,
-      ap length gives.after,
+      ap length step.before,
+      ap length step.after,
     )
-taken old new (Some node ∷ more) (next, same, gives, rest) =
-    omega (arith, taken next new more rest, sum_by-cons count (Some node) more, ap length gives.first)
+taken old new (Some node ∷ more) (next, same, step, rest) =
+    omega (arith, taken next new more rest, sum_by-cons count (Some node) more, ap length step.first)

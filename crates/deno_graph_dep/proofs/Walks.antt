@@ -95,22 +95,22 @@ given_by : {E : Type 0} (program : Program) (old new : Stack) (answer : Result (
     → listing_paths dependency_rules program.body ≡ given ++ to_come dependency_rules program.body old
     → (again : List NodePath)
     × (listing_paths dependency_rules program.body ≡ again ++ to_come dependency_rules program.body new)
-given_by program old new (Ok None) gives failed given rest =
-    (given, rest ∙ ap (λ ps. given ++ ps) (gives.before ∙ sym gives.after))
-given_by program old new (Ok (Some node)) gives failed given rest = (
-  given ++ gives.path ∷ [],
-  rest ∙ ap (λ ps. given ++ ps) gives.first
-      ∙ sym (append_assoc given (gives.path ∷ []) (to_come dependency_rules program.body new)),
+given_by program old new (Ok None) step failed given rest =
+    (given, rest ∙ ap (λ ps. given ++ ps) (step.before ∙ sym step.after))
+given_by program old new (Ok (Some node)) step failed given rest = (
+  given ++ step.path ∷ [],
+  rest ∙ ap (λ ps. given ++ ps) step.first
+      ∙ sym (append_assoc given (step.path ∷ []) (to_come dependency_rules program.body new)),
 )
-given_by program old new (Err error) gives failed given rest =
+given_by program old new (Err error) step failed given rest =
     (given, rest ∙ ap (λ ps. given ++ ps) (sym failed))
 
 pub IsWalkOf-step : {E : Type 0} (program : Program) (old new : Stack) (answer : Result (Option (Bor Node)) E)
     → IfOk answer (IsStep (state_of program old) (state_of program new))
     → OnErr answer (to_come dependency_rules program.body new ≡ to_come dependency_rules program.body old)
     → IsStackOf program.body new → IsWalkOf program.body old → IsWalkOf program.body new
-IsWalkOf-step program old new answer gives failed stack walk =
-    let then = given_by program old new answer gives failed walk.given walk.rest in
+IsWalkOf-step program old new answer step failed stack walk =
+    let then = given_by program old new answer step failed walk.given walk.rest in
     record { is_stack = stack; given = then.0; rest = then.1 }
 
 pub listing-of_walk : (body : List Node) (stack : Stack) → IsWalkOf body stack

@@ -120,8 +120,8 @@ pub record IsDynamicDescriptorOf (comments : FiledComments) (node : Node)
   pub form : Form
   pub has_form : ArgumentHasForm arg argument form
   pub given : ImportAttributes
-  pub gives : AreCallAttributes (argument_at callee args (children_of node) 1) given
-  pub says : descriptor ≡ dynamic_descriptor (record {
+  pub are_given : AreCallAttributes (argument_at callee args (children_of node) 1) given
+  pub is : descriptor ≡ dynamic_descriptor (record {
     kind = kind;
     leading_comments = leading_at comments (range_of node).start;
     range = range_of node;

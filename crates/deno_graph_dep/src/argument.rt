@@ -28,8 +28,7 @@ pub enum DynamicArgument<'a> {
 }
 
 impl<'a> DynamicArgument<'a> {
-    /// Returns an equal argument that borrows the same texts. The only error is that memory ran
-    /// out.
+    /// Returns an equal argument that borrows the same texts. Fails only if an allocation fails.
     pub fn try_clone(&self, alloc: Global) -> Result<DynamicArgument<'a>, AllocError>
         ensures { IfOk result (λ copy. form_seen copy ≡ form_seen self.now) }
     {
@@ -48,8 +47,7 @@ impl<'a> DynamicArgument<'a> {
 /// A string literal, or a template without expressions, is `String` with its text. A template with
 /// expressions is `Template`: its texts that are not empty, and `Expr` for each expression. A sum
 /// that begins with a string literal is `Template` too: each string literal, even an empty one, and
-/// `Expr` for each other operand. Any other expression is `Expr`. The only error is that memory ran
-/// out.
+/// `Expr` for each other operand. Any other expression is `Expr`. Fails only if an allocation fails.
 pub fn argument_of<'a>(alloc: Global, node: &'a Node) -> Result<DynamicArgument<'a>, AllocError>
     requires { All IsShaped (nodes_in node.now) }
     ensures form { IfOk result (λ argument. HasForm node.now (form_seen argument)) }
@@ -122,14 +120,14 @@ fn operand_part(operand: &Node) -> DynamicTemplatePart<'_>
     }
 }
 
-/// Whether a node is an expression `left + right`.
+/// Returns whether a node is an expression `left + right`.
 fn is_sum(node: &Node) -> bool
     ensures { result ≡ is_sum (kind_of node.now) }
 {
     matches!(node.kind, Kind::Binary(BinaryOp::Add))
 }
 
-/// Whether a node is a string literal.
+/// Returns whether a node is a string literal.
 fn is_string(node: &Node) -> bool
     ensures { result ≡ is_string (kind_of node.now) }
 {

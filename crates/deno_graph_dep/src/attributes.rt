@@ -15,8 +15,8 @@ use std::alloc::{AllocError, Global};
 /// `with`.
 ///
 /// Returns `None` without a clause. Otherwise `Known` holds each static key with a static value;
-/// other properties are skipped, and of two properties with one key the later counts. The only
-/// error is that memory ran out.
+/// other properties are skipped, and of two properties with one key the later counts. Fails
+/// only if an allocation fails.
 pub fn parse_import_attributes(
     alloc: Global,
     clause: Option<&Node>,
@@ -42,8 +42,8 @@ pub fn parse_import_attributes(
 /// Returns `None` without a second argument, and without a clause. Returns `Unknown` where the
 /// argument is spread, is no object literal, or has a property without a static key, and where the
 /// value of a clause is no object literal or has a property without a static key. Otherwise returns
-/// the attributes of the last clause, by `parse_import_attributes_from_object_lit`. The only error
-/// is that memory ran out.
+/// the attributes of the last clause, by `parse_import_attributes_from_object_lit`. Fails only if
+/// an allocation fails.
 pub fn parse_dynamic_import_attributes(
     alloc: Global,
     argument: Option<(&Arg, &Node)>,
@@ -64,7 +64,7 @@ pub fn parse_dynamic_import_attributes(
 ///
 /// Returns `Unknown` where a property has no static key. Otherwise `Known` holds each key, with a
 /// `Known` value where the value is static and an `Unknown` one where not; of two properties with
-/// one key the later counts. The only error is that memory ran out.
+/// one key the later counts. Fails only if an allocation fails.
 pub fn parse_import_attributes_from_object_lit(
     alloc: Global,
     object: &Node,
@@ -106,7 +106,7 @@ fn last_clause_attributes(
     }
 }
 
-/// Whether a property is a clause with attributes. An `assert` after a `with` is none.
+/// Returns whether a property is a clause with attributes. An `assert` after a `with` is none.
 fn is_clause(property: &Node, after_with: bool) -> bool
     ensures { IsTrue result ↔ ((static_key property.now ≡ Some (codes "with"))
         ⊎ ((static_key property.now ≡ Some (codes "assert")) × (after_with ≡ false))) }
@@ -145,21 +145,21 @@ fn put_attribute(
     Ok(())
 }
 
-/// Whether each property of an object literal has a static key.
+/// Returns whether each property of an object literal has a static key.
 fn has_static_keys(object: &Node) -> bool
     ensures { result ≡ has_static_keys object.now }
 {
     object.children.as_slice().iter().all(has_static_key)
 }
 
-/// Whether a property has a static key.
+/// Returns whether a property has a static key.
 fn has_static_key(property: &Node) -> bool
     ensures { result ≡ is_some (static_key property.now) }
 {
     static_key(property).is_some()
 }
 
-/// Whether a property has this static key.
+/// Returns whether a property has this static key.
 fn has_key(property: &Node, key: &str) -> bool
     ensures { IsTrue result ↔ (static_key property.now ≡ Some key.now) }
 {

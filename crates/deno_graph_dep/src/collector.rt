@@ -14,7 +14,7 @@ use std::alloc::{AllocError, Global};
 
 /// Returns the descriptor of each dependency of a module, in tree order: a call after the
 /// dependencies inside it, any other node before them. Nodes inside imports and exports are not
-/// read. The only error is that memory ran out.
+/// read. Fails only if an allocation fails.
 pub fn analyze_program_dependencies<'a>(
     alloc: Global,
     program: &'a Program,

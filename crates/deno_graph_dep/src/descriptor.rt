@@ -49,8 +49,8 @@ pub enum DependencyDescriptor<'a> {
 }
 
 impl<'a> StaticDependencyDescriptor<'a> {
-    /// Returns an equal descriptor that borrows from the same tree. The only error is that memory
-    /// ran out.
+    /// Returns an equal descriptor that borrows from the same tree. Fails only if an allocation
+    /// fails.
     pub fn try_clone(&self, alloc: Global) -> Result<StaticDependencyDescriptor<'a>, AllocError>
         ensures { IfOk result (λ copy.
             static_descriptor_seen copy ≡ static_descriptor_seen self.now) }
@@ -68,8 +68,8 @@ impl<'a> StaticDependencyDescriptor<'a> {
 }
 
 impl<'a> DynamicDependencyDescriptor<'a> {
-    /// Returns an equal descriptor that borrows from the same tree. The only error is that memory
-    /// ran out.
+    /// Returns an equal descriptor that borrows from the same tree. Fails only if an allocation
+    /// fails.
     pub fn try_clone(&self, alloc: Global) -> Result<DynamicDependencyDescriptor<'a>, AllocError>
         ensures { IfOk result (λ copy.
             dynamic_descriptor_seen copy ≡ dynamic_descriptor_seen self.now) }
@@ -86,8 +86,8 @@ impl<'a> DynamicDependencyDescriptor<'a> {
 }
 
 impl<'a> DependencyDescriptor<'a> {
-    /// Returns an equal descriptor that borrows from the same tree. The only error is that memory
-    /// ran out.
+    /// Returns an equal descriptor that borrows from the same tree. Fails only if an allocation
+    /// fails.
     pub fn try_clone(&self, alloc: Global) -> Result<DependencyDescriptor<'a>, AllocError>
         ensures { IfOk result (λ copy. descriptor_seen copy ≡ descriptor_seen self.now) }
     {

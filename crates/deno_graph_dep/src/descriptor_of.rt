@@ -26,8 +26,8 @@ use deno_graph_info::analysis::{DynamicDependencyKind, ImportAttributes, StaticD
 use deno_graph_source::tree::{Arg, Callee, Comments, ImportPhase, Kind, Node, StrLit};
 use std::alloc::{AllocError, Global};
 
-/// Returns the descriptor of a node, or `None` where the node is no dependency. The only error is
-/// that memory ran out.
+/// Returns the descriptor of a node, or `None` where the node is no dependency. Fails only if
+/// an allocation fails.
 pub(crate) fn descriptor_of<'a>(
     alloc: Global,
     comments: &'a Comments,

@@ -8,7 +8,7 @@ ghost use Rattle.deno_graph_dep.specs.DependencyRules.{is_closed, is_dependency,
 
 use deno_graph_source::tree::{Callee, Kind, Node};
 
-/// Whether a node is a dependency, by its kind and its children.
+/// Returns whether a node is a dependency, by its kind and its children.
 pub fn is_dependency(node: &Node) -> bool
     ensures { result ≡ is_dependency node.now }
 {
@@ -24,15 +24,15 @@ pub fn is_dependency(node: &Node) -> bool
     }
 }
 
-/// Whether a module declaration with this name may add to a module. A name with `*` is a pattern
-/// for many modules, unless the name is a relative path.
+/// Returns whether a module declaration with this name may add to a module. A name with `*` is a
+/// pattern for many modules, unless the name is a relative path.
 pub(crate) fn may_name_module(name: &str) -> bool
     ensures { result ≡ may_name_module name.now }
 {
     !name.as_bytes().contains(&b'*') || is_relative(name)
 }
 
-/// Whether a name begins like a path: with `./`, `../` or `/`.
+/// Returns whether a name begins like a path: with `./`, `../` or `/`.
 fn is_relative(name: &str) -> bool
     ensures { result ≡ is_relative name.now }
 {
@@ -40,7 +40,7 @@ fn is_relative(name: &str) -> bool
     bytes.starts_with(b"./") || bytes.starts_with(b"../") || bytes.starts_with(b"/")
 }
 
-/// Whether a call with this callee and these children calls `import` or `require`.
+/// Returns whether a call with this callee and these children calls `import` or `require`.
 fn is_module_call(callee: Callee, children: &[Node]) -> bool
     ensures { result ≡ is_module_call callee children.now }
 {
@@ -51,7 +51,7 @@ fn is_module_call(callee: Callee, children: &[Node]) -> bool
     }
 }
 
-/// Whether the first of these nodes is the identifier `require`.
+/// Returns whether the first of these nodes is the identifier `require`.
 pub(crate) fn begins_with_require(nodes: &[Node]) -> bool
     ensures { result ≡ is_require (option_map kind_of (slice_get nodes.now 0)) }
 {
@@ -61,7 +61,7 @@ pub(crate) fn begins_with_require(nodes: &[Node]) -> bool
     }
 }
 
-/// Whether a node is the identifier `require`.
+/// Returns whether a node is the identifier `require`.
 fn is_require(node: &Node) -> bool
     ensures { result ≡ is_require (Some (kind_of node.now)) }
 {
@@ -71,7 +71,7 @@ fn is_require(node: &Node) -> bool
     }
 }
 
-/// Whether the nodes inside a node of this kind are left unread.
+/// Returns whether the nodes inside a node of this kind are left unread.
 pub fn is_closed(kind: &Kind) -> bool
     ensures { result ≡ is_closed kind.now }
 {
@@ -84,7 +84,7 @@ pub fn is_closed(kind: &Kind) -> bool
     )
 }
 
-/// Whether a node of this kind comes after the dependencies inside it.
+/// Returns whether a node of this kind comes after the dependencies inside it.
 pub fn is_after_inside(kind: &Kind) -> bool
     ensures { result ≡ is_after_inside kind.now }
 {

@@ -113,14 +113,14 @@ fn inside(node: &Node) -> &[Node]
     }
 }
 
-/// Whether a node is a dependency that comes before the dependencies inside it.
+/// Returns whether a node is a dependency that comes before the dependencies inside it.
 fn comes_before_inside(node: &Node) -> bool
     ensures { result ≡ comes_before dependency_rules node.now }
 {
     !is_after_inside(&node.kind) && is_dependency(node)
 }
 
-/// Whether a node is a dependency that comes after the dependencies inside it.
+/// Returns whether a node is a dependency that comes after the dependencies inside it.
 fn comes_after_inside(node: &Node) -> bool
     ensures { result ≡ comes_after dependency_rules node.now }
 {

@@ -58,8 +58,8 @@ impl<'a> Walk<'a> {
     /// Returns the next node that is a dependency: a call after the dependencies inside it, any
     /// other node before them. Returns `None` at the end, and at each step from then on.
     ///
-    /// The only error is that memory ran out. The same nodes are then still to come, so the step
-    /// can be tried again, and `entered` may have risen.
+    /// Fails only if an allocation fails. The same nodes are then still to come, so the step can be
+    /// tried again, and `entered` may have risen.
     pub fn step(&mut self) -> Result<Option<&'a Node>, AllocError>
         ensures program { self.new.program ≡ self.old.program }
         ensures step { IfOk result (IsStep self.old self.new) }
@@ -84,8 +84,8 @@ impl<'a> Walk<'a> {
         self.program
     }
 
-    /// A law: the paths still to come are the end of the listing. So the paths that the walk has
-    /// returned are its beginning.
+    /// Ensures that the paths still to come are the end of the listing. So the paths that the walk
+    /// has returned are the beginning of the listing.
     pub fn goes_on_with_the_rest(&self)
         ensures { (given : List NodePath)
             × IsListing dependency_rules self.now.program.body (given ++ self.now.to_come) }
@@ -93,16 +93,16 @@ impl<'a> Walk<'a> {
         let _ = &self.program;
     }
 
-    /// A law: after a step that returned `None`, each step returns `None` and enters no node. This
-    /// call does nothing; its contract holds of every walk.
+    /// Ensures that after a step that returned `None`, each step returns `None` and enters no node.
+    /// This call does nothing; the contract holds of every walk.
     pub fn stays_at_its_end()
         ensures { (old end new : WalkState) (found : Option (Bor Node))
             → end.program ≡ old.program → new.program ≡ end.program
             → IsStep old end None → IsStep end new found → (found ≡ None) × (new ≡ end) }
     {}
 
-    /// A law: a walk ends. Each step that returns a node takes one of the paths still to come, and
-    /// these are finitely many. This call does nothing; its contract holds of every walk.
+    /// Ensures that a walk ends: each step that returns a node takes one of the finitely many paths
+    /// still to come. This call does nothing; the contract holds of every walk.
     pub fn ends()
         ensures { (old new : WalkState) (found : List (Option (Bor Node)))
             → AreSteps old found new

@@ -1,6 +1,7 @@
 pub mod Conversions
 pub mod Written
 pub mod MembersLemmas
+pub mod NamedMembers
 pub mod OneOutcome
 pub mod Outcomes
 pub mod Reaching

@@ -24,7 +24,7 @@ use Rattle.deno_graph_jsdoc.proofs.Readings.{one_space, same_first, regroup, ung
 use Rattle.deno_graph_jsdoc.proofs.Readings.{textwise}
 use Rattle.deno_graph_jsdoc.proofs.Runs.{front_of_front, same_space, space_ends, Lacks-not_inside}
 
--- a text begins with only one text up to the first of a word
+-- a text begins with at most one text up to the first occurrence of a word
 module _ (word : List ℕ) where
   same_front : (front rest other after : List ℕ)
       → ((before beyond : List ℕ) → other ++ word ≡ before ++ (word ++ beyond) → beyond ≡ [])
@@ -46,7 +46,7 @@ module _ (word : List ℕ) where
       (λ more. sym (same_front other after front rest first (sym same) more))
       (cases_lt (length front) (length other))
 
-  -- the parts of such a text
+  -- the text before the word, and the word
   pub parts_of : {input rest : List ℕ} → Begins (IsUpTo word) input rest
       → (front : List ℕ) × (input ≡ front ++ (word ++ rest)) × Lacks closing_brace front
       × ((before beyond : List ℕ) → front ++ word ≡ before ++ (word ++ beyond) → beyond ≡ [])
@@ -95,7 +95,7 @@ module _ (word : List ℕ) where
           ),
     )
 
--- a text up to a mark has all of a front that lacks the mark
+-- a front that lacks the mark is a front of the text before the mark
 pub unclosed_front : (mark : ℕ) (front rest unclosed after : List ℕ) → Lacks mark front
     → front ++ rest ≡ unclosed ++ mark ∷ after → (middle : List ℕ) × (unclosed ≡ front ++ middle)
 unclosed_front mark front rest unclosed after lacks same =
@@ -119,7 +119,7 @@ pub Lacks-front : (mark : ℕ) (xs ys : List ℕ) → Lacks mark (xs ++ ys) → 
 Lacks-front mark [] ys all = tt
 Lacks-front mark (x ∷ xs) ys all = (all.0, Lacks-front mark xs ys all.1)
 
--- where the text up to the first mark has no such word, no text up to the first of the word begins it
+-- if the word doesn't occur before the first `}`, the text doesn't begin with a text up to the word
 pub up_to_none_unclosed : (word input unclosed : List ℕ) → Lacks closing_brace word
     → (input ≡ unclosed) ⊎ ((after : List ℕ) × (input ≡ unclosed ++ closing_brace ∷ after))
     → ((front rest : List ℕ) → unclosed ≢ front ++ (word ++ rest))
@@ -133,7 +133,7 @@ up_to_none_unclosed word input unclosed lacks (inr (after, closed)) none other r
     (append_assoc parts.0 word rest ∙ sym parts.1 ∙ closed) in
     none parts.0 middle.0 (middle.1 ∙ append_assoc parts.0 word middle.0)
 
--- where the text up to the first mark has the word, the first word of the whole text is before the mark
+-- if the word occurs before the first `}`, its first occurrence in the whole text is before the `}`
 pub up_to_read_unclosed : (word input unclosed front rest : List ℕ) → Lacks closing_brace unclosed
     → (input ≡ unclosed) ⊎ ((after : List ℕ) × (input ≡ unclosed ++ closing_brace ∷ after))
     → (some beyond : List ℕ) → unclosed ≡ some ++ (word ++ beyond)
@@ -266,7 +266,7 @@ module _ (a : List ℕ) where
               (space_then Anything (λ (_ : Unit {0}). Is (codes "}"))
               (λ _ text is. Closed-solid text is) after o closed))
 
--- what is after the specifier: maybe options, and the closing parenthesis
+-- the text after the specifier: maybe options, and the closing parenthesis
 abbrev pub Paren : List ℕ → Type 0
 Paren = Is (codes ")")
 
@@ -276,7 +276,7 @@ Paren-solid text is = subst IsSolid (sym is) refl
 abbrev Close : Unit {0} → List ℕ → Type 0
 Close _ = IsSpace · Paren
 
--- with options, or without
+-- the arguments end with options, or without
 pub tail_apart : {after rest : List ℕ} {mode : Mode} → EndsArguments after mode rest
     → Begins (IsOptions mode · IsSpace · Paren) (skip_leading_whitespace after) rest
     ⊎ ((mode ≡ None) × Begins Paren (skip_leading_whitespace after) rest)
@@ -398,7 +398,7 @@ module _ (after : List ℕ) where
       (subst (λ (c : Bor (List ℕ) × Mode). Reads Anything (λ (_ : Unit {0}). Paren)
       (skip_leading_whitespace (chars c.0.now)) o) is paren))
 
--- what is before the specifier, from the parenthesis on
+-- the text before the specifier, from the parenthesis on
 pub open_none : (input : List ℕ) → Reads NoSpace (λ (_ : Unit {0}). Is (codes "(") · IsSpace)
     (skip_leading_whitespace input) None
     → Reads NoSpace (λ (_ : Unit {0}). IsSpace · Is (codes "(") · IsSpace) input None
@@ -473,7 +473,7 @@ pub after_arguments : (middle after : List ℕ) (import : Import) (o : Option (L
 after_arguments middle after import o found more = longer Open EndsArguments EndsDynamicImport Through
     end_apart end_together middle after import o found more
 
--- where the arguments of a dynamic import end, its text goes on to the end of the text
+-- the rest after the arguments is an end of the text
 pub HasArguments-back : (middle : List ℕ) (import : Import) (after : List ℕ)
     → HasArguments middle import after → (front : List ℕ) × (middle ≡ front ++ after)
 HasArguments-back middle import after s =

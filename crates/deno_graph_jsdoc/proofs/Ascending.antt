@@ -17,7 +17,7 @@ use Rattle.deno_graph_jsdoc.specs.declared.import.JsDocImport.{JsDocImport}
 module _ {X : Type 0} (R : X → X → Type 0) (xs : List X) (at : ℕ) (y : X) (fits : at ≤ length xs)
     (pairs : AllPairs R xs) (below : (k : ℕ) (d : X) → k < at → R (get_or xs k d) y)
     (above : (k : ℕ) (d : X) → at ≤ k → k < length xs → R y (get_or xs k d)) where
-  -- where an element of the new list was
+  -- the elements of the new list, before and after the inserted element
   before_at : (k : ℕ) (d : X) → k < at → get_or (insert xs at y) k d ≡ get_or xs k d
   before_at k d less = get_or-insert_below xs at y d k less fits
 
@@ -31,25 +31,25 @@ module _ {X : Type 0} (R : X → X → Type 0) (xs : List X) (at : ℕ) (y : X) 
   at_at k d is = ap (λ n. get_or (insert xs at y) n d) is ∙ get_or-insert_at xs at y d fits
 
   pub AllPairs-insert : AllPairs R (insert xs at y)
-  AllPairs-insert i j d order inside = by_places (cases_lt i at) (cases_lt at j)
+  AllPairs-insert i j d order inside = by_cases (cases_lt i at) (cases_lt at j)
     where
       size : length (insert xs at y) ≡ length xs + 1
       size = length-insert xs at y fits
 
-      by_places : (i < at) ⊎ (at ≤ i) → (at < j) ⊎ (j ≤ at)
+      by_cases : (i < at) ⊎ (at ≤ i) → (at < j) ⊎ (j ≤ at)
           → R (get_or (insert xs at y) i d) (get_or (insert xs at y) j d)
-      by_places (inl first) (inl second) =
+      by_cases (inl first) (inl second) =
           subst (λ a. R a (get_or (insert xs at y) j d)) (sym (before_at i d first))
           (subst (R (get_or xs i d)) (sym (after_at j d second))
           (pairs i (j - 1) d (omega arith) (omega (arith, size))))
-      by_places (inl first) (inr second) =
+      by_cases (inl first) (inr second) =
           subst (λ a. R a (get_or (insert xs at y) j d)) (sym (before_at i d first)) (by_last (cases_lt j at))
         where
           by_last : (j < at) ⊎ (at ≤ j) → R (get_or xs i d) (get_or (insert xs at y) j d)
           by_last (inl less) =
               subst (R (get_or xs i d)) (sym (before_at j d less)) (pairs i j d order (omega arith))
           by_last (inr same) = subst (R (get_or xs i d)) (sym (at_at j d (omega arith))) (below i d first)
-      by_places (inr first) (inl second) =
+      by_cases (inr first) (inl second) =
           subst (R (get_or (insert xs at y) i d)) (sym (after_at j d second)) (by_first (cases_lt at i))
         where
           by_first : (at < i) ⊎ (i ≤ at) → R (get_or (insert xs at y) i d) (get_or xs (j - 1) d)
@@ -57,7 +57,7 @@ module _ {X : Type 0} (R : X → X → Type 0) (xs : List X) (at : ℕ) (y : X) 
               (pairs (i - 1) (j - 1) d (omega arith) (omega (arith, size)))
           by_first (inr same) = subst (λ a. R a (get_or xs (j - 1) d)) (sym (at_at i d (omega arith)))
               (above (j - 1) d (omega arith) (omega (arith, size)))
-      by_places (inr first) (inr second) = absurd (omega arith)
+      by_cases (inr first) (inr second) = absurd (omega arith)
 
 pub map-insert : {X Y : Type 0} (f : X → Y) (xs : List X) (at : ℕ) (y : X)
     → map f (insert xs at y) ≡ insert (map f xs) at (f y)
@@ -68,7 +68,7 @@ map-insert f xs at y =
 abbrev Ascends : Import → Import → Type 0
 Ascends import later = import.start < later.start
 
--- an import that is inserted
+-- the list with an inserted import gains this import
 pub GainsImport-insert : (old : List Import) (import : Import) (at : ℕ)
     → at ≤ length old → AllPairs Ascends old
     → ((k : ℕ) (d : Import) → k < at → (get_or old k d).start < import.start)
@@ -89,17 +89,17 @@ GainsImport-insert old import at fits pairs below above = record {
 }
   where
     by_head : (other : Import) → Contains (import ∷ old) other → Contains old other ⊎ (import ≡ other)
-    by_head other (k, inside, is) = by_place k inside is
+    by_head other (k, inside, is) = by_case k inside is
       where
-        by_place : (k : ℕ) → k < length (import ∷ old) → get_or (import ∷ old) k other ≡ other
+        by_case : (k : ℕ) → k < length (import ∷ old) → get_or (import ∷ old) k other ≡ other
             → Contains old other ⊎ (import ≡ other)
-        by_place zero inside is = inr is
-        by_place (suc k) inside is = inl (k, omega arith, is)
+        by_case zero inside is = inr is
+        by_case (suc k) inside is = inl (k, omega arith, is)
 
     after_head : (other : Import) → Contains old other → Contains (import ∷ old) other
     after_head other (k, inside, is) = (suc k, omega arith, is)
 
--- an import whose start is there already
+-- a list that has an import with the same start gains nothing
 pub GainsImport-same : (old : List Import) (import : Import) → AllPairs Ascends old → (k : ℕ) → k < length old
     → ((d : Import) → (get_or old k d).start ≡ import.start)
     → GainsImport old import old
@@ -110,7 +110,7 @@ GainsImport-same old import pairs k inside same = record {
   there = (get_or old k import, Contains-get_or old k import inside, same import);
 }
 
--- inserted values of the program, by the index that a search returns
+-- an import of the program, inserted at the index that a search returns
 abbrev pub is_before : ℕ → JsDocImport → Bool
 is_before start other = nat_lt other.specifier_range.start start
 
@@ -125,8 +125,8 @@ module _ (items : List JsDocImport) (pairs : AllPairs Ascends (map import_of ite
       let less = pairs i j (import_of d) order (omega (arith, length-map items import_of)) in
       omega (arith, less, start_at i d (omega arith), start_at j d inside)
 
-  pub placed : (start : ℕ) → IsPartitionedBy (is_before start) items
-  placed start i j d order inside below = by_order (cases_lt i j)
+  pub is_partitioned : (start : ℕ) → IsPartitionedBy (is_before start) items
+  is_partitioned start i j d order inside below = by_order (cases_lt i j)
     where
       by_order : (i < j) ⊎ (j ≤ i) → is_before start (get_or items i d) ≡ true
       by_order (inl less) = lt-ltb _ _ (omega (arith, in_order i j d less inside, ltb-true _ _ below))
@@ -137,10 +137,10 @@ module _ (items : List JsDocImport) (pairs : AllPairs Ascends (map import_of ite
   module _ (import : JsDocImport) (at : ℕ) (fits : at ≤ length items)
       (point : IsPartitionPoint (λ other. is_before import.specifier_range.start other ≡ true)
       (λ other. is_before import.specifier_range.start other ≡ false) items at) where
-    pub GainsImport-placed : ((d : JsDocImport) → at < length items
+    pub GainsImport-at : ((d : JsDocImport) → at < length items
         → (get_or items at d).specifier_range.start ≢ import.specifier_range.start)
         → GainsImport (map import_of items) (import_of import) (map import_of (insert items at import))
-    GainsImport-placed other =
+    GainsImport-at other =
         subst (GainsImport (map import_of items) (import_of import))
         (sym (map-insert import_of items at import))
         (GainsImport-insert (map import_of items)
@@ -154,7 +154,7 @@ module _ (items : List JsDocImport) (pairs : AllPairs Ascends (map import_of ite
 
         above : (k : ℕ) (d : Import) → at ≤ k → k < length (map import_of items)
             → import.specifier_range.start < (get_or (map import_of items) k d).start
-        above k d more inside = by_place (cases_lt at k)
+        above k d more inside = by_case (cases_lt at k)
           where
             within : k < length items
             within = omega (arith, length-map items import_of)
@@ -162,16 +162,16 @@ module _ (items : List JsDocImport) (pairs : AllPairs Ascends (map import_of ite
             start : (get_or (map import_of items) k d).start ≡ (get_or items k import).specifier_range.start
             start = ap (λ (i : Import). i.start) (get_or-map import_of items k import d within)
 
-            by_place : (at < k) ⊎ (k ≤ at)
+            by_case : (at < k) ⊎ (k ≤ at)
                 → import.specifier_range.start < (get_or (map import_of items) k d).start
-            by_place (inl further) =
+            by_case (inl further) =
                 omega (
                   arith,
                   start,
                   in_order at k import further within,
                   ltb-false _ _ (point.1 at import (omega arith) (omega (arith, within))),
                 )
-            by_place (inr same) =
+            by_case (inr same) =
                 let here : k ≡ at = omega arith in
                 let least = ltb-false _ _ (point.1 k import more within) in
                 let not_same : (get_or items k import).specifier_range.start ≢ import.specifier_range.start =
@@ -187,7 +187,7 @@ module _ (items : List JsDocImport) (pairs : AllPairs Ascends (map import_of ite
       (import_of import) pairs at (omega (arith, length-map items import_of))
       (λ d. ap (λ (i : Import). i.start) (get_or-map import_of items at import d inside) ∙ same import)
 
--- lists that ascend and have the same elements are the same
+-- lists that ascend and have the same elements are equal
 pub tail_pairs : (x : Import) (xs : List Import) → AllPairs Ascends (x ∷ xs) → AllPairs Ascends xs
 tail_pairs x xs pairs i j d order inside = pairs (suc i) (suc j) d (omega arith) (omega arith)
 
@@ -216,27 +216,27 @@ same_ascending (x ∷ xs) (y ∷ ys) up rise to from =
     λ i. heads i ∷ same_ascending xs ys (tail_pairs x xs up) (tail_pairs y ys rise) to_tail from_tail i
   where
     heads : x ≡ y
-    heads = by_places (head_or_tail y ys x (to x (at_head x xs)))
+    heads = by_cases (head_or_tail y ys x (to x (at_head x xs)))
         (head_or_tail x xs y (from y (at_head y ys)))
       where
-        by_places : (y ≡ x) ⊎ Contains ys x → (x ≡ y) ⊎ Contains xs y → x ≡ y
-        by_places (inl same) other = sym same
-        by_places (inr later) (inl same) = same
-        by_places (inr later) (inr after) =
+        by_cases : (y ≡ x) ⊎ Contains ys x → (x ≡ y) ⊎ Contains xs y → x ≡ y
+        by_cases (inl same) other = sym same
+        by_cases (inr later) (inl same) = same
+        by_cases (inr later) (inr after) =
             absurd (omega (arith, head_below y ys rise x later, head_below x xs up y after))
 
     to_tail : (z : Import) → Contains xs z → Contains ys z
-    to_tail z has = by_place (head_or_tail y ys z (to z (in_tail x xs z has)))
+    to_tail z has = by_case (head_or_tail y ys z (to z (in_tail x xs z has)))
       where
-        by_place : (y ≡ z) ⊎ Contains ys z → Contains ys z
-        by_place (inr there) = there
-        by_place (inl same) =
+        by_case : (y ≡ z) ⊎ Contains ys z → Contains ys z
+        by_case (inr there) = there
+        by_case (inl same) =
             absurd (omega (arith, head_below x xs up z has, ap (λ (i : Import). i.start) (heads ∙ same)))
 
     from_tail : (z : Import) → Contains ys z → Contains xs z
-    from_tail z has = by_place (head_or_tail x xs z (from z (in_tail y ys z has)))
+    from_tail z has = by_case (head_or_tail x xs z (from z (in_tail y ys z has)))
       where
-        by_place : (x ≡ z) ⊎ Contains xs z → Contains xs z
-        by_place (inr there) = there
-        by_place (inl same) = absurd
+        by_case : (x ≡ z) ⊎ Contains xs z → Contains xs z
+        by_case (inr there) = there
+        by_case (inl same) = absurd
             (omega (arith, head_below y ys rise z has, ap (λ (i : Import). i.start) (sym heads ∙ same)))

@@ -14,7 +14,7 @@ use Rattle.deno_graph_jsdoc.proofs.Alphabetic.{closing_brace_no_letter}
 use Rattle.deno_graph_jsdoc.proofs.Readings.{Begins-split, IsSolid, IsSolid-word, both_none, both_then}
 use Rattle.deno_graph_jsdoc.proofs.Readings.{space_then, lexeme_none, lexeme_then}
 
--- the first characters of quotes and identifiers
+-- the first character of a quoted text, and of an identifier
 begins_quoted : (inside text rest : List ℕ) → IsQuote inside text → (c : ℕ) × (cs : List ℕ)
     × (text ++ rest ≡ c ∷ cs) × (is_alphabetic c ≡ false) × (is_whitespace c ≡ false)
 begins_quoted inside text rest (inl (_, is)) = (
@@ -65,7 +65,7 @@ key_no_brace key text rest cs (inr (is, _)) whole =
     both_ways (is_alphabetic closing_brace) closing_brace_no_letter
     (subst (λ c. is_alphabetic c ≡ true) heads ident.3)
 
--- a key
+-- a key: a quoted text or an identifier
 pub key_quoted : (input rest inside : List ℕ) → Reads Anything IsQuote input (Some (rest, inside))
     → Reads EndOfIdent IsKey input (Some (rest, inside))
 key_quoted input rest inside found = (

@@ -43,7 +43,7 @@ Through-solid [] some text parts = absurd (omega arith)
 Through-solid (a ∷ others) some text parts =
     IsSolid-front (IsSolid-front (IsSolid-front (IsSolid-key a.key))) text parts
 
--- what follows an attribute: a closing brace, or a comma and more
+-- the text after an attribute: a closing brace, or a comma and more attributes
 abbrev pub Closed : List ℕ → Type 0
 Closed = Is (codes "}")
 
@@ -67,7 +67,7 @@ further_together : (others : List Attribute) (input : List ℕ) {rest : List ℕ
 further_together [] input b = before_nothing (before_space input b)
 further_together (a ∷ others) input b = regroup_4 (before_space input b)
 
--- if a text begins with attributes, the attribute at its start is the first of them
+-- if a text begins with attributes, the first of them is the attribute that a parser reads
 module _ (rest after : List ℕ) (a : Attribute)
     (found : Reads Anything IsAttribute rest (Some (after, a))) where
   first_apart : (all : List Attribute) {end : List ℕ} → 0 < length all → Begins (Through all) rest end
@@ -86,7 +86,7 @@ module _ (rest after : List ℕ) (a : Attribute)
       → Begins (Through (a ∷ others)) rest end
   first_together others follows = regroup (Begins-join found.0 (further_together others after follows))
 
--- what has been read of a block: some attributes, whatever follows them
+-- the attributes of a block that have been read
 pub record SoFar (input rest : List ℕ) (name : Option (List ℕ)) : Type 0 where
   pub before : List Attribute
   pub named : name ≡ resolution_mode_value before
@@ -103,7 +103,7 @@ SoFar-start input = record {
   complete = λ all end some b. (all, some, refl, b);
 }
 
--- no attribute follows
+-- a block without a further attribute doesn't parse
 pub block_no_attribute : (input rest : List ℕ) (name : Option (List ℕ)) → SoFar input rest name
     → Reads Anything IsAttribute rest None → Reads Anything IsModeBlockEnd input None
 block_no_attribute input rest name so_far none mode end _ b =
@@ -118,7 +118,7 @@ block_no_attribute input rest name so_far none mode end _ b =
         let parts = Begins-split (ungroup begins) in
         none a parts.0 tt parts.1
 
--- what is left is cached
+-- the result for the whole block, from the cached result for the rest
 module _ (input rest : List ℕ) (name : Option (List ℕ)) (so_far : SoFar input rest name) where
   left_of : {mode : Option TypeScriptTypesResolutionMode} {end : List ℕ}
       → Begins (IsModeBlockEnd mode) input end
@@ -159,13 +159,13 @@ module _ (input rest : List ℕ) (name : Option (List ℕ)) (so_far : SoFar inpu
             (left.1 ∙ sym (named so_far.before left.0 so_far.named (sym same.0)), same.1),
       )
 
--- one attribute more
+-- one more attribute
 module _ (input rest after : List ℕ) (name next : Option (List ℕ)) (a : Attribute)
     (so_far : SoFar input rest name)
     (found : Reads Anything IsAttribute rest (Some (after, a)))
     (named : (before : List Attribute) → name ≡ resolution_mode_value before
     → next ≡ resolution_mode_value (before ++ a ∷ [])) where
-  -- after which a comma leads on
+  -- a comma follows the attribute
   pub SoFar-more : (later : List ℕ) → Reads NoSpace (λ (_ : Unit {0}). Is (codes ",") · IsSpace)
       (skip_leading_whitespace after) (Some (later, tt)) → SoFar input later next
   SoFar-more later comma = record {
@@ -209,7 +209,7 @@ module _ (input rest after : List ℕ) (name next : Option (List ℕ)) (a : Attr
             more.1,
           )
 
-  -- after which the block is closed
+  -- a closing brace follows the attribute
   pub block_closed : (closed : List ℕ) (mode : Option TypeScriptTypesResolutionMode)
       → Reads Anything (λ (_ : Unit {0}). Closed) (skip_leading_whitespace after) (Some (closed, tt))
       → mode ≡ option_and_then mode_named next → Reads Anything IsModeBlockEnd input (Some (closed, mode))
@@ -238,7 +238,7 @@ module _ (input rest after : List ℕ) (name next : Option (List ℕ)) (a : Attr
       only (x ∷ others) b = absurd
           (let heads : ◌≡◌ {A = ℕ} 44 125 = same_first (Begins-split b).1 brace.0 in omega (arith, heads))
 
-  -- after which neither a comma nor a brace follows
+  -- neither a comma nor a brace follows the attribute
   pub block_broken : Reads Anything (λ (_ : Unit {0}). Closed) (skip_leading_whitespace after) None
       → Reads NoSpace (λ (_ : Unit {0}). Is (codes ",") · IsSpace) (skip_leading_whitespace after) None
       → Reads Anything IsModeBlockEnd input None
@@ -254,7 +254,7 @@ module _ (input rest after : List ℕ) (name next : Option (List ℕ)) (a : Attr
           let parts = Begins-split (regroup b) in
           no_comma tt parts.0 (NoSpace-before (Through-solid (x ∷ others) (omega arith)) parts.2) parts.1
 
--- a block: a brace, and then a brace or attributes
+-- a block: an opening brace, and then a closing brace or attributes
 abbrev pub Inside : List Attribute → List ℕ → List ℕ → Type 0
 Inside [] input rest = Begins Closed input rest
 Inside (a ∷ others) input rest = Begins (Through (a ∷ others)) input rest
@@ -358,7 +358,7 @@ module _ (input middle : List ℕ)
       only (a ∷ others) {mode} {end} is b = found.1 mode end tt
           (record { piece = b.piece; whole = b.whole; is = (a ∷ others, omega arith, is, b.is) })
 
--- a word and a block
+-- `with` and a block
 pub IsSolid-block : (mode : Option TypeScriptTypesResolutionMode) (text : List ℕ)
     → IsModeBlock mode text → IsSolid text
 IsSolid-block mode text is = IsSolid-word opening_brace [] refl text is.2

@@ -1,4 +1,4 @@
--- The closing braces of a text, and the cache of the next one from one offset to a later one.
+-- The closing braces of a text, and the cache of the next closing brace.
 use Rattle.std.proofs.Common.{◌≡◌, ◌≢◌, ℕ, ◌+◌, ◌<◌, ◌≤◌, ◌==◌, ◌⊎◌, inl, inr, Bool, true, false, Option}
 use Rattle.std.proofs.Common.{Some, None, List, [], ◌∷◌, ◌++◌, length, refl, sym, ap, ◌∙◌, subst, codes}
 use Rattle.std.proofs.Common.{append_assoc, length-append, arith}
@@ -22,7 +22,7 @@ pub Lacks-back : (mark : ℕ) (xs ys : List ℕ) → Lacks mark (xs ++ ys) → L
 Lacks-back mark [] ys all = all
 Lacks-back mark (x ∷ xs) ys all = Lacks-back mark xs ys all.1
 
--- a text has a first of a mark, or none
+-- a text lacks the mark, or has a first occurrence of the mark
 abbrev pub FirstMark : ℕ → List ℕ → Type 0
 FirstMark mark text = Lacks mark text
     ⊎ ((inside : List ℕ) × (after : List ℕ) × Lacks mark inside × (text ≡ inside ++ mark ∷ after))
@@ -40,7 +40,7 @@ first_mark mark (c ∷ cs) = by_first (c == mark) refl (first_mark mark cs)
     by_first true is rest = inr ([], cs, tt, ap (λ d. d ∷ cs) (eqb-true c mark is))
     by_first false is rest = by_rest (eqb-false c mark is) rest
 
--- the length of the end of a text that has no mark
+-- the length of the longest end of a text that has no `}`
 pub IsUnclosed-none : (text : List ℕ) → Lacks closing_brace text → IsUnclosed text (byte_count text)
 IsUnclosed-none text lacks front back whole = (
   (λ fits. Lacks-back closing_brace front back (subst (Lacks closing_brace) whole lacks)),
@@ -136,17 +136,17 @@ Keeps-back text front back None whole keeps = tt
 Keeps-back text front back (Some end) whole keeps =
     (keeps.0, IsAfterBrace-back (chars end.after.now) text front back whole keeps.1)
 
--- a cached brace that isn't before the text is the next one
+-- a cached brace that isn't before the text is the next brace
 pub IsNextEnd-ahead : (text : List ℕ) (end : NamesEnd) → Keeps text (Some end)
     → byte_count (chars end.after.now) < byte_count text → IsNextEnd text (Some end)
-IsNextEnd-ahead text end keeps ahead = by_place keeps.1
+IsNextEnd-ahead text end keeps ahead = by_case keeps.1
   where
-    by_place : IsAfterBrace (chars end.after.now) text → IsNextEnd text (Some end)
-    by_place (inl (inside, lacks, whole)) =
+    by_case : IsAfterBrace (chars end.after.now) text → IsNextEnd text (Some end)
+    by_case (inl (inside, lacks, whole)) =
         record { is_end = keeps.0; is_next = brace_read text inside (chars end.after.now) lacks whole }
-    by_place (inr (front, is)) = absurd (omega (arith, ahead, ap byte_count is, byte_count-append front text))
+    by_case (inr (front, is)) = absurd (omega (arith, ahead, ap byte_count is, byte_count-append front text))
 
--- the cache stays right if the text that is passed has no brace
+-- the cache of `inside` is kept for a text with a front that has no brace before `inside`
 pub Keeps-next : (text before inside : List ℕ) (cache : Option NamesEnd) → text ≡ before ++ inside
     → Lacks closing_brace before → IsNextEnd inside cache → Keeps text cache
 Keeps-next text before inside None whole lacks next = tt
@@ -165,7 +165,7 @@ Keeps-next text before inside (Some end) whole lacks next =
       ),
     )
 
--- white space and an opening brace have no closing brace
+-- neither white space nor an opening brace contains a closing brace
 space_lacks : (text : List ℕ) → IsSpace text → Lacks closing_brace text
 space_lacks [] white = tt
 space_lacks (c ∷ cs) white = (
@@ -183,7 +183,7 @@ opening input clause inside gap brace = (
       ∙ sym (append_assoc gap.piece (opening_brace ∷ []) inside),
 )
 
--- a brace is left exactly if more of the text is left than its unclosed end
+-- a text has a `}` if it is longer than its end without `}`
 pub brace_left : (text : List ℕ) (count : ℕ) → IsUnclosed text count → count < byte_count text
     → (after : List ℕ)
     × Reads Anything (λ (_ : Unit {0}). Lacks closing_brace · Is (codes "}")) text (Some (after, tt))

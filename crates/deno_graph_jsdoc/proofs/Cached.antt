@@ -1,4 +1,4 @@
--- The caches of a text, at its ends.
+-- The caches of a text, for the ends of the text.
 use Rattle.std.proofs.Common.{◌≡◌, ℕ, ◌+◌, ◌<◌, ◌≤◌, ◌⊎◌, inl, inr, Some, None, Option, List, [], ◌∷◌, ◌++◌}
 use Rattle.std.proofs.Common.{length, take, drop, refl, sym, ap, ◌∙◌, subst, append_assoc, arith}
 use Rattle.std.proofs.lemmas.Bool.{cases_lt}
@@ -17,14 +17,14 @@ use Rattle.deno_graph_jsdoc.proofs.Imports.{byte_count-append}
 use Rattle.deno_graph_jsdoc.proofs.Runs.{front_of_front, space_whole}
 use Rattle.deno_graph_jsdoc.proofs.Texts.{cut_after_mark}
 
--- what holds of an end of a text holds also of this end as an end of a shorter end
+-- a property of the end of a text that takes `left` bytes, for the same end of `back`
 pub OfEnd-back : (left : ℕ) (P : List ℕ → Type 0) (text front back : List ℕ) → text ≡ front ++ back
     → OfEnd left P text → OfEnd left P back
 OfEnd-back left P text front back whole of before rest parts size =
     of (front ++ before) rest
     (whole ∙ ap (λ t. front ++ t) parts ∙ sym (append_assoc front before rest)) size
 
--- what is cached of a text is cached of its ends
+-- a cache of a text is a cache of each end of the text
 pub AreCached-back : (text front back : List ℕ) (cache : List CachedList) → text ≡ front ++ back
     → AreCached text cache → AreCached back cache
 AreCached-back text front back cache whole are k d inside =
@@ -57,7 +57,7 @@ AreCachedSpaces-skipped input rest cache is are =
     let space = space_whole input in
     AreCachedSpaces-back input space.0 rest cache (space.2 ∙ ap (λ t. space.0 ++ t) (sym is)) are
 
--- after options, or where there are none
+-- a cache of a text is a cache of the text after options, or of the same text without options
 pub AreCachedSpaces-options : (cache : List CachedSpace) (found : Option (Bor (List ℕ) × Mode))
     (all : Bor (List ℕ))
     (chosen : Bor (List ℕ) × Mode) → Reads Anything IsOptions (chars all.now) (rest_and_mode found)
@@ -69,7 +69,7 @@ AreCachedSpaces-options cache (Some x) all chosen reads is are =
     subst (λ (c : Bor (List ℕ) × Mode). AreCachedSpaces (chars c.0.now) cache) (sym is)
     (AreCachedSpaces-after cache reads.0 are)
 
--- a text has only one end of a size
+-- a text has at most one end of a size
 same_back : (front back before rest : List ℕ) → front ++ back ≡ before ++ rest
     → byte_count back ≡ byte_count rest → length front ≤ length before → back ≡ rest
 same_back front back before rest same size fits =
@@ -97,13 +97,13 @@ one_back front back before rest same size = by_length (cases_lt (length before) 
     by_length (inl less) = sym (same_back before rest front back (sym same) (sym size) (omega (arith, less)))
     by_length (inr fits) = same_back front back before rest same size fits
 
--- what holds of one end of the text, as `OfEnd`
+-- the end of this size has `P` if one end of this size has `P`
 pub OfEnd-one : (left : ℕ) (P : List ℕ → Type 0) (text front back : List ℕ) → text ≡ front ++ back
     → byte_count back ≡ left → P back → OfEnd left P text
 OfEnd-one left P text front back whole size holds before rest parts its_size =
     subst P (one_back front back before rest (sym whole ∙ parts) (size ∙ sym its_size)) holds
 
--- where a text goes on after a mark and white space
+-- the text after a mark and white space is an end of the text
 pub after_mark_and_space : (mark : ℕ) (text before after range input : List ℕ) → IsUtf8 text → mark < 128
     → text ≡ before ++ mark ∷ after → range ≡ drop (length before + 1) text
     → chars input ≡ skip_leading_whitespace (chars range)

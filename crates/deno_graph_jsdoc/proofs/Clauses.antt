@@ -18,7 +18,7 @@ use Rattle.deno_graph_jsdoc.proofs.Readings.{NoSpace-before, spaced, spaced_none
 use Rattle.deno_graph_jsdoc.proofs.Readings.{lexeme_none, lexeme_then, same_first}
 use Rattle.deno_graph_jsdoc.proofs.Runs.{IsSpace-append}
 
--- an identifier, without its name
+-- an identifier, without its name as the value
 ident_alone : (input : List ℕ) (o : Option (List ℕ × List ℕ))
     → Reads EndOfIdent (λ name text. IsIdent text × (name ≡ text)) input o
     → Reads EndOfIdent (λ (_ : Unit {0}). IsIdent) input (option_map (λ x. (x.0, tt)) o)
@@ -54,7 +54,7 @@ name_read input middle name o found gap =
     then_some EndOfIdent NoSpace IsIdent (λ _. IsGap) (λ _ middle rest _ b. EndOfIdent-gap middle rest b)
     input middle o (ident_alone input (Some (middle, name)) found) gap
 
--- all under one name
+-- everything under one name
 abbrev AsName : Unit {0} → List ℕ → Type 0
 AsName _ = Is (codes "as") · IsGap · IsName
 
@@ -126,7 +126,7 @@ module _ (input : List ℕ) where
     names_read after found =
         spaced (λ (_ : Unit {0}). IsNames) input after tt (from_brace (Some (after, tt)) found)
 
--- white space after what ends in white space
+-- a text that ends with white space takes further white space
 abbrev TakesSpace : (List ℕ → Type 0) → Type 0
 TakesSpace P = (text space : List ℕ) → P text → IsSpace space → P (text ++ space)
 
@@ -165,7 +165,7 @@ first_of_name {input} {rest} {after} c {cs} not b word =
 abbrev Clause : Unit {0} → List ℕ → Type 0
 Clause _ = IsClause · IsSpace
 
--- the clause by its form
+-- a clause has one of the three forms
 pub clause_apart : {input rest : List ℕ} → Begins (IsClause · IsSpace) input rest
     → Begins (IsNames · IsSpace) input rest ⊎ (Begins IsNamespace input rest ⊎ Begins IsName input rest)
 clause_apart b =
@@ -185,7 +185,7 @@ clause_apart b =
         inr (inr (with_space (TakesSpace-after TakesSpace-gap)
         (Begins-join (record { piece = piece; whole = whole; is = is }) space)))
 
--- a text doesn't begin with two of the forms
+-- a text doesn't begin with clauses of two forms
 pub names_or_namespace : {input rest after : List ℕ} → Begins (IsNames · IsSpace) input rest
     → Begins IsNamespace input after → ⊥
 names_or_namespace names namespace =
@@ -215,7 +215,7 @@ clause_names input rest found = (
   ],
 )
 
--- a brace begins only names
+-- a clause that begins with a brace is names in braces
 pub clause_unclosed : (input inside : List ℕ) → Begins (Is (codes "{")) input inside
     → Reads NoSpace (λ (_ : Unit {0}). IsNames · IsSpace) input None → Reads NoSpace Clause input None
 clause_unclosed input inside brace none = λ other after stop b. elim (clause_apart b) [

@@ -1,4 +1,4 @@
--- A list of all imports in a text, from one offset to the next.
+-- The list of all imports in a text, built from one offset to the next.
 use Rattle.std.proofs.Common.{◌≡◌, ℕ, zero, suc, ◌+◌, ◌<◌, ◌≤◌, ◌⊎◌, inl, inr, Option, Some, None, List, []}
 use Rattle.std.proofs.Common.{◌∷◌, ◌++◌, length, get_or, refl, sym, ap, ◌∙◌, subst, append_assoc}
 use Rattle.std.proofs.Common.{length-append, arith}
@@ -14,7 +14,7 @@ use Rattle.deno_graph_jsdoc.proofs.ExistenceOfDynamicImports.{read_dynamic}
 use Rattle.deno_graph_jsdoc.proofs.Passes.{gained, gained_sound}
 use Rattle.deno_graph_jsdoc.proofs.Sites.{same_front, same_after}
 
--- the index of a start in a list that ascends: an import has this start, or the start is between two imports
+-- the index of a start in a list that ascends: an import has the start, or the start is between two imports
 abbrev Index : List Import → ℕ → Type 0
 Index old start =
     ((k : ℕ) × (k < length old) × ((d : Import) → (get_or old k d).start ≡ start))
@@ -64,7 +64,7 @@ gain old import up = by_index (index_of old import.start up)
     by_index (inr (at, fits, below, over)) =
         (insert old at import, GainsImport-insert old import at fits up below over)
 
--- all imports whose front is shorter
+-- the list has all imports with a front shorter than `limit`
 pub record Collected (text : List ℕ) (limit : ℕ) (imports : List Import) : Type 0 where
   pub ascending : Ascend imports
   pub sound : (import : Import) → Contains imports import → IsImportIn text import
@@ -72,7 +72,7 @@ pub record Collected (text : List ℕ) (limit : ℕ) (imports : List Import) : T
       → Contains imports import
 
 module _ (text front back : List ℕ) (whole : text ≡ front ++ back) where
-  -- the import at one offset, as a parser reads it
+  -- the list has each import of form `G` after this front
   abbrev At : (List ℕ → Import → List ℕ → Type 0) → List Import → Type 0
   At G imports = (here : Import) (rest : List ℕ) → G back here rest
       → Contains imports (moved (byte_count front) here)
@@ -109,7 +109,7 @@ module _ (text front back : List ℕ) (whole : text ≡ front ++ back) where
         rest = rest;
         here = here;
         whole = whole;
-        states = inl is;
+        begins = inl is;
         is_moved = refl;
       })
       old so_far.ascending so_far.sound dynamic.0 dynamic.1 in
@@ -120,7 +120,7 @@ module _ (text front back : List ℕ) (whole : text ≡ front ++ back) where
         rest = rest;
         here = here;
         whole = whole;
-        states = inr is;
+        begins = inr is;
         is_moved = refl;
       })
       first.0 first.1 first.2 declaration.0 declaration.1 in (
@@ -144,7 +144,7 @@ module _ (text front back : List ℕ) (whole : text ≡ front ++ back) where
       by_length old middle new import is_in short (inl sooner) kept keeps dynamics declarations all =
           kept (all sooner)
       by_length old middle new import is_in short (inr later) kept keeps dynamics declarations all =
-          by_form is_in.states
+          by_form is_in.begins
         where
           fronts : is_in.front ≡ front
           fronts = same_front text is_in.front front (is_in.back, is_in.whole) (back, whole)
@@ -161,14 +161,14 @@ module _ (text front back : List ℕ) (whole : text ≡ front ++ back) where
           by_form : IsDynamicImport is_in.back is_in.here is_in.rest
               ⊎ IsDeclaration is_in.back is_in.here is_in.rest
               → Contains new import
-          by_form (inl states) = keeps (subst (Contains middle) is
+          by_form (inl begins) = keeps (subst (Contains middle) is
               (dynamics is_in.here is_in.rest
-              (subst (λ b. IsDynamicImport b is_in.here is_in.rest) backs states)))
-          by_form (inr states) = subst (Contains new) is
+              (subst (λ b. IsDynamicImport b is_in.here is_in.rest) backs begins)))
+          by_form (inr begins) = subst (Contains new) is
               (declarations is_in.here is_in.rest
-              (subst (λ b. IsDeclaration b is_in.here is_in.rest) backs states))
+              (subst (λ b. IsDeclaration b is_in.here is_in.rest) backs begins))
 
--- from one offset to the next, up to the end
+-- the list at each offset, up to the end of the text
 collect : (text front back : List ℕ) → text ≡ front ++ back → (old : List Import)
     → Collected text (length front) old → (imports : List Import) × Collected text (length text + 1) imports
 collect text front [] whole old so_far =

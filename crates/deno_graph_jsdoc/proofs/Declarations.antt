@@ -55,7 +55,7 @@ module _ (input clause inside : List ℕ)
         head_read input clause (Some (skip_leading_whitespace after, tt)) gap
         (clause_names clause (skip_leading_whitespace after) (names_read clause inside opens after close))
 
--- the word with which a declaration begins
+-- the first word of a declaration
 abbrev pub AtWord : Unit {0} → List ℕ → Type 0
 AtWord _ = Is (codes "@import")
 

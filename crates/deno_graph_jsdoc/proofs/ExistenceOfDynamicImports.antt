@@ -1,4 +1,4 @@
--- Each text begins with a dynamic import, read in one way, or with none.
+-- Each text begins with exactly one dynamic import, or with none.
 use Rattle.std.proofs.Common.{◌≡◌, ◌≢◌, ℕ, ◌⊎◌, inl, inr, Option, Some, None, List, [], ◌∷◌, ◌++◌, length}
 use Rattle.std.proofs.Common.{refl, sym, ap, ◌∙◌, codes, option_map, append_assoc, length-append, arith}
 use Rattle.std.specs.Str.{skip_leading_whitespace}
@@ -15,9 +15,9 @@ use Rattle.deno_graph_jsdoc.proofs.Arguments.{first_unopened, first_read, no_imp
 use Rattle.deno_graph_jsdoc.proofs.Arguments.{no_arguments, after_arguments, up_to_none, up_to_closed}
 use Rattle.deno_graph_jsdoc.proofs.Arguments.{up_to_read, First as DynamicFirst}
 use Rattle.deno_graph_jsdoc.proofs.Braces.{FirstMark, first_mark}
-use Rattle.deno_graph_jsdoc.proofs.Imports.{no_head, no_quote, no_tail, stated}
-use Rattle.deno_graph_jsdoc.proofs.ExistenceOfParts.{Answer, Starts, starts, read_word, read_token}
-use Rattle.deno_graph_jsdoc.proofs.ExistenceOfParts.{read_quote, read_through, read_block, Parsed, placed}
+use Rattle.deno_graph_jsdoc.proofs.Imports.{no_head, no_quote, no_tail, import_read}
+use Rattle.deno_graph_jsdoc.proofs.ExistenceOfParts.{HasResult, Starts, starts, read_word, read_token}
+use Rattle.deno_graph_jsdoc.proofs.ExistenceOfParts.{read_quote, read_through, read_block, Parsed, import_at}
 
 abbrev Word : List ℕ
 Word = codes "import"
@@ -34,11 +34,11 @@ first_word [] = inr (λ front rest is. absurd
 first_word (c ∷ cs) = by_start (starts Word (c ∷ cs)) (first_word cs)
   where
     later : ((rest : List ℕ) → c ∷ cs ≢ Word ++ rest) → FirstWord cs → FirstWord (c ∷ cs)
-    later not_here (inr none) = inr no_place
+    later not_here (inr none) = inr nowhere
       where
-        no_place : (front rest : List ℕ) → c ∷ cs ≢ front ++ (Word ++ rest)
-        no_place [] rest is = not_here rest is
-        no_place (f ∷ front) rest is =
+        nowhere : (front rest : List ℕ) → c ∷ cs ≢ front ++ (Word ++ rest)
+        nowhere [] rest is = not_here rest is
+        nowhere (f ∷ front) rest is =
             let tails : cs ≡ front ++ (Word ++ rest) = cc in
             none front rest tails
     later not_here (inl (front, rest, whole, first)) = inl (c ∷ front, rest, ap (λ t. c ∷ t) whole, again)
@@ -64,33 +64,33 @@ first_word (c ∷ cs) = by_start (starts Word (c ∷ cs)) (first_word cs)
             (omega (arith, ap length same, length-append before (Word ++ beyond), length-append Word beyond))
     by_start (inr none) more = later none more
 
-read_up_to : (input : List ℕ) → Answer Anything (λ (_ : Unit {0}). IsUpTo Word) input
-read_up_to input = by_place (first_word input)
+read_up_to : (input : List ℕ) → HasResult Anything (λ (_ : Unit {0}). IsUpTo Word) input
+read_up_to input = by_case (first_word input)
   where
     by_mark : (front rest : List ℕ) → input ≡ front ++ (Word ++ rest) → ((before beyond : List ℕ)
         → front ++ Word ≡ before ++ (Word ++ beyond) → beyond ≡ []) → FirstMark closing_brace front
-        → Answer Anything (λ (_ : Unit {0}). IsUpTo Word) input
+        → HasResult Anything (λ (_ : Unit {0}). IsUpTo Word) input
     by_mark front rest whole first (inl lacks) =
         (Some (rest, tt), up_to_read Word input front rest whole first lacks)
     by_mark front rest whole first (inr (inside, after, lacks, closed)) =
         (None, up_to_closed Word input front rest whole first inside after closed)
 
-    by_place : FirstWord input → Answer Anything (λ (_ : Unit {0}). IsUpTo Word) input
-    by_place (inr none) = (None, up_to_none Word input none)
-    by_place (inl (front, rest, whole, first)) =
+    by_case : FirstWord input → HasResult Anything (λ (_ : Unit {0}). IsUpTo Word) input
+    by_case (inr none) = (None, up_to_none Word input none)
+    by_case (inl (front, rest, whole, first)) =
         by_mark front rest whole first (first_mark closing_brace front)
 
 abbrev Token : List ℕ → Unit {0} → List ℕ → Type 0
 Token w _ = Is w · IsSpace
 
-read_options : (input : List ℕ) → Answer Anything IsOptions input
+read_options : (input : List ℕ) → HasResult Anything IsOptions input
 read_options input = by_comma (read_token (codes ",") input).0 (read_token (codes ",") input).1
   where
     by_end : (a : List ℕ) (ra : Reads NoSpace (Token (codes ",")) input (Some (a, tt))) (b : List ℕ)
         (rb : Reads NoSpace (Token (codes "{")) a (Some (b, tt)))
         (c : List ℕ) (rc : Reads NoSpace (Token (codes "with")) b (Some (c, tt))) (d : List ℕ)
         (rd : Reads NoSpace (Token (codes ":")) c (Some (d, tt)))
-        (o : Option (List ℕ × Mode)) → Reads Anything IsModeBlock d o → Answer Anything IsOptions input
+        (o : Option (List ℕ × Mode)) → Reads Anything IsModeBlock d o → HasResult Anything IsOptions input
     by_end a ra b rb c rc d rd None none = (None, options_no_block input a ra b rb c rc d rd none)
     by_end a ra b rb c rc d rd (Some m) block =
         let last = read_word (codes "}") (skip_leading_whitespace m.0) in (
@@ -102,43 +102,43 @@ read_options input = by_comma (read_token (codes ",") input).0 (read_token (code
         (rb : Reads NoSpace (Token (codes "{")) a (Some (b, tt)))
         (c : List ℕ) (rc : Reads NoSpace (Token (codes "with")) b (Some (c, tt)))
         (o : Option (List ℕ × Unit {0})) → Reads NoSpace (Token (codes ":")) c o
-        → Answer Anything IsOptions input
+        → HasResult Anything IsOptions input
     by_colon a ra b rb c rc None none = (None, options_no_colon input a ra b rb c rc none)
     by_colon a ra b rb c rc (Some d) rd = by_end a ra b rb c rc d.0 rd (read_block d.0).0 (read_block d.0).1
 
     by_word : (a : List ℕ) (ra : Reads NoSpace (Token (codes ",")) input (Some (a, tt))) (b : List ℕ)
         (rb : Reads NoSpace (Token (codes "{")) a (Some (b, tt)))
         (o : Option (List ℕ × Unit {0})) → Reads NoSpace (Token (codes "with")) b o
-        → Answer Anything IsOptions input
+        → HasResult Anything IsOptions input
     by_word a ra b rb None none = (None, options_no_with input a ra b rb none)
     by_word a ra b rb (Some c) rc =
         by_colon a ra b rb c.0 rc (read_token (codes ":") c.0).0 (read_token (codes ":") c.0).1
 
     by_brace : (a : List ℕ) (ra : Reads NoSpace (Token (codes ",")) input (Some (a, tt)))
         (o : Option (List ℕ × Unit {0})) → Reads NoSpace (Token (codes "{")) a o
-        → Answer Anything IsOptions input
+        → HasResult Anything IsOptions input
     by_brace a ra None none = (None, options_no_brace input a ra none)
     by_brace a ra (Some b) rb =
         by_word a ra b.0 rb (read_token (codes "with") b.0).0 (read_token (codes "with") b.0).1
 
     by_comma : (o : Option (List ℕ × Unit {0})) → Reads NoSpace (Token (codes ",")) input o
-        → Answer Anything IsOptions input
+        → HasResult Anything IsOptions input
     by_comma None none = (None, options_no_comma input none)
     by_comma (Some a) ra = by_brace a.0 ra (read_token (codes "{") a.0).0 (read_token (codes "{") a.0).1
 
 abbrev Open : Unit {0} → List ℕ → Type 0
 Open _ = IsSpace · Is (codes "(") · IsSpace
 
-read_open : (input : List ℕ) → Answer NoSpace Open input
+read_open : (input : List ℕ) → HasResult NoSpace Open input
 read_open input = by_token (read_token (codes "(") (skip_leading_whitespace input)).0
     (read_token (codes "(") (skip_leading_whitespace input)).1
   where
     by_token : (o : Option (List ℕ × Unit {0})) → Reads NoSpace (λ (_ : Unit {0}). Is (codes "(") · IsSpace)
-        (skip_leading_whitespace input) o → Answer NoSpace Open input
+        (skip_leading_whitespace input) o → HasResult NoSpace Open input
     by_token None none = (None, open_none input none)
     by_token (Some x) found = (Some (x.0, tt), open_read input x.0 found)
 
--- how the arguments end
+-- the end of the arguments
 read_end : (after : List ℕ) → (mode : Mode) × (o : Option (List ℕ × Unit {0})) × OnlyEnd after mode o
 read_end after = by_options (read_options (skip_leading_whitespace after)).0
     (read_options (skip_leading_whitespace after)).1
@@ -161,9 +161,9 @@ read_arguments input = by_open (read_open input).0 (read_open input).1
     by_end x head v quote mode None none =
         (None, no_tail (Open tt) EndsArguments input x.0 head v.0 v.1 quote none)
     by_end x head v quote mode (Some y) ends =
-        let import = placed (byte_count head.0.piece) v.1 mode in (
+        let import = import_at (byte_count head.0.piece) v.1 mode in (
           Some (y.0, import),
-          stated
+          import_read
               (Open tt) EndsArguments input x.0 head v.0 v.1 quote import y.0 refl refl refl ends.0 ends.1,
         )
 
@@ -181,11 +181,12 @@ read_arguments input = by_open (read_open input).0 (read_open input).1
 pub read_dynamic : (input : List ℕ) → Parsed IsDynamicImport input
 read_dynamic input = by_first (read_first input).0 (read_first input).1
   where
-    read_first : (input : List ℕ) → Answer Anything DynamicFirst input
+    read_first : (input : List ℕ) → HasResult Anything DynamicFirst input
     read_first input = by_brace (read_word (codes "{") input).0 (read_word (codes "{") input).1
       where
         by_brace : (o : Option (List ℕ × Unit {0}))
-            → Reads Anything (λ (_ : Unit {0}). Is (codes "{")) input o → Answer Anything DynamicFirst input
+            → Reads Anything (λ (_ : Unit {0}). Is (codes "{")) input o
+            → HasResult Anything DynamicFirst input
         by_brace None none = (None, first_unopened input none)
         by_brace (Some x) opens =
             ((read_up_to x.0).0, first_read input x.0 (read_up_to x.0).0 opens (read_up_to x.0).1)

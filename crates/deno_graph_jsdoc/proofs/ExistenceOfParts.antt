@@ -1,4 +1,4 @@
--- Each part of the grammar is at the start of a text in one way, or isn't there: each text has a result.
+-- Each text begins with exactly one text of a part of the grammar, or with none.
 use Rattle.std.proofs.Common.{◌≡◌, ◌≢◌, ℕ, zero, suc, ◌+◌, ◌<◌, ◌==◌, ◌⊎◌, inl, inr, Bool, true, false}
 use Rattle.std.proofs.Common.{Option, Some, None, List, [], ◌∷◌, ◌++◌, length, refl, sym, ap, ◌∙◌, cond}
 use Rattle.std.proofs.Common.{codes, option_map, length-append, arith}
@@ -27,8 +27,8 @@ use Rattle.deno_graph_jsdoc.proofs.Readings.{spaced, spaced_none, space_read, Be
 use Rattle.deno_graph_jsdoc.proofs.Runs.{space_whole, same_space}
 use Rattle.deno_graph_jsdoc.proofs.Words.{mode_name-kept, mode_name-first}
 
-abbrev pub Answer : {V : Type 0} → (List ℕ → Type 0) → (V → List ℕ → Type 0) → List ℕ → Type 0
-Answer {V} F P input = (o : Option (List ℕ × V)) × Reads F P input o
+abbrev pub HasResult : {V : Type 0} → (List ℕ → Type 0) → (V → List ℕ → Type 0) → List ℕ → Type 0
+HasResult {V} F P input = (o : Option (List ℕ × V)) × Reads F P input o
 
 -- words
 abbrev pub Starts : List ℕ → List ℕ → Type 0
@@ -51,10 +51,10 @@ starts (c ∷ w) (d ∷ ds) = by_first (d == c) refl (starts w ds)
         let heads : d ≡ c = cc in
         eqb-false d c is heads)
 
-pub read_word : (w input : List ℕ) → Answer Anything (λ (_ : Unit {0}). Is w) input
+pub read_word : (w input : List ℕ) → HasResult Anything (λ (_ : Unit {0}). Is w) input
 read_word w input = by_start (starts w input)
   where
-    by_start : Starts w input → Answer Anything (λ (_ : Unit {0}). Is w) input
+    by_start : Starts w input → HasResult Anything (λ (_ : Unit {0}). Is w) input
     by_start (inl (rest, is)) = (
       Some (rest, tt),
       (
@@ -65,20 +65,20 @@ read_word w input = by_start (starts w input)
     )
     by_start (inr none) = (None, λ _ rest _ b. none rest (b.whole ∙ ap (λ t. t ++ rest) b.is))
 
-pub read_token : (w input : List ℕ) → Answer NoSpace (λ (_ : Unit {0}). Is w · IsSpace) input
+pub read_token : (w input : List ℕ) → HasResult NoSpace (λ (_ : Unit {0}). Is w · IsSpace) input
 read_token w input = by_word (read_word w input).0 (read_word w input).1
   where
     by_word : (o : Option (List ℕ × Unit {0})) → Reads Anything (λ (_ : Unit {0}). Is w) input o
-        → Answer NoSpace (λ (_ : Unit {0}). Is w · IsSpace) input
+        → HasResult NoSpace (λ (_ : Unit {0}). Is w · IsSpace) input
     by_word None none = (None, spaced_none (λ (_ : Unit {0}). Is w) input none)
     by_word (Some x) found =
         (Some (skip_leading_whitespace x.0, tt), spaced (λ (_ : Unit {0}). Is w) input x.0 tt found)
 
-pub read_gap : (input : List ℕ) → Answer NoSpace (λ (_ : Unit {0}). IsGap) input
+pub read_gap : (input : List ℕ) → HasResult NoSpace (λ (_ : Unit {0}). IsGap) input
 read_gap input = by_space (space_whole input).0 (space_whole input).1 (space_whole input).2
   where
     by_space : (space : List ℕ) → IsSpace space → input ≡ space ++ skip_leading_whitespace input
-        → Answer NoSpace (λ (_ : Unit {0}). IsGap) input
+        → HasResult NoSpace (λ (_ : Unit {0}). IsGap) input
     by_space [] white whole = (
       None,
       λ _ rest stop b.
@@ -95,11 +95,11 @@ read_gap input = by_space (space_whole input).0 (space_whole input).1 (space_who
     )
 
 -- quotes and identifiers
-read_between : (mark : ℕ) (input : List ℕ) → Answer Anything (IsBetween mark) input
+read_between : (mark : ℕ) (input : List ℕ) → HasResult Anything (IsBetween mark) input
 read_between mark [] = (None, unmarked_read mark [] (λ rest is. absurd (cc)))
 read_between mark (c ∷ cs) = by_mark (c == mark) refl (first_mark mark cs)
   where
-    by_mark : (b : Bool) → (c == mark) ≡ b → FirstMark mark cs → Answer Anything (IsBetween mark) (c ∷ cs)
+    by_mark : (b : Bool) → (c == mark) ≡ b → FirstMark mark cs → HasResult Anything (IsBetween mark) (c ∷ cs)
     by_mark true is (inl lacks) =
         (None, unclosed_read mark (c ∷ cs) cs (ap (λ d. d ∷ cs) (eqb-true c mark is)) lacks)
     by_mark true is (inr (inside, after, lacks, whole)) = (
@@ -114,11 +114,11 @@ read_between mark (c ∷ cs) = by_mark (c == mark) refl (first_mark mark cs)
           eqb-false c mark is heads),
     )
 
-pub read_quote : (input : List ℕ) → Answer Anything IsQuote input
+pub read_quote : (input : List ℕ) → HasResult Anything IsQuote input
 read_quote input = by_double (read_between double_quote input).0 (read_between double_quote input).1
   where
     by_double : (o : Option (List ℕ × List ℕ)) → Reads Anything (IsBetween double_quote) input o
-        → Answer Anything IsQuote input
+        → HasResult Anything IsQuote input
     by_double (Some x) found = (Some x, quote_double input x.0 x.1 found)
     by_double None none = (
       (read_between apostrophe input).0,
@@ -135,11 +135,11 @@ name_run (c ∷ cs) = by_first (ends_ident c) refl (name_run cs)
     by_first true is more = ([], c ∷ cs, (refl, tt, is))
     by_first false is (name, rest, run) = (c ∷ name, rest, (ap (λ t. c ∷ t) run.0, (is, run.1), run.2))
 
-pub read_ident : (input : List ℕ) → Answer EndOfIdent (λ name text. IsIdent text × (name ≡ text)) input
+pub read_ident : (input : List ℕ) → HasResult EndOfIdent (λ name text. IsIdent text × (name ≡ text)) input
 read_ident input = by_first (begins_ident (name_run input).0) refl
   where
     by_first : (b : Bool) → begins_ident (name_run input).0 ≡ b
-        → Answer EndOfIdent (λ name text. IsIdent text × (name ≡ text)) input
+        → HasResult EndOfIdent (λ name text. IsIdent text × (name ≡ text)) input
     by_first true is = (
       Some ((name_run input).1, (name_run input).0),
       ident_read input (name_run input).0 (name_run input).1 (name_run input).2 is,
@@ -147,31 +147,32 @@ read_ident input = by_first (begins_ident (name_run input).0) refl
     by_first false is = (None, ident_none input (name_run input).0 (name_run input).1 (name_run input).2 is)
 
 pub read_through : (input : List ℕ)
-    → Answer Anything (λ (_ : Unit {0}). Lacks closing_brace · Is (codes "}")) input
+    → HasResult Anything (λ (_ : Unit {0}). Lacks closing_brace · Is (codes "}")) input
 read_through input = by_mark (first_mark closing_brace input)
   where
     by_mark : FirstMark closing_brace input
-        → Answer Anything (λ (_ : Unit {0}). Lacks closing_brace · Is (codes "}")) input
+        → HasResult Anything (λ (_ : Unit {0}). Lacks closing_brace · Is (codes "}")) input
     by_mark (inl lacks) = (None, brace_none input lacks)
     by_mark (inr (inside, after, lacks, whole)) =
         (Some (after, tt), brace_read input inside after lacks whole)
 
 -- attributes
-read_key : (input : List ℕ) → Answer EndOfIdent IsKey input
+read_key : (input : List ℕ) → HasResult EndOfIdent IsKey input
 read_key input = by_quote (read_quote input).0 (read_quote input).1
   where
-    by_quote : (o : Option (List ℕ × List ℕ)) → Reads Anything IsQuote input o → Answer EndOfIdent IsKey input
+    by_quote : (o : Option (List ℕ × List ℕ)) → Reads Anything IsQuote input o
+        → HasResult EndOfIdent IsKey input
     by_quote (Some x) found = (Some x, key_quoted input x.0 x.1 found)
     by_quote None none =
         ((read_ident input).0, key_named input (read_ident input).0 none (read_ident input).1)
 
-read_attribute : (input : List ℕ) → Answer Anything IsAttribute input
+read_attribute : (input : List ℕ) → HasResult Anything IsAttribute input
 read_attribute input = by_key (read_key input).0 (read_key input).1
   where
     by_colon : (x : List ℕ × List ℕ) → Reads EndOfIdent IsKey input (Some x)
         → (o : Option (List ℕ × Unit {0}))
         → Reads NoSpace (λ (_ : Unit {0}). Is (codes ":") · IsSpace) (skip_leading_whitespace x.0) o
-        → Answer Anything IsAttribute input
+        → HasResult Anything IsAttribute input
     by_colon x found None none = (None, attribute_no_colon input x.0 x.1 found none)
     by_colon x found (Some y) colon = (
       option_map (λ v. (v.0, record { key = x.1; value = v.1 })) (read_quote y.0).0,
@@ -179,7 +180,7 @@ read_attribute input = by_key (read_key input).0 (read_key input).1
     )
 
     by_key : (o : Option (List ℕ × List ℕ)) → Reads EndOfIdent IsKey input o
-        → Answer Anything IsAttribute input
+        → HasResult Anything IsAttribute input
     by_key None none = (None, attribute_no_key input none)
     by_key (Some x) found = by_colon x found (read_token (codes ":") (skip_leading_whitespace x.0)).0
         (read_token (codes ":") (skip_leading_whitespace x.0)).1
@@ -196,10 +197,10 @@ next_named None a before is = mode_name-first before a (bytes_eq a.key (codes "r
 
 abbrev Again : ℕ → List ℕ → Type 0
 Again limit input = (later : List ℕ) (next : Option (List ℕ)) → SoFar input later next → length later < limit
-    → Answer Anything IsModeBlockEnd input
+    → HasResult Anything IsModeBlockEnd input
 
 read_attributes : (limit : ℕ) (input rest : List ℕ) (name : Option (List ℕ)) → SoFar input rest name
-    → length rest < limit → Answer Anything IsModeBlockEnd input
+    → length rest < limit → HasResult Anything IsModeBlockEnd input
 read_attributes zero input rest name so_far fits = absurd (omega arith)
 read_attributes (suc limit) input rest name so_far fits =
     by_attribute (read_attribute rest).0 (read_attribute rest).1
@@ -208,7 +209,7 @@ read_attributes (suc limit) input rest name so_far fits =
     by_comma : (x : List ℕ × Attribute) → Reads Anything IsAttribute rest (Some x)
         → Reads Anything (λ (_ : Unit {0}). Is (codes "}")) (skip_leading_whitespace x.0) None
         → (o : Option (List ℕ × Unit {0})) → Reads NoSpace (λ (_ : Unit {0}). Is (codes ",") · IsSpace)
-        (skip_leading_whitespace x.0) o → Again limit input → Answer Anything IsModeBlockEnd input
+        (skip_leading_whitespace x.0) o → Again limit input → HasResult Anything IsModeBlockEnd input
     by_comma x found no_brace None none again = (
       None,
       block_broken input rest x.0 name (next_name name x.1) x.1 so_far found
@@ -222,7 +223,7 @@ read_attributes (suc limit) input rest name so_far fits =
     by_brace : (x : List ℕ × Attribute) → Reads Anything IsAttribute rest (Some x)
         → (o : Option (List ℕ × Unit {0}))
         → Reads Anything (λ (_ : Unit {0}). Is (codes "}")) (skip_leading_whitespace x.0) o
-        → Again limit input → Answer Anything IsModeBlockEnd input
+        → Again limit input → HasResult Anything IsModeBlockEnd input
     by_brace x found (Some y) brace again = (
       Some (y.0, option_and_then mode_named (next_name name x.1)),
       block_closed input rest x.0 name (next_name name x.1) x.1 so_far found (next_named name x.1) y.0
@@ -233,40 +234,42 @@ read_attributes (suc limit) input rest name so_far fits =
         (read_token (codes ",") (skip_leading_whitespace x.0)).1 again
 
     by_attribute : (o : Option (List ℕ × Attribute)) → Reads Anything IsAttribute rest o → Again limit input
-        → Answer Anything IsModeBlockEnd input
+        → HasResult Anything IsModeBlockEnd input
     by_attribute None none again = (None, block_no_attribute input rest name so_far none)
     by_attribute (Some x) found again = by_brace x found (read_word (codes "}")
         (skip_leading_whitespace x.0)).0 (read_word (codes "}") (skip_leading_whitespace x.0)).1 again
 
-pub read_block : (input : List ℕ) → Answer Anything IsModeBlock input
+pub read_block : (input : List ℕ) → HasResult Anything IsModeBlock input
 read_block input = by_open (read_token (codes "{") input).0 (read_token (codes "{") input).1
   where
     by_close : (x : List ℕ × Unit {0}) → Reads NoSpace (λ (_ : Unit {0}). Is (codes "{") · IsSpace) input
         (Some x) → (o : Option (List ℕ × Unit {0}))
-        → Reads Anything (λ (_ : Unit {0}). Is (codes "}")) x.0 o → Answer Anything IsModeBlock input
+        → Reads Anything (λ (_ : Unit {0}). Is (codes "}")) x.0 o → HasResult Anything IsModeBlock input
     by_close x opens (Some y) brace = (Some (y.0, None), block_empty input x.0 opens y.0 brace)
     by_close x opens None none =
         let all = read_attributes (length x.0 + 1) x.0 x.0 None (SoFar-start x.0) (omega arith) in
         (all.0, block_attributes input x.0 opens all.0 none all.1)
 
     by_open : (o : Option (List ℕ × Unit {0})) → Reads NoSpace
-        (λ (_ : Unit {0}). Is (codes "{") · IsSpace) input o → Answer Anything IsModeBlock input
+        (λ (_ : Unit {0}). Is (codes "{") · IsSpace) input o → HasResult Anything IsModeBlock input
     by_open None none = (None, block_unopened input none)
     by_open (Some x) opens = by_close x opens (read_word (codes "}") x.0).0 (read_word (codes "}") x.0).1
 
-pub read_with : (input : List ℕ) → Answer Anything IsWith input
+pub read_with : (input : List ℕ) → HasResult Anything IsWith input
 read_with input = by_word (read_token (codes "with") input).0 (read_token (codes "with") input).1
   where
     by_word : (o : Option (List ℕ × Unit {0}))
-        → Reads NoSpace (λ (_ : Unit {0}). Is (codes "with") · IsSpace) input o → Answer Anything IsWith input
+        → Reads NoSpace (λ (_ : Unit {0}). Is (codes "with") · IsSpace) input o
+        → HasResult Anything IsWith input
     by_word None none = (None, with_none input none)
     by_word (Some x) word =
         ((read_block x.0).0, with_read input x.0 (read_block x.0).0 word (read_block x.0).1)
 
--- the import at the start of a text, if there is one
+-- a text begins with exactly one import, or with none
 abbrev pub Parsed : (List ℕ → Import → List ℕ → Type 0) → List ℕ → Type 0
 Parsed G input = (o : Option (List ℕ × Import)) × ReadsImport G input o
 
-abbrev pub placed : ℕ → List ℕ → Mode → Import
-placed before specifier mode =
+-- the import with this specifier, whose quotes begin after `before` bytes
+abbrev pub import_at : ℕ → List ℕ → Mode → Import
+import_at before specifier mode =
     record { specifier = specifier; start = before + 1; end = before + 1 + byte_count specifier; mode = mode }

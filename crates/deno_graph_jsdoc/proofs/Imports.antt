@@ -11,14 +11,15 @@ use lib.Utf8.{encode, encodes}
 use Rattle.deno_graph_jsdoc.specs.Characters.{double_quote, apostrophe}
 use Rattle.deno_graph_jsdoc.specs.JsDocGrammar.{◌·◌, IsQuote, IsWith, Begins, Anything, NoSpace}
 use Rattle.deno_graph_jsdoc.specs.internal.Reading.{ReadsImport, Reads, rest_and_mode}
-use Rattle.deno_graph_jsdoc.specs.JsDocImport.{Mode, Import, StatesImport, EndsDeclaration, byte_count, moved}
+use Rattle.deno_graph_jsdoc.specs.JsDocImport.{Mode, Import, BeginsWithImport, EndsDeclaration, byte_count}
+use Rattle.deno_graph_jsdoc.specs.JsDocImport.{moved}
 use Rattle.deno_graph_jsdoc.proofs.Attributes.{IsSolid-quote}
 use Rattle.deno_graph_jsdoc.proofs.Readings.{IsSolid, IsSolid-append, IsSolid-word, NoSpace-solid, space_read}
 use Rattle.deno_graph_jsdoc.proofs.Readings.{after_space, before_space}
 use Rattle.deno_graph_jsdoc.proofs.Runs.{space_ends}
 use Rattle.deno_graph_jsdoc.proofs.Texts.{bytes_from_chars}
 
--- the bytes before an offset
+-- the bytes of a front and the bytes of the rest are all bytes
 pub byte_count_before : (input rest front : List ℕ) → IsUtf8 input → IsUtf8 rest
     → chars input ≡ front ++ chars rest → byte_count front + length rest ≡ length input
 byte_count_before input rest front utf8 utf8_rest whole =
@@ -46,11 +47,11 @@ byte_count_quote inside text (inr (_, is)) =
     omega (arith, ap byte_count is, byte_count-append (apostrophe ∷ inside) (apostrophe ∷ []), first, last)
 
 module _ (Head : List ℕ → Type 0) (Tail : List ℕ → Mode → List ℕ → Type 0) where
-  -- the specifier ends in the text
-  pub StatesImport-within : (input : List ℕ) (import : Import) (rest : List ℕ) → IsUtf8 input
-      → StatesImport Head Tail (chars input) import rest
+  -- the range of the specifier is in the text
+  pub BeginsWithImport-within : (input : List ℕ) (import : Import) (rest : List ℕ) → IsUtf8 input
+      → BeginsWithImport Head Tail (chars input) import rest
       → (import.start ≤ import.end) × (import.end ≤ length input)
-  StatesImport-within input import rest utf8 s =
+  BeginsWithImport-within input import rest utf8 s =
       let bytes : byte_count (s.before ++ (s.quote ++ s.after)) ≡ length input =
       ap byte_count (sym s.whole) ∙ ap length (encodes-chars input utf8) in
       let start = s.start in
@@ -66,21 +67,21 @@ module _ (Head : List ℕ → Type 0) (Tail : List ℕ → Mode → List ℕ →
       )
 
   module _ (input : List ℕ) where
-    head_of : {import : Import} {rest : List ℕ} (s : StatesImport Head Tail input import rest)
+    head_of : {import : Import} {rest : List ℕ} (s : BeginsWithImport Head Tail input import rest)
         → Begins Head input (s.quote ++ s.after)
     head_of s = record { piece = s.before; whole = s.whole; is = s.head }
 
-    solid_quote : {import : Import} {rest : List ℕ} (s : StatesImport Head Tail input import rest)
+    solid_quote : {import : Import} {rest : List ℕ} (s : BeginsWithImport Head Tail input import rest)
         → NoSpace (s.quote ++ s.after)
     solid_quote {import} s = NoSpace-solid (s.quote ++ s.after)
         (IsSolid-append s.quote s.after (IsSolid-quote import.specifier s.quote s.quoted))
 
     pub no_head : Reads NoSpace (λ (_ : Unit {0}). Head) input None
-        → ReadsImport (StatesImport Head Tail) input None
+        → ReadsImport (BeginsWithImport Head Tail) input None
     no_head none import rest s = none tt (s.quote ++ s.after) (solid_quote s) (head_of s)
 
     module _ (quoted : List ℕ) (head : Reads NoSpace (λ (_ : Unit {0}). Head) input (Some (quoted, tt))) where
-      quote_of : {import : Import} {rest : List ℕ} (s : StatesImport Head Tail input import rest)
+      quote_of : {import : Import} {rest : List ℕ} (s : BeginsWithImport Head Tail input import rest)
           → Begins (IsQuote import.specifier) quoted s.after
       quote_of s = record {
         piece = s.quote;
@@ -88,33 +89,33 @@ module _ (Head : List ℕ → Type 0) (Tail : List ℕ → Mode → List ℕ →
         is = s.quoted;
       }
 
-      same_before : {import : Import} {rest : List ℕ} (s : StatesImport Head Tail input import rest)
+      same_before : {import : Import} {rest : List ℕ} (s : BeginsWithImport Head Tail input import rest)
           → s.before ≡ head.0.piece
       same_before s =
           append_cancel_right s.before head.0.piece quoted
           (ap (λ t. s.before ++ t) (sym (head.1 tt (s.quote ++ s.after) (solid_quote s) (head_of s)).1)
           ∙ sym s.whole ∙ head.0.whole)
 
-      pub no_quote : Reads Anything IsQuote quoted None → ReadsImport (StatesImport Head Tail) input None
+      pub no_quote : Reads Anything IsQuote quoted None → ReadsImport (BeginsWithImport Head Tail) input None
       no_quote none import rest s = none import.specifier s.after tt (quote_of s)
 
       module _ (after specifier : List ℕ)
           (quote : Reads Anything IsQuote quoted (Some (after, specifier))) where
-        tail_of : {import : Import} {rest : List ℕ} (s : StatesImport Head Tail input import rest)
+        tail_of : {import : Import} {rest : List ℕ} (s : BeginsWithImport Head Tail input import rest)
             → Tail after import.mode rest
         tail_of {import} {rest} s =
             subst (λ b. Tail b import.mode rest) (quote.1 import.specifier s.after tt (quote_of s)).1 s.tail
 
         pub no_tail : ((mode : Mode) (rest : List ℕ) → Tail after mode rest → ⊥)
-            → ReadsImport (StatesImport Head Tail) input None
+            → ReadsImport (BeginsWithImport Head Tail) input None
         no_tail none import rest s = none import.mode rest (tail_of s)
 
-        pub stated : (import : Import) (rest : List ℕ) → import.specifier ≡ specifier
+        pub import_read : (import : Import) (rest : List ℕ) → import.specifier ≡ specifier
             → import.start ≡ byte_count head.0.piece + 1 → import.end ≡ import.start + byte_count specifier
             → Tail after import.mode rest → ((mode : Mode) (other : List ℕ) → Tail after mode other
             → (mode ≡ import.mode) × (other ≡ rest))
-            → ReadsImport (StatesImport Head Tail) input (Some (rest, import))
-        stated import rest is start end tail only = (
+            → ReadsImport (BeginsWithImport Head Tail) input (Some (rest, import))
+        import_read import rest is start end tail only = (
           record {
             before = head.0.piece;
             quote = quote.0.piece;
@@ -204,10 +205,10 @@ module _ (F First Head Whole : List ℕ → Type 0) (Tail : List ℕ → Mode �
     pub first : Begins First input middle
     pub ready : F middle
     pub later : Import
-    pub states : StatesImport Head Tail middle later rest
+    pub begins : BeginsWithImport Head Tail middle later rest
     pub same : import ≡ moved (byte_count first.piece) later
 
-  pub parts_of : {import : Import} {rest : List ℕ} → StatesImport Whole Tail input import rest
+  pub parts_of : {import : Import} {rest : List ℕ} → BeginsWithImport Whole Tail input import rest
       → Parts import rest
   parts_of {import} {rest} s =
       let parts = apart s.before s.head in
@@ -236,7 +237,7 @@ module _ (F First Head Whole : List ℕ → Type 0) (Tail : List ℕ → Mode �
           end = byte_count parts.back + 1 + byte_count import.specifier;
           mode = import.mode;
         };
-        states = record {
+        begins = record {
           before = parts.back;
           quote = s.quote;
           after = s.after;
@@ -252,14 +253,14 @@ module _ (F First Head Whole : List ℕ → Type 0) (Tail : List ℕ → Mode �
       }
 
   pub no_first : Reads F (λ (_ : Unit {0}). First) input None
-      → ReadsImport (StatesImport Whole Tail) input None
+      → ReadsImport (BeginsWithImport Whole Tail) input None
   no_first none import rest s =
       let parts = parts_of s in
       none tt parts.middle parts.ready parts.first
 
   pub joined : (middle : List ℕ) (first : Begins First input middle) {later : Import} {rest : List ℕ}
-      → StatesImport Head Tail middle later rest
-      → StatesImport Whole Tail input (moved (byte_count first.piece) later) rest
+      → BeginsWithImport Head Tail middle later rest
+      → BeginsWithImport Whole Tail input (moved (byte_count first.piece) later) rest
   joined middle first s = record {
     before = first.piece ++ s.before;
     quote = s.quote;
@@ -276,19 +277,19 @@ module _ (F First Head Whole : List ℕ → Type 0) (Tail : List ℕ → Mode �
 
   pub after_first : (middle : List ℕ) (first : Reads F (λ (_ : Unit {0}). First) input (Some (middle, tt)))
       (o : Option (List ℕ × Import))
-      → ReadsImport (StatesImport Head Tail) middle o → ReadsImport (StatesImport Whole Tail) input
+      → ReadsImport (BeginsWithImport Head Tail) middle o → ReadsImport (BeginsWithImport Whole Tail) input
       (option_map (λ x. (x.0, moved (byte_count first.0.piece) x.1)) o)
   after_first middle first None none = λ import rest s.
       let parts = parts_of s in
-      none parts.later rest (subst (λ m. StatesImport Head Tail m parts.later rest)
-      (first.1 tt parts.middle parts.ready parts.first).1 parts.states)
+      none parts.later rest (subst (λ m. BeginsWithImport Head Tail m parts.later rest)
+      (first.1 tt parts.middle parts.ready parts.first).1 parts.begins)
   after_first middle first (Some x) found = (
     joined middle first.0 found.0,
     λ other others_rest s.
         let parts = parts_of s in
         let middles = (first.1 tt parts.middle parts.ready parts.first).1 in
         let same = found.1 parts.later others_rest
-        (subst (λ m. StatesImport Head Tail m parts.later others_rest) middles parts.states) in
+        (subst (λ m. BeginsWithImport Head Tail m parts.later others_rest) middles parts.begins) in
         let pieces : parts.first.piece ≡ first.0.piece =
         append_cancel_right parts.first.piece first.0.piece middle
         (ap (λ t. parts.first.piece ++ t) (sym middles) ∙ sym parts.first.whole ∙ first.0.whole) in
@@ -302,8 +303,8 @@ module _ (Head : List ℕ → Type 0) (Tail Longer : List ℕ → Mode → List 
     (together : (after : List ℕ) (mode : Mode) (middle rest : List ℕ) → Tail after mode middle
     → Begins P middle rest → Longer after mode rest)
     (input : List ℕ) where
-  shorter : {import : Import} {rest : List ℕ} → StatesImport Head Longer input import rest
-      → (middle : List ℕ) × StatesImport Head Tail input import middle × Begins P middle rest
+  shorter : {import : Import} {rest : List ℕ} → BeginsWithImport Head Longer input import rest
+      → (middle : List ℕ) × BeginsWithImport Head Tail input import middle × Begins P middle rest
   shorter {import} {rest} s =
       let parts = apart s.after import.mode rest s.tail in (
         parts.0,
@@ -321,16 +322,16 @@ module _ (Head : List ℕ → Type 0) (Tail Longer : List ℕ → Mode → List 
         parts.2,
       )
 
-  pub no_tail_at_all : ReadsImport (StatesImport Head Tail) input None
-      → ReadsImport (StatesImport Head Longer) input None
+  pub no_tail_at_all : ReadsImport (BeginsWithImport Head Tail) input None
+      → ReadsImport (BeginsWithImport Head Longer) input None
   no_tail_at_all none import rest s =
       let parts = shorter s in
       none import parts.0 parts.1
 
   pub longer : (middle : List ℕ) (import : Import) (o : Option (List ℕ × Unit {0}))
-      → ReadsImport (StatesImport Head Tail) input (Some (middle, import))
+      → ReadsImport (BeginsWithImport Head Tail) input (Some (middle, import))
       → Reads Anything (λ (_ : Unit {0}). P) middle o
-      → ReadsImport (StatesImport Head Longer) input (option_map (λ x. (x.0, import)) o)
+      → ReadsImport (BeginsWithImport Head Longer) input (option_map (λ x. (x.0, import)) o)
   longer middle import None found none = λ other rest s.
       let parts = shorter s in
       none tt rest tt (subst (λ m. Begins P m rest) (found.1 other parts.0 parts.1).1 parts.2)

@@ -9,7 +9,8 @@ use Rattle.deno_graph_jsdoc.specs.Characters.{at_sign}
 use Rattle.deno_graph_jsdoc.specs.JsDocGrammar.{◌·◌, Is, IsSpace, IsGap, IsClause, IsUpTo, IsQuote, Begins}
 use Rattle.deno_graph_jsdoc.specs.JsDocGrammar.{Anything}
 use Rattle.deno_graph_jsdoc.specs.internal.Reading.{ReadsImport, IsDeclarationEnd, IsDynamicEnd}
-use Rattle.deno_graph_jsdoc.specs.JsDocImport.{Mode, Import, StatesImport, EndsDeclaration, EndsDynamicImport}
+use Rattle.deno_graph_jsdoc.specs.JsDocImport.{Mode, Import, BeginsWithImport}
+use Rattle.deno_graph_jsdoc.specs.JsDocImport.{EndsDeclaration, EndsDynamicImport}
 use Rattle.deno_graph_jsdoc.specs.JsDocImport.{IsDeclaration, IsDynamicImport, moved, byte_count}
 use Rattle.deno_graph_jsdoc.specs.JsDocImports.{IsImportIn, EndsAtDynamicImport, EndsAtDeclaration}
 use Rattle.deno_graph_jsdoc.proofs.Imports.{parts_of, joined, byte_count-append}
@@ -20,21 +21,21 @@ use Rattle.deno_graph_jsdoc.proofs.Unique.{only_quote}
 use Rattle.deno_graph_jsdoc.proofs.UniqueImports.{OnlyTail, only_declaration_tail, only_dynamic_tail}
 
 -- an import of `G` after a front that has `P`
-pub record IsStated (P : List ℕ → Type 0) (G : List ℕ → Import → List ℕ → Type 0) (text front : List ℕ)
+pub record IsImportAfter (P : List ℕ → Type 0) (G : List ℕ → Import → List ℕ → Type 0) (text front : List ℕ)
     (import : Import) : Type 0 where
   pub after : List ℕ
   pub rest : List ℕ
   pub here : Import
   pub whole : text ≡ front ++ after
   pub site : P front
-  pub states : G after here rest
+  pub begins : G after here rest
   pub is_moved : import ≡ moved (byte_count front) here
 
-abbrev pub IsDynamicImportIn : List ℕ → List ℕ → Import → Type 0
-IsDynamicImportIn = IsStated EndsAtDynamicImport IsDynamicEnd
+abbrev pub IsDynamicImportAfter : List ℕ → List ℕ → Import → Type 0
+IsDynamicImportAfter = IsImportAfter EndsAtDynamicImport IsDynamicEnd
 
-abbrev pub IsDeclarationIn : List ℕ → List ℕ → Import → Type 0
-IsDeclarationIn = IsStated EndsAtDeclaration IsDeclarationEnd
+abbrev pub IsDeclarationAfter : List ℕ → List ℕ → Import → Type 0
+IsDeclarationAfter = IsImportAfter EndsAtDeclaration IsDeclarationEnd
 
 moved-moved : (a b : ℕ) (import : Import) → moved a (moved b import) ≡ moved (a + b) import
 moved-moved a b import =
@@ -42,7 +43,7 @@ moved-moved a b import =
     let end : import.end + b + a ≡ import.end + (a + b) = omega arith in
     λ i. record { specifier = import.specifier; start = start i; end = end i; mode = import.mode }
 
--- both forms: a text that ends with `import`, and the text after it
+-- both forms of imports: the part of the head up to `import`, and the part after it
 abbrev DynamicFirst : List ℕ → Type 0
 DynamicFirst = Is (codes "{") · IsUpTo (codes "import")
 
@@ -58,20 +59,21 @@ DeclarationFirst = Is (codes "@import")
 abbrev DeclarationHead : List ℕ → Type 0
 DeclarationHead = IsGap · IsClause · IsSpace · Is (codes "from") · IsSpace
 
+-- an import, and the same import after the first part of its head
 module _ (First Head Whole : List ℕ → Type 0) (Tail : List ℕ → Mode → List ℕ → Type 0)
     (apart : (text : List ℕ) → Whole text → (First · Head) text)
     (together : (text : List ℕ) → (First · Head) text → Whole text) where
-  stated_by : (text front back rest : List ℕ) (here import : Import) → text ≡ front ++ back
-      → StatesImport Whole Tail back here rest → import ≡ moved (byte_count front) here
-      → (next : List ℕ) × IsStated (Anything · First) (StatesImport Head Tail) text next import
-  stated_by text front back rest here import whole s is_moved =
-      let parts = parts_of Anything First Head Whole Tail apart together (λ _ _ _ _. tt) back s in (
+  after_first_part : (text front : List ℕ) (import : Import)
+      → IsImportAfter Anything (BeginsWithImport Whole Tail) text front import
+      → (next : List ℕ) × IsImportAfter (Anything · First) (BeginsWithImport Head Tail) text next import
+  after_first_part text front import s =
+      let parts = parts_of Anything First Head Whole Tail apart together (λ _ _ _ _. tt) s.after s.begins in (
         front ++ parts.first.piece,
         record {
           after = parts.middle;
-          rest = rest;
+          rest = s.rest;
           here = parts.later;
-          whole = whole ∙ ap (λ t. front ++ t) parts.first.whole
+          whole = s.whole ∙ ap (λ t. front ++ t) parts.first.whole
               ∙ sym (append_assoc front parts.first.piece parts.middle);
           site = record {
             front = front;
@@ -80,40 +82,34 @@ module _ (First Head Whole : List ℕ → Type 0) (Tail : List ℕ → Mode → 
             is_front = tt;
             is_back = parts.first.is;
           };
-          states = parts.states;
-          is_moved = is_moved ∙ ap (moved (byte_count front)) parts.same
+          begins = parts.begins;
+          is_moved = s.is_moved ∙ ap (moved (byte_count front)) parts.same
               ∙ moved-moved (byte_count front) (byte_count parts.first.piece) parts.later
               ∙ ap (λ n. moved n parts.later) (sym (byte_count-append front parts.first.piece));
         },
       )
 
-  record Found (text : List ℕ) (import : Import) : Type 0 where
-    front : List ℕ
-    back : List ℕ
-    rest : List ℕ
-    here : Import
-    whole : text ≡ front ++ back
-    states : StatesImport Whole Tail back here rest
-    is_moved : import ≡ moved (byte_count front) here
-
-  found_by : (text next : List ℕ) (import : Import)
-      → IsStated (Anything · First) (StatesImport Head Tail) text next import → Found text import
-  found_by text next import s =
+  with_first_part : (text next : List ℕ) (import : Import)
+      → IsImportAfter (Anything · First) (BeginsWithImport Head Tail) text next import
+      → (front : List ℕ) × IsImportAfter Anything (BeginsWithImport Whole Tail) text front import
+  with_first_part text next import s =
       let site = s.site in
       let first : Begins First (site.back ++ s.after) s.after =
-      record { piece = site.back; whole = refl; is = site.is_back } in
-      record {
-        front = site.front;
-        back = site.back ++ s.after;
-        rest = s.rest;
-        here = moved (byte_count site.back) s.here;
-        whole = s.whole ∙ ap (λ t. t ++ s.after) site.whole ∙ append_assoc site.front site.back s.after;
-        states = joined Anything First Head Whole Tail apart together (λ _ _ _ _. tt)
-            (site.back ++ s.after) s.after first s.states;
-        is_moved = s.is_moved ∙ ap (λ t. moved (byte_count t) s.here) site.whole
-            ∙ ap (λ n. moved n s.here) (byte_count-append site.front site.back)
-            ∙ sym (moved-moved (byte_count site.front) (byte_count site.back) s.here);
-      }
+      record { piece = site.back; whole = refl; is = site.is_back } in (
+        site.front,
+        record {
+          after = site.back ++ s.after;
+          rest = s.rest;
+          here = moved (byte_count site.back) s.here;
+          whole = s.whole ∙ ap (λ t. t ++ s.after) site.whole ∙ append_assoc site.front site.back s.after;
+          site = tt;
+          begins = joined Anything First Head Whole Tail apart together (λ _ _ _ _. tt)
+              (site.back ++ s.after) s.after first s.begins;
+          is_moved = s.is_moved ∙ ap (λ t. moved (byte_count t) s.here) site.whole
+              ∙ ap (λ n. moved n s.here) (byte_count-append site.front site.back)
+              ∙ sym (moved-moved (byte_count site.front) (byte_count site.back) s.here);
+        },
+      )
 
 dynamic_apart : (text : List ℕ) → DynamicWhole text → (DynamicFirst · DynamicHead) text
 dynamic_apart = textwise (λ input rest b. regroup b)
@@ -122,54 +118,69 @@ dynamic_together : (text : List ℕ) → (DynamicFirst · DynamicHead) text → 
 dynamic_together = textwise (λ input rest b. ungroup b)
 
 -- an import follows the end of a word `import`
-pub import_stated : (text : List ℕ) (import : Import) → IsImportIn text import
-    → ((front : List ℕ) × IsDynamicImportIn text front import)
-    ⊎ ((front : List ℕ) × IsDeclarationIn text front import)
-import_stated text import is_in = by_form is_in.states
+pub import_after_word : (text : List ℕ) (import : Import) → IsImportIn text import
+    → ((front : List ℕ) × IsDynamicImportAfter text front import)
+    ⊎ ((front : List ℕ) × IsDeclarationAfter text front import)
+import_after_word text import is_in = by_form is_in.begins
   where
     by_form : IsDynamicImport is_in.back is_in.here is_in.rest
         ⊎ IsDeclaration is_in.back is_in.here is_in.rest
-        → ((front : List ℕ) × IsDynamicImportIn text front import)
-        ⊎ ((front : List ℕ) × IsDeclarationIn text front import)
-    by_form (inl s) =
-        inl (stated_by DynamicFirst DynamicHead DynamicWhole EndsDynamicImport dynamic_apart dynamic_together
-        text is_in.front is_in.back is_in.rest is_in.here import is_in.whole s is_in.is_moved)
-    by_form (inr s) =
-        inr (stated_by DeclarationFirst DeclarationHead (DeclarationFirst · DeclarationHead) EndsDeclaration
-        (λ _ is. is) (λ _ is. is) text is_in.front is_in.back is_in.rest is_in.here import is_in.whole s
-        is_in.is_moved)
+        → ((front : List ℕ) × IsDynamicImportAfter text front import)
+        ⊎ ((front : List ℕ) × IsDeclarationAfter text front import)
+    by_form (inl begins) =
+        inl (after_first_part DynamicFirst DynamicHead DynamicWhole EndsDynamicImport dynamic_apart
+        dynamic_together text is_in.front import (record {
+          after = is_in.back;
+          rest = is_in.rest;
+          here = is_in.here;
+          whole = is_in.whole;
+          site = tt;
+          begins = begins;
+          is_moved = is_in.is_moved;
+        }))
+    by_form (inr begins) =
+        inr (after_first_part DeclarationFirst DeclarationHead (DeclarationFirst · DeclarationHead)
+        EndsDeclaration (λ _ is. is) (λ _ is. is) text is_in.front import (record {
+          after = is_in.back;
+          rest = is_in.rest;
+          here = is_in.here;
+          whole = is_in.whole;
+          site = tt;
+          begins = begins;
+          is_moved = is_in.is_moved;
+        }))
 
 pub dynamic_in : (text front : List ℕ) (import : Import)
-    → IsDynamicImportIn text front import → IsImportIn text import
+    → IsDynamicImportAfter text front import → IsImportIn text import
 dynamic_in text front import s =
-    let found = found_by DynamicFirst DynamicHead DynamicWhole EndsDynamicImport dynamic_apart
+    let found = with_first_part DynamicFirst DynamicHead DynamicWhole EndsDynamicImport dynamic_apart
     dynamic_together text front import s in
     record {
-      front = found.front;
-      back = found.back;
-      rest = found.rest;
-      here = found.here;
-      whole = found.whole;
-      states = inl found.states;
-      is_moved = found.is_moved;
+      front = found.0;
+      back = found.1.after;
+      rest = found.1.rest;
+      here = found.1.here;
+      whole = found.1.whole;
+      begins = inl found.1.begins;
+      is_moved = found.1.is_moved;
     }
 
 pub declaration_in : (text front : List ℕ) (import : Import)
-    → IsDeclarationIn text front import → IsImportIn text import
+    → IsDeclarationAfter text front import → IsImportIn text import
 declaration_in text front import s =
-    let found = found_by DeclarationFirst DeclarationHead (DeclarationFirst · DeclarationHead) EndsDeclaration
-    (λ _ is. is) (λ _ is. is) text front import s in
+    let found = with_first_part DeclarationFirst DeclarationHead (DeclarationFirst · DeclarationHead)
+    EndsDeclaration (λ _ is. is) (λ _ is. is) text front import s in
     record {
-      front = found.front;
-      back = found.back;
-      rest = found.rest;
-      here = found.here;
-      whole = found.whole;
-      states = inr found.states;
-      is_moved = found.is_moved;
+      front = found.0;
+      back = found.1.after;
+      rest = found.1.rest;
+      here = found.1.here;
+      whole = found.1.whole;
+      begins = inr found.1.begins;
+      is_moved = found.1.is_moved;
     }
 
--- the text before such imports ends with `import`
+-- the front before these imports ends with `import`
 pub dynamic_ends : (front : List ℕ) → EndsAtDynamicImport front → EndsIn front
 dynamic_ends front is =
     let inner = is.is_back in
@@ -187,34 +198,34 @@ declaration_ends front is = (
       ∙ sym (append_assoc is.front (at_sign ∷ []) word),
 )
 
--- the imports after a front are those that a parser reads there
+-- the only import after a front is the import that a parser reads after the front
 module _ (P : List ℕ → Type 0) (G : List ℕ → Import → List ℕ → Type 0) (text front after : List ℕ)
     (whole : text ≡ front ++ after) where
-  here_of : (import : Import) (s : IsStated P G text front import) → G after s.here s.rest
+  here_of : (import : Import) (s : IsImportAfter P G text front import) → G after s.here s.rest
   here_of import s =
-      subst (λ t. G t s.here s.rest) (same_after text front s.after after s.whole whole) s.states
+      subst (λ t. G t s.here s.rest) (same_after text front s.after after s.whole whole) s.begins
 
-  pub stated_none : ReadsImport G after None → (import : Import) → IsStated P G text front import → ⊥
-  stated_none none import s = none s.here s.rest (here_of import s)
+  pub no_import_after : ReadsImport G after None → (import : Import) → IsImportAfter P G text front import → ⊥
+  no_import_after none import s = none s.here s.rest (here_of import s)
 
-  pub stated_only : (answer : List ℕ × Import) → ReadsImport G after (Some answer) → (import : Import)
-      → IsStated P G text front import → import ≡ moved (byte_count front) answer.1
-  stated_only answer found import s =
+  pub only_import_after : (read : List ℕ × Import) → ReadsImport G after (Some read) → (import : Import)
+      → IsImportAfter P G text front import → import ≡ moved (byte_count front) read.1
+  only_import_after read found import s =
       s.is_moved ∙ ap (moved (byte_count front)) (found.1 s.here s.rest (here_of import s)).0
 
-  pub stated_some : (answer : List ℕ × Import) → ReadsImport G after (Some answer) → P front
-      → IsStated P G text front (moved (byte_count front) answer.1)
-  stated_some answer found site = record {
+  pub import_after : (read : List ℕ × Import) → ReadsImport G after (Some read) → P front
+      → IsImportAfter P G text front (moved (byte_count front) read.1)
+  import_after read found site = record {
     after = after;
-    rest = answer.0;
-    here = answer.1;
+    rest = read.0;
+    here = read.1;
     whole = whole;
     site = site;
-    states = found.0;
+    begins = found.0;
     is_moved = refl;
   }
 
--- two fronts of a text that take equally many bytes are the same
+-- two fronts of a text with the same number of bytes are equal
 same_size : (text front other back after : List ℕ) → text ≡ front ++ back → text ≡ other ++ after
     → byte_count front ≡ byte_count other → front ≡ other
 same_size text front other back after is are same = by_length (cases_lt (length other) (length front))
@@ -235,7 +246,7 @@ same_size text front other back after is are same = by_length (cases_lt (length 
         sym (longer other after front back (sym are ∙ is) (omega (arith, more)) (sym same))
     by_length (inr less) = longer front back other after (sym is ∙ are) less same
 
--- the last character of a text that is no white space
+-- a text has one last character that is no white space
 last_solid : (a b : ℕ) (xs ys space other : List ℕ) → IsSpace space → IsSpace other
     → is_whitespace a ≡ false → is_whitespace b ≡ false
     → xs ++ a ∷ space ≡ ys ++ b ∷ other → a ≡ b
@@ -271,7 +282,7 @@ last_solid a b xs ys space other white blank solid hard same = by_length (cases_
         (append_cancel_left ys (b ∷ other) (middle.0 ++ a ∷ space)
         (sym same ∙ ap (λ t. t ++ a ∷ space) middle.1 ∙ append_assoc ys middle.0 (a ∷ space))))
 
--- the end of the text before a specifier
+-- the last characters before a specifier: `(` or `from`, and white space
 dynamic_head_ends : (before : List ℕ) → DynamicHead before → (front : List ℕ) × (space : List ℕ)
     × IsSpace space × (before ≡ front ++ 40 ∷ space)
 dynamic_head_ends before is =
@@ -318,28 +329,28 @@ record Specified (Head : List ℕ → Type 0) (Tail : List ℕ → Mode → List
 
 specified_by : (P Head : List ℕ → Type 0) (Tail : List ℕ → Mode → List ℕ → Type 0)
     (text front : List ℕ) (import : Import)
-    → IsStated P (StatesImport Head Tail) text front import → Specified Head Tail text import
+    → IsImportAfter P (BeginsWithImport Head Tail) text front import → Specified Head Tail text import
 specified_by P Head Tail text front import s =
-    let states = s.states in
+    let begins = s.begins in
     let specifier : import.specifier ≡ s.here.specifier = ap (λ (i : Import). i.specifier) s.is_moved in
     let mode : import.mode ≡ s.here.mode = ap (λ (i : Import). i.mode) s.is_moved in
     let starts : import.start ≡ s.here.start + byte_count front = ap (λ (i : Import). i.start) s.is_moved in
     let ends : import.end ≡ s.here.end + byte_count front = ap (λ (i : Import). i.end) s.is_moved in
-    let start = states.start in
-    let end = states.end in
+    let start = begins.start in
+    let end = begins.end in
     record {
       front = front;
-      before = states.before;
-      quote = states.quote;
-      after = states.after;
+      before = begins.before;
+      quote = begins.quote;
+      after = begins.after;
       rest = s.rest;
-      whole = s.whole ∙ ap (λ t. front ++ t) states.whole
-          ∙ sym (append_assoc front states.before (states.quote ++ states.after));
-      head = states.head;
-      quoted = subst (λ t. IsQuote t states.quote) (sym specifier) states.quoted;
-      start = omega (arith, byte_count-append front states.before);
+      whole = s.whole ∙ ap (λ t. front ++ t) begins.whole
+          ∙ sym (append_assoc front begins.before (begins.quote ++ begins.after));
+      head = begins.head;
+      quoted = subst (λ t. IsQuote t begins.quote) (sym specifier) begins.quoted;
+      start = omega (arith, byte_count-append front begins.before);
       end = omega (arith, ap byte_count specifier);
-      tail = subst (λ m. Tail states.after m s.rest) (sym mode) states.tail;
+      tail = subst (λ m. Tail begins.after m s.rest) (sym mode) begins.tail;
     }
 
 module _ (Head Other : List ℕ → Type 0) (Tail Ending : List ℕ → Mode → List ℕ → Type 0)
@@ -373,7 +384,7 @@ module _ (Head : List ℕ → Type 0) (Tail : List ℕ → Mode → List ℕ →
       let end : import.end ≡ other.end = s.end ∙ (λ i. same i + byte_count (both.0 i)) ∙ sym t.end in
       λ i. record { specifier = both.0 i; start = same i; end = end i; mode = mode i }
 
--- no specifier is both of a dynamic import and of a declaration
+-- no specifier belongs to a dynamic import and to a declaration
 forms_apart : (text : List ℕ) (import other : Import) → Specified DynamicHead EndsDynamicImport text import
     → Specified DeclarationHead EndsDeclaration text other
     → import.start ≡ other.start → ⊥
@@ -392,21 +403,21 @@ forms_apart text import other s t same =
 pub one_import_in : (text : List ℕ) (import other : Import) → IsImportIn text import → IsImportIn text other
     → import.start ≡ other.start → import ≡ other
 one_import_in text import other is_in again same =
-    by_form (import_stated text import is_in) (import_stated text other again)
+    by_form (import_after_word text import is_in) (import_after_word text other again)
   where
-    dynamic : (i : Import) (found : (front : List ℕ) × IsDynamicImportIn text front i)
+    dynamic : (i : Import) (found : (front : List ℕ) × IsDynamicImportAfter text front i)
         → Specified DynamicHead EndsDynamicImport text i
     dynamic i found = specified_by EndsAtDynamicImport DynamicHead EndsDynamicImport text found.0 i found.1
 
-    declaration : (i : Import) (found : (front : List ℕ) × IsDeclarationIn text front i)
+    declaration : (i : Import) (found : (front : List ℕ) × IsDeclarationAfter text front i)
         → Specified DeclarationHead EndsDeclaration text i
     declaration i found =
         specified_by EndsAtDeclaration DeclarationHead EndsDeclaration text found.0 i found.1
 
-    by_form : ((front : List ℕ) × IsDynamicImportIn text front import)
-        ⊎ ((front : List ℕ) × IsDeclarationIn text front import)
-        → ((front : List ℕ) × IsDynamicImportIn text front other)
-        ⊎ ((front : List ℕ) × IsDeclarationIn text front other) → import ≡ other
+    by_form : ((front : List ℕ) × IsDynamicImportAfter text front import)
+        ⊎ ((front : List ℕ) × IsDeclarationAfter text front import)
+        → ((front : List ℕ) × IsDynamicImportAfter text front other)
+        ⊎ ((front : List ℕ) × IsDeclarationAfter text front other) → import ≡ other
     by_form (inl x) (inl y) = one_specified DynamicHead EndsDynamicImport only_dynamic_tail text import other
         (dynamic import x) (dynamic other y) same
     by_form (inr x) (inr y) = one_specified DeclarationHead EndsDeclaration only_declaration_tail text import
@@ -416,8 +427,8 @@ one_import_in text import other is_in again same =
     by_form (inr x) (inl y) =
         absurd (forms_apart text other import (dynamic other y) (declaration import x) (sym same))
 
--- the range of an import's specifier in the text
-pub record IsPlaced (text : List ℕ) (import : Import) : Type 0 where
+-- the text has the specifier of the import in quotes, at the range of the import
+pub record HasSpecifier (text : List ℕ) (import : Import) : Type 0 where
   pub before : List ℕ
   pub quote : List ℕ
   pub after : List ℕ
@@ -426,12 +437,12 @@ pub record IsPlaced (text : List ℕ) (import : Import) : Type 0 where
   pub start : import.start ≡ byte_count before + 1
   pub end : import.end ≡ import.start + byte_count import.specifier
 
-pub import_placed : (text : List ℕ) (import : Import) → IsImportIn text import → IsPlaced text import
-import_placed text import is_in = by_form (import_stated text import is_in)
+pub has_specifier : (text : List ℕ) (import : Import) → IsImportIn text import → HasSpecifier text import
+has_specifier text import is_in = by_form (import_after_word text import is_in)
   where
-    placed : (Head : List ℕ → Type 0) (Tail : List ℕ → Mode → List ℕ → Type 0)
-        → Specified Head Tail text import → IsPlaced text import
-    placed Head Tail s = record {
+    specifier_in : (Head : List ℕ → Type 0) (Tail : List ℕ → Mode → List ℕ → Type 0)
+        → Specified Head Tail text import → HasSpecifier text import
+    specifier_in Head Tail s = record {
       before = s.front ++ s.before;
       quote = s.quote;
       after = s.after;
@@ -441,9 +452,9 @@ import_placed text import is_in = by_form (import_stated text import is_in)
       end = s.end;
     }
 
-    by_form : ((front : List ℕ) × IsDynamicImportIn text front import)
-        ⊎ ((front : List ℕ) × IsDeclarationIn text front import) → IsPlaced text import
-    by_form (inl found) = placed DynamicHead EndsDynamicImport
+    by_form : ((front : List ℕ) × IsDynamicImportAfter text front import)
+        ⊎ ((front : List ℕ) × IsDeclarationAfter text front import) → HasSpecifier text import
+    by_form (inl found) = specifier_in DynamicHead EndsDynamicImport
         (specified_by EndsAtDynamicImport DynamicHead EndsDynamicImport text found.0 import found.1)
-    by_form (inr found) = placed DeclarationHead EndsDeclaration
+    by_form (inr found) = specifier_in DeclarationHead EndsDeclaration
         (specified_by EndsAtDeclaration DeclarationHead EndsDeclaration text found.0 import found.1)

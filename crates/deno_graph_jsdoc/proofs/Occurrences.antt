@@ -1,4 +1,4 @@
--- The number of occurrences of a word in a text, and after one of the occurrences.
+-- A text has more occurrences of a word than the text after one of them.
 use Rattle.std.proofs.Common.{◌≡◌, ℕ, ◌+◌, ◌≤◌, List, [], ◌∷◌, ◌++◌, ap, arith}
 use Rattle.deno_graph_jsdoc.specs.JsDocImports.{occurrences}
 use Rattle.deno_graph_jsdoc.proofs.Sites.{word}

@@ -53,7 +53,7 @@ module _ (input rest : List ℕ) (utf8 : IsUtf8 input) (utf8_rest : IsUtf8 rest)
         length-le-encodes begins.piece,
       )
 
--- a text between marks
+-- a text between two marks
 module _ (mark : ℕ) where
   pub marked : (inside after : List ℕ)
       → (mark ∷ inside ++ mark ∷ []) ++ after ≡ mark ∷ (inside ++ mark ∷ after)
@@ -91,7 +91,7 @@ module _ (mark : ℕ) where
         (sym found.0, sym found.1),
   )
 
--- a quoted text has marks of one kind
+-- a quoted text has two equal marks
 pub marks_apart : (input inside other rest after : List ℕ)
     → Begins (IsBetween double_quote inside) input rest
     → Begins (IsBetween apostrophe other) input after → ⊥
@@ -118,14 +118,14 @@ quote_double input rest inside found = (
   ],
 )
 
-pub quote_single : (input : List ℕ) (answer : Option (List ℕ × List ℕ))
+pub quote_single : (input : List ℕ) (result : Option (List ℕ × List ℕ))
     → Reads Anything (IsBetween double_quote) input
-    None → Reads Anything (IsBetween apostrophe) input answer → Reads Anything IsQuote input answer
+    None → Reads Anything (IsBetween apostrophe) input result → Reads Anything IsQuote input result
 quote_single input None none other = λ inside rest _ begins. elim begins.is [
   | inl is ↦ none inside rest tt (record { piece = begins.piece; whole = begins.whole; is = is })
   | inr is ↦ other inside rest tt (record { piece = begins.piece; whole = begins.whole; is = is })
 ]
-quote_single input (Some answer) none found = (
+quote_single input (Some result) none found = (
   record { piece = found.0.piece; whole = found.0.whole; is = inr found.0.is },
   λ other after _ begins. elim begins.is [
     | inl is ↦ absurd (none other after tt (record { piece = begins.piece; whole = begins.whole; is = is }))
@@ -165,7 +165,7 @@ brace_read input text rest lacks whole = (
       ),
 )
 
--- characters that end no identifier, and then one that does
+-- characters that don't end an identifier, and then a character that does
 abbrev pub IsNameRun : List ℕ → List ℕ → List ℕ → Type 0
 IsNameRun input name rest = (input ≡ name ++ rest)
     × AllByRecursion (λ c. ends_ident c ≡ false) name × EndOfIdent rest

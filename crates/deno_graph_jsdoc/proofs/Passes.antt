@@ -13,10 +13,10 @@ use Rattle.deno_graph_jsdoc.specs.JsDocImports.{AreImportsIn, HasFronts, IsImpor
 use Rattle.deno_graph_jsdoc.specs.JsDocImports.{EndsAtDynamicImport}
 use Rattle.deno_graph_jsdoc.specs.JsDocImports.{EndsAtDeclaration}
 use Rattle.deno_graph_jsdoc.specs.internal.Pass.{EndsWithAt, GainsImport, LeavesOpen}
-use Rattle.deno_graph_jsdoc.proofs.ImportsIn.{IsStated, IsDynamicImportIn, IsDeclarationIn}
-use Rattle.deno_graph_jsdoc.proofs.ImportsIn.{import_stated, dynamic_in}
-use Rattle.deno_graph_jsdoc.proofs.ImportsIn.{declaration_in, dynamic_ends, declaration_ends, stated_none}
-use Rattle.deno_graph_jsdoc.proofs.ImportsIn.{stated_only, stated_some, one_import_in}
+use Rattle.deno_graph_jsdoc.proofs.ImportsIn.{IsImportAfter, IsDynamicImportAfter, IsDeclarationAfter}
+use Rattle.deno_graph_jsdoc.proofs.ImportsIn.{import_after_word, dynamic_in}
+use Rattle.deno_graph_jsdoc.proofs.ImportsIn.{declaration_in, dynamic_ends, declaration_ends, no_import_after}
+use Rattle.deno_graph_jsdoc.proofs.ImportsIn.{only_import_after, import_after, one_import_in}
 use Rattle.deno_graph_jsdoc.proofs.Runs.{front_of_front}
 use Rattle.deno_graph_jsdoc.proofs.Sites.{word, EndsIn, IsCut, Skips, same_front, skips_to, no_further}
 use Rattle.deno_graph_jsdoc.proofs.Sites.{Counted, Counted-start, Counted-skip, Counted-more, Counted-all}
@@ -44,7 +44,7 @@ no_brace (a ∷ b ∷ c ∷ d ∷ e ∷ []) rest after same short =
     omega (arith, heads)
 no_brace (a ∷ b ∷ c ∷ d ∷ e ∷ f ∷ more) rest after same short = omega arith
 
--- two texts with the same end have the same last character
+-- equal texts have equal last characters
 same_last : (a b : ℕ) (xs ys : List ℕ) → xs ++ a ∷ [] ≡ ys ++ b ∷ [] → a ≡ b
 same_last a b [] [] same = cc
 same_last a b [] (y ∷ ys) same = absurd (omega (arith, ap length same, length-append ys (b ∷ [])))
@@ -53,7 +53,7 @@ same_last a b (x ∷ xs) (y ∷ ys) same =
     let tails : xs ++ a ∷ [] ≡ ys ++ b ∷ [] = cc in
     same_last a b xs ys tails
 
--- the next `import` after a cut
+-- the next `import` after an offset where a search begins
 module _ (text front before after : List ℕ) (cut : IsCut front)
     (whole : text ≡ front ++ (before ++ (word ++ after)))
     (first : (sooner reached : List ℕ) → before ++ word ≡ sooner ++ (word ++ reached) → reached ≡ []) where
@@ -79,7 +79,7 @@ module _ (text front before after : List ℕ) (cut : IsCut front)
       subst (λ t. Skips t front next) (sym whole)
       (skips_to front (before ++ (word ++ after)) cut before after refl first)
 
-  -- it is a site of a declaration if an `@` is before it
+  -- a declaration may begin there exactly if `@` is directly before the word
   pub declaration_here : EndsWithAt before → EndsAtDeclaration next
   declaration_here ends = record {
     front = front ++ ends.front;
@@ -138,7 +138,7 @@ module _ (text front before after : List ℕ) (cut : IsCut front)
             is_back = refl;
           }
 
-  -- it is a site of a dynamic import if a brace is open
+  -- a dynamic import may begin there exactly if an open brace is before the word
   pub dynamic_here : LeavesOpen before → EndsAtDynamicImport next
   dynamic_here opens =
       let brace = opens.is_back in
@@ -181,9 +181,9 @@ module _ (text front before after : List ℕ) (cut : IsCut front)
           site.whole ∙ ap (λ t. site.front ++ t)
           (back.whole ∙ (λ k. back.is_front k ++ (back.is_back).whole k))
 
-      by_place : (earlier : List ℕ) → front ≡ earlier ++ word → (length site.front < length earlier)
+      by_case : (earlier : List ℕ) → front ≡ earlier ++ word → (length site.front < length earlier)
           ⊎ (length earlier ≤ length site.front) → length site.front < length front → LeavesOpen before
-      by_place earlier is (inl sooner) less =
+      by_case earlier is (inl sooner) less =
           let same : site.front ++ opening_brace ∷ (upto ++ word) ≡ earlier ++ (word ++ (before ++ word)) =
           sym all ∙ ap (λ t. t ++ (before ++ word)) is ∙ append_assoc earlier word (before ++ word) in
           let middle = front_of_front (site.front ++ opening_brace ∷ []) (upto ++ word) earlier
@@ -198,7 +198,7 @@ module _ (text front before after : List ℕ) (cut : IsCut front)
           let none = ((site.is_back).is_back).first middle.0 (before ++ word)
           (((site.is_back).is_back).whole ∙ tails) in
           absurd (omega (arith, ap length none, length-append before word))
-      by_place earlier is (inr later) less =
+      by_case earlier is (inr later) less =
           let same : earlier ++ (word ++ (before ++ word)) ≡ site.front ++ opening_brace ∷ (upto ++ word) =
           sym (append_assoc earlier word (before ++ word)) ∙ ap (λ t. t ++ (before ++ word)) (sym is) ∙ all in
           let middle = front_of_front earlier (word ++ (before ++ word)) site.front
@@ -219,7 +219,7 @@ module _ (text front before after : List ℕ) (cut : IsCut front)
       by_cut : IsCut front → length site.front < length front → LeavesOpen before
       by_cut (inl none) less = absurd (omega (arith, ap length none))
       by_cut (inr (earlier, is)) less =
-          by_place earlier is (cases_lt (length site.front) (length earlier)) less
+          by_case earlier is (cases_lt (length site.front) (length earlier)) less
 
       by_length : (length site.front < length front) ⊎ (length front ≤ length site.front) → LeavesOpen before
       by_length (inl sooner) = by_cut cut sooner
@@ -245,11 +245,11 @@ module _ (text front before after : List ℕ) (cut : IsCut front)
             };
           }
 
--- the imports of one form that are after fronts up to a length
+-- the imports of one form after fronts up to a length
 module _ (P : List ℕ → Type 0) (ends : (front : List ℕ) → P front → EndsIn front)
     (G : List ℕ → Import → List ℕ → Type 0) (text : List ℕ) where
   abbrev pub Complete : ℕ → List Import → Type 0
-  Complete limit imports = (front : List ℕ) (import : Import) → IsStated P G text front import
+  Complete limit imports = (front : List ℕ) (import : Import) → IsImportAfter P G text front import
       → length front ≤ limit → Contains imports import
 
   pub Complete-start : Complete 0 []
@@ -263,7 +263,7 @@ module _ (P : List ℕ → Type 0) (ends : (front : List ℕ) → P front → En
 
   module _ (last reached : List ℕ) (here : IsFront text reached) (skips : Skips text last reached)
       (imports : List Import) (all : Complete (length last) imports) where
-    pub Complete-next : ((import : Import) → IsStated P G text reached import → Contains imports import)
+    pub Complete-next : ((import : Import) → IsImportAfter P G text reached import → Contains imports import)
         → Complete (length reached) imports
     Complete-next new front import s fits = by_length (cases_lt (length last) (length front))
       where
@@ -271,10 +271,10 @@ module _ (P : List ℕ → Type 0) (ends : (front : List ℕ) → P front → En
         by_length (inr old) = all front import s old
         by_length (inl longer) =
             let far = skips front (s.after, s.whole) (ends front s.site) longer in
-            new import (subst (λ f. IsStated P G text f import)
+            new import (subst (λ f. IsImportAfter P G text f import)
             (same_front text front reached (s.after, s.whole) here (omega (arith, far))) s)
 
--- what a pass has found: the imports, and how many sites there are, after fronts up to two lengths
+-- the result of a pass so far: the imports and the numbers of sites, after fronts up to two lengths
 pub record Found (text : List ℕ) (imports : List Import) (dynamics decls : ℕ)
     (dynamic_front decl_front : List ℕ) : Type 0 where
   pub ascending : AllPairs (λ (import later : Import). import.start < later.start) imports
@@ -306,26 +306,26 @@ pub gained : (text : List ℕ) (old new : List Import) (import : Import)
 gained text old new import sound is_in gains =
     let there = gains.there in
     subst (Contains new)
-    (one_import_in text there.0 import (by_place there.0 (gains.only there.0 there.1)) is_in there.2) there.1
+    (one_import_in text there.0 import (by_case there.0 (gains.only there.0 there.1)) is_in there.2) there.1
   where
-    by_place : (other : Import) → Contains old other ⊎ (import ≡ other) → IsImportIn text other
-    by_place other (inl has) = sound other has
-    by_place other (inr is) = subst (IsImportIn text) is is_in
+    by_case : (other : Import) → Contains old other ⊎ (import ≡ other) → IsImportIn text other
+    by_case other (inl has) = sound other has
+    by_case other (inr is) = subst (IsImportIn text) is is_in
 
 pub gained_sound : (text : List ℕ) (old new : List Import) (import : Import)
     → ((other : Import) → Contains old other → IsImportIn text other) → IsImportIn text import
     → GainsImport old import new
     → (other : Import) → Contains new other → IsImportIn text other
-gained_sound text old new import sound is_in gains other has = by_place (gains.only other has)
+gained_sound text old new import sound is_in gains other has = by_case (gains.only other has)
   where
-    by_place : Contains old other ⊎ (import ≡ other) → IsImportIn text other
-    by_place (inl old) = sound other old
-    by_place (inr is) = subst (IsImportIn text) is is_in
+    by_case : Contains old other ⊎ (import ≡ other) → IsImportIn text other
+    by_case (inl old) = sound other old
+    by_case (inr is) = subst (IsImportIn text) is is_in
 
--- the list after a start of a parser at the end of `after`
+-- the list after a parser has read what follows `reached`
 abbrev pub Takes : List ℕ → List Import → Option (List ℕ × Import) → List Import → Type 0
-Takes reached old answer new =
-    MatchOption answer (new ≡ old) (λ found. GainsImport old (moved (byte_count reached) found.1) new)
+Takes reached old read new =
+    MatchOption read (new ≡ old) (λ found. GainsImport old (moved (byte_count reached) found.1) new)
 
 module _ (text last reached after : List ℕ) (whole : text ≡ reached ++ after)
     (skips : Skips text last reached) (longer : length last < length reached) where
@@ -362,9 +362,9 @@ module _ (text last reached after : List ℕ) (whole : text ≡ reached ++ after
   }
 
   pub dynamic_take : {imports : List Import} {dynamics decls : ℕ} {other : List ℕ} (more : List Import)
-      (answer : Option (List ℕ × Import)) → Found text imports dynamics decls last other
-      → EndsAtDynamicImport reached → ReadsImport IsDynamicEnd after answer
-      → Takes reached imports answer more
+      (read : Option (List ℕ × Import)) → Found text imports dynamics decls last other
+      → EndsAtDynamicImport reached → ReadsImport IsDynamicEnd after read
+      → Takes reached imports read more
       → Found text more (dynamics + 1) decls reached other
   dynamic_take {imports} {dynamics} {decls} {other} more None found site none same =
       subst (λ is. Found text is (dynamics + 1) decls reached other) (sym same)
@@ -374,7 +374,7 @@ module _ (text last reached after : List ℕ) (whole : text ≡ reached ++ after
         dynamic = Complete-next EndsAtDynamicImport dynamic_ends IsDynamicEnd text last reached
             (after, whole) skips imports found.dynamic
             (λ import s. absurd
-            (stated_none EndsAtDynamicImport IsDynamicEnd text reached after whole none import s));
+            (no_import_after EndsAtDynamicImport IsDynamicEnd text reached after whole none import s));
         decl = found.decl;
         dynamic_count = Counted-more EndsAtDynamicImport dynamic_ends text last reached
             (after, whole) skips dynamics found.dynamic_count site longer;
@@ -382,10 +382,10 @@ module _ (text last reached after : List ℕ) (whole : text ≡ reached ++ after
         few_dynamics = (let few = found.few_dynamics in omega arith);
         few_decls = found.few_decls;
       })
-  dynamic_take {imports} {dynamics} {decls} {other} more (Some answer) found site parses gains =
-      let import = moved (byte_count reached) answer.1 in
+  dynamic_take {imports} {dynamics} {decls} {other} more (Some read) found site parses gains =
+      let import = moved (byte_count reached) read.1 in
       let is_in = dynamic_in text reached import
-      (stated_some EndsAtDynamicImport IsDynamicEnd text reached after whole answer parses site) in
+      (import_after EndsAtDynamicImport IsDynamicEnd text reached after whole read parses site) in
       let has = gained text imports more import found.sound is_in gains in
       record {
         ascending = gains.ascending;
@@ -394,8 +394,9 @@ module _ (text last reached after : List ℕ) (whole : text ≡ reached ++ after
             (after, whole) skips more
             (Complete-grow EndsAtDynamicImport dynamic_ends IsDynamicEnd text
             (length last) imports more gains.kept found.dynamic)
-            (λ i s. subst (Contains more) (sym (stated_only EndsAtDynamicImport IsDynamicEnd text reached
-            after whole answer parses i s)) has);
+            (λ i s. subst (Contains more)
+            (sym (only_import_after EndsAtDynamicImport IsDynamicEnd text reached after whole
+            read parses i s)) has);
         decl = Complete-grow EndsAtDeclaration declaration_ends IsDeclarationEnd text
             (length other) imports more gains.kept found.decl;
         dynamic_count = Counted-more EndsAtDynamicImport dynamic_ends text last reached
@@ -406,9 +407,9 @@ module _ (text last reached after : List ℕ) (whole : text ≡ reached ++ after
       }
 
   pub decl_take : {imports : List Import} {dynamics decls : ℕ} {other : List ℕ} (more : List Import)
-      (answer : Option (List ℕ × Import)) → Found text imports dynamics decls other last
-      → EndsAtDeclaration reached → ReadsImport IsDeclarationEnd after answer
-      → Takes reached imports answer more
+      (read : Option (List ℕ × Import)) → Found text imports dynamics decls other last
+      → EndsAtDeclaration reached → ReadsImport IsDeclarationEnd after read
+      → Takes reached imports read more
       → Found text more dynamics (decls + 1) other reached
   decl_take {imports} {dynamics} {decls} {other} more None found site none same =
       subst (λ is. Found text is dynamics (decls + 1) other reached) (sym same)
@@ -419,17 +420,17 @@ module _ (text last reached after : List ℕ) (whole : text ≡ reached ++ after
         decl = Complete-next EndsAtDeclaration declaration_ends IsDeclarationEnd text last reached
             (after, whole) skips imports found.decl
             (λ import s. absurd
-            (stated_none EndsAtDeclaration IsDeclarationEnd text reached after whole none import s));
+            (no_import_after EndsAtDeclaration IsDeclarationEnd text reached after whole none import s));
         dynamic_count = found.dynamic_count;
         decl_count = Counted-more EndsAtDeclaration declaration_ends text last reached
             (after, whole) skips decls found.decl_count site longer;
         few_dynamics = found.few_dynamics;
         few_decls = (let few = found.few_decls in omega arith);
       })
-  decl_take {imports} {dynamics} {decls} {other} more (Some answer) found site parses gains =
-      let import = moved (byte_count reached) answer.1 in
+  decl_take {imports} {dynamics} {decls} {other} more (Some read) found site parses gains =
+      let import = moved (byte_count reached) read.1 in
       let is_in = declaration_in text reached import
-      (stated_some EndsAtDeclaration IsDeclarationEnd text reached after whole answer parses site) in
+      (import_after EndsAtDeclaration IsDeclarationEnd text reached after whole read parses site) in
       let has = gained text imports more import found.sound is_in gains in
       record {
         ascending = gains.ascending;
@@ -440,8 +441,9 @@ module _ (text last reached after : List ℕ) (whole : text ≡ reached ++ after
             (after, whole) skips more
             (Complete-grow EndsAtDeclaration declaration_ends IsDeclarationEnd text
             (length last) imports more gains.kept found.decl)
-            (λ i s. subst (Contains more) (sym (stated_only EndsAtDeclaration IsDeclarationEnd text reached
-            after whole answer parses i s)) has);
+            (λ i s. subst (Contains more)
+            (sym (only_import_after EndsAtDeclaration IsDeclarationEnd text reached after whole
+            read parses i s)) has);
         dynamic_count = found.dynamic_count;
         decl_count = Counted-more EndsAtDeclaration declaration_ends text last reached
             (after, whole) skips decls found.decl_count site longer;
@@ -449,7 +451,7 @@ module _ (text last reached after : List ℕ) (whole : text ≡ reached ++ after
         few_decls = (let few = found.few_decls in omega arith);
       }
 
--- at the end of a pass
+-- the result at the end of a pass
 module _ (text front rest : List ℕ) (cut : IsCut front) (whole : text ≡ front ++ rest)
     (none : (sooner reached : List ℕ) → rest ≢ sooner ++ (word ++ reached))
     (imports : List Import) (dynamics decls : ℕ) (found : Found text imports dynamics decls front front) where
@@ -467,11 +469,11 @@ module _ (text front rest : List ℕ) (cut : IsCut front) (whole : text ≡ fron
   pub Found-imports : AreImportsIn text imports
   Found-imports = record {
     ascending = found.ascending;
-    exact = λ import. (found.sound import, λ is_in. by_form import (import_stated text import is_in));
+    exact = λ import. (found.sound import, λ is_in. by_form import (import_after_word text import is_in));
   }
     where
-      by_form : (import : Import) → ((f : List ℕ) × IsDynamicImportIn text f import)
-          ⊎ ((f : List ℕ) × IsDeclarationIn text f import) → Contains imports import
+      by_form : (import : Import) → ((f : List ℕ) × IsDynamicImportAfter text f import)
+          ⊎ ((f : List ℕ) × IsDeclarationAfter text f import) → Contains imports import
       by_form import (inl (f, s)) =
           found.dynamic f import s (no_more f (s.after, s.whole) (dynamic_ends f s.site))
       by_form import (inr (f, s)) =

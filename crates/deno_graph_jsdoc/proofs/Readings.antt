@@ -8,7 +8,7 @@ use Rattle.deno_graph_jsdoc.specs.JsDocGrammar.{◌·◌, Is, IsSpace, Attribute
 use Rattle.deno_graph_jsdoc.specs.internal.Reading.{Reads}
 use Rattle.deno_graph_jsdoc.proofs.Runs.{space_whole, same_space, IsSpace-append}
 
--- where one text ends, the other begins
+-- a text of `P`, and then a text of `Q`
 pub Begins-split : {P Q : List ℕ → Type 0} {input rest : List ℕ} → Begins (P · Q) input rest
     → (middle : List ℕ) × Begins P input middle × Begins Q middle rest
 Begins-split {P} {Q} {input} {rest} b =
@@ -95,7 +95,7 @@ module _ {V : Type 0} (P : V → List ℕ → Type 0) (input : List ℕ) where
         ),
   )
 
--- `P`, of an attribute's key, and then `Q`, of its value, where a text of `Q` may follow `P`
+-- `P` with an attribute's key, and then `Q` with its value; a text of `Q` may follow a text of `P`
 module _ (F G : List ℕ → Type 0) (P Q : List ℕ → List ℕ → Type 0)
     (follows : (w : List ℕ) (middle rest : List ℕ) → G rest → Begins (Q w) middle rest → F middle) where
   abbrev pub Both : Attribute → List ℕ → Type 0
@@ -122,7 +122,7 @@ module _ (F G : List ℕ → Type 0) (P Q : List ℕ → List ℕ → Type 0)
         (λ i. record { key = same.0 i; value = again.0 i }, again.1),
   )
 
--- `P`, which has a value, and then `Q`, which has none, where a text of `Q` may follow `P`
+-- `P` with a value, and then `Q` without one; a text of `Q` may follow a text of `P`
 module _ {V : Type 0} (F G : List ℕ → Type 0) (P : V → List ℕ → Type 0) (Q : List ℕ → Type 0)
     (follows : (middle rest : List ℕ) → G rest → Begins Q middle rest → F middle) where
   pub value_none : (input : List ℕ) → Reads F P input None → Reads G (λ v. P v · Q) input None
@@ -145,7 +145,7 @@ module _ {V : Type 0} (F G : List ℕ → Type 0) (P : V → List ℕ → Type 0
         (same.0, (second.1 tt rest g (subst (λ m. Begins Q m rest) same.1 parts.2)).1),
   )
 
--- `P`, which has no value, and then `Q`, where a text of `Q` may follow `P`
+-- `P` without a value, and then `Q`; a text of `Q` may follow a text of `P`
 module _ {W : Type 0} (F G : List ℕ → Type 0) (P : List ℕ → Type 0) (Q : W → List ℕ → Type 0)
     (follows : (w : W) (middle rest : List ℕ) → G rest → Begins (Q w) middle rest → F middle) where
   pub then_none : (input : List ℕ) → Reads F (λ (_ : Unit {0}). P) input None
@@ -169,7 +169,7 @@ module _ {W : Type 0} (F G : List ℕ → Type 0) (P : List ℕ → Type 0) (Q :
         second.1 w rest g (subst (λ m. Begins (Q w) m rest) same.1 parts.2),
   )
 
--- what begins with `P`, white space and `Q` begins with `P` and white space, and then with `Q`
+-- the same parts, grouped from the left or from the right
 pub regroup : {P Q R : List ℕ → Type 0} {input rest : List ℕ} → Begins (P · Q · R) input rest
     → Begins ((P · Q) · R) input rest
 regroup b =
@@ -218,7 +218,7 @@ ungroup_4 b =
     let third = Begins-split second.2 in
     Begins-join first.1 (Begins-join second.1 (Begins-join third.1 (Begins-join third.2 all.2)))
 
--- a parser of one set is one of another set with the same texts
+-- a result for one set is a result for another set with the same texts
 pub Reads-as : {V : Type 0} (F : List ℕ → Type 0) (P Q : V → List ℕ → Type 0)
     → ((v : V) (input rest : List ℕ) → Begins (P v) input rest → Begins (Q v) input rest)
     → ((v : V) (input rest : List ℕ) → Begins (Q v) input rest → Begins (P v) input rest)
@@ -253,7 +253,7 @@ module _ {W : Type 0} (G : List ℕ → Type 0) (Q : W → List ℕ → Type 0)
         (then_some NoSpace G (P · IsSpace) Q
         (λ w middle rest g b. NoSpace-before (solid w) b) input middle o first second)
 
--- after white space, and before it
+-- with and without the white space before a text
 pub after_space : {Q : List ℕ → Type 0} {input rest : List ℕ} → ((text : List ℕ) → Q text → IsSolid text)
     → Begins (IsSpace · Q) input rest → Begins Q (skip_leading_whitespace input) rest
 after_space {Q} {input} {rest} solid b =
@@ -265,7 +265,7 @@ pub before_space : {Q : List ℕ → Type 0} (input : List ℕ) {rest : List ℕ
     → Begins Q (skip_leading_whitespace input) rest → Begins (IsSpace · Q) input rest
 before_space input b = Begins-join (space_read input).0 b
 
--- nothing before a text
+-- the empty text before a text
 pub after_nothing : {Q : List ℕ → Type 0} {input rest : List ℕ}
     → Begins (Is [] · Q) input rest → Begins Q input rest
 after_nothing {Q} {input} {rest} b =
@@ -276,7 +276,7 @@ pub before_nothing : {Q : List ℕ → Type 0} {input rest : List ℕ} → Begin
     → Begins (Is [] · Q) input rest
 before_nothing {Q} {input} {rest} b = Begins-join (record { piece = []; whole = refl; is = refl }) b
 
--- a text doesn't begin with two words
+-- two words at the start of a text begin with the same character
 pub same_first : {c d : ℕ} {cs ds input rest after : List ℕ} → Begins (Is (c ∷ cs)) input rest
     → Begins (Is (d ∷ ds)) input after → c ≡ d
 same_first {c} {d} {cs} {ds} {input} {rest} {after} first second =
@@ -298,7 +298,7 @@ Begins-shorter {Q} {c} {cs} {input} {rest} b =
     let later = Begins-length parts.2 in
     omega (arith, ap length first.whole, length-append first.piece parts.0, ap length first.is, later)
 
--- white space after white space
+-- white space after white space is white space
 pub one_space : {Q : List ℕ → Type 0} {input rest : List ℕ} → Begins (IsSpace · IsSpace · Q) input rest
     → Begins (IsSpace · Q) input rest
 one_space b =
@@ -306,7 +306,7 @@ one_space b =
     Begins-join (Begins-as (λ text both. subst IsSpace (sym both.whole)
     (IsSpace-append both.front both.back both.is_front both.is_back)) parts.1) parts.2
 
--- a property of all fronts is a property of a whole text
+-- a relation of fronts of texts, for whole texts
 pub textwise : {P Q : List ℕ → Type 0} → ((input rest : List ℕ) → Begins P input rest → Begins Q input rest)
     → (text : List ℕ) → P text → Q text
 textwise {P} {Q} same text is =

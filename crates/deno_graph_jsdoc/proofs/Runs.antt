@@ -8,7 +8,7 @@ use Rattle.std.specs.Str.{skip_leading_whitespace}
 use lib.Utf8.{scalar, scalars}
 use Rattle.deno_graph_jsdoc.specs.JsDocGrammar.{IsSpace, Lacks, EmptyOr, NoSpace}
 
--- characters of one kind, and then a character of another: only one offset is between
+-- characters of one kind end at one offset, where a character of another kind follows
 pub same_run : (P S : ℕ → Type 0) → ((c : ℕ) → P c → S c → ⊥) → (xs ys rest after : List ℕ)
     → AllByRecursion P xs → AllByRecursion P ys → EmptyOr S rest → EmptyOr S after
     → xs ++ rest ≡ ys ++ after → (xs ≡ ys) × (rest ≡ after)
@@ -57,7 +57,7 @@ same_space text space rest white stop whole =
     (λ c is not. both_ways (is_whitespace c) not is) space own.0 rest
     (skip_leading_whitespace text) white own.1 stop (space_ends text) (sym whole ∙ own.2)).1
 
--- the text before a mark, without that mark
+-- the text before the first mark
 pub same_before_mark : (mark : ℕ) (xs ys rest after : List ℕ) → Lacks mark xs → Lacks mark ys
     → xs ++ mark ∷ rest ≡ ys ++ mark ∷ after → (xs ≡ ys) × (rest ≡ after)
 same_before_mark mark xs ys rest after left right same =
@@ -70,7 +70,7 @@ pub Lacks-not_inside : (mark : ℕ) (xs rest : List ℕ) → Lacks mark (xs ++ m
 Lacks-not_inside mark [] rest all = all.0 refl
 Lacks-not_inside mark (x ∷ xs) rest all = Lacks-not_inside mark xs rest all.1
 
--- the text after white space is characters too
+-- the text after white space is text too
 pub scalars_after_space : (cs : List ℕ) → scalars cs ≡ true → scalars (skip_leading_whitespace cs) ≡ true
 scalars_after_space [] all = all
 scalars_after_space (c ∷ cs) all =

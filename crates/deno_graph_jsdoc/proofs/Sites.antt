@@ -66,7 +66,7 @@ no_overlap front rest before after (inr (earlier, is)) same less =
     absurd (inside middle.0 rest after tails (omega (arith, sooner)) (omega arith)))
     (λ later. omega (arith, later)) (cases_lt (length earlier) (length before))
 
--- two fronts of a text that are equally long are the same
+-- two fronts of a text that are equally long are equal
 pub same_front : (text front other : List ℕ) → IsFront text front → IsFront text other
     → length front ≡ length other → front ≡ other
 same_front text front other is are size =
@@ -91,7 +91,7 @@ module _ (front rest : List ℕ) (cut : IsCut front) where
   pub skips_to : (before after : List ℕ) → rest ≡ before ++ (word ++ after)
       → ((sooner beyond : List ℕ) → before ++ word ≡ sooner ++ (word ++ beyond) → beyond ≡ [])
       → Skips (front ++ rest) front (front ++ (before ++ word))
-  skips_to before after whole first other is ends longer = by_place (cases_lt (length ends.0) (length front))
+  skips_to before after whole first other is ends longer = by_case (cases_lt (length ends.0) (length front))
     where
       all : front ++ rest ≡ ends.0 ++ (word ++ is.0)
       all = is.1 ∙ ap (λ t. t ++ is.0) ends.1 ∙ append_assoc ends.0 word is.0
@@ -102,10 +102,10 @@ module _ (front rest : List ℕ) (cut : IsCut front) where
       sizes : length (front ++ (before ++ word)) ≡ length front + (length before + 6)
       sizes = length-append front (before ++ word) ∙ ap (λ n. length front + n) (length-append before word)
 
-      by_place : (length ends.0 < length front) ⊎ (length front ≤ length ends.0)
+      by_case : (length ends.0 < length front) ⊎ (length front ≤ length ends.0)
           → length (front ++ (before ++ word)) ≤ length other
-      by_place (inl sooner) = absurd (omega (arith, no_overlap front rest ends.0 is.0 cut all sooner, size))
-      by_place (inr later) =
+      by_case (inl sooner) = absurd (omega (arith, no_overlap front rest ends.0 is.0 cut all sooner, size))
+      by_case (inr later) =
           let middle = front_of_front front rest ends.0 (word ++ is.0) all later in
           let tails : rest ≡ middle.0 ++ (word ++ is.0) =
           append_cancel_left front rest (middle.0 ++ (word ++ is.0))
@@ -136,25 +136,25 @@ module _ (front rest : List ℕ) (cut : IsCut front) where
   -- if the rest has no `import`, none ends after the cut
   pub no_further : ((sooner beyond : List ℕ) → rest ≢ sooner ++ (word ++ beyond)) → (other : List ℕ)
       → IsFront (front ++ rest) other → EndsIn other → length other ≤ length front
-  no_further none other is ends = by_place (cases_lt (length ends.0) (length front))
+  no_further none other is ends = by_case (cases_lt (length ends.0) (length front))
     where
       all : front ++ rest ≡ ends.0 ++ (word ++ is.0)
       all = is.1 ∙ ap (λ t. t ++ is.0) ends.1 ∙ append_assoc ends.0 word is.0
 
-      by_place : (length ends.0 < length front) ⊎ (length front ≤ length ends.0) → length other ≤ length front
-      by_place (inl sooner) = omega (
+      by_case : (length ends.0 < length front) ⊎ (length front ≤ length ends.0) → length other ≤ length front
+      by_case (inl sooner) = omega (
         arith,
         no_overlap front rest ends.0 is.0 cut all sooner,
         ap length ends.1,
         length-append ends.0 word,
       )
-      by_place (inr later) =
+      by_case (inr later) =
           let middle = front_of_front front rest ends.0 (word ++ is.0) all later in
           absurd (none middle.0 is.0
           (append_cancel_left front rest (middle.0 ++ (word ++ is.0))
           (all ∙ ap (λ t. t ++ (word ++ is.0)) middle.1 ∙ append_assoc front middle.0 (word ++ is.0))))
 
--- fronts that end in the word and have `P`, up to a length
+-- the fronts up to a length that end in the word and have `P`
 module _ (P : List ℕ → Type 0) (ends : (front : List ℕ) → P front → EndsIn front) (text : List ℕ) where
   pub record Reached (limit : ℕ) (fronts : List (List ℕ)) : Type 0 where
     pub ascending : AllPairs (λ (front longer : List ℕ). length front < length longer) fronts
@@ -163,7 +163,7 @@ module _ (P : List ℕ → Type 0) (ends : (front : List ℕ) → P front → En
     pub complete : (front : List ℕ) → IsFront text front → P front → length front ≤ limit
         → Contains fronts front
 
-  -- the number of such fronts
+  -- the number of these fronts
   abbrev pub Counted : ℕ → ℕ → Type 0
   Counted limit count = (fronts : List (List ℕ)) × Reached limit fronts × (count ≡ length fronts)
 
@@ -232,19 +232,19 @@ module _ (P : List ℕ → Type 0) (ends : (front : List ℕ) → P front → En
             (λ k d inside.
             let has = reached.sound _ (Contains-get_or fronts k d inside) in
             omega (arith, has.2));
-        sound = λ front has. by_place front (Contains-push_cases fronts next front has);
+        sound = λ front has. by_case front (Contains-push_cases fronts next front has);
         complete = λ front fits has short. by_length front fits has short
             (cases_lt (length last) (length front));
       },
       omega (arith, is, length-append fronts (next ∷ [])),
     )
       where
-        by_place : (front : List ℕ) → Contains fronts front ⊎ (next ≡ front)
+        by_case : (front : List ℕ) → Contains fronts front ⊎ (next ≡ front)
             → IsFront text front × P front × (length front ≤ length next)
-        by_place front (inl old) =
+        by_case front (inl old) =
             let all = reached.sound front old in
             (all.0, all.1, omega (arith, all.2))
-        by_place front (inr new) =
+        by_case front (inr new) =
             (subst (IsFront text) new here, subst P new some, omega (arith, ap length new))
 
         by_length : (front : List ℕ) → IsFront text front → P front → length front ≤ length next

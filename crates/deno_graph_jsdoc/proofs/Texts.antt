@@ -1,4 +1,4 @@
--- Lemmas of std on the bytes of a text, for the characters of the text.
+-- Lemmas of std on the bytes of a text, restated for its characters.
 use Rattle.std.proofs.Common.{◌≡◌, ◌≢◌, ℕ, ◌+◌, ◌<◌, ◌≤◌, ◌==◌, Bool, true, false, Option, Some, None, List}
 use Rattle.std.proofs.Common.{[], ◌∷◌, ◌++◌, length, take, drop, get_or, refl, sym, ap, ◌∙◌, subst, arith}
 use Rattle.std.proofs.Common.{append_assoc, length-append}
@@ -21,17 +21,17 @@ use lib.Utf8.{encodes, encode}
 use Rattle.deno_graph_jsdoc.specs.JsDocGrammar.{Is, Lacks, Anything, EmptyOr}
 use Rattle.deno_graph_jsdoc.specs.internal.Reading.{Reads, rest_of}
 
--- a text is spelled by its characters
+-- the bytes of a text are the bytes of its characters
 pub bytes_from_chars : (text front rest : List ℕ) → IsUtf8 text → chars text ≡ front ++ rest
     → text ≡ encodes front ++ encodes rest
 bytes_from_chars text front rest utf8 is = sym (encodes-chars text utf8) ∙ ap encodes is
     ∙ encodes-append front rest
 
 -- a word at the start of a text
-pub word_read : (word input : List ℕ) (answer : Option (Bor (List ℕ))) → IsUtf8 input → IsAscii word
-    → MatchOption answer (FindsTextPrefix word input None)
+pub word_read : (word input : List ℕ) (result : Option (Bor (List ℕ))) → IsUtf8 input → IsAscii word
+    → MatchOption result (FindsTextPrefix word input None)
     (λ rest. StripsPrefix (FindsTextPrefix word) input rest.now)
-    → Reads Anything (λ (_ : Unit {0}). Is word) (chars input) (rest_of answer)
+    → Reads Anything (λ (_ : Unit {0}). Is word) (chars input) (rest_of result)
 word_read word input None utf8 ascii none = λ _ rest _ begins.
     none (encodes rest)
     (bytes_from_chars input word rest utf8 (begins.whole ∙ ap (λ piece. piece ++ rest) begins.is)
@@ -70,12 +70,12 @@ mark_chars mark input rest utf8 (n, at, cut, size) =
     let bytes : input ≡ encode mark ++ rest = at.split ∙ ap (λ t. encode mark ++ t) (sym cut) in
     (chars_past_char input rest mark utf8 bytes, IsUtf8-past_char input rest mark utf8 bytes)
 
--- the characters before and after the first of a mark
-pub split_chars : (mark : ℕ) (input : List ℕ) (answer : Option (Bor (List ℕ) × Bor (List ℕ)))
+-- the characters before and after the first occurrence of a mark
+pub split_chars : (mark : ℕ) (input : List ℕ) (result : Option (Bor (List ℕ) × Bor (List ℕ)))
     → IsUtf8 input → mark < 128
-    → MatchOption answer (FindsChar mark input None)
+    → MatchOption result (FindsChar mark input None)
     (λ x. SplitsAroundMatch (FindsChar mark) input x.0.now x.1.now)
-    → MatchOption answer (Lacks mark (chars input))
+    → MatchOption result (Lacks mark (chars input))
     (λ x. Lacks mark (chars x.0.now) × (chars input ≡ chars x.0.now ++ mark ∷ chars x.1.now))
 split_chars mark input None utf8 ascii none = Lacks-chars mark input utf8 none
 split_chars mark input (Some x) utf8 ascii (i, j, found, front, back, order, front_size, back_size) =
@@ -94,7 +94,7 @@ split_chars mark input (Some x) utf8 ascii (i, j, found, front, back, order, fro
       whole ∙ (λ k. chars (sym front k) ++ mark ∷ chars (sym back k)),
     )
 
--- the characters before and after the last of a mark
+-- the characters before and after the last occurrence of a mark
 pub rsplit_chars : (mark : ℕ) (input before rest : List ℕ) → IsUtf8 input → mark < 128
     → SplitsAroundMatch (RFindsChar mark) input before rest
     → Lacks mark (chars rest) × (chars input ≡ chars before ++ mark ∷ chars rest)
@@ -116,7 +116,7 @@ rsplit_chars mark input before rest utf8 ascii (i, j, found, front, back, order,
       whole ∙ (λ k. chars (sym front k) ++ mark ∷ chars (sym back k)),
     )
 
--- the cut after the last of a mark
+-- the bytes before and after the last occurrence of a mark
 pub rsplit_bytes : (mark : ℕ) (input before rest : List ℕ) → mark < 128
     → SplitsAroundMatch (RFindsChar mark) input before rest
     → (after : List ℕ) × (input ≡ before ++ mark ∷ after)
@@ -143,7 +143,7 @@ module _ (mark : ℕ) (text before after : List ℕ) (utf8 : IsUtf8 text) (ascii
       ∙ chars-append (take (length before + 1) text) (drop (length before + 1) text)
       (IsUtf8-take text (length before + 1) utf8 after_mark)
 
--- the characters before and after the first that passes a test
+-- the characters before and after the first character that passes a test
 from_none : (test : ℕ → Bool) (cs : List ℕ) → NonePass test cs → AllByRecursion (λ c. test c ≡ false) cs
 from_none test [] none = tt
 from_none test (c ∷ cs) none = (none.0, from_none test cs none.1)
@@ -154,25 +154,25 @@ none_chars test text utf8 (cs, is, none) =
     subst (AllByRecursion (λ c. test c ≡ false)) (chars_from_encodes cs text utf8 is) (from_none test cs none)
 
 abbrev pub FindsAt : (ℕ → Bool) → List ℕ → Option ℕ → Type 0
-FindsAt test input answer =
-    MatchOption answer (FindsBy test input None)
+FindsAt test input result =
+    MatchOption result (FindsBy test input None)
     (λ i. (j : ℕ) × FindsBy test input (Some (i, j)) × (i ≤ j) × IsCharBoundary input i
     × IsCharBoundary input j)
 
--- the test of a closure
+-- a result for each test that the closure may be, for this test
 pub find_by_test : (test : ℕ → Bool) (IsTest : (ℕ → Bool) → Type 0) (input : List ℕ)
-    (answer : Option ℕ) → IsTest test
-    → MatchOption answer ((k : ℕ → Bool) → IsTest k → FindsBy k input None)
+    (result : Option ℕ) → IsTest test
+    → MatchOption result ((k : ℕ → Bool) → IsTest k → FindsBy k input None)
     (λ i. (j : ℕ) × ((k : ℕ → Bool) → IsTest k → FindsBy k input (Some (i, j))) × (i ≤ j)
     × IsCharBoundary input i × IsCharBoundary input j)
-    → FindsAt test input answer
+    → FindsAt test input result
 find_by_test test IsTest input None is found = found test is
 find_by_test test IsTest input (Some i) is (j, found, order, start, end) =
     (j, found test is, order, start, end)
 
-pub find_chars : (test : ℕ → Bool) (input : List ℕ) (answer : Option ℕ) → IsUtf8 input
-    → FindsAt test input answer
-    → let at = unwrap_or answer (length input) in
+pub find_chars : (test : ℕ → Bool) (input : List ℕ) (result : Option ℕ) → IsUtf8 input
+    → FindsAt test input result
+    → let at = unwrap_or result (length input) in
     (chars input ≡ chars (take at input) ++ chars (drop at input))
     × AllByRecursion (λ c. test c ≡ false) (chars (take at input))
     × EmptyOr (λ c. test c ≡ true) (chars (drop at input))
@@ -197,13 +197,13 @@ find_chars test input (Some i) utf8 (j, found, order, boundary, end) =
       subst (EmptyOr (λ c. test c ≡ true)) (sym after) passing.1,
     )
 
--- the characters before and after the first of a word
-pub split_word : (word input : List ℕ) (answer : Option (Bor (List ℕ) × Bor (List ℕ)))
+-- the characters before and after the first occurrence of a word
+pub split_word : (word input : List ℕ) (result : Option (Bor (List ℕ) × Bor (List ℕ)))
     → IsUtf8 input → IsAscii word
-    → MatchOption answer (Unit {0}) (λ x. IsUtf8 x.0.now)
-    → MatchOption answer (FindsText word input None)
+    → MatchOption result (Unit {0}) (λ x. IsUtf8 x.0.now)
+    → MatchOption result (FindsText word input None)
     (λ x. SplitsAroundMatch (FindsText word) input x.0.now x.1.now)
-    → MatchOption answer ((front rest : List ℕ) → chars input ≢ front ++ (word ++ rest))
+    → MatchOption result ((front rest : List ℕ) → chars input ≢ front ++ (word ++ rest))
     (λ x. (chars input ≡ chars x.0.now ++ (word ++ chars x.1.now))
     × ((before after : List ℕ) → chars x.0.now ++ word ≡ before ++ (word ++ after) → after ≡ []))
 split_word word input None utf8 ascii _ none = λ front rest whole.
@@ -258,7 +258,7 @@ split_word word input (Some x) utf8 ascii utf8_front
         (arith, left, right, ap (λ t. length (encodes t)) same, length-le-encodes (c ∷ cs), front_size) in
         absurd (found.0 (length (encodes before)) sooner (encodes ((c ∷ cs) ++ chars x.1.now)) here)
 
--- a mark that a text holds
+-- a mark that a text contains
 pub mark_inside : (mark : ℕ) (text : List ℕ) → IsUtf8 text → mark < 128
     → (i : ℕ) × (j : ℕ) × FindsChar mark text (Some (i, j)) × (i ≤ j) × (j ≤ length text)
     → (inside : List ℕ) × (beyond : List ℕ) × (chars text ≡ inside ++ mark ∷ beyond)

@@ -1,4 +1,4 @@
--- A text begins in one way with each part of the grammar.
+-- A text begins with at most one text of each part of the grammar.
 use Rattle.std.proofs.Common.{◌≡◌, ℕ, inl, inr, true, false, List, [], ◌∷◌, ◌++◌, refl, sym, ap, ◌∙◌, subst}
 use Rattle.std.proofs.Common.{codes, arith}
 use Rattle.std.proofs.lemmas.Bool.{both_ways}
@@ -18,13 +18,13 @@ use Rattle.deno_graph_jsdoc.proofs.Readings.{Begins-split, NoSpace-before, IsSol
 use Rattle.deno_graph_jsdoc.proofs.Readings.{regroup, ungroup}
 use Rattle.deno_graph_jsdoc.proofs.Runs.{same_run, same_space, same_before_mark}
 
--- before rests that may follow, a text begins with a text of `P value` for one value and one rest
+-- a text begins with a text of `P value` for at most one value and one rest that has `F`
 abbrev pub OnlyOne : {V : Type 0} → (List ℕ → Type 0) → (V → List ℕ → Type 0) → Type 0
 OnlyOne {V} F P =
     (input rest after : List ℕ) (v w : V) → F rest → F after → Begins (P v) input rest
     → Begins (P w) input after → (v ≡ w) × (rest ≡ after)
 
--- like `Only`, of a set whose texts have no value
+-- like `OnlyOne`, for a set whose texts have no value
 abbrev pub OneRest : (List ℕ → Type 0) → (List ℕ → Type 0) → Type 0
 OneRest F P = (input rest after : List ℕ) → F rest → F after → Begins P input rest
     → Begins P input after → rest ≡ after

@@ -7,7 +7,8 @@ use Rattle.deno_graph_jsdoc.specs.Characters.{closing_brace}
 use Rattle.deno_graph_jsdoc.specs.JsDocGrammar.{◌·◌, Is, IsSpace, IsGap, IsNames, IsNamespace, IsName}
 use Rattle.deno_graph_jsdoc.specs.JsDocGrammar.{IsClause, IsOptions, IsUpTo, Begins, Anything, NoSpace}
 use Rattle.deno_graph_jsdoc.specs.internal.Reading.{EndOfIdent}
-use Rattle.deno_graph_jsdoc.specs.JsDocImport.{Mode, Import, StatesImport, EndsDeclaration, EndsDynamicImport}
+use Rattle.deno_graph_jsdoc.specs.JsDocImport.{Mode, Import, BeginsWithImport}
+use Rattle.deno_graph_jsdoc.specs.JsDocImport.{EndsDeclaration, EndsDynamicImport}
 use Rattle.deno_graph_jsdoc.specs.JsDocImport.{IsDeclaration, IsDynamicImport, byte_count}
 use Rattle.deno_graph_jsdoc.proofs.Arguments.{tail_apart, options_apart, end_apart, up_to_read, parts_of}
 use Rattle.deno_graph_jsdoc.proofs.Arguments.{Paren, Paren-solid, Through as ThroughBrace}
@@ -154,14 +155,14 @@ only_dynamic_tail text mode other rest after b c =
 -- whole declarations and dynamic imports
 module _ (Head : List ℕ → Type 0) (Tail : List ℕ → Mode → List ℕ → Type 0) (one_head : OneRest NoSpace Head)
     (only_tail : OnlyTail Tail) where
-  solid_quote : {input rest : List ℕ} {a : Import} (s : StatesImport Head Tail input a rest)
+  solid_quote : {input rest : List ℕ} {a : Import} (s : BeginsWithImport Head Tail input a rest)
       → NoSpace (s.quote ++ s.after)
   solid_quote {a = a} s = NoSpace-solid (s.quote ++ s.after)
       (IsSolid-append s.quote s.after (IsSolid-quote a.specifier s.quote s.quoted))
 
   pub only_import : (input : List ℕ) (a b : Import) (rest after : List ℕ)
-      → StatesImport Head Tail input a rest
-      → StatesImport Head Tail input b after → (a ≡ b) × (rest ≡ after)
+      → BeginsWithImport Head Tail input a rest
+      → BeginsWithImport Head Tail input b after → (a ≡ b) × (rest ≡ after)
   only_import input a b rest after s t =
       let quotes = one_head input (s.quote ++ s.after) (t.quote ++ t.after) (solid_quote s) (solid_quote t)
       (record { piece = s.before; whole = s.whole; is = s.head })

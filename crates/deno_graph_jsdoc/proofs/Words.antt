@@ -39,7 +39,7 @@ IsAscii-from_test (c ∷ cs) all =
     let both = and_parts (ltb c 128) (list_all (λ c. ltb c 128) cs) all in
     IsAscii-cons c cs (ltb-true c 128 both.0) (IsAscii-from_test cs both.1)
 
--- the mode that a text names, by its bytes
+-- the mode that a text names, by its characters and by its bytes
 pub mode_named-chars : (text : List ℕ) → IsUtf8 text → mode_named (chars text) ≡ mode_named text
 mode_named-chars text utf8 =
     let as_import = bytes_eq-chars text (codes "import") utf8 (IsAscii-from_test (codes "import") refl) in

@@ -24,8 +24,9 @@ pub record Import : Type 0 where
 abbrev pub byte_count : List ℕ → ℕ
 byte_count text = length (encode_utf8_all text)
 
--- `input` is a text of `Head`, the specifier in quotes, and a tail that determines the mode and `rest`
-pub record StatesImport (Head : List ℕ → Type 0) (Tail : List ℕ → Mode → List ℕ → Type 0) (input : List ℕ)
+-- `input` begins with `import`: a text of `Head`, the specifier in quotes, and a tail that determines the
+-- mode and `rest`
+pub record BeginsWithImport (Head : List ℕ → Type 0) (Tail : List ℕ → Mode → List ℕ → Type 0) (input : List ℕ)
     (import : Import) (rest : List ℕ) : Type 0 where
   pub before : List ℕ
   pub quote : List ℕ
@@ -48,7 +49,7 @@ EndsDeclaration after mode rest =
 -- `input` begins with a declaration of `import`, and `rest` follows the declaration
 abbrev pub IsDeclaration : List ℕ → Import → List ℕ → Type 0
 IsDeclaration =
-    StatesImport (Is (codes "@import") · IsGap · IsClause · IsSpace · Is (codes "from") · IsSpace)
+    BeginsWithImport (Is (codes "@import") · IsGap · IsClause · IsSpace · Is (codes "from") · IsSpace)
     EndsDeclaration
 
 -- the tail of a dynamic import: maybe a second argument, `)`, and any text up to the next `}`
@@ -60,7 +61,7 @@ EndsDynamicImport after mode rest =
 -- `input` begins with a dynamic import of `import`, and `rest` follows the dynamic import
 abbrev pub IsDynamicImport : List ℕ → Import → List ℕ → Type 0
 IsDynamicImport =
-    StatesImport (Is (codes "{") · IsUpTo (codes "import") · IsSpace · Is (codes "(") · IsSpace)
+    BeginsWithImport (Is (codes "{") · IsUpTo (codes "import") · IsSpace · Is (codes "(") · IsSpace)
     EndsDynamicImport
 
 -- the import that a value of the program represents

@@ -13,7 +13,7 @@ pub record IsImportIn (text : List ℕ) (import : Import) : Type 0 where
   pub rest : List ℕ
   pub here : Import
   pub whole : text ≡ front ++ back
-  pub states : IsDynamicImport back here rest ⊎ IsDeclaration back here rest
+  pub begins : IsDynamicImport back here rest ⊎ IsDeclaration back here rest
   pub is_moved : import ≡ moved (byte_count front) here
 
 -- the starts strictly ascend

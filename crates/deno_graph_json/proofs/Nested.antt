@@ -14,7 +14,6 @@ use Rattle.json.specs.declared.token.Token.{Token as Read}
 use Rattle.json.specs.declared.token.Token.TheVariants.{BeginObject, EndObject, BeginArray, EndArray, Key}
 use Rattle.json.specs.declared.token.Token.TheVariants.{String, Number, Bool, Null, Bad}
 use Rattle.deno_graph_json.specs.Flat.{PlainNode, plain, flat_list}
-use Rattle.deno_graph_json.specs.internal.Parsing.{IsPut}
 use Rattle.deno_graph_json.specs.declared.flat.Node.{Node}
 
 module _ (old now : List Node) (hole : PlainNode) (inside : List PlainNode)
@@ -57,19 +56,6 @@ some_node (number text) = omega arith
 some_node (string text) = omega arith
 some_node (array js) = omega arith
 some_node (object ms) = omega arith
-
--- reading a value appends at least one node
-pub put_some : (d : ℕ) (ts us : List Token) (old new : List Node) → IsPut d ts us old new
-    → length old < length new
-put_some d ts us old new put =
-    omega (
-      arith,
-      length-map old plain,
-      length-map new plain,
-      ap length put.2,
-      length-append (map plain old) (flat_list put.0),
-      some_node put.0,
-    )
 
 pub is_end_array : (k : Read) → token_of k ≡ Token.end_array → k ≡ EndArray
 is_end_array BeginObject e = absurd (cc)

@@ -1,98 +1,97 @@
--- The text of a number, and its node.
-use Rattle.std.proofs.Common.{◌≡◌, ℕ, ◌^◌, ◌<◌, Bool, true, false, cond, List, [], ◌∷◌, length, drop}
-use Rattle.std.proofs.Common.{Some, None, if◌then◌else◌, ◌==◌, ◌||◌, arith, refl, sym, ap, subst, ◌∙◌}
-use Rattle.std.proofs.lemmas.Bool.Decides.{nat_tests}
-use Rattle.std.proofs.lemmas.Str.Parse.{digit_from_value}
-use Rattle.std.specs.Float.{Float, binary64, float_is_finite}
-use Rattle.std.specs.Float.Parse.{parse_float}
-use Rattle.std.specs.Option.{option_map_or}
-use Rattle.std.specs.Char.{is_ascii_digit, digit_value}
-use Rattle.std.specs.Str.{all_ascii_digits}
-use Rattle.std.specs.Str.Parse.{AllDigits, IsNumeral, digits_value, without_leading_plus}
-use Rattle.json.specs.Print.{IsNumber}
-use Rattle.json.specs.Word.{after_number}
-use Rattle.deno_graph_json.specs.Flat.{is_whole, number_node, number_fits, whole, number}
+-- The number that a text of decimal digits writes.
+use Rattle.std.proofs.Common.{◌≡◌, ℕ, ◌^◌, ◌<◌, List, [], ◌∷◌, ◌++◌, length, get_or, true, false, Some, None}
+use Rattle.std.proofs.Common.{Option, Err, IfOk, refl, sym, ap, ◌∙◌, arith, append-nil, lt-ltb, ne_eqb}
+use Rattle.std.specs.Prelude.{IsTrue, OnOk, is_some, option_map}
+use Rattle.std.specs.Option.{ok_or}
+use Rattle.std.specs.Char.{digit_value}
+use Rattle.std.specs.Str.Parse.{AllDigits, IsNumeral, digits_value}
+use Rattle.fast_float.specs.Text.{Parts, digits_of, IsWellFormed}
+use Rattle.fast_float.proofs.Writing.{scan-text_of}
+use Rattle.serde_json.specs.Data.{Num, unsigned}
+use Rattle.serde_json.specs.Read.{number_of, number_from, is_integer}
+use Rattle.deno_graph_json.specs.Flat.{plain, number, number_node, number_fits}
+use Rattle.deno_graph_json.specs.declared.flat.Node.{Node}
 
-number_of_plus : (text : List ℕ) → after_number (43 ∷ text) ≡ None
-unfolding after_number
-number_of_plus text = refl
+no_minus : (text : List ℕ) → AllDigits 10 text → 0 < length text → get_or text 0 0 ≡ 45 → ⊥
+no_minus [] digits some e = omega arith
+no_minus (d ∷ ds) digits some e =
+    let digit : digit_value d < 10 = digits.0 in
+    let is : d ≡ 45 = e in
+    grind arith
 
-first_is : (b : Bool) (c : ℕ) (text : List ℕ) → (c == 43) ≡ b → IsNumber (c ∷ text)
-    → drop (cond b 1 0) (c ∷ text) ≡ c ∷ text
-first_is false c text e is = refl
-first_is true c text e is =
-    let plus : c ≡ 43 = grind (arith, nat_tests) in
-    absurd (cc (sym (number_of_plus text) ∙ subst (λ n. after_number (n ∷ text) ≡ Some []) plus is))
+abbrev whole_parts : List ℕ → Parts
+whole_parts text = record {
+  whole = text;
+  point = false;
+  fraction = [];
+  exponent_negative = false;
+  exponent = [];
+  len = length (text ++ []);
+}
 
--- a JSON number doesn't begin with a plus
-pub without_plus : (text : List ℕ) → IsNumber text → without_leading_plus text ≡ text
-without_plus [] is = refl
-without_plus (c ∷ text) is = first_is (c == 43) c text refl is
+whole_formed : (text : List ℕ) → AllDigits 10 text → IsWellFormed (whole_parts text)
+whole_formed text digits = record {
+  whole_digits = digits;
+  fraction_digits = tt;
+  exponent_digits = tt;
+  no_point = λ _. refl;
+  no_exponent = λ _. refl;
+  len_is = refl;
+}
 
-digit_tested : (c : ℕ) → digit_value c < 10 → is_ascii_digit c ≡ true
-digit_tested c less = let range = digit_from_value c less in grind (arith, nat_tests)
+digits_scanned : (text : List ℕ) → AllDigits 10 text → 0 < length text
+    → number_of (text ++ []) ≡ number_from false (whole_parts text)
+unfolding number_of
+digits_scanned text digits some =
+    let unsigned_text : get_or (text ++ []) 0 0 ≡ 45 → ⊥ =
+    λ e. no_minus text digits some (ap (λ l. get_or l 0 0) (sym (append-nil text)) ∙ e) in
+    rw (ne_eqb (get_or (text ++ []) 0 0) 45 unsigned_text)
+    (ap (number_from false) (scan-text_of (whole_parts text) (whole_formed text digits)))
 
-digit_meant : (c : ℕ) → is_ascii_digit c ≡ true → digit_value c < 10
-digit_meant c digit = grind (arith, nat_tests)
+-- a text of decimal digits is the number of these digits
+pub number_of_digits : (text : List ℕ) → IsNumeral 10 text → digits_value 10 text < 2 ^ 64
+    → number_of text ≡ Some (unsigned (digits_value 10 text))
+number_of_digits text is less =
+    let integer : is_integer (whole_parts text) ≡ true = rw (lt-ltb _ _ is.0) refl in
+    let same : digits_of (whole_parts text) ≡ digits_value 10 text = ap (digits_value 10) (append-nil text) in
+    ap number_of (sym (append-nil text)) ∙ digits_scanned text is.1 is.0
+    ∙ rw (integer, same) (rw (lt-ltb _ _ less) refl)
 
-digits_tested : (text : List ℕ) → AllDigits 10 text → all_ascii_digits text ≡ true
-digits_tested [] all = refl
-digits_tested (c ∷ text) all = grind (arith, digit_tested c all.0, digits_tested text all.1)
+pub read_node : (text : List ℕ) (x : Num) → number_of text ≡ Some x → number x ≡ number_node text
+read_node text x e = rw e refl
 
-digits_meant : (text : List ℕ) → all_ascii_digits text ≡ true → AllDigits 10 text
-digits_meant [] e = tt
-digits_meant (c ∷ text) e =
-    let both : (is_ascii_digit c ≡ true) × (all_ascii_digits text ≡ true) = grind arith in
-    (digit_meant c both.0, digits_meant text both.1)
+pub read_fits : (text : List ℕ) (x : Num) → number_of text ≡ Some x → IsTrue (number_fits text)
+read_fits text x e = rw e refl
 
-pub whole_tested : (text : List ℕ) → IsNumeral 10 text → digits_value 10 text < 2 ^ 64 → is_whole text ≡ true
-whole_tested text is less = let digits = digits_tested text is.1 in grind (arith, nat_tests, is.0, digits)
+-- ---- the result of a parser
 
-pub whole_meant : (text : List ℕ) → is_whole text ≡ true → IsNumeral 10 text × (digits_value 10 text < 2 ^ 64)
-whole_meant text e =
-    let all : (0 < length text) × (all_ascii_digits text ≡ true) × (digits_value 10 text < 2 ^ 64) =
-    grind (arith, nat_tests) in
-    ((all.0, digits_meant text all.1), all.2)
+some_parsed : (node : Node) (o : Option Num) → Some (plain node) ≡ option_map number o
+    → (x : Num) × (o ≡ Some x) × (plain node ≡ number x)
+some_parsed node None e = absurd (cc)
+some_parsed node (Some x) e = (x, refl, cc)
 
-abbrev IsUnsigned : List ℕ → Type 0
-IsUnsigned text = IsNumeral 10 text × (digits_value 10 text < 2 ^ 64)
+none_parsed : (o : Option Num) → None ≡ option_map number o → is_some o ≡ false
+none_parsed None e = refl
+none_parsed (Some x) e = absurd (cc)
 
-pub read_whole : (text : List ℕ) → IsNumber text → IsUnsigned (without_leading_plus text)
-    → is_whole text ≡ true
-read_whole text is read =
-    let own = subst IsUnsigned (without_plus text is) read in whole_tested text own.0 own.1
+abbrev pub IsParsed : List ℕ → Option Node → Type 0
+IsParsed text r = option_map plain r ≡ option_map number (number_of text)
 
-pub tested_node : (text : List ℕ) → is_whole text ≡ true → whole (digits_value 10 text) ≡ number_node text
-tested_node text e = ap (λ b. if b then whole (digits_value 10 text) else number) (sym e)
+module _ {E : Type 0} (text : List ℕ) (error : E) where
+  pub node_parsed : (r : Option Node) → IsParsed text r
+      → IfOk (ok_or r error) (λ node. plain node ≡ number_node text)
+  node_parsed None e = tt
+  node_parsed (Some node) e =
+      let found = some_parsed node (number_of text) e in
+      found.2 ∙ read_node text found.0 found.1
 
-pub whole_node : (text : List ℕ) (n : ℕ) → IsNumber text → IsUnsigned (without_leading_plus text)
-    → n ≡ digits_value 10 (without_leading_plus text) → whole n ≡ number_node text
-whole_node text n is read e =
-    ap whole (e ∙ ap (digits_value 10) (without_plus text is)) ∙ tested_node text (read_whole text is read)
+  pub fits_parsed : (r : Option Node) → IsParsed text r → OnOk (ok_or r error) (IsTrue (number_fits text))
+  fits_parsed None e = tt
+  fits_parsed (Some node) e =
+      let found = some_parsed node (number_of text) e in
+      read_fits text found.0 found.1
 
-no_true : (b : Bool) → (b ≡ true → ⊥) → b ≡ false
-no_true true never = absurd (never refl)
-no_true false never = refl
-
-pub no_whole : (text : List ℕ) → IsNumber text → (IsUnsigned (without_leading_plus text) → ⊥)
-    → is_whole text ≡ false
-no_whole text is never =
-    no_true (is_whole text) (λ e. never (subst IsUnsigned (sym (without_plus text is)) (whole_meant text e)))
-
-pub no_whole_node : (text : List ℕ) → is_whole text ≡ false → number ≡ number_node text
-no_whole_node text e = ap (λ b. if b then whole (digits_value 10 text) else number) (sym e)
-
-pub whole_fits : (text : List ℕ) → is_whole text ≡ true → number_fits text ≡ true
-whole_fits text e = ap (λ b. b || option_map_or float_is_finite (parse_float binary64 text) false) e
-
-pub float_fits : (text : List ℕ) (x : Float) → is_whole text ≡ false → parse_float binary64 text ≡ Some x
-    → number_fits text ≡ float_is_finite x
-float_fits text x e read =
-    ap (λ b. b || option_map_or float_is_finite (parse_float binary64 text) false) e
-    ∙ ap (λ o. option_map_or float_is_finite o false) read
-
-pub no_float : (text : List ℕ) → is_whole text ≡ false → parse_float binary64 text ≡ None
-    → number_fits text ≡ false
-no_float text e read =
-    ap (λ b. b || option_map_or float_is_finite (parse_float binary64 text) false) e
-    ∙ ap (λ o. option_map_or float_is_finite o false) read
+  pub large_parsed : (r : Option Node) → IsParsed text r → ok_or r error ≡ Err error
+      → number_fits text ≡ false
+  large_parsed None e stopped = none_parsed (number_of text) e
+  large_parsed (Some node) e stopped = absurd (cc)

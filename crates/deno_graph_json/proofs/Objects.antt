@@ -25,9 +25,9 @@ use Rattle.std.proofs.Common.{
 }
 use Rattle.std.proofs.lemmas.Slice.Eq.{bytes_eq-Decides}
 use Rattle.serde_json.specs.Data.{Data, Members}
-use Rattle.serde_json.specs.Find.{get, get_member}
+use Rattle.serde_json.specs.Find.{get_member}
 use Rattle.serde_json.proofs.Views.{get_member-put, get_member-put_other}
-use Rattle.deno_graph_json.specs.Object.{Entry, put_present, put_entries, object_of}
+use Rattle.deno_graph_json.specs.Object.{Entry, put_present, put_entries}
 
 -- ---- entries
 
@@ -108,8 +108,3 @@ get_member-put_entries k [] ms none distinct = none
 get_member-put_entries k (e ∷ es) ms none distinct =
     at_entry k e es ms none distinct (λ ns free. get_member-put_entries k es ns free (and_right _ _ distinct))
     (bytes_eq k e.0) refl
-
--- a look-up in the object of entries with distinct keys finds the value of the entry
-pub get-object_of : (k : List ℕ) (es : List Entry) → has_distinct_keys es ≡ true
-    → get k (object_of es) ≡ entry_at k es
-get-object_of k es distinct = get_member-put_entries k es _ refl distinct

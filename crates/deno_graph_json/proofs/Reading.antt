@@ -1,33 +1,6 @@
 -- Results of a reader: each step of a partial function, and the error that a `?` returns.
-use Rattle.std.proofs.Common.{
-  ◌≡◌,
-  ℕ,
-  ◌+◌,
-  ◌<◌,
-  ◌≤◌,
-  length,
-  get_or,
-  drop,
-  List,
-  [],
-  ◌∷◌,
-  ◌++◌,
-  map,
-  Option,
-  Some,
-  None,
-  Result,
-  IsErrAnd,
-  refl,
-  sym,
-  ap,
-  subst,
-  ◌∙◌,
-  append_assoc,
-  append-nil,
-  arith,
-}
-use Rattle.std.proofs.lemmas.List.{at_drop_more, at_drop_all}
+use Rattle.std.proofs.Common.{◌≡◌, ℕ, List, [], ◌∷◌, ◌++◌, Option, Some, None, Result, IsErrAnd, refl, sym}
+use Rattle.std.proofs.Common.{ap, subst, ◌∙◌, append_assoc, append-nil}
 use Rattle.std.proofs.lemmas.Option.{none-some}
 use Rattle.std.proofs.lemmas.Result.{err_from_is_err_and}
 use Rattle.std.specs.Option.{IsSomeAnd, unwrap_or}
@@ -45,14 +18,11 @@ use Rattle.serde_json.specs.Data.{
   Members,
   no_members,
 }
-use Rattle.serde_json.specs.Find.{as_array, as_object, as_str, at, get_member}
-use Rattle.serde_json.specs.View.{view, items_of, items_view}
-use Rattle.serde_json.specs.declared.value.Value.{Value}
-use Rattle.serde_json.proofs.Views.{get_item_within}
+use Rattle.serde_json.specs.Find.{as_array, as_object, as_str, get_member}
 use Rattle.deno_graph_json.specs.Read.Result.{IsReadError, IsReadResult}
 use Rattle.deno_graph_json.specs.Read.Error.{IsIn, IsMismatch, mismatch, step_into, value_at}
 use Rattle.deno_graph_json.specs.Read.Expected.{IsNot}
-use Rattle.deno_graph_json.specs.Read.Partial.{◌>>=◌, member_at, reads_items, two_items}
+use Rattle.deno_graph_json.specs.Read.Partial.{◌>>=◌, member_at, reads_items}
 use Rattle.deno_graph_json.specs.declared.error.Step.{Step}
 use Rattle.deno_graph_json.specs.declared.expected.Expected.{Expected}
 use Rattle.deno_graph_json.specs.declared.error.ReadError.{ReadError}
@@ -211,60 +181,3 @@ module _ {A : Type 0} where
       → all ≡ before xs (reads_items reads no_items) → all ≡ Some xs
   unfolding reads_items
   items_done reads all xs is = is ∙ ap Some (append-nil xs)
-
--- ---- an array, item by item
-
--- the item after i items is the one with index i
-pub item_here : (all : List Value) (i place : ℕ) (v : Value) → i < length all → v ≡ get_or all i v → place ≡ i
-    → at place (array (items_view all)) ≡ Some (view v)
-item_here all i place v below is same =
-    rw same (sym (get_item_within all i v below) ∙ ap (λ w. Some (view w)) (sym is))
-
-module _ {A : Type 0} (reads : Data → Option A) (all : List Value) where
-  -- the items from index i, as they are read
-  abbrev pub from : ℕ → Option (List A)
-  from i = reads_items reads (items_of (map view (drop i all)))
-
-  -- the item with index i, and those after it
-  from_here : (i : ℕ) (v : Value) → i < length all → v ≡ get_or all i v
-      → from i ≡ reads_items reads (item (view v) (items_of (map view (drop (i + 1) all))))
-  from_here i v below is =
-      at_drop_more (λ vs. reads_items reads (items_of (map view vs))) all i v below
-      ∙ ap (λ w. reads_items reads (item (view w) (items_of (map view (drop (i + 1) all))))) (sym is)
-
-  pub list_more : (i : ℕ) (v : Value) (xs new : List A) (x : A) → i < length all → v ≡ get_or all i v
-      → reads_items reads (items_view all) ≡ before xs (from i) → reads (view v) ≡ Some x → new ≡ xs ++ x ∷ []
-      → reads_items reads (items_view all) ≡ before new (from (i + 1))
-  list_more i v xs new x below is so_far read pushed =
-      so_far ∙ ap (before xs) (from_here i v below is)
-      ∙ items_more reads xs (view v) (items_of (map view (drop (i + 1) all))) x read
-      ∙ ap (λ ys. before ys (from (i + 1))) (sym pushed)
-
-  pub list_error : (value : Data) (i : ℕ) (v : Value) (xs : List A) (error : ReadError) → i < length all
-      → v ≡ get_or all i v → reads_items reads (items_view all) ≡ before xs (from i)
-      → IsReadError value (reads (view v)) error
-      → IsReadError value (reads_items reads (items_view all)) error
-  list_error value i v xs error below is so_far h =
-      items_error value reads _ xs (view v) (items_of (map view (drop (i + 1) all))) error
-      (so_far ∙ ap (before xs) (from_here i v below is)) h
-
-  pub list_done : (i : ℕ) (xs : List A) → length all ≤ i
-      → reads_items reads (items_view all) ≡ before xs (from i) → reads_items reads (items_view all) ≡ Some xs
-  list_done i xs past so_far =
-      items_done reads _ xs (so_far
-      ∙ ap (before xs) (at_drop_all (λ vs. reads_items reads (items_of (map view vs))) all i past))
-
--- ---- an array of two
-
-pub two_there : (vs : List Value) (v w : Value) → length vs ≡ 2 → v ≡ get_or vs 0 v → w ≡ get_or vs 1 w
-    → two_items (items_view vs) ≡ Some (view v, view w)
-two_there [] v w two first second = absurd (omega arith)
-two_there (x ∷ []) v w two first second = absurd (omega arith)
-two_there (x ∷ y ∷ []) v w two first second = rw (first, second)
-two_there (x ∷ y ∷ z ∷ vs) v w two first second = absurd (omega arith)
-
-pub not_two : (vs : List Value) → (length vs ≡ 2 → ⊥) → two_items (items_view vs) ≡ None
-not_two [] other = refl
-not_two (x ∷ []) other = refl
-not_two (x ∷ y ∷ []) other = absurd (other refl)
-not_two (x ∷ y ∷ z ∷ vs) other = refl

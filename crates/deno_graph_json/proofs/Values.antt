@@ -8,10 +8,6 @@ use Rattle.std.proofs.Common.{
   ◌*◌,
   ◌<◌,
   ◌≤◌,
-  Bool,
-  true,
-  false,
-  if◌then◌else◌,
   List,
   [],
   ◌∷◌,
@@ -26,24 +22,14 @@ use Rattle.std.proofs.Common.{
   length-append,
 }
 use Rattle.std.proofs.lemmas.List.{take_at, drop_at}
-use Rattle.std.specs.Str.Parse.{digits_value}
 use Rattle.json.specs.Json.{Json}
 use Rattle.json.specs.Json as json
-use Rattle.deno_graph_json.specs.Flat.{
-  PlainNode,
-  plain,
-  number_node,
-  is_whole,
-  flat_list,
-  items_list,
-  members_list,
-}
+use Rattle.deno_graph_json.specs.Flat.{PlainNode, flat_list, items_list, members_list}
 use Rattle.deno_graph_json.specs.Flat as flat
 use Rattle.deno_graph_json.specs.Value.{
   Value,
   null,
   boolean,
-  whole,
   number,
   string,
   array,
@@ -74,8 +60,7 @@ pub some_value : (v : Value) → 0 < length (flat_value v)
 unfolding flat_value
 some_value null = omega arith
 some_value (boolean b) = omega arith
-some_value (whole n) = omega arith
-some_value number = omega arith
+some_value (number x) = omega arith
 some_value (string s) = omega arith
 some_value (array vs) = omega arith
 some_value (object ms) = omega arith
@@ -84,8 +69,7 @@ pub after_value_front : (v : Value) (r : List PlainNode) → after_value (flat_v
 unfolding flat_value
 after_value_front null r = refl
 after_value_front (boolean b) r = refl
-after_value_front (whole n) r = refl
-after_value_front number r = refl
+after_value_front (number x) r = refl
 after_value_front (string s) r = refl
 after_value_front (array vs) r = drop_at (flat_items vs) r (length (flat_items vs)) refl
 after_value_front (object ms) r = drop_at (flat_members ms) r (length (flat_members ms)) refl
@@ -96,8 +80,7 @@ first_item : (v : Value) (r : List PlainNode) (n : ℕ)
 unfolding flat_value items_within
 first_item null r n = refl
 first_item (boolean b) r n = refl
-first_item (whole m) r n = refl
-first_item number r n = refl
+first_item (number x) r n = refl
 first_item (string s) r n = refl
 first_item (array vs) r n = refl
 first_item (object ms) r n = refl
@@ -111,10 +94,8 @@ mutual
   in_value null (suc n) r enough = refl
   in_value (boolean b) zero r enough = absurd (omega arith)
   in_value (boolean b) (suc n) r enough = refl
-  in_value (whole m) zero r enough = absurd (omega arith)
-  in_value (whole m) (suc n) r enough = refl
-  in_value number zero r enough = absurd (omega arith)
-  in_value number (suc n) r enough = refl
+  in_value (number x) zero r enough = absurd (omega arith)
+  in_value (number x) (suc n) r enough = refl
   in_value (string s) zero r enough = absurd (omega arith)
   in_value (string s) (suc n) r enough = refl
   in_value (array vs) zero r enough = absurd (omega arith)
@@ -198,19 +179,13 @@ unfolding plain_value
 same_count json.no_items = refl
 same_count (json.item j js) = ap (λ n. n + 1) (same_count js)
 
-number_listed : (b : Bool) (n : ℕ) → flat_value (if b then whole n else number)
-    ≡ (if b then flat.whole n else flat.number) ∷ []
-unfolding flat_value
-number_listed true n = refl
-number_listed false n = refl
-
 mutual
   unfolding flat_value plain_value
 
   pub plain_listed : (j : Json) → flat_value (plain_value j) ≡ flat_list j
   plain_listed json.null = refl
   plain_listed (json.boolean b) = refl
-  plain_listed (json.number text) = number_listed (is_whole text) (digits_value 10 text)
+  plain_listed (json.number text) = refl
   plain_listed (json.string s) = refl
   plain_listed (json.array js) =
       ap (λ n. flat.array n (length (flat_items (plain_items js))) ∷ flat_items (plain_items js))

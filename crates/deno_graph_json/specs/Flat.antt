@@ -1,17 +1,14 @@
 -- The flat list of a JSON value (RFC 8259), and the texts that can be read.
-use Rattle.std.specs.Prelude.{◌≡◌, ℕ, ◌+◌, ◌^◌, ◌≤◌, Bool, true, false, ◌&&◌, ◌||◌, nat_lt, if◌then◌else◌}
-use Rattle.std.specs.Prelude.{List, [], ◌∷◌, ◌++◌, length, map, IsTrue}
+use Rattle.std.specs.Prelude.{◌≡◌, ℕ, ◌+◌, ◌≤◌, Bool, true, List, [], ◌∷◌, ◌++◌, length, map, IsTrue}
+use Rattle.std.specs.Prelude.{is_some, unwrap_or}
 use Rattle.std.specs.List.{list_all}
-use Rattle.std.specs.Option.{option_map_or}
-use Rattle.std.specs.Str.{all_ascii_digits}
-use Rattle.std.specs.Str.Parse.{digits_value}
-use Rattle.std.specs.Float.{binary64, float_is_finite}
-use Rattle.std.specs.Float.Parse.{parse_float}
 use Rattle.json.specs.Json.{Json, Items, no_items, item, Members, no_members, member}
 use Rattle.json.specs.Json as json
 use Rattle.json.specs.Lex.{tokens}
 use Rattle.json.specs.Token.{Token}
 use Rattle.json.specs.Tree.{json_tokens, depth}
+use Rattle.serde_json.specs.Data.{Num, unsigned, negative, float}
+use Rattle.serde_json.specs.Read.{number_of}
 use Rattle.deno_graph_json.specs.declared.flat.Node.{Node}
 use Rattle.deno_graph_json.specs.declared.flat.Node.TheVariants as node
 
@@ -19,8 +16,7 @@ use Rattle.deno_graph_json.specs.declared.flat.Node.TheVariants as node
 pub data PlainNode : Type 0 where
   null : PlainNode
   boolean : Bool → PlainNode
-  whole : ℕ → PlainNode
-  number : PlainNode
+  number : Num → PlainNode
   string : List ℕ → PlainNode
   key : List ℕ → PlainNode
   array : ℕ → ℕ → PlainNode
@@ -29,19 +25,17 @@ pub data PlainNode : Type 0 where
 abbrev pub plain : Node → PlainNode
 plain node.Null = null
 plain (node.Bool b) = boolean b
-plain (node.Whole n) = whole n
-plain node.Number = number
+plain (node.Whole n) = number (unsigned n)
+plain (node.Negative z) = number (negative z)
+plain (node.Float x) = number (float x)
 plain (node.String s) = string s.now
 plain (node.Key s) = key s.now
 plain (node.Array elements nodes) = array elements nodes
 plain (node.Object nodes) = object nodes
 
--- whether the text is only digits, of a number below 2^64
-abbrev pub is_whole : List ℕ → Bool
-is_whole text = nat_lt 0 (length text) && all_ascii_digits text && nat_lt (digits_value 10 text) (2 ^ 64)
-
+-- the node of a number that fits
 abbrev pub number_node : List ℕ → PlainNode
-number_node text = if is_whole text then whole (digits_value 10 text) else number
+number_node text = number (unwrap_or (number_of text) (unsigned 0))
 
 abbrev pub element_count : Items → ℕ
 element_count no_items = 0
@@ -65,9 +59,9 @@ abbrev mutual
   members_list no_members = []
   members_list (member k j ms) = key k ∷ (flat_list j ++ members_list ms)
 
--- whether the number is a whole number below 2^64, or the nearest float is finite
+-- whether the number is a whole number of 64 bits, or the nearest float is finite
 abbrev pub number_fits : List ℕ → Bool
-number_fits text = is_whole text || option_map_or float_is_finite (parse_float binary64 text) false
+number_fits text = is_some (number_of text)
 
 abbrev pub token_fits : Token → Bool
 token_fits (Token.number text) = number_fits text

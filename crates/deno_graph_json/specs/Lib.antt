@@ -1,12 +1,13 @@
 pub mod Ascending
+pub mod Data
 pub mod Flat
+pub mod Found
 pub mod Json
 pub mod Object
 pub mod ObjectReader
 pub mod ObjectWriter
 pub mod Pointer
 pub mod Read
-pub mod Tape
 pub mod Text
 pub mod Value
 pub mod View

@@ -1,20 +1,19 @@
 -- A JSON value (RFC 8259) as a flat list keeps it, and how to look into the value.
 use Rattle.std.specs.Prelude.{◌≡◌, ℕ, zero, suc, ◌+◌, ◌*◌, Bool, true, false, if◌then◌else◌}
-use Rattle.std.specs.Prelude.{List, [], ◌∷◌, ◌++◌, length, take, drop, Option, Some, None}
+use Rattle.std.specs.Prelude.{List, [], ◌∷◌, ◌++◌, length, take, drop, Option, Some, None, unwrap_or}
 use Rattle.std.specs.Str.{bytes_eq}
-use Rattle.std.specs.Str.Parse.{digits_value}
 use Rattle.json.specs.Json.{Json}
 use Rattle.json.specs.Json as json
-use Rattle.deno_graph_json.specs.Flat.{PlainNode, is_whole}
+use Rattle.serde_json.specs.Data.{Num, unsigned, negative, float}
+use Rattle.serde_json.specs.Read.{number_of}
+use Rattle.deno_graph_json.specs.Flat.{PlainNode}
 use Rattle.deno_graph_json.specs.Flat as flat
 
 mutual
-  -- `whole` is a number below 2^64 that is written with digits only. Of any other number nothing is kept.
   pub data Value : Type 0 where
     null : Value
     boolean : Bool → Value
-    whole : ℕ → Value
-    number : Value
+    number : Num → Value
     string : List ℕ → Value
     array : Items → Value
     object : Members → Value
@@ -32,7 +31,7 @@ item_count no_items = 0
 item_count (item v vs) = item_count vs + 1
 
 abbrev pub number_value : List ℕ → Value
-number_value text = if is_whole text then whole (digits_value 10 text) else number
+number_value text = number (unwrap_or (number_of text) (unsigned 0))
 
 -- the part of a JSON value that a flat list keeps
 unfoldable mutual
@@ -57,8 +56,7 @@ unfoldable mutual
   pub flat_value : Value → List PlainNode
   flat_value null = flat.null ∷ []
   flat_value (boolean b) = flat.boolean b ∷ []
-  flat_value (whole n) = flat.whole n ∷ []
-  flat_value number = flat.number ∷ []
+  flat_value (number x) = flat.number x ∷ []
   flat_value (string s) = flat.string s ∷ []
   flat_value (array vs) = flat.array (item_count vs) (length (flat_items vs)) ∷ flat_items vs
   flat_value (object ms) = flat.object (length (flat_members ms)) ∷ flat_members ms
@@ -77,8 +75,7 @@ unfoldable mutual
 abbrev pub plain_inside : PlainNode → ℕ
 plain_inside flat.null = 0
 plain_inside (flat.boolean _) = 0
-plain_inside (flat.whole _) = 0
-plain_inside flat.number = 0
+plain_inside (flat.number _) = 0
 plain_inside (flat.string _) = 0
 plain_inside (flat.key _) = 0
 plain_inside (flat.array _ nodes) = nodes
@@ -96,8 +93,7 @@ unfoldable mutual
   value_within (suc turns) [] = null
   value_within (suc turns) (flat.null ∷ ns) = null
   value_within (suc turns) (flat.boolean b ∷ ns) = boolean b
-  value_within (suc turns) (flat.whole n ∷ ns) = whole n
-  value_within (suc turns) (flat.number ∷ ns) = number
+  value_within (suc turns) (flat.number x ∷ ns) = number x
   value_within (suc turns) (flat.string s ∷ ns) = string s
   value_within (suc turns) (flat.key s ∷ ns) = null
   value_within (suc turns) (flat.array _ nodes ∷ ns) = array (items_within turns (take nodes ns))
@@ -114,8 +110,7 @@ unfoldable mutual
   members_within (suc turns) [] = no_members
   members_within (suc turns) (flat.null ∷ ns) = no_members
   members_within (suc turns) (flat.boolean b ∷ ns) = no_members
-  members_within (suc turns) (flat.whole n ∷ ns) = no_members
-  members_within (suc turns) (flat.number ∷ ns) = no_members
+  members_within (suc turns) (flat.number x ∷ ns) = no_members
   members_within (suc turns) (flat.string s ∷ ns) = no_members
   members_within (suc turns) (flat.key k ∷ ns) =
       member k (value_within turns ns) (members_within turns (after_value ns))
@@ -143,81 +138,6 @@ abbrev pub AreOfMembers : List PlainNode → Type 0
 AreOfMembers nodes = flat_members (members_in nodes) ≡ nodes
 
 -- ---- looking into a value
-
-abbrev pub is_null : Value → Bool
-is_null null = true
-is_null (boolean b) = false
-is_null (whole n) = false
-is_null number = false
-is_null (string s) = false
-is_null (array vs) = false
-is_null (object ms) = false
-
-abbrev pub as_bool : Value → Option Bool
-as_bool null = None
-as_bool (boolean b) = Some b
-as_bool (whole n) = None
-as_bool number = None
-as_bool (string s) = None
-as_bool (array vs) = None
-as_bool (object ms) = None
-
-abbrev pub as_whole : Value → Option ℕ
-as_whole null = None
-as_whole (boolean b) = None
-as_whole (whole n) = Some n
-as_whole number = None
-as_whole (string s) = None
-as_whole (array vs) = None
-as_whole (object ms) = None
-
-abbrev pub as_str : Value → Option (List ℕ)
-as_str null = None
-as_str (boolean b) = None
-as_str (whole n) = None
-as_str number = None
-as_str (string s) = Some s
-as_str (array vs) = None
-as_str (object ms) = None
-
-abbrev pub as_array : Value → Option Items
-as_array null = None
-as_array (boolean b) = None
-as_array (whole n) = None
-as_array number = None
-as_array (string s) = None
-as_array (array vs) = Some vs
-as_array (object ms) = None
-
-abbrev pub as_object : Value → Option Members
-as_object null = None
-as_object (boolean b) = None
-as_object (whole n) = None
-as_object number = None
-as_object (string s) = None
-as_object (array vs) = None
-as_object (object ms) = Some ms
-
-abbrev pub both : Option ℕ → Option ℕ → Option (ℕ × ℕ)
-both None second = None
-both (Some m) None = None
-both (Some m) (Some n) = Some (m, n)
-
-abbrev pub pair_in : Items → Option (ℕ × ℕ)
-pair_in no_items = None
-pair_in (item v no_items) = None
-pair_in (item v (item w no_items)) = both (as_whole v) (as_whole w)
-pair_in (item v (item w (item u vs))) = None
-
--- an array of exactly two whole numbers
-abbrev pub as_pair : Value → Option (ℕ × ℕ)
-as_pair null = None
-as_pair (boolean b) = None
-as_pair (whole n) = None
-as_pair number = None
-as_pair (string s) = None
-as_pair (array vs) = pair_in vs
-as_pair (object ms) = None
 
 abbrev pub nth_item : ℕ → Items → Option Value
 nth_item n no_items = None

@@ -17,7 +17,7 @@ pub enum ReadError {
 }
 
 /// A value that isn't what was expected, and the path to it from the value that is read.
-#[derive(Drop)]
+#[derive(Debug, PartialEq, Eq, Drop)]
 pub struct Mismatch {
     /// The steps to the value, from the inside out: the last step is the first to take.
     pub path: Items<Step>,
@@ -25,7 +25,7 @@ pub struct Mismatch {
 }
 
 /// A step from a JSON array or object to one of its values.
-#[derive(Drop)]
+#[derive(Debug, PartialEq, Eq, Drop)]
 pub enum Step {
     /// To the item with this index, counted from zero.
     Item(usize),

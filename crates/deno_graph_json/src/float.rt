@@ -4,11 +4,13 @@ ghost use Rattle.std.specs.Prelude.{◌≡◌};
 ghost use Rattle.serde_json.specs.Data.{array, object};
 ghost use Rattle.serde_json.specs.View.{view, items_view, members_view};
 ghost use Rattle.serde_json.specs.Written.{has_float as holds_float, items_have_float as float_in_items, members_have_float as float_in_members};
+ghost use Rattle.deno_graph_json.specs.Data.{data_of, elements_data, members_data};
 ghost use Rattle.deno_graph_json.specs.Read.Result.{IsReadResult};
 ghost use Rattle.deno_graph_json.specs.Read.Partial.{unless_float};
 
 use crate::error::ReadError;
 use crate::expected::Expected;
+use crate::flat::{Element, Elements, Members, View};
 use serde_json::{Map, Value};
 use std::alloc::Global;
 
@@ -49,30 +51,38 @@ fn members_have_float(members: &Map<String, Value>) -> bool
     false
 }
 
-/// Returns `Mismatch` with the path to the first number that isn't held as a whole number, if there
-/// is one, and `OutOfMemory` if an allocation fails.
-#[cycle(find_float)]
-pub fn find_float(alloc: Global, value: &Value) -> Result<(), ReadError>
-    ensures { IsReadResult (view value.now) (unless_float (holds_float (view value.now))) result }
+/// Returns `Mismatch` with the path to a float, if there is one, and `OutOfMemory` if an allocation fails.
+/// Allocates only where the text has a float.
+pub fn find_float(alloc: Global, value: Element<'_>) -> Result<(), ReadError>
+    ensures { IsReadResult (data_of value.entry) (unless_float (holds_float (data_of value.entry))) result }
 {
-    match value {
-        Value::Number(number) if number.is_f64() => {
-            Err(ReadError::expected(alloc, Expected::Integer))
-        }
-        Value::Array(items) => find_float_in_items(alloc, items),
-        Value::Object(members) => find_float_in_members(alloc, members),
+    if value.has_float_node() {
+        find_float_in(alloc, value)
+    } else {
+        Ok(())
+    }
+}
+
+#[cycle(find_float)]
+fn find_float_in(alloc: Global, value: Element<'_>) -> Result<(), ReadError>
+    ensures { IsReadResult (data_of value.entry) (unless_float (holds_float (data_of value.entry))) result }
+{
+    match value.view() {
+        View::Float(_) => Err(ReadError::expected(alloc, Expected::Integer)),
+        View::Array(items) => find_float_in_items(alloc, items),
+        View::Object(members) => find_float_in_members(alloc, members),
         _ => Ok(()),
     }
 }
 
 #[cycle(find_float)]
-fn find_float_in_items(alloc: Global, items: &Vec<Value>) -> Result<(), ReadError>
-    ensures { IsReadResult (array (items_view items.now.items))
-        (unless_float (float_in_items (items_view items.now.items))) result }
+fn find_float_in_items(alloc: Global, items: Elements<'_>) -> Result<(), ReadError>
+    ensures { IsReadResult (array (elements_data items.entry))
+        (unless_float (float_in_items (elements_data items.entry))) result }
 {
     let mut number = 0usize;
     for item in items {
-        if let Err(error) = find_float(alloc, item) {
+        if let Err(error) = find_float_in(alloc, item) {
             return Err(error.in_item(number));
         }
         number += 1;
@@ -81,13 +91,14 @@ fn find_float_in_items(alloc: Global, items: &Vec<Value>) -> Result<(), ReadErro
 }
 
 #[cycle(find_float)]
-fn find_float_in_members(alloc: Global, members: &Map<String, Value>) -> Result<(), ReadError>
-    ensures { IsReadResult (object (members_view members.now.entries))
-        (unless_float (float_in_members (members_view members.now.entries))) result }
+fn find_float_in_members(alloc: Global, members: Members<'_>) -> Result<(), ReadError>
+    ensures { IsReadResult (object (members_data members.entry))
+        (unless_float (float_in_members (members_data members.entry))) result }
 {
-    for (name, value) in members.iter() {
-        if let Err(error) = find_float(alloc, value) {
-            return Err(error.in_member(alloc, name.as_str()));
+    let found = members.sorted(alloc)?;
+    for (name, value) in &found {
+        if let Err(error) = find_float_in(alloc, *value) {
+            return Err(error.in_member(alloc, name));
         }
     }
     Ok(())

@@ -1,10 +1,10 @@
 //! Reading objects, member by member.
 
-ghost use Rattle.std.specs.Prelude.{◌≡◌, [], Some, MatchResult, option_map};
+ghost use Rattle.std.specs.Prelude.{◌≡◌, ◌==◌, [], Some, MatchResult};
 ghost use Rattle.serde_json.specs.Data.{Data, string};
 ghost use Rattle.serde_json.specs.Events.{members_len};
 ghost use Rattle.serde_json.specs.Find.{as_str, as_object, get_member};
-ghost use Rattle.serde_json.specs.View.{view, members_view};
+ghost use Rattle.deno_graph_json.specs.Data.{data_of, members_data};
 ghost use Rattle.deno_graph_json.specs.ObjectReader.{readable, value_of};
 ghost use Rattle.deno_graph_json.specs.Read.Result.{IsReadResult, IsReadResultSeen, IsReadError};
 ghost use Rattle.deno_graph_json.specs.Read.Error.{IsIn};
@@ -13,39 +13,39 @@ ghost use Rattle.deno_graph_json.specs.Read.Partial.{reads_array, member_at, mem
 
 use crate::error::ReadError;
 use crate::expected::Expected;
+use crate::flat::{Element, Members};
 use crate::read::{FromJson, read_member, read_object, read_str};
 use deno_graph_base::values::Items;
-use serde_json::{Map, Value};
 use std::alloc::Global;
 
 /// Reads an object member by member.
 #[derive(Drop)]
 pub struct ObjectReader<'v> {
     alloc: Global,
-    members: &'v Map<String, Value>,
+    members: Members<'v>,
 }
 
 impl<'v> ObjectReader<'v> {
     /// Begins to read an object. Allocates nothing. Returns `Mismatch` if the value is no object.
-    pub fn new(alloc: Global, value: &'v Value) -> Result<ObjectReader<'v>, ReadError>
-        ensures { IsReadResultSeen readable (view value.now) (as_object (view value.now)) result }
+    pub fn new(alloc: Global, value: Element<'v>) -> Result<ObjectReader<'v>, ReadError>
+        ensures { IsReadResultSeen readable (data_of value.entry) (as_object (data_of value.entry)) result }
     {
         let members = read_object(alloc, value)?;
         Ok(ObjectReader::of_members(alloc, members))
     }
 
     /// Begins to read the object with these members. Allocates nothing.
-    pub fn of_members(alloc: Global, members: &'v Map<String, Value>) -> ObjectReader<'v>
-        ensures { readable result ≡ members_view members.now.entries }
+    pub fn of_members(alloc: Global, members: Members<'v>) -> ObjectReader<'v>
+        ensures { readable result ≡ members_data members.entry }
     {
         ObjectReader { alloc, members }
     }
 
-    /// Returns the number of members.
-    pub fn member_count(&self) -> usize
-        ensures { result ≡ members_len (readable self.now) }
+    /// Returns whether the object has one member, or several of one name.
+    pub fn has_one_name(&self) -> bool
+        ensures { result ≡ (members_len (readable self.now) == 1) }
     {
-        self.members.len()
+        self.members.have_one_name()
     }
 
     /// Reads a required member.
@@ -53,7 +53,7 @@ impl<'v> ObjectReader<'v> {
     pub fn read<T: FromJson>(&self, key: &'static str) -> Result<T, ReadError>
         ensures { IsReadResult (value_of self.now) (member_at T.reads key.now (readable self.now)) result }
     {
-        match find_member(self.members, key) {
+        match self.members.get(key) {
             Some(value) => read_member(self.alloc, key, value),
             None => Err(ReadError::expected(self.alloc, Expected::Member(key))),
         }
@@ -66,7 +66,7 @@ impl<'v> ObjectReader<'v> {
             (λ text. get_member key.now (readable self.now) ≡ Some (string text.now))
             (IsReadError (value_of self.now) (member_at as_str key.now (readable self.now))) }
     {
-        match find_member(self.members, key) {
+        match self.members.get(key) {
             Some(value) => match read_str(self.alloc, value) {
                 Ok(text) => Ok(text),
                 Err(error) => Err(error.in_member(self.alloc, key)),
@@ -81,7 +81,7 @@ impl<'v> ObjectReader<'v> {
         ensures { IsReadResult (value_of self.now)
             (member_or T.reads key.now default (readable self.now)) result }
     {
-        match find_member(self.members, key) {
+        match self.members.get(key) {
             Some(member) => read_member(self.alloc, key, member),
             None => Ok(default),
         }
@@ -102,12 +102,4 @@ impl<'v> ObjectReader<'v> {
     {
         ReadError::expected(self.alloc, expected).in_member(self.alloc, key)
     }
-}
-
-/// Returns the value of a member, if there is one.
-pub fn find_member<'v>(object: &'v Map<String, Value>, key: &str) -> Option<&'v Value>
-    ensures { option_map (λ v. view v.now) result
-        ≡ get_member key.now (members_view object.now.entries) }
-{
-    object.get(key)
 }

@@ -1,7 +1,7 @@
 ghost use Rattle.deno_graph_json.specs.Json.Position.{json_of_position, json_of_range, reads_position, reads_range, IsHeldPosition, IsHeldRange};
 
 use crate::read::read_pair;
-use crate::{FromJson, ReadError, TextWriter, ToJson};
+use crate::{Element, FromJson, ReadError, TextWriter, ToJson};
 use deno_graph_base::text::{Position, PositionRange};
 use serde_json::{Value, json};
 use std::alloc::{AllocError, Global};
@@ -27,7 +27,7 @@ impl FromJson for Position {
     ghost reads = { reads_position };
 
     #[tactic(auto, using(crate::proofs::Reading::reading), unfolding(crate::specs::Json::Position::reads_position))]
-    fn from_json(alloc: Global, value: &Value) -> Result<Position, ReadError> {
+    fn from_json(alloc: Global, value: Element<'_>) -> Result<Position, ReadError> {
         let (line, character) = read_pair(alloc, value, "two whole numbers, [line,character]")?;
         Ok(Position { line, character })
     }
@@ -56,7 +56,7 @@ impl FromJson for PositionRange {
     ghost reads = { reads_range };
 
     #[tactic(auto, using(crate::proofs::Reading::reading), unfolding(crate::specs::Json::Position::reads_range))]
-    fn from_json(alloc: Global, value: &Value) -> Result<PositionRange, ReadError> {
+    fn from_json(alloc: Global, value: Element<'_>) -> Result<PositionRange, ReadError> {
         let (start, end) = read_pair(alloc, value, "two positions, [start,end]")?;
         Ok(PositionRange { start, end })
     }

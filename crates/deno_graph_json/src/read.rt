@@ -3,14 +3,14 @@
 ghost use Rattle.std.specs.Prelude.{◌≡◌, IfOk, Some};
 ghost use Rattle.serde_json.specs.Data.{Data, array, object};
 ghost use Rattle.serde_json.specs.Find.{at, get, as_bool, as_str, as_array, as_object};
-ghost use Rattle.serde_json.specs.View.{view, items_view, members_view};
+ghost use Rattle.deno_graph_json.specs.Data.{data_of, elements_data, members_data};
 ghost use Rattle.deno_graph_json.specs.Read.Result.{IsReadResult, IsReadResultSeen};
 ghost use Rattle.deno_graph_json.specs.Read.Partial.{as_usize, reads_optional, reads_array, reads_items, reads_map, reads_members, reads_pair, pair_in};
 
 use crate::error::ReadError;
 use crate::expected::Expected;
+use crate::flat::{Element, Elements, Members, View};
 use deno_graph_base::values::{Items, Text, TextMap};
-use serde_json::{Map, Value};
 use std::alloc::Global;
 
 /// A type that can be read from JSON.
@@ -23,17 +23,17 @@ pub trait FromJson {
 
     /// Reads the value. Returns `Mismatch` with the path to a part of `value` that isn't as expected,
     /// or `OutOfMemory` if an allocation fails.
-    fn from_json(alloc: Global, value: &Value) -> Result<Self, ReadError>
-        ensures { IsReadResult (view value.now) (reads (view value.now)) result };
+    fn from_json(alloc: Global, value: Element<'_>) -> Result<Self, ReadError>
+        ensures { IsReadResult (data_of value.entry) (reads (data_of value.entry)) result };
 }
 
 impl FromJson for bool {
     ghost reads = { as_bool };
 
-    fn from_json(alloc: Global, value: &Value) -> Result<bool, ReadError> {
-        match value.as_bool() {
-            Some(flag) => Ok(flag),
-            None => Err(ReadError::expected(alloc, Expected::Bool)),
+    fn from_json(alloc: Global, value: Element<'_>) -> Result<bool, ReadError> {
+        match value.view() {
+            View::Bool(flag) => Ok(flag),
+            _ => Err(ReadError::expected(alloc, Expected::Bool)),
         }
     }
 }
@@ -42,10 +42,10 @@ impl FromJson for usize {
     ghost reads = { as_usize };
 
     #[tactic(auto, unfolding(crate::specs::Read::Partial::as_usize))]
-    fn from_json(alloc: Global, value: &Value) -> Result<usize, ReadError> {
-        match value.as_u64() {
-            Some(n) => Ok(n as usize),
-            None => Err(ReadError::expected(alloc, Expected::Whole)),
+    fn from_json(alloc: Global, value: Element<'_>) -> Result<usize, ReadError> {
+        match value.view() {
+            View::Whole(number) => Ok(number as usize),
+            _ => Err(ReadError::expected(alloc, Expected::Whole)),
         }
     }
 }
@@ -53,7 +53,7 @@ impl FromJson for usize {
 impl FromJson for Text {
     ghost reads = { as_str };
 
-    fn from_json(alloc: Global, value: &Value) -> Result<Text, ReadError> {
+    fn from_json(alloc: Global, value: Element<'_>) -> Result<Text, ReadError> {
         let text = read_str(alloc, value)?;
         Ok(Text::from_str(alloc, text)?)
     }
@@ -63,9 +63,9 @@ impl<T: FromJson> FromJson for Option<T> {
     ghost reads = { reads_optional T.reads };
 
     #[tactic(auto, unfolding(crate::specs::Read::Partial::reads_optional))]
-    fn from_json(alloc: Global, value: &Value) -> Result<Option<T>, ReadError> {
-        match value {
-            Value::Null => Ok(None),
+    fn from_json(alloc: Global, value: Element<'_>) -> Result<Option<T>, ReadError> {
+        match value.view() {
+            View::Null => Ok(None),
             _ => {
                 let item = T::from_json(alloc, value)?;
                 Ok(Some(item))
@@ -78,7 +78,7 @@ impl<T: FromJson + Drop> FromJson for Items<T> {
     ghost reads = { reads_array T.reads };
 
     #[tactic(auto, using(crate::proofs::Reading::reading), unfolding(crate::specs::Read::Partial::reads_array))]
-    fn from_json(alloc: Global, value: &Value) -> Result<Items<T>, ReadError> {
+    fn from_json(alloc: Global, value: Element<'_>) -> Result<Items<T>, ReadError> {
         let values = read_array(alloc, value)?;
         read_items(alloc, values)
     }
@@ -88,7 +88,7 @@ impl<T: FromJson + Drop> FromJson for TextMap<T> {
     ghost reads = { reads_map T.reads };
 
     #[tactic(auto, using(crate::proofs::Reading::reading), unfolding(crate::specs::Read::Partial::reads_map))]
-    fn from_json(alloc: Global, value: &Value) -> Result<TextMap<T>, ReadError> {
+    fn from_json(alloc: Global, value: Element<'_>) -> Result<TextMap<T>, ReadError> {
         let members = read_object(alloc, value)?;
         read_map(alloc, members)
     }
@@ -97,10 +97,10 @@ impl<T: FromJson + Drop> FromJson for TextMap<T> {
 /// Reads each item of an array.
 pub fn read_items<T: FromJson + Drop>(
     alloc: Global,
-    values: &Vec<Value>,
+    values: Elements<'_>,
 ) -> Result<Items<T>, ReadError>
-    ensures { IsReadResult (array (items_view values.now.items))
-        (reads_items T.reads (items_view values.now.items)) result }
+    ensures { IsReadResult (array (elements_data values.entry))
+        (reads_items T.reads (elements_data values.entry)) result }
 {
     let mut items = Items::new(alloc);
     for value in values {
@@ -114,24 +114,24 @@ pub fn read_items<T: FromJson + Drop>(
 /// Reads each member of an object.
 fn read_map<T: FromJson + Drop>(
     alloc: Global,
-    members: &Map<String, Value>,
+    members: Members<'_>,
 ) -> Result<TextMap<T>, ReadError>
-    ensures { IsReadResult (object (members_view members.now.entries))
-        (reads_members T.reads (members_view members.now.entries)) result }
+    ensures { IsReadResult (object (members_data members.entry))
+        (reads_members T.reads (members_data members.entry)) result }
 {
+    let found = members.sorted(alloc)?;
     let mut map = TextMap::new(alloc);
-    for (key, value) in members.iter() {
-        let item = read_member(alloc, key.as_str(), value)?;
-        let name = Text::from_str(alloc, key.as_str())?;
-        drop(map.insert(name, item)?);
+    for (name, value) in &found {
+        let item = read_member(alloc, name, *value)?;
+        drop(map.insert(Text::from_str(alloc, name)?, item)?);
     }
     Ok(map)
 }
 
 /// Reads the item of an array that has this index, counted from zero.
-fn read_item<T: FromJson>(alloc: Global, number: usize, value: &Value) -> Result<T, ReadError>
-    ensures { (array : Data) → at number array ≡ Some (view value.now)
-        → IsReadResult array (T.reads (view value.now)) result }
+fn read_item<T: FromJson>(alloc: Global, number: usize, value: Element<'_>) -> Result<T, ReadError>
+    ensures { (array : Data) → at number array ≡ Some (data_of value.entry)
+        → IsReadResult array (T.reads (data_of value.entry)) result }
 {
     match T::from_json(alloc, value) {
         Ok(item) => Ok(item),
@@ -143,10 +143,10 @@ fn read_item<T: FromJson>(alloc: Global, number: usize, value: &Value) -> Result
 pub(crate) fn read_member<T: FromJson>(
     alloc: Global,
     name: &str,
-    value: &Value,
+    value: Element<'_>,
 ) -> Result<T, ReadError>
-    ensures { (object : Data) → get name.now object ≡ Some (view value.now)
-        → IsReadResult object (T.reads (view value.now)) result }
+    ensures { (object : Data) → get name.now object ≡ Some (data_of value.entry)
+        → IsReadResult object (T.reads (data_of value.entry)) result }
 {
     match T::from_json(alloc, value) {
         Ok(item) => Ok(item),
@@ -155,54 +155,55 @@ pub(crate) fn read_member<T: FromJson>(
 }
 
 /// Returns the text of a string. Allocates nothing.
-pub fn read_str(alloc: Global, value: &Value) -> Result<&str, ReadError>
-    ensures { IsReadResultSeen (λ s. s.now) (view value.now) (as_str (view value.now)) result }
+pub fn read_str<'a>(alloc: Global, value: Element<'a>) -> Result<&'a str, ReadError>
+    ensures { IsReadResultSeen (λ s. s.now) (data_of value.entry) (as_str (data_of value.entry)) result }
 {
-    match value.as_str() {
-        Some(text) => Ok(text),
-        None => Err(ReadError::expected(alloc, Expected::String)),
+    match value.view() {
+        View::String(text) => Ok(text),
+        _ => Err(ReadError::expected(alloc, Expected::String)),
     }
 }
 
-/// Returns the items of an array. Allocates nothing.
-pub fn read_array(alloc: Global, value: &Value) -> Result<&Vec<Value>, ReadError>
-    ensures { IsReadResultSeen (λ v. items_view v.now.items) (view value.now) (as_array (view value.now)) result }
+/// Returns the elements of an array. Allocates nothing.
+pub fn read_array<'a>(alloc: Global, value: Element<'a>) -> Result<Elements<'a>, ReadError>
+    ensures { IsReadResultSeen elements_data (data_of value.entry) (as_array (data_of value.entry)) result }
 {
-    match value.as_array() {
-        Some(values) => Ok(values),
-        None => Err(ReadError::expected(alloc, Expected::Array)),
+    match value.view() {
+        View::Array(values) => Ok(values),
+        _ => Err(ReadError::expected(alloc, Expected::Array)),
     }
 }
 
 /// Returns the members of an object. Allocates nothing.
-pub fn read_object(alloc: Global, value: &Value) -> Result<&Map<String, Value>, ReadError>
-    ensures { IsReadResultSeen (λ m. members_view m.now.entries) (view value.now) (as_object (view value.now)) result }
+pub fn read_object<'a>(alloc: Global, value: Element<'a>) -> Result<Members<'a>, ReadError>
+    ensures { IsReadResultSeen members_data (data_of value.entry) (as_object (data_of value.entry)) result }
 {
-    match value.as_object() {
-        Some(members) => Ok(members),
-        None => Err(ReadError::expected(alloc, Expected::Object)),
+    match value.view() {
+        View::Object(members) => Ok(members),
+        _ => Err(ReadError::expected(alloc, Expected::Object)),
     }
 }
 
 /// Returns the items of an array of two. `items` describes them in words, for the error. Allocates
 /// nothing.
-fn read_two<'v>(
+fn read_two<'a>(
     alloc: Global,
-    value: &'v Value,
+    value: Element<'a>,
     items: &'static str,
-) -> Result<(&'v Value, &'v Value), ReadError>
-    ensures pair { IsReadResultSeen (λ two. (view two.0.now, view two.1.now)) (view value.now)
-        (pair_in (view value.now)) result }
-    ensures first { IfOk result (λ two. at 0 (view value.now) ≡ Some (view two.0.now)) }
-    ensures second { IfOk result (λ two. at 1 (view value.now) ≡ Some (view two.1.now)) }
+) -> Result<(Element<'a>, Element<'a>), ReadError>
+    ensures pair { IsReadResultSeen (λ two. (data_of two.0, data_of two.1)) (data_of value.entry)
+        (pair_in (data_of value.entry)) result }
+    ensures first { IfOk result (λ two. at 0 (data_of value.entry) ≡ Some (data_of two.0)) }
+    ensures second { IfOk result (λ two. at 1 (data_of value.entry) ≡ Some (data_of two.1)) }
 {
-    let Some(values) = value.as_array() else {
+    let View::Array(mut values) = value.view() else {
         return Err(ReadError::expected(alloc, Expected::Pair(items)));
     };
-    if values.len() == 2 {
-        Ok((&values[0], &values[1]))
-    } else {
-        Err(ReadError::expected(alloc, Expected::Pair(items)))
+    let first = values.next();
+    let second = values.next();
+    match (first, second, values.next()) {
+        (Some(first), Some(second), None) => Ok((first, second)),
+        _ => Err(ReadError::expected(alloc, Expected::Pair(items))),
     }
 }
 
@@ -210,10 +211,10 @@ fn read_two<'v>(
 #[tactic(auto, using(crate::proofs::Reading::reading), unfolding(crate::specs::Read::Partial::reads_pair))]
 pub fn read_pair<T: FromJson + Drop>(
     alloc: Global,
-    value: &Value,
+    value: Element<'_>,
     items: &'static str,
 ) -> Result<(T, T), ReadError>
-    ensures { IsReadResult (view value.now) (reads_pair T.reads (view value.now)) result }
+    ensures { IsReadResult (data_of value.entry) (reads_pair T.reads (data_of value.entry)) result }
 {
     let (first, second) = read_two(alloc, value, items)?;
     let first = read_item(alloc, 0, first)?;

@@ -5,7 +5,7 @@ ghost use Rattle.deno_graph_json.specs.Read.Result.{IsReadResult};
 ghost use Rattle.deno_graph_json.specs.Json.ResolutionMode.{json_of_mode, mode_name, reads_mode};
 
 use crate::read::read_str;
-use crate::{Expected, FromJson, ReadError, TextWriter, ToJson};
+use crate::{Element, Expected, FromJson, ReadError, TextWriter, ToJson};
 use deno_graph_base::values::TypeScriptTypesResolutionMode;
 use serde_json::Value;
 use std::alloc::{AllocError, Global};
@@ -36,7 +36,10 @@ impl FromJson for TypeScriptTypesResolutionMode {
     ghost reads = { reads_mode };
 
     #[tactic(auto, using(crate::proofs::Reading::reading), unfolding(crate::specs::Json::ResolutionMode::reads_mode))]
-    fn from_json(alloc: Global, value: &Value) -> Result<TypeScriptTypesResolutionMode, ReadError> {
+    fn from_json(
+        alloc: Global,
+        value: Element<'_>,
+    ) -> Result<TypeScriptTypesResolutionMode, ReadError> {
         let name = read_str(alloc, value)?;
         mode_named(alloc, name)
     }

@@ -51,7 +51,7 @@ use Rattle.deno_graph_info.specs.declared.analysis.type_script_reference.TypeScr
   Types,
 }
 use Rattle.deno_graph_jsdoc.specs.JsDocImport.{Import}
-use Rattle.deno_graph_jsdoc.proofs.ImportsIn.{import_placed}
+use Rattle.deno_graph_jsdoc.proofs.ImportsIn.{has_specifier}
 use Rattle.deno_graph_pragmas.specs.Finders as finder
 use Rattle.deno_graph_pragmas.specs.Split.{Pattern, TextPart, IsCaptured, IsInQuotes}
 use Rattle.deno_graph_pragmas.proofs.Captured.{captured_slice, attribute_in_quotes, pragma_in_quotes}
@@ -62,10 +62,10 @@ use Rattle.deno_graph_source.specs.declared.tree.comments.DependencyComment.{Dep
 use Rattle.deno_graph_source.specs.declared.tree.media_type.MediaType.{MediaType}
 use Rattle.deno_graph_source.specs.declared.tree.node.Program.{Program}
 use Rattle.deno_graph_dep.specs.Descriptor.{Descriptor, static_descriptor, dynamic_descriptor}
-use Rattle.deno_graph_module_info.specs.CommentImports.{IsImportOf, quoted_range, reads_jsdoc}
+use Rattle.deno_graph_module_info.specs.CommentImports.{IsImportOf, reads_jsdoc}
 use Rattle.deno_graph_module_info.specs.internal.HeadPragma.{Covers}
 use Rattle.deno_graph_module_info.specs.HeadTail.{head_comments, tail_comments}
-use Rattle.deno_graph_module_info.specs.JsDocInfo.{CoversInSameQuotes, IsJsDocList, info_of}
+use Rattle.deno_graph_module_info.specs.JsDocInfo.{IsJsDocList, info_of}
 use Rattle.deno_graph_module_info.specs.ModuleInfo.{
   CoversTypes,
   Describes,
@@ -98,8 +98,8 @@ use Rattle.deno_graph_module_info.specs.References.{
   path_reference_pragma,
   types_reference_pragma,
 }
-use Rattle.deno_graph_module_info.specs.Spelled.{CoversAsWritten}
-use Rattle.deno_graph_module_info.proofs.InSource.{in_source}
+use Rattle.deno_graph_module_info.specs.Spelled.{CoversAsWritten, CoversInSameQuotes}
+use Rattle.deno_graph_module_info.proofs.InSource.{in_source, in_same_quotes}
 use Rattle.deno_graph_module_info.proofs.ItemComments.{all_head, all_tail, all_before_dependencies}
 use Rattle.deno_graph_module_info.proofs.Named.{covers_as_written}
 use Rattle.deno_graph_module_info.proofs.ImportRanges.{quoted_at}
@@ -257,9 +257,8 @@ module _ (source : List ℕ) where
   import_covers : (comment : DependencyComment) (import : Import) → Fits comment → IsImportOf comment import
       → CoversInSameQuotes source (info_of source import).specifier
   import_covers comment import fits is =
-      let at = quoted_at source comment fits.0 is.jsdoc.0 fits.1 import is.inner
-      (import_placed (chars comment.text) is.inner is.is_inner) is.is_moved in
-      (quoted_range import, record { start = (at.start, refl); end = (at.end, refl) }, at.quoted)
+      in_same_quotes source import (quoted_at source comment fits.0 is.jsdoc.0 fits.1 import is.inner
+      (has_specifier (chars comment.text) is.inner is.is_inner) is.is_moved)
 
   imports_cover : (reads : Bool) (comments : List DependencyComment) (infos : List JsDocImportInfo)
       → All Fits comments → IsJsDocList reads source comments infos

@@ -37,7 +37,7 @@ use Rattle.deno_graph_jsdoc.specs.JsDocImports.{AreImportsIn, IsImportIn}
 use Rattle.deno_graph_jsdoc.specs.internal.Pass.{GainsImport}
 use Rattle.deno_graph_jsdoc.specs.JsDocImport.{Import, import_of, moved}
 use Rattle.deno_graph_jsdoc.specs.declared.import.JsDocImport.{JsDocImport}
-use Rattle.deno_graph_jsdoc.proofs.ImportsIn.{import_placed}
+use Rattle.deno_graph_jsdoc.proofs.ImportsIn.{has_specifier}
 use Rattle.deno_graph_module_info.specs.CommentImports.{AreApart, AreImports, IsImportOf, IsJsDoc, IsQuotedAt}
 use Rattle.deno_graph_module_info.specs.internal.CommentImportSteps.{GainsImports, IsMovedImport}
 use Rattle.deno_graph_module_info.proofs.ImportRanges.{one_import, quoted_at}
@@ -203,7 +203,7 @@ Gathered-quoted comments done imports gathered text spelled import has =
     let from = gathered.sound import has in
     quoted_at text from.0 (All-contains (IsSpelled text) comments from.0 spelled from.1)
     (from.3).jsdoc.0 from.2 import (from.3).inner
-    (import_placed (chars (from.0).text) (from.3).inner (from.3).is_inner) (from.3).is_moved
+    (has_specifier (chars (from.0).text) (from.3).inner (from.3).is_inner) (from.3).is_moved
 
 -- the inners in a text, with offsets from the start of the source
 module _ (by : ℕ) (inners : List Import) (text : List ℕ) (are : AreImportsIn text inners) where
@@ -262,9 +262,9 @@ module _ (by : ℕ) (items : List JsDocImport) where
       (subst (λ xs. GainsImports old (Contains xs) new)
       (ap placed (take_all k items done) ∙ twice items) gains)
 
-  pub item_hit : (k : ℕ) (d : JsDocImport) (text : List ℕ) → k < length items
+  pub import_in_text : (k : ℕ) (d : JsDocImport) (text : List ℕ) → k < length items
       → AreImportsIn text (map import_of items) → IsImportIn text (import_of (get_or items k d))
-  item_hit k d text inside inners =
+  import_in_text k d text inside inners =
       (inners.exact (import_of (get_or items k d))).0
       (subst (Contains (map import_of items)) (get_or-map import_of items k d (import_of d) inside)
       (Contains-get_or (map import_of items) k (import_of d)

@@ -45,7 +45,7 @@ use Rattle.deno_graph_jsdoc.specs.Characters.{apostrophe, double_quote}
 use Rattle.deno_graph_jsdoc.specs.JsDocGrammar.{IsQuote}
 use Rattle.deno_graph_jsdoc.specs.JsDocImports.{IsImportIn}
 use Rattle.deno_graph_jsdoc.specs.JsDocImport.{Import, moved, byte_count}
-use Rattle.deno_graph_jsdoc.proofs.ImportsIn.{one_import_in, IsPlaced, import_placed}
+use Rattle.deno_graph_jsdoc.proofs.ImportsIn.{one_import_in, HasSpecifier, has_specifier}
 use Rattle.deno_graph_jsdoc.proofs.Imports.{byte_count-append, byte_count_quote}
 use Rattle.deno_graph_jsdoc.proofs.Words.{IsAscii-from_test}
 use Rattle.deno_graph_module_info.specs.CommentImports.{IsImportOf, IsQuotedAt, AreApart, quoted_range}
@@ -63,7 +63,7 @@ scalars_back (x ∷ xs) ys all = scalars_back xs ys (and_parts (scalar x) (scala
 pub inner_bounds : (bytes : List ℕ) (import : Import) → IsUtf8 bytes → IsImportIn (chars bytes) import
     → (import.start ≤ import.end) × (import.end ≤ length bytes)
 inner_bounds bytes import utf8 inner =
-    let placed = import_placed (chars bytes) import inner in
+    let placed = has_specifier (chars bytes) import inner in
     let own = placed.start in
     let last = placed.end in
     let quote = byte_count_quote import.specifier placed.quote placed.quoted in
@@ -149,7 +149,8 @@ module _ (text : List ℕ) (comment : DependencyComment) (spelled : IsSpelled te
       length-take-le comment.range.start text (omega (arith, size.0, size.1))
 
   -- the bytes before and after an import's specifier with its quotes
-  module _ (utf8 : IsUtf8 comment.text) (import inner : Import) (placed : IsPlaced (chars comment.text) inner)
+  module _ (utf8 : IsUtf8 comment.text) (import inner : Import)
+      (placed : HasSpecifier (chars comment.text) inner)
       (is_moved : import ≡ moved (comment.range.start + 2) inner) where
     bytes : comment.text ≡ encodes placed.before ++ (encodes placed.quote ++ encodes placed.after)
     bytes =
@@ -230,11 +231,11 @@ module _ (text : List ℕ) (comment : DependencyComment) (spelled : IsSpelled te
         (omega (arith, length-append (encodes placed.after) (codes "*/")))))
       where
         closed : IsUtf8 (encodes placed.after ++ codes "*/")
-        closed = IsUtf8-append (encodes placed.after) (codes "*/") behind
+        closed = IsUtf8-append (encodes placed.after) (codes "*/") after_utf8
             (IsUtf8-from_ascii (codes "*/") (IsAscii-from_test (codes "*/") refl))
           where
-            behind : IsUtf8 (encodes placed.after)
-            behind = (
+            after_utf8 : IsUtf8 (encodes placed.after)
+            after_utf8 = (
               placed.after,
               (
                 scalars_back placed.quote placed.after
@@ -301,11 +302,11 @@ one_import text comments apart a b has also spelled written utf8 valid import ot
   where
     first : (a.range.start ≤ import.start) × (import.start < a.range.end)
     first = inside_comment text a spelled i.jsdoc.0 utf8 import i.inner
-        (import_placed (chars a.text) i.inner i.is_inner) i.is_moved
+        (has_specifier (chars a.text) i.inner i.is_inner) i.is_moved
 
     second : (b.range.start ≤ other.start) × (other.start < b.range.end)
     second = inside_comment text b written j.jsdoc.0 valid other j.inner
-        (import_placed (chars b.text) j.inner j.is_inner) j.is_moved
+        (has_specifier (chars b.text) j.inner j.is_inner) j.is_moved
 
     equal : a ≡ b
     equal = apart a b has also

@@ -29,6 +29,8 @@ use Rattle.std.proofs.Common.{
   length-append,
   length-drop,
   arith,
+  codes,
+  encode_utf8_all,
 }
 use Rattle.std.proofs.lemmas.List.{
   drop-drop,
@@ -50,10 +52,14 @@ use Rattle.deno_graph_source.specs.declared.tree.comments.CommentKind.{CommentKi
 use Rattle.deno_graph_source.specs.declared.tree.comments.CommentKind.TheVariants.{Line, Block}
 use Rattle.deno_graph_source.specs.declared.tree.comments.DependencyComment.{DependencyComment}
 use Rattle.deno_graph_info.specs.declared.analysis.specifier_with_range.SpecifierWithRange.{SpecifierWithRange}
+use Rattle.deno_graph_jsdoc.specs.Characters.{apostrophe, double_quote}
+use Rattle.deno_graph_jsdoc.specs.JsDocImport.{Import}
 use Rattle.deno_graph_pragmas.specs.Split.{TextPart, IsSliceOf, IsInQuotes, with_beside}
 use Rattle.deno_graph_module_info.specs.Pragma.{range_in_source, specifier_of_part, positions_of}
 use Rattle.deno_graph_module_info.specs.internal.HeadPragma.{Covers}
-use Rattle.deno_graph_module_info.specs.Spelled.{HasBetween}
+use Rattle.deno_graph_module_info.specs.CommentImports.{IsQuotedAt, quoted_range}
+use Rattle.deno_graph_module_info.specs.JsDocInfo.{info_of}
+use Rattle.deno_graph_module_info.specs.Spelled.{CoversInSameQuotes, HasBetween}
 
 -- the source has the text at an offset, up to a character boundary of the source
 pub record LiesIn (source text : List ℕ) (start limit : ℕ) : Type 0 where
@@ -64,11 +70,11 @@ pub record LiesIn (source text : List ℕ) (start limit : ℕ) : Type 0 where
   pub within : start + length text ≤ limit
 
 -- the part of a slice after its first two bytes
-behind_marker : (source text closing : List ℕ) (range : SourceRange) (m n : ℕ)
+after_marker : (source text closing : List ℕ) (range : SourceRange) (m n : ℕ)
     → slice_of source range ≡ m ∷ n ∷ (text ++ closing)
     → drop (range.start + 2) source ≡ text
     ++ (closing ++ drop (range.end - range.start) (drop range.start source))
-behind_marker source text closing range m n slice =
+after_marker source text closing range m n slice =
     let d = drop range.start source in
     let k = range.end - range.start in
     sym (drop-drop 2 range.start source)
@@ -97,7 +103,7 @@ comment_lies source text Line range is slice =
     record {
       rest = drop (range.end - range.start) (drop range.start source);
       inside = omega (arith, size, inside);
-      dropped = behind_marker source text [] range 47 47
+      dropped = after_marker source text [] range 47 47
           (slice ∙ ap (λ t. 47 ∷ 47 ∷ t) (sym (append-nil text)));
       end = subst (IsCharBoundary source) size is.end;
       within = omega (arith, size);
@@ -114,7 +120,7 @@ comment_lies source text Block range is slice =
     let inside : range.end ≤ length source = is.end.0 in
     let tail = 47 ∷ drop (range.end - range.start) (drop range.start source) in
     let dropped : drop (range.start + 2) source ≡ text ++ 42 ∷ tail =
-    behind_marker source text (42 ∷ 47 ∷ []) range 47 42 slice in
+    after_marker source text (42 ∷ 47 ∷ []) range 47 42 slice in
     let star : get_or (text ++ 42 ∷ tail) (length text) 0 ≡ 42 =
     get_or_at text 42 tail 0 (length text) refl in
     let longer : length text < length (text ++ 42 ∷ tail) = omega (arith, length-append text (42 ∷ tail)) in
@@ -143,8 +149,8 @@ cut_in_source source text start limit i there cut = by_order (cases_order i (len
           omega (arith, length-append text there.rest),
           λ _ high. subst (λ b. 192 ≤ b) (sym same) (cut.1 before (subst (λ b. 128 ≤ b) same high)),
         ))
-    by_order (inr (inr behind)) = let inside : i ≤ length text = cut.0 in
-        absurd (omega (arith, behind, inside))
+    by_order (inr (inr further)) = let inside : i ≤ length text = cut.0 in
+        absurd (omega (arith, further, inside))
 
 range_from : (start : ℕ) (part : TextPart) → SourceRange
 range_from start part = record { start = start + part.start; end = start + part.end }
@@ -160,7 +166,7 @@ slice_in_source source text start limit part there slice =
     let inside : part.end ≤ length text = slice.end.0 in
     let ordered = slice.ordered in
     let span : start + part.end - (start + part.start) ≡ part.end - part.start = omega (arith, ordered) in
-    let behind : drop (start + part.start) source ≡ drop part.start text ++ there.rest =
+    let tail : drop (start + part.start) source ≡ drop part.start text ++ there.rest =
     sym (drop-drop part.start start source) ∙ ap (drop part.start) there.dropped
     ∙ drop-append-le part.start text there.rest (omega (arith, ordered, inside)) in
     let enough : part.end - part.start ≤ length (drop part.start text) =
@@ -170,7 +176,7 @@ slice_in_source source text start limit part there slice =
         start = cut_in_source source text start limit part.start there slice.start;
         end = cut_in_source source text start limit part.end there slice.end;
       },
-      ap (λ n. take n (drop (start + part.start) source)) span ∙ ap (take (part.end - part.start)) behind
+      ap (λ n. take n (drop (start + part.start) source)) span ∙ ap (take (part.end - part.start)) tail
           ∙ take-append-le (part.end - part.start) (drop part.start text) there.rest enough ∙ sym slice.is,
       omega (arith, there.within, inside),
     )
@@ -197,6 +203,39 @@ has_between source range bytes is slice = record {
   is_at = record { start = (is.start, refl); end = (is.end, refl) };
   slice = slice;
 }
+
+-- the range of an import's info covers the specifier with its two equal quotes
+pub in_same_quotes : (source : List ℕ) (import : Import) → IsQuotedAt source import
+    → CoversInSameQuotes source (info_of source import).specifier
+in_same_quotes source import at = by_mark at.quoted
+  where
+    range : IsTextRange source (quoted_range import)
+    range = record { ordered = (let ordered = at.ordered in omega arith); start = at.start; end = at.end }
+
+    by_mark : (slice_of source (quoted_range import) ≡ codes "\"" ++ encode_utf8_all import.specifier
+        ++ codes "\"")
+        ⊎ (slice_of source (quoted_range import) ≡ codes "'" ++ encode_utf8_all import.specifier ++ codes "'")
+        → CoversInSameQuotes source (info_of source import).specifier
+    by_mark (inl double) = (
+      record {
+        left = double_quote;
+        right = double_quote;
+        left_quote = refl;
+        right_quote = refl;
+        between = has_between source (quoted_range import) _ range double;
+      },
+      refl,
+    )
+    by_mark (inr single) = (
+      record {
+        left = apostrophe;
+        right = apostrophe;
+        left_quote = refl;
+        right_quote = refl;
+        between = has_between source (quoted_range import) _ range single;
+      },
+      refl,
+    )
 
 pub in_source : (source : List ℕ) (comment : DependencyComment) (part : TextPart) (is_quoteless : Bool)
     → IsSpelled source comment → IsSliceOf comment.text part

@@ -83,36 +83,36 @@ module _ (P : DependencyComment → Type 0) (comments : FiledComments)
   pub all_tail : (program : Program) → All P (tail_comments program comments)
   all_tail program = all_trailing program.range.end
 
--- the comments before the dependency of a node are those that are filed as leading at the node
-stated_at : (comments : FiledComments) (node : Node) (kind : Kind) (item : Descriptor)
+-- the comments before the dependency of a node are filed as leading at the node
+filed_before : (comments : FiledComments) (node : Node) (kind : Kind) (item : Descriptor)
     → IsDescriptorOfKind comments node kind item
     → comments_before item ≡ leading_at comments (range_of node).start
-stated_at comments node (ImportDecl type_only phase src has_specifiers has_with) item states =
-    ap comments_before states.2
-stated_at comments node (NamedExport type_only None has_with) item states = absurd states
-stated_at comments node (NamedExport type_only (Some src) has_with) item states = ap comments_before states.2
-stated_at comments node (ExportAll type_only src has_with) item states = ap comments_before states.2
-stated_at comments node (ImportEquals type_only is_export None) item states = absurd states
-stated_at comments node (ImportEquals type_only is_export (Some external)) item states =
-    ap comments_before states.2
-stated_at comments node (ImportType arg has_with) item states = ap comments_before states.2
-stated_at comments node (ModuleDecl None) item states = absurd states
-stated_at comments node (ModuleDecl (Some name)) item states = ap comments_before states.1.2
-stated_at comments node (Call callee args) item states = ap comments_before states.says
-stated_at comments node _ item states = absurd states
+filed_before comments node (ImportDecl type_only phase src has_specifiers has_with) item is =
+    ap comments_before is.2
+filed_before comments node (NamedExport type_only None has_with) item is = absurd is
+filed_before comments node (NamedExport type_only (Some src) has_with) item is = ap comments_before is.2
+filed_before comments node (ExportAll type_only src has_with) item is = ap comments_before is.2
+filed_before comments node (ImportEquals type_only is_export None) item is = absurd is
+filed_before comments node (ImportEquals type_only is_export (Some external)) item is =
+    ap comments_before is.2
+filed_before comments node (ImportType arg has_with) item is = ap comments_before is.2
+filed_before comments node (ModuleDecl None) item is = absurd is
+filed_before comments node (ModuleDecl (Some name)) item is = ap comments_before is.1.2
+filed_before comments node (Call callee args) item is = ap comments_before is.is
+filed_before comments node _ item is = absurd is
 
 -- a property of all comments, for those before the dependencies of nodes
 all_before : (P : DependencyComment → Type 0) (comments : FiledComments) (nodes : List Node)
     (items : List Descriptor) → All P (comments_of comments) → AreDescriptorsOf comments nodes items
     → All (λ item. All P (comments_before item)) items
 unfolding IsDescriptorOf
-all_before P comments [] [] all stated = All-nil (λ item. All P (comments_before item))
-all_before P comments [] (item ∷ items) all stated = absurd stated
-all_before P comments (node ∷ nodes) [] all stated = absurd stated
-all_before P comments (node ∷ nodes) (item ∷ items) all stated =
+all_before P comments [] [] all are = All-nil (λ item. All P (comments_before item))
+all_before P comments [] (item ∷ items) all are = absurd are
+all_before P comments (node ∷ nodes) [] all are = absurd are
+all_before P comments (node ∷ nodes) (item ∷ items) all are =
     All-cons (λ item. All P (comments_before item)) item items
-    (subst (All P) (sym (stated_at comments node (kind_of node) item stated.0))
-    (all_leading P comments all (range_of node).start)) (all_before P comments nodes items all stated.1)
+    (subst (All P) (sym (filed_before comments node (kind_of node) item are.0))
+    (all_leading P comments all (range_of node).start)) (all_before P comments nodes items all are.1)
 
 pub all_before_dependencies : (P : DependencyComment → Type 0) (program : Program) (comments : FiledComments)
     (items : List Descriptor) → All P (comments_of comments) → AreDependencies comments program.body items

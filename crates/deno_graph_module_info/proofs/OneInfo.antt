@@ -76,9 +76,9 @@ use Rattle.deno_graph_module_info.specs.Pragma.{
 }
 use Rattle.deno_graph_module_info.specs.References.{
   AreReferences,
+  IsModeOf,
   IsReferenceOf,
   RefersTo,
-  StatesMode,
   path_reference_pragma,
   types_reference_pragma,
 }
@@ -195,12 +195,12 @@ module _ (parts : AllByRecursion HasOnePart finder.finder_patterns) (source : Li
 
   -- References
 
-  one_mode_stated : (text : List ℕ) (a b : Option TypeScriptTypesResolutionMode) → StatesMode text a
-      → StatesMode text b → a ≡ b
-  one_mode_stated text a b (inl is) (inl also) = is.1 ∙ sym also.1
-  one_mode_stated text a b (inl is) (inr also) = absurd (is.0 also.1.split)
-  one_mode_stated text a b (inr is) (inl also) = absurd (also.0 is.1.split)
-  one_mode_stated text a b (inr is) (inr also) =
+  one_mode : (text : List ℕ) (a b : Option TypeScriptTypesResolutionMode) → IsModeOf text a
+      → IsModeOf text b → a ≡ b
+  one_mode text a b (inl is) (inl also) = is.1 ∙ sym also.1
+  one_mode text a b (inl is) (inr also) = absurd (is.0 also.1.split)
+  one_mode text a b (inr is) (inl also) = absurd (also.0 is.1.split)
+  one_mode text a b (inr is) (inr also) =
       is.2 ∙ (ap (λ (part : TextPart). mode_named part.text) (parts.1.1.0 text is.0 also.0 is.1 also.1)
       ∙ sym also.2)
 
@@ -231,7 +231,7 @@ module _ (parts : AllByRecursion HasOnePart finder.finder_patterns) (source : Li
       ap (λ u. Some (Path u)) (one_name source path_reference_pragma comment s t parts.0 is also)
   one_referred comment (Some (Types s mode)) (Some (Types t other)) is also =
       let names = one_name source types_reference_pragma comment s t parts.1.0 is.1 also.1 in
-      let modes = one_mode_stated comment.text mode other is.2 also.2 in
+      let modes = one_mode comment.text mode other is.2 also.2 in
       λ i. Some (Types (names i) (modes i))
 
   one_reference : (comment : DependencyComment) (a b : Option TypeScriptReference)

@@ -37,7 +37,7 @@ use Rattle.deno_graph_jsdoc.specs.JsDocImports.{AreImportsIn, Ascend}
 use Rattle.deno_graph_jsdoc.specs.internal.Pass.{GainsImport}
 use Rattle.deno_graph_jsdoc.specs.JsDocImport.{Import, import_of, moved}
 use Rattle.deno_graph_jsdoc.specs.declared.import.JsDocImport.{JsDocImport}
-use Rattle.deno_graph_jsdoc.proofs.ImportsIn.{import_placed}
+use Rattle.deno_graph_jsdoc.proofs.ImportsIn.{has_specifier}
 use Rattle.deno_graph_source.specs.Source.{IsSpelled}
 use Rattle.deno_graph_source.specs.declared.tree.comments.CommentKind.TheVariants.{Block}
 use Rattle.deno_graph_source.specs.declared.tree.comments.DependencyComment.{DependencyComment}
@@ -58,13 +58,13 @@ GainsImport-push now import up below = record {
 }
 
 -- the next import in a comment starts after those so far, of this comment and of those before
-pub next_behind : (by : ℕ) (items : List JsDocImport) (k : ℕ) (d : JsDocImport) (old now : List Import)
+pub next_after : (by : ℕ) (items : List JsDocImport) (k : ℕ) (d : JsDocImport) (old now : List Import)
     (text : List ℕ) → k < length items → AreImportsIn text (map import_of items)
     → All (λ (i : Import). i.start < by) old
     → GainsImports old (Contains (placed by items (take k items))) now
     → (other : Import) → Contains now other
     → other.start < (moved by (import_of (get_or items k d))).start
-next_behind by items k d old now text inside inners before gains other has = by_moved (gains.only other has)
+next_after by items k d old now text inside inners before gains other has = by_moved (gains.only other has)
   where
     by_moved : Contains old other ⊎ Contains (placed by items (take k items)) other
         → other.start < (moved by (import_of (get_or items k d))).start
@@ -89,12 +89,12 @@ next_behind by items k d old now text inside inners before gains other has = by_
 
 -- an upper bound of the starts of the imports in a block comment
 pub inside_end : (text : List ℕ) (comment : DependencyComment) → IsSpelled text comment
-    → comment.kind ≡ Block → IsUtf8 comment.text → (old new : List Import) (behind : ℕ)
-    → behind ≤ comment.range.start
-    → ((import : Import) → Contains old import → import.start < behind)
+    → comment.kind ≡ Block → IsUtf8 comment.text → (old new : List Import) (bound : ℕ)
+    → bound ≤ comment.range.start
+    → ((import : Import) → Contains old import → import.start < bound)
     → GainsImports old (IsMovedImport comment) new
     → (import : Import) → Contains new import → import.start < comment.range.end
-inside_end text comment spelled block utf8 old new behind order below gains import has =
+inside_end text comment spelled block utf8 old new bound order below gains import has =
     by_moved (gains.only import has)
   where
     by_moved : Contains old import ⊎ IsMovedImport comment import → import.start < comment.range.end
@@ -104,5 +104,5 @@ inside_end text comment spelled block utf8 old new behind order below gains impo
         omega (arith, order, first, size.0)
     by_moved (inr (inner, is_inner, is_moved)) =
         (inside_comment text comment spelled block utf8 import inner
-        (import_placed (chars comment.text) inner is_inner)
+        (has_specifier (chars comment.text) inner is_inner)
         is_moved).1

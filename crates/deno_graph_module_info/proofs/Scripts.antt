@@ -220,11 +220,11 @@ IsScript-made body items none = record {
         none k item.0 item.1 (path, inl item.2)
 
 -- no function contains a bare await
-pub no_function_round : (body : List Node) (k : ℕ) (item : Node) (path front : NodePath)
+pub no_function_around : (body : List Node) (k : ℕ) (item : Node) (path front : NodePath)
     → slice_get body k ≡ Some item → IsBareAwait item path → IsStrictPrefix front (k ∷ path)
     → LeadsTo IsFunction body front → ⊥
-no_function_round body k item path [] at bare goes leads = leads
-no_function_round body k item path (j ∷ front) at bare goes leads =
+no_function_around body k item path [] at bare goes leads = leads
+no_function_around body k item path (j ∷ front) at bare goes leads =
     let same : k ≡ j = let e = goes.joined in cc in
     let rest : path ≡ front ++ (goes.index ∷ goes.rest) = let e = goes.joined in cc in
     bare.bare front (record { index = goes.index; rest = goes.rest; joined = rest })
@@ -237,4 +237,4 @@ IsScript-makes_none body k item at script (path, inl meta) =
     script.no_import_meta (k ∷ path) (in_body IsImportMeta body k item path at meta)
 IsScript-makes_none body k item at script (path, inr (outside, bare)) =
     let found = script.awaits_in_functions (k ∷ path) (in_body IsAwait body k item path at bare.await) in
-    no_function_round body k item path found.0 at bare found.1 found.2
+    no_function_around body k item path found.0 at bare found.1 found.2

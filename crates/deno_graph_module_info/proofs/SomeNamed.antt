@@ -56,10 +56,10 @@ use Rattle.deno_graph_module_info.specs.Pragma.{
 }
 use Rattle.deno_graph_module_info.specs.References.{
   AreReferences,
+  IsModeOf,
   IsReferenceOf,
   IsTripleSlashReference,
   RefersTo,
-  StatesMode,
   path_reference_pragma,
   types_reference_pragma,
 }
@@ -202,8 +202,8 @@ decide_reference comment =
     by (inl kind) (inr none) = inr (λ is. none is.split)
     by (inr none) split = inr (λ is. none is.kind)
 
-states_mode : (text : List ℕ) → (mode : Option TypeScriptTypesResolutionMode) × StatesMode text mode
-states_mode text =
+mode_of : (text : List ℕ) → (mode : Option TypeScriptTypesResolutionMode) × IsModeOf text mode
+mode_of text =
     ⊎_elim (λ part. (mode_named part.0.text, inr (part.0, part.1, refl)))
     (λ none. (None, inl (none, refl))) (some_part finder.resolution_mode_pattern text)
 
@@ -219,7 +219,7 @@ refers source comment =
         let name = some_name source path_reference_pragma comment path in (Some (Path name.0), name.1)
     by (inr none) (inl types) =
         let name = some_name source types_reference_pragma comment types in
-        let mode = states_mode comment.text in
+        let mode = mode_of comment.text in
         (Some (Types name.0 mode.0), (none, name.1, mode.1))
     by (inr none) (inr neither) = (None, (none, neither))
 

@@ -43,7 +43,7 @@ use Rattle.deno_graph_module_info.specs.Script.{
   IsScript,
 }
 use Rattle.deno_graph_module_info.specs.internal.ScriptSteps.{MakesModule}
-use Rattle.deno_graph_module_info.proofs.Scripts.{in_body, no_function_round, IsScript-made}
+use Rattle.deno_graph_module_info.proofs.Scripts.{in_body, no_function_around, IsScript-made}
 use Rattle.deno_graph_pragmas.proofs.SomeSplit.{Decided}
 
 -- the paths to each `import.meta` and to each await outside functions
@@ -107,7 +107,7 @@ module _ (body : List Node) where
       let leads = in_body IsAwait body k item path at bare.await in
       let reachable : IsReachable awaits body (k ∷ path) = record {
         to_node = to_some IsAwait (node_at body (k ∷ path)) leads;
-        is_open = λ front goes closed. no_function_round body k item path front at bare goes closed;
+        is_open = λ front goes closed. no_function_around body k item path front at bare goes closed;
       } in
       none_in (listing_paths awaits body) (k ∷ path) no_awaits
       (((IsListing-listing_paths awaits body).members (k ∷ path)).1 (reachable, leads))
@@ -127,8 +127,8 @@ module _ (body : List Node) where
       inr (λ script. script.no_import_meta path (first_of metas path ps is).1)
   by_paths items [] (path ∷ qs) _ is = inr (λ script.
       let first = first_of awaits path qs is in
-      let round = script.awaits_in_functions path first.1 in
-      first.0.is_open round.0 round.1 round.2)
+      let function = script.awaits_in_functions path first.1 in
+      first.0.is_open function.0 function.1 function.2)
 
   decide_script : Decided (IsScript body)
   decide_script = by (decide_items body)

@@ -29,7 +29,7 @@ use Rattle.deno_graph_dep.specs.Descriptor.{
   dynamic_descriptor,
   HasTextRanges,
 }
-use Rattle.deno_graph_module_info.specs.JsDocInfo.{CoversInSameQuotes, IsJsDocList}
+use Rattle.deno_graph_module_info.specs.JsDocInfo.{IsJsDocList}
 use Rattle.deno_graph_module_info.specs.CommentImports.{reads_jsdoc}
 use Rattle.deno_graph_module_info.specs.HeadTail.{head_comments, tail_comments}
 use Rattle.deno_graph_module_info.specs.Pragma.{
@@ -46,7 +46,12 @@ use Rattle.deno_graph_module_info.specs.Pragma.{
 }
 use Rattle.deno_graph_module_info.specs.References.{AreReferences, CoversReference}
 use Rattle.deno_graph_module_info.specs.Script.{IsScript}
-use Rattle.deno_graph_module_info.specs.Spelled.{CoversAsWritten, CoversBare, CoversQuoted}
+use Rattle.deno_graph_module_info.specs.Spelled.{
+  CoversAsWritten,
+  CoversBare,
+  CoversInSameQuotes,
+  CoversQuoted,
+}
 
 -- the descriptor of a static dependency with these types
 abbrev pub static_dependency_of :

@@ -28,8 +28,8 @@ pub record IsTripleSlashReference (comment : DependencyComment) : Type 0 where
   pub split : HasSplit finder.triple_slash_reference_pattern comment.text
 
 -- the mode is the value of `resolution-mode` in the text, if the text has one that is a known mode
-abbrev pub StatesMode : List ℕ → Option TypeScriptTypesResolutionMode → Type 0
-StatesMode text mode =
+abbrev pub IsModeOf : List ℕ → Option TypeScriptTypesResolutionMode → Type 0
+IsModeOf text mode =
     (¬ HasSplit finder.resolution_mode_pattern text × (mode ≡ None))
     ⊎ ((part : TextPart) × IsCaptured finder.resolution_mode_pattern text part
     × (mode ≡ mode_named part.text))
@@ -42,7 +42,7 @@ RefersTo source comment (Some (Path specifier)) = Names source path_reference_pr
 RefersTo source comment (Some (Types specifier mode)) =
     ¬ HasPragma path_reference_pragma comment
     × Names source types_reference_pragma comment specifier
-    × StatesMode comment.text mode
+    × IsModeOf comment.text mode
 
 -- the reference is that of the comment: none if the comment is no triple-slash reference
 abbrev pub IsReferenceOf : List ℕ → DependencyComment → Option TypeScriptReference → Type 0

@@ -26,6 +26,11 @@ pub record CoversQuoted (source : List ℕ) (specifier : SpecifierWithRange) : T
   pub right_quote : IsTrue (is_quote right)
   pub between : HasBetween source specifier.range (left ∷ (specifier.text ++ right ∷ []))
 
+-- the range covers exactly the specifier between two equal quotes
+abbrev pub CoversInSameQuotes : List ℕ → SpecifierWithRange → Type 0
+CoversInSameQuotes source specifier =
+    (quoted : CoversQuoted source specifier) × (quoted.left ≡ quoted.right)
+
 -- the range covers exactly the specifier, without quotes or with a quote on each side
 abbrev pub CoversAsWritten : List ℕ → SpecifierWithRange → Type 0
 CoversAsWritten source specifier = CoversBare source specifier ⊎ CoversQuoted source specifier

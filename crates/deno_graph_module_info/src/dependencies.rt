@@ -19,7 +19,7 @@ use deno_graph_source::tree::{Comments, Program};
 use std::alloc::{AllocError, Global};
 
 /// Returns the dependencies of a module as values that own their texts, with positions in the text,
-/// and with the types that the comments before them name. The only error is that memory ran out.
+/// and with the types that the comments before them name. Fails only if an allocation fails.
 pub(crate) fn analyze_dependencies(
     alloc: Global,
     program: &Program,

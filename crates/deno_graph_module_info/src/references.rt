@@ -1,6 +1,6 @@
 ghost use Rattle.std.specs.Prelude.{◌≡◌, ◌↔◌, All, IfOk, IfSome, IsTrue};
 ghost use Rattle.deno_graph_source.specs.Source.{IsSpelled};
-ghost use Rattle.deno_graph_module_info.specs.References.{AreReferences, CoversReference, IsReferenceOf, IsTripleSlashReference, RefersTo, StatesMode};
+ghost use Rattle.deno_graph_module_info.specs.References.{AreReferences, CoversReference, IsModeOf, IsReferenceOf, IsTripleSlashReference, RefersTo};
 
 use crate::specifier::specifier_of_match;
 use crate::spelled::SpelledComments;
@@ -91,7 +91,7 @@ fn referred(
 
 /// Returns the value of `resolution-mode` in a text, if the text has a value that is a known mode.
 fn resolution_mode(text: &str) -> Option<TypeScriptTypesResolutionMode>
-    ensures { StatesMode text.now result }
+    ensures { IsModeOf text.now result }
 {
     let found = find_resolution_mode(text)?;
     TypeScriptTypesResolutionMode::from_str(found.as_str())

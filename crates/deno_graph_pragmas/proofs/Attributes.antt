@@ -24,7 +24,7 @@ pub record IsPassed (name text rest : List ℕ) : Type 0 where
   pub whole : chars text ≡ passed ++ chars rest
   pub none : (split : Split (attribute name) (chars text)) → length passed ≤ length split.before
 
--- two fronts of one list, equally long
+-- two fronts of a list that are equally long are the same
 same_front : (one other rest left : List ℕ) → one ++ rest ≡ other ++ left → length one ≡ length other
     → (one ≡ other) × (rest ≡ left)
 same_front one other rest left whole same =
@@ -32,7 +32,7 @@ same_front one other rest left whole same =
     ∙ take_at other left (length one) (sym same) in
     (front, append_cancel_left one rest left (whole ∙ ap (λ t. t ++ left) (sym front)))
 
--- a split that begins where `rest` does
+-- the front of a split that begins after `passed`
 front_here : (name text passed here : List ℕ) → text ≡ passed ++ here
     → (split : Split (attribute name) text) → length passed ≡ length split.before
     → after_pieces (attribute name).front here ≡ Some (after_front split)
@@ -41,7 +41,7 @@ front_here name text passed here whole split same =
     ap (after_pieces (attribute name).front) fronts.1
     ∙ front_read (attribute name) text (attribute_apart name) split
 
--- there is no split where there is no white space, or no attribute after the white space
+-- no split begins where there is no white space, or no attribute after the white space
 not_here : (name text passed cs : List ℕ) (c : ℕ) → text ≡ passed ++ c ∷ cs
     → (is_whitespace c ≡ true → HasNoAttribute name cs) → (split : Split (attribute name) text)
     → length passed ≡ length split.before → ⊥
@@ -64,7 +64,7 @@ not_here name text passed cs c whole none split same =
           cc
     ]
 
--- one character further on
+-- one more character is passed
 passed_whole : (name text rest next : List ℕ) (c : ℕ) → (so_far : IsPassed name text rest)
     → rest ≡ encode c ++ next → chars text ≡ so_far.passed ++ c ∷ chars next
 passed_whole name text rest next c so_far here =
@@ -109,11 +109,12 @@ found_here name text rest next c part utf8 so_far here white found =
     (c ∷ chars next) part utf8 found.utf8 (passed_whole name text rest next c so_far here)
     (λ anchored. absurd (false≢true anchored)) so_far.none front found.read
 
--- at the end
+-- the front of an attribute isn't empty
 front_some : (name front after : List ℕ) → ArePieces (attribute name).front front after → 1 ≤ length front
 front_some name front after (piece, rest, whole, (c, is, white), others) =
     omega (arith, ap length whole, length-append piece rest, ap length is)
 
+-- a text that is passed has no split
 pub no_more : (name text rest : List ℕ) → IsPassed name text rest → length rest ≡ 0
     → ¬ (Split (attribute name) (chars text))
 no_more name text rest so_far end split =

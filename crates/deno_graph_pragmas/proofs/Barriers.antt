@@ -15,9 +15,9 @@ use Rattle.deno_graph_pragmas.proofs.Folding.{same_fold-other}
 use Rattle.deno_graph_pragmas.proofs.ReadPieces.{IsBarrier}
 use Rattle.deno_graph_pragmas.proofs.Splits.{IsDetermined}
 
--- ---- a word after white space and stars
+-- A word after white space and stars
 
--- a character that is an ASCII character above `*` in some case is no white space and no star
+-- a character that is an ASCII character above `*`, in upper or lower case, is no white space and no star
 lower_above_star : (c letter : ℕ) → star < letter → letter < 128
     → to_ascii_lowercase c ≡ to_ascii_lowercase letter → is_white_or_star c ≡ false
 lower_above_star c letter above ascii same = grind (arith, nat_tests)
@@ -51,7 +51,7 @@ pub white_or_star-keyword : (word : List ℕ) → begins_above_star word ≡ tru
     → IsBarrier is_white_or_star (keyword word)
 white_or_star-keyword word start = IsBarrier-keyword is_white_or_star word (λ c fails. fails) start
 
--- ---- other pieces
+-- Other pieces
 
 pub white-equals : IsBarrier is_whitespace (exactly (61 ∷ []))
 white-equals text after is = (61, [], is, refl)
@@ -75,7 +75,7 @@ white-non_white_space (c ∷ text) after (nonempty, all, stopped) =
     let parts = and_parts (is_not_whitespace c) (list_all is_not_whitespace text) all in
     (c, text, refl, not_not (is_whitespace c) parts.0)
 
--- ---- the patterns
+-- The patterns
 
 pub attribute_apart : (name : List ℕ) → IsDetermined (attribute name)
 attribute_apart name after = (tt, (tt, (white-equals, (tt, (white-quote, (tt, (unquoted-quote, tt)))))))

@@ -1,4 +1,4 @@
--- The captured part: its range in the text, the quotes around it, and when there is one.
+-- The captured part: its range in the text, its quotes, and that there is at most one.
 use Rattle.std.proofs.Common.{◌≡◌, ℕ, ◌+◌, ◌-◌, ◌<◌, true, List, [], ◌∷◌, ◌++◌, Option, IfSome, length, take}
 use Rattle.std.proofs.Common.{drop, refl, sym, ap, subst, ◌∙◌, append_assoc, length-append, arith, codes}
 use Rattle.std.proofs.lemmas.Bool.{and_parts}
@@ -22,14 +22,14 @@ use Rattle.deno_graph_pragmas.proofs.Barriers.{attribute_apart, quoted_pragma_ap
 use Rattle.deno_graph_pragmas.proofs.Barriers.{jsx_pragma_apart, source_mapping_url_apart}
 use Rattle.deno_graph_pragmas.proofs.Splits.{IsDetermined, after_before, same_captured}
 
--- ---- slices
+-- Slices
 
 scalars-back : (front back : List ℕ) → scalars (front ++ back) ≡ true → scalars back ≡ true
 scalars-back [] back all = all
 scalars-back (c ∷ front) back all =
     scalars-back front back (and_parts (scalar c) (scalars (front ++ back)) all).1
 
--- a text by its characters, cut at an offset
+-- the bytes of a text whose characters are cut in two
 cut : (text front back : List ℕ) → IsUtf8 text → chars text ≡ front ++ back
     → (text ≡ encodes front ++ encodes back) × IsUtf8 (encodes back)
 cut text front back utf8 whole = (
@@ -41,7 +41,7 @@ same_part : (one other : TextPart) → one.text ≡ other.text → one.start ≡
     → one.end ≡ other.end → one ≡ other
 same_part one other text start end = λ i. record { text = text i; start = start i; end = end i }
 
--- the characters between a front and the rest are a slice
+-- the bytes of the characters `b` are a slice of the text
 slice_of_chars : (text a b c : List ℕ) → IsUtf8 text → chars text ≡ a ++ (b ++ c)
     → IsSliceOf text (record { text = encodes b; start = byte_count a; end = byte_count (a ++ b) })
 slice_of_chars text a b c utf8 whole =
@@ -84,7 +84,7 @@ pub found_slice : (pattern : Pattern) (text : List ℕ) (result : Option Match)
 found_slice pattern text result utf8 found =
     IfSome_then result found (λ m. captured_slice pattern text (match_part_of m) utf8)
 
--- ---- quotes
+-- Quotes
 
 ends_in_quote : (pieces : List Piece) (front after : List ℕ) → ArePieces (pieces ++ quote ∷ []) front after
     → (head : List ℕ) × (mark : ℕ) × (front ≡ head ++ mark ∷ []) × (is_quote mark ≡ true)
@@ -107,8 +107,8 @@ is_quote_piece : (back after : List ℕ) → ArePieces (quote ∷ []) back after
 is_quote_piece back after (piece, rest, whole, (mark, is, passes), end) =
     (mark, whole ∙ ap (λ t. piece ++ t) end ∙ append-nil piece ∙ is, passes)
 
--- the characters around the captured part
-record Round (before front captured back after : List ℕ) : Type 0 where
+-- a quote is directly before the captured part, and one directly after
+record QuotesAround (before front back : List ℕ) : Type 0 where
   pub head : List ℕ
   pub left : ℕ
   pub right : ℕ
@@ -117,10 +117,10 @@ record Round (before front captured back after : List ℕ) : Type 0 where
   pub left_quote : is_quote left ≡ true
   pub right_quote : is_quote right ≡ true
 
-round : (pattern : Pattern) (pieces : List Piece) (text : List ℕ)
+quotes_around : (pattern : Pattern) (pieces : List Piece) (text : List ℕ)
     → pattern.front ≡ pieces ++ quote ∷ [] → pattern.back ≡ quote ∷ [] → (split : Split pattern text)
-    → Round split.before split.front split.captured split.back split.after
-round pattern pieces text front_is back_is split =
+    → QuotesAround split.before split.front split.back
+quotes_around pattern pieces text front_is back_is split =
     let tail = split.captured ++ (split.back ++ split.after) in
     let first = ends_in_quote pieces split.front tail
     (subst (λ ps. ArePieces ps split.front tail) front_is split.front_pieces) in
@@ -137,8 +137,8 @@ round pattern pieces text front_is back_is split =
     }
 
 in_quotes : (pattern : Pattern) (text : List ℕ) (part : TextPart) → IsUtf8 text
-    → (is : IsCaptured pattern text part) → Round is.split.before is.split.front is.split.captured
-    is.split.back is.split.after → IsInQuotes text part
+    → (is : IsCaptured pattern text part) → QuotesAround is.split.before is.split.front is.split.back
+    → IsInQuotes text part
 in_quotes pattern text part utf8 is around =
     let split = is.split in
     let head = around.head in
@@ -184,16 +184,16 @@ in_quotes pattern text part utf8 is around =
 pub attribute_in_quotes : (name : List ℕ) (text : List ℕ) (part : TextPart) → IsUtf8 text
     → IsCaptured (attribute name) text part → IsInQuotes text part
 attribute_in_quotes name text part utf8 is =
-    in_quotes (attribute name) text part utf8 is (round (attribute name) (white_space ∷ keyword name
+    in_quotes (attribute name) text part utf8 is (quotes_around (attribute name) (white_space ∷ keyword name
     ∷ any_white_space ∷ literal "=" ∷ any_white_space ∷ []) (chars text) refl refl is.split)
 
 pub pragma_in_quotes : (name : List ℕ) (text : List ℕ) (part : TextPart) → IsUtf8 text
     → IsCaptured (quoted_pragma name) text part → IsInQuotes text part
 pragma_in_quotes name text part utf8 is =
-    in_quotes (quoted_pragma name) text part utf8 is (round (quoted_pragma name) (any_white_space ∷ keyword
-    name ∷ any_white_space ∷ literal "=" ∷ any_white_space ∷ []) (chars text) refl refl is.split)
+    in_quotes (quoted_pragma name) text part utf8 is (quotes_around (quoted_pragma name) (any_white_space
+    ∷ keyword name ∷ any_white_space ∷ literal "=" ∷ any_white_space ∷ []) (chars text) refl refl is.split)
 
--- ---- there is one
+-- At most one captured part
 
 determined : (pattern : Pattern) → IsDetermined pattern → StartDetermines pattern
 determined pattern apart text one other same =
@@ -216,7 +216,7 @@ one_part pattern apart text one other first second =
     (first.end ∙ ap (λ t. byte_count (t ++ a.captured)) heads
     ∙ ap (λ t. byte_count (b.before ++ b.front ++ t)) parts.captured ∙ sym second.end)
 
--- for each finder that captures a part
+-- a property of the pattern of each finder that captures a part
 of_each : (P : Pattern → Type 0) → ((pattern : Pattern) → IsDetermined pattern → P pattern)
     → AllByRecursion P finder_patterns
 of_each P from = (

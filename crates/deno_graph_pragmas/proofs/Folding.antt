@@ -1,4 +1,4 @@
--- Which characters have the simple folding of an ASCII character.
+-- The characters that fold to the same character as an ASCII character.
 use Rattle.std.proofs.Common.{◌≡◌, ◌↔◌, ℕ, ◌<◌, ◌≤◌, Bool, true, false, ◌||◌, ◌==◌, List, [], ◌∷◌}
 use Rattle.std.proofs.Common.{slice_index_or}
 use Rattle.std.proofs.Common.{refl, sym, ◌∙◌, arith, inl, inr, nat_lt, nat_le, eqb-true, eq-eqb}
@@ -12,7 +12,7 @@ use Rattle.unicode.proofs.CaseFoldingLemmas.{simple_fold-ascii, simple_folding_s
 use Rattle.unicode.proofs.RangedFacts.{Stepped-at_points, points_ok}
 use Rattle.unicode.specs.CaseFolding.{simple_folding, simple_fold}
 
--- the folding is not written out, or begins past ASCII
+-- the folding isn't in the table, or begins with a character that isn't ASCII
 abbrev is_high : List ℕ → Bool
 is_high [] = true
 is_high (c ∷ cs) = nat_le 128 c
@@ -49,7 +49,7 @@ simple_fold-kelvin : simple_fold 8490 ≡ 107
 unfolding ucd_case
 simple_fold-kelvin = refl
 
--- apart from these two, only ASCII characters fold as an ASCII character does
+-- only ASCII characters and these two fold as an ASCII character does
 pub same_fold-other : (c letter : ℕ) → letter < 128 → ¬ (c ≡ 383) → ¬ (c ≡ 8490)
     → IsTrue (eq_ignore_ascii_case c letter) ↔ (simple_fold c ≡ simple_fold letter)
 same_fold-other c letter ascii other another = elim (cases_lt c 128) [

@@ -19,12 +19,12 @@ use Rattle.deno_graph_pragmas.proofs.ReadPieces.{after_piece-front, after_pieces
 use Rattle.deno_graph_pragmas.proofs.Splits.{IsDetermined, after_before, after_front, front_read}
 use Rattle.deno_graph_pragmas.proofs.Splits.{captured_read, back_read}
 
--- ---- where there is no split
+-- A text without a split
 
 none_some : {A : Type 0} (o : Option A) (x : A) → o ≡ None → o ≡ Some x → ⊥
 none_some o x none some = cc
 
--- an anchored split is at the start
+-- an anchored split begins at the start of the text
 pub at_start : (pattern : Pattern) (text : List ℕ) → pattern.anchored ≡ true → (split : Split pattern text)
     → after_before split ≡ text
 at_start pattern text anchored split =
@@ -53,14 +53,14 @@ no_rest pattern text rest determined anchored front none split =
     none_some _ _ none
     (ap (after_pieces (pattern.captured ∷ pattern.back)) same ∙ rest_read pattern text determined split)
 
--- a finder returns None where there is no split
+-- a finder returns None if the text has no split
 pub none_result : {A : Type 0} {S : Type 0} (result : Option A) → result ≡ None → ¬ S → IsNone result ↔ ¬ S
 none_result result is none = (λ _. none, λ _. ap is_some is)
 
 pub some_answer : {S : Type 0} → S → (true ≡ false) ↔ ¬ S
 some_answer there = (λ never. absurd (false≢true (sym never)), λ none. absurd (none there))
 
--- ---- where there is one
+-- A text with a split
 
 some_is : {A : Type 0} (o : Option A) → IsSome o → (x : A) × (o ≡ Some x)
 some_is None is = absurd (false≢true is)
@@ -92,14 +92,14 @@ made pattern text rest before tail part whole anchored front read =
       back_pieces = third.2;
     }
 
--- a text is the bytes of the front of its characters and what they leave
+-- a text is the bytes of a front of its characters, and then the rest
 pub bytes_of : (text rest front : List ℕ) → IsUtf8 text → IsUtf8 rest → chars text ≡ front ++ chars rest
     → text ≡ encodes front ++ rest
 bytes_of text rest front text_utf8 rest_utf8 whole =
     sym (encodes-chars text text_utf8) ∙ ap encodes whole ∙ encodes-append front (chars rest)
     ∙ ap (λ bytes. encodes front ++ bytes) (encodes-chars rest rest_utf8)
 
--- what is left is no longer
+-- the rest is no longer than the text
 pub length_left : (pieces : List Piece) (text rest : List ℕ) → IsUtf8 text → IsUtf8 rest
     → after_pieces pieces (chars text) ≡ Some (chars rest) → length rest ≤ length text
 length_left pieces text rest text_utf8 rest_utf8 left =
@@ -146,7 +146,7 @@ IsCaptured-read pattern text rest before tail part text_utf8 rest_utf8 whole anc
       end = omega (arith, read.start, read.end, size, more);
     }
 
--- at the start of the text
+-- a part after a front that is read at the start of the text is captured
 pub IsCaptured-at_start : (pattern : Pattern) (text rest : List ℕ) (part : TextPart)
     → IsUtf8 text → IsUtf8 rest → after_pieces pattern.front (chars text) ≡ Some (chars rest)
     → IsCapturedAt pattern.captured pattern.back text rest part → IsCaptured pattern text part
@@ -154,7 +154,7 @@ IsCaptured-at_start pattern text rest part text_utf8 rest_utf8 front read =
     IsCaptured-read pattern text rest [] (chars text) part text_utf8 rest_utf8 refl (λ _. refl)
     (λ other. zero-le) front read
 
--- what is read at the start of `rest` is a part
+-- the piece that is read at the start of `rest` is the part
 pub IsCapturedAt-front : (piece : Piece) (back : List Piece) (text rest front tail : List ℕ)
     (part : TextPart)
     → IsUtf8 front → after_piece piece (chars rest) ≡ Some tail → IsSome (after_pieces back tail)
@@ -171,7 +171,7 @@ IsCapturedAt-front piece back text rest front tail part utf8 captured back_read 
       end = end ∙ ap (λ t. part.start + length t) (sym is);
     }
 
--- ---- the result of a finder that has read the front
+-- The result of a finder that has read the front
 
 pub found_after : (pattern : Pattern) (text rest : List ℕ) (result : Option Match)
     → IsUtf8 text → IsUtf8 rest → after_pieces pattern.front (chars text) ≡ Some (chars rest)
@@ -194,7 +194,7 @@ none_after pattern text rest (Some found) text_utf8 rest_utf8 determined anchore
     some_answer
     (IsCaptured-at_start pattern text rest (match_part_of found) text_utf8 rest_utf8 front read).split
 
--- ---- the two forms of a finder's result, where there is no split
+-- The result of a finder if the text has no split
 
 pub finds_none : (pattern : Pattern) (text : List ℕ) (result : Option Match)
     → result ≡ None → ¬ HasSplit pattern text

@@ -1,4 +1,4 @@
--- The first line of a text, and what is in it.
+-- The first line of a text, and whether `/>` is in the line.
 use Rattle.std.proofs.Common.{◌≡◌, ◌↔◌, ℕ, ◌<◌, Bool, true, List, [], ◌∷◌, ◌++◌, length, take, drop, get_or}
 use Rattle.std.proofs.Common.{refl, sym, ap, subst, ◌∙◌, append_assoc, length-append, arith, inl, inr, codes}
 use Rattle.std.proofs.lemmas.Bool.{and_parts, and_from, both_ways}
@@ -12,7 +12,7 @@ use lib.Utf8.{encodes, encode}
 use Rattle.deno_graph_pragmas.specs.Piece.{is_in_line, line_feed}
 use Rattle.deno_graph_pragmas.specs.internal.Reading.{IsClosedInLine, IsFirstLine}
 
--- ---- in bytes and in characters
+-- Bytes and characters
 
 HasClose : List ℕ → Type 0
 HasClose line = (front : List ℕ) × (back : List ℕ) × (line ≡ front ++ (codes "/>" ++ back))
@@ -47,7 +47,7 @@ in_bytes line utf8 (front, back, whole) = (
       ∙ encodes-append front (codes "/>" ++ back),
 )
 
--- ---- in the first line and in the text
+-- The first line and the text
 
 list_all-front : (test : ℕ → Bool) (xs ys : List ℕ)
     → list_all test (xs ++ ys) ≡ true → list_all test xs ≡ true
@@ -63,7 +63,7 @@ list_all-both test (x ∷ xs) ys one other =
     let parts = and_parts (test x) (list_all test xs) one in
     and_from (test x) (list_all test (xs ++ ys)) parts.0 (list_all-both test xs ys parts.1 other)
 
--- a front without a line feed lies in the first line
+-- a front without a line feed is in the first line
 inside : (front line rest after : List ℕ) → list_all is_in_line front ≡ true
     → line ++ line_feed ∷ rest ≡ front ++ after → (more : List ℕ) × (line ≡ front ++ more)
 inside [] line rest after all whole = (line, refl)

@@ -12,7 +12,7 @@ use Rattle.deno_graph_pragmas.specs.internal.Reading.{after_keyword}
 use Rattle.deno_graph_pragmas.specs.internal.Reading.{after_piece, after_pieces}
 use Rattle.deno_graph_pragmas.specs.Split.{ArePieces}
 
--- ---- one piece
+-- One piece
 
 pub skip_while-stopped : (test : ℕ → Bool) (text : List ℕ) → IsStopped test text → skip_while test text ≡ text
 skip_while-stopped test [] stopped = refl
@@ -49,7 +49,7 @@ after_keyword-append (d ∷ word) (c ∷ piece) rest same =
     cond-true (simple_fold c == simple_fold d) _ _ (eq-eqb _ _ head)
     ∙ after_keyword-append word piece rest tail
 
--- what ends a piece that may have any length
+-- `rest` ends a piece of any length
 abbrev pub Ends : Piece → List ℕ → Type 0
 Ends (any test) rest = IsStopped test rest
 Ends (some test) rest = IsStopped test rest
@@ -66,7 +66,7 @@ after_piece-append (exactly word) piece rest is ends =
     ap (λ text. after_exactly word (text ++ rest)) is ∙ after_exactly-append word rest
 after_piece-append (keyword word) piece rest is ends = after_keyword-append word piece rest is
 
--- what reading finds of a piece
+-- a piece is read at the start of `text`, and `rest` is left
 abbrev pub IsReadAs : Piece → List ℕ → List ℕ → Type 0
 IsReadAs p text rest = (piece : List ℕ) × (text ≡ piece ++ rest) × IsPiece p piece rest × Ends p rest
 
@@ -147,9 +147,9 @@ after_piece-front (exactly word) text rest is = (word, after_exactly-front word 
 after_piece-front (keyword word) text rest is =
     let read = after_keyword-front word text rest is in (read.0, read.1, read.2, tt)
 
--- ---- pieces in turn
+-- Pieces one after another
 
--- no such piece is empty or begins with a character that passes
+-- each text of the piece begins with a character that fails the test
 abbrev pub IsBarrier : (ℕ → Bool) → Piece → Type 0
 IsBarrier test p = (text after : List ℕ) → IsPiece p text after → (c : ℕ) × (rest : List ℕ)
     × (text ≡ c ∷ rest) × (test c ≡ false)
@@ -181,7 +181,7 @@ Ends-next (run test) q piece rest apart is = tt
 Ends-next (exactly word) q piece rest apart is = tt
 Ends-next (keyword word) q piece rest apart is = tt
 
--- reading finds pieces in turn
+-- reading finds pieces one after another
 pub after_pieces-append : (pieces : List Piece) (front after : List ℕ) → AreApart pieces after
     → ArePieces pieces front after → after_pieces pieces (front ++ after) ≡ Some after
 after_pieces-append [] front after apart is = ap (λ text. Some (text ++ after)) is
@@ -207,7 +207,7 @@ option_and_then-some : {A B : Type 0} (f : A → Option B) (o : Option A) (y : B
 option_and_then-some f None y is = absurd (cc)
 option_and_then-some f (Some x) y is = (x, refl, is)
 
--- what reading finds are the pieces in turn
+-- the text that is read is the pieces, one after another
 pub after_pieces-front : (pieces : List Piece) (text after : List ℕ) → after_pieces pieces text ≡ Some after
     → (front : List ℕ) × (text ≡ front ++ after) × ArePieces pieces front after
 after_pieces-front [] text after is = let same : text ≡ after = cc in ([], same, refl)

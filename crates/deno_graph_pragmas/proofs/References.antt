@@ -11,7 +11,7 @@ use Rattle.deno_graph_pragmas.proofs.Found.{at_start}
 use Rattle.deno_graph_pragmas.proofs.ReadPieces.{AreApart, after_pieces-append, after_pieces-front}
 use Rattle.deno_graph_pragmas.proofs.Splits.{after_front}
 
--- what follows the front is determined, but the captured part isn't
+-- the text after the front is determined, but the captured part isn't
 front_apart : (after : List ℕ) → AreApart triple_slash_reference_pattern.front after
 front_apart after = (tt, (white-keyword (codes "<reference") refl, (tt, tt)))
 

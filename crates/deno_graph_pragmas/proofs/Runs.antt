@@ -1,4 +1,4 @@
--- A front that must not be empty.
+-- Runs of characters that may not be empty.
 use Rattle.std.proofs.Common.{◌≡◌, ◌≢◌, ◌==◌, ◌⊎◌, inl, inr, ℕ, ◌≤◌, Bool, true, false, List, [], ◌∷◌, ◌++◌}
 use Rattle.std.proofs.Common.{length, Some, None, refl, sym, ap, ◌∙◌, arith, length-append, eqb-true}
 use Rattle.std.proofs.lemmas.Bool.{cond_both, cond-true, cond-false, eqb-false}
@@ -39,7 +39,7 @@ after_some-nil test (c ∷ text) same =
     (λ fails _. ap (option_map (skip_while test)) (cond-false (test c) (Some text) None fails))
     same
 
--- by the bytes of the front
+-- a front of at least one byte has at least one character
 pub after_some-nonempty : (test : ℕ → Bool) (text front : List ℕ) → IsUtf8 front → text ≡ chars front
     ++ skip_while test text → (length front == 0) ≡ false → after_some test text ≡ Some (skip_while test text)
 after_some-nonempty test text front utf8 whole nonempty =
@@ -53,7 +53,7 @@ after_some-empty test text front whole empty =
     ap chars (nil_from_length front (eqb-true (length front) 0 empty)) ∙ chars-nil in
     after_some-nil test text (whole ∙ ap (λ t. t ++ skip_while test text) none)
 
--- ---- a piece that may be empty, and the same that may not
+-- A piece that may be empty, and the same piece that may not
 
 some_same : {x y : List ℕ} → Some x ≡ Some y → x ≡ y
 some_same same = cc

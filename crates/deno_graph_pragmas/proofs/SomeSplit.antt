@@ -1,4 +1,4 @@
--- Whether a text has a split by a pattern, and what the first one captures.
+-- A text has a split by a pattern or has none, and the first split captures a part.
 use Rattle.std.proofs.Common.{
   ◌≡◌,
   ℕ,
@@ -102,13 +102,13 @@ decide_piece (run test) (c ∷ text) after =
 decide_piece (exactly word) text after = decide_texts text word
 decide_piece (keyword word) text after = decide_texts (map simple_fold text) (map simple_fold word)
 
--- A text in two
+-- A text in two parts
 
--- the text in two parts of which P holds
+-- the text in two parts that have `P`
 abbrev Cut : (List ℕ → List ℕ → Type 0) → List ℕ → Type 0
 Cut P text = (front : List ℕ) × (rest : List ℕ) × (text ≡ front ++ rest) × P front rest
 
--- one of them whose front is no longer than that of any other
+-- a cut whose front is no longer than that of any other cut
 record FirstCut (P : List ℕ → List ℕ → Type 0) (text : List ℕ) : Type 0 where
   cut : Cut P text
   first : (front rest : List ℕ) → text ≡ front ++ rest → P front rest → length cut.0 ≤ length front
@@ -159,7 +159,7 @@ decide_cut : (P : List ℕ → List ℕ → Type 0) → ((front rest : List ℕ)
     → (text : List ℕ) → Decided (Cut P text)
 decide_cut P decide text = ⊎_elim (λ found. inl found.cut) inr (first_cut P decide text)
 
--- Pieces in turn, and splits
+-- Pieces one after another, and splits
 
 decide_pieces : (pieces : List Piece) (text after : List ℕ) → Decided (ArePieces pieces text after)
 decide_pieces [] [] after = inl refl
@@ -174,7 +174,7 @@ decide_pieces (p ∷ others) text after =
     by (inr none) = inr (λ are. none (are.0, are.1, are.2, (are.3, are.4)))
 
 module _ (pattern : Pattern) where
-  -- what follows the captured piece, what follows the front, and the start of a split
+  -- the text after the captured piece, the text after the front, and the start of a split
   abbrev Back : List ℕ → Type 0
   Back text = Cut (λ back after. ArePieces pattern.back back after) text
 

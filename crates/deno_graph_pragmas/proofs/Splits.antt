@@ -1,5 +1,5 @@
--- Reading from left to right finds the splits of a text, and what each captures is determined by where it
--- begins.
+-- Reading from left to right finds the splits of a text. The start of a split determines what the split
+-- captures.
 use Rattle.std.proofs.Common.{◌≡◌, ℕ, List, [], ◌∷◌, ◌++◌, Option, Some, sym, ap, subst, ◌∙◌, append_assoc}
 use Rattle.std.proofs.lemmas.List.{append_cancel_left, append_cancel_right}
 use Rattle.deno_graph_pragmas.specs.Piece.{Piece, IsPiece}
@@ -8,7 +8,7 @@ use Rattle.deno_graph_pragmas.specs.Split.{Pattern, ArePieces, Split}
 use Rattle.deno_graph_pragmas.proofs.ReadPieces.{AreApart, Ends, Ends-next, after_piece-append}
 use Rattle.deno_graph_pragmas.proofs.ReadPieces.{after_pieces-append}
 
--- each piece of the pattern ends where the next begins, and the last wherever
+-- each piece of the pattern ends where the next begins, whatever follows the last piece
 abbrev pub IsDetermined : Pattern → Type 0
 IsDetermined pattern = (after : List ℕ) → AreApart (pattern.front ++ pattern.captured ∷ pattern.back) after
 
@@ -33,7 +33,7 @@ Ends-back p (q ∷ back) text after apart (piece, rest, whole, is, others) =
     ap (λ t. t ++ after) whole ∙ append_assoc piece rest after in
     subst (Ends p) (sym next) (Ends-next p q piece (rest ++ after) apart.0 is)
 
--- what follows the front of a split, and what follows the captured part
+-- the text after the front of a split, and the text after the captured part
 abbrev pub after_captured : {pattern : Pattern} {text : List ℕ} → Split pattern text → List ℕ
 after_captured split = split.back ++ split.after
 
@@ -71,7 +71,7 @@ back_read pattern text determined split =
     after_pieces-append pattern.back split.back split.after
     (AreApart-back pattern.captured pattern.back split.after apart) split.back_pieces
 
--- ---- one start, one captured part
+-- One start, one captured part
 
 pub record SameCaptured {pattern : Pattern} {text : List ℕ} (one other : Split pattern text) : Type 0 where
   pub front : one.front ≡ other.front

@@ -1,4 +1,4 @@
--- The results of methods of `str`, by the characters of the text.
+-- The results of methods of `str`, as lists of characters.
 use Rattle.std.proofs.Common.{◌≡◌, ℕ, ◌<◌, Bool, true, ◌==◌, eq-eqb, eqb-true, not, IfSome, cond, List, []}
 use Rattle.std.proofs.Common.{◌∷◌, ◌++◌, drop, Option, Some, None, Bor, MatchOption, refl, sym, ap, subst}
 use Rattle.std.proofs.Common.{◌∙◌, arith, append_assoc}
@@ -17,14 +17,14 @@ use Rattle.deno_graph_pragmas.specs.Piece.{IsStopped}
 use Rattle.deno_graph_pragmas.specs.internal.Reading.{skip_while, after_one, after_exactly}
 use Rattle.deno_graph_pragmas.proofs.ReadPieces.{skip_while-append}
 
--- ---- the characters of a text that begins with one
+-- The first character of a text
 
 -- the bytes of a text, by its characters
 text_of : (bs cs : List ℕ) → IsUtf8 bs → chars bs ≡ cs → (bs ≡ encodes cs) × (scalars cs ≡ true)
 text_of bs cs utf8 is =
     (sym (encodes-chars bs utf8) ∙ ap encodes is, ap scalars (sym is) ∙ scalars-chars bs utf8)
 
--- one character at the start
+-- a text without a prefix that passes has no first character that passes
 after_one-none : (test : ℕ → Bool) (bs cs : List ℕ) → IsUtf8 bs → chars bs ≡ cs → FindsPrefixBy test bs None
     → after_one test cs ≡ None
 after_one-none test bs [] utf8 is none = refl
@@ -41,7 +41,7 @@ after_char-none mark bs (c ∷ cs) utf8 is none =
     cond_both (c == mark) (Some cs) None (λ o. o ≡ None) (λ same. absurd
     (none (encodes cs) (text.0 ∙ ap (λ d. encode d ++ encodes cs) (eqb-true c mark same)))) (λ _. refl)
 
--- the characters after one that passes
+-- the characters after a character that passes
 chars-past : (test : ℕ → Bool) (bs : List ℕ) (i j : ℕ) → IsUtf8 (drop i bs) → HasPassingCharAt test bs i j
     → (c : ℕ) × (test c ≡ true) × (chars (drop i bs) ≡ c ∷ chars (drop j bs)) × (i < j)
 chars-past test bs i j utf8 (c, passes, at) = (
@@ -73,7 +73,7 @@ strip_prefix_char c bs (Some x) utf8 (n, found, is, sizes) =
     ap (λ t. Some (chars t)) is ∙ sym (ap (after_exactly (c ∷ [])) past
     ∙ cond-true (c == c) (Some (chars (drop n bs))) None (eq-eqb c c refl))
 
--- what is left is text
+-- the rest is UTF-8
 pub strip_prefix_one-utf8 : (P : (ℕ → Bool) → Type 0) (test : ℕ → Bool)
     (bs : List ℕ) (r : Option (Bor (List ℕ))) → IsUtf8 bs → P test
     → (let F : List ℕ → Option ℕ → Type 0 = λ s o. (k : ℕ → Bool) → P k → FindsPrefixBy k s o in
@@ -183,7 +183,7 @@ after_encodes (c ∷ front) all rest is =
     let others = after_encodes front first.0 rest first.2 in
     (others.0, first.1 ∙ ap (λ t. c ∷ t) others.1, others.2)
 
--- what the parts of `split_once` are
+-- the parts that `split_once` returns
 abbrev pub AreParts : (ℕ → Bool) → List ℕ → Option (Bor (List ℕ) × Bor (List ℕ)) → Type 0
 AreParts test bs r =
     MatchOption r (list_all (λ c. not (test c)) (chars bs) ≡ true)
@@ -235,7 +235,7 @@ split_once_char mark bs (Some x) utf8 (i, j, found, front, back, order, front_le
     split_once_by (λ c. c == mark) bs (Some x) utf8
     (i, j, (found.0, (mark, eq-eqb mark mark refl, found.1)), front, back, order, front_len, back_len)
 
--- what of the text comes before the first character that passes, and whether there is one
+-- the text from the first character that passes on, if there is one
 pub split_once-none : (test : ℕ → Bool) (text : List ℕ) → list_all (λ c. not (test c)) text ≡ true
     → skip_while (λ c. not (test c)) text ≡ []
 split_once-none test text none =

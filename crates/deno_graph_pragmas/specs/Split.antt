@@ -4,7 +4,7 @@ use Rattle.std.specs.Prelude.{encode_utf8_all}
 use Rattle.std.specs.Str.{chars, IsCharBoundary}
 use Rattle.deno_graph_pragmas.specs.Piece.{Piece, IsPiece, is_quote}
 
--- pieces in turn, of which one is captured
+-- pieces one after another, of which one is captured
 pub record Pattern : Type 0 where
   -- a split begins at the start of the text
   pub anchored : Bool
@@ -12,15 +12,14 @@ pub record Pattern : Type 0 where
   pub captured : Piece
   pub back : List Piece
 
--- `text`, followed by `after`, is the pieces in turn
+-- `text`, followed by `after`, is the pieces one after another
 abbrev pub ArePieces : List Piece → List ℕ → List ℕ → Type 0
 ArePieces [] text after = text ≡ []
 ArePieces (first ∷ others) text after =
     (piece : List ℕ) × (rest : List ℕ) × (text ≡ piece ++ rest) × IsPiece first piece (rest ++ after)
     × ArePieces others rest after
 
--- a split of a text, as a list of characters: what comes before, the pieces of the pattern in turn, and what
--- comes after
+-- a split of a text, as a list of characters: the text before, the pieces of the pattern, and the text after
 pub record Split (pattern : Pattern) (text : List ℕ) : Type 0 where
   pub before : List ℕ
   pub front : List ℕ

@@ -80,7 +80,7 @@ fn parsed(
     source: &ParsedSource,
     options: ParseOptions<'_>,
 ) -> Result<ParsedSource, ParseError>
-    ensures answer { IfOk result (λ parsed. (input_of parsed ≡ input_of_options options.entry)
+    ensures input_and_outcome { IfOk result (λ parsed. (input_of parsed ≡ input_of_options options.entry)
         × (outcome_of parsed ≡ outcome_of source.now)) }
     ensures error { IfErr result (λ error. error ≡ ParseError.OutOfMemory) }
 {

@@ -1,7 +1,11 @@
 -- The faults of a document, by the step that failed.
-use Rattle.std.proofs.Common.{◌≡◌, ◌≢◌, ℕ, List, Some, None, inl, inr, refl, sym, ◌∙◌, MatchOption, false}
+use Rattle.std.proofs.Common.{◌≡◌, ◌≢◌, ℕ, List, Some, None, refl}
+use Rattle.std.proofs.Common.{Result, Ok, Err, MatchResult}
 use Rattle.serde_json.specs.Data.{Data, Members}
 use Rattle.serde_json.specs.Read.{read as read_text}
+use Rattle.deno_graph_base.specs.TextMap.{entries_of}
+use Rattle.deno_graph_json.specs.declared.flat.fault.TapeFault.{TapeFault}
+use Rattle.deno_graph_json.specs.declared.flat.fault.TapeFault.TheVariants as tape
 use Rattle.deno_graph_info.specs.Conversion.{IsConvertFault}
 use Rattle.deno_graph_info.specs.declared.analysis.fault.InfoFault.{InfoFault}
 use Rattle.deno_graph_info.specs.declared.analysis.fault.InfoFault.TheVariants as info
@@ -17,9 +21,10 @@ use Rattle.modinfo.specs.Answer.{
 }
 use Rattle.modinfo.specs.internal.Answer.{IsReadFailure}
 use Rattle.modinfo.specs.Run.{IsFailure}
-use Rattle.modinfo.specs.Fault.{fault_of_conversion, fault_of_info}
-use Rattle.modinfo.specs.Reach.{IsFirstFault, IsNoQuestion, IsQuestionFault, Question, reads_question}
-use Rattle.modinfo.specs.internal.Reach.{IsNoInfos}
+use Rattle.modinfo.specs.Fault.{fault_of_conversion, fault_of_info, fault_of_tape}
+use Rattle.modinfo.specs.Reach.{Asks, IsFirstFault, IsNoQuestion, IsQuestionFault, Question, reads_question}
+use Rattle.modinfo.specs.internal.Reach.{IsNoInfos, IsQuestionOf}
+use Rattle.modinfo.specs.declared.reach.Question.{Question as Asked}
 use Rattle.modinfo.specs.declared.fault.Fault.{Fault}
 use Rattle.modinfo.specs.declared.fault.Fault.TheVariants.{
   Input,
@@ -47,9 +52,9 @@ no_json text OutOfMemory M memory other none = tt
 no_json text Input M memory other none = neither M (λ m. cc (memory m)) (λ n. cc (other n))
 no_json text Tree M memory other none = neither M (λ m. cc (memory m)) (λ n. cc (other n))
 no_json text Specifier M memory other none = neither M (λ m. cc (memory m)) (λ n. cc (other n))
-no_json text (Source told) M memory other none = neither M (λ m. cc (memory m)) (λ n. cc (other n))
-no_json text (Convert told) M memory other none = neither M (λ m. cc (memory m)) (λ n. cc (other n))
-no_json text (Info told) M memory other none = neither M (λ m. cc (memory m)) (λ n. cc (other n))
+no_json text (Source inner) M memory other none = neither M (λ m. cc (memory m)) (λ n. cc (other n))
+no_json text (Convert inner) M memory other none = neither M (λ m. cc (memory m)) (λ n. cc (other n))
+no_json text (Info inner) M memory other none = neither M (λ m. cc (memory m)) (λ n. cc (other n))
 no_json text Output M memory other none = neither M (λ m. cc (memory m)) (λ n. cc (other n))
 
 -- A text that isn't JSON isn't converted.
@@ -58,15 +63,15 @@ no_conversion text Input none = none
 no_conversion text Json none = none
 no_conversion text Tree none = none
 no_conversion text Specifier none = none
-no_conversion text (Source told) none = none
-no_conversion text (Convert told) none = absurd none
-no_conversion text (Info told) none = none
+no_conversion text (Source inner) none = none
+no_conversion text (Convert inner) none = absurd none
+no_conversion text (Info inner) none = none
 no_conversion text Output none = none
 no_conversion text OutOfMemory none = none
 
-pub failed_conversion : (text : List ℕ) (before : Data) (told : ConvertFault)
-    → read_text text ≡ Some before → IsConvertFault before told
-    → IsNoConversion text (fault_of_conversion told)
+pub failed_conversion : (text : List ℕ) (before : Data) (inner : ConvertFault)
+    → read_text text ≡ Some before → IsConvertFault before inner
+    → IsNoConversion text (fault_of_conversion inner)
 failed_conversion text before convert.ColumnOverflow read refused = (
   (λ same. cc (same)),
   before,
@@ -82,23 +87,37 @@ no_reach text Input none = none
 no_reach text Json none = none
 no_reach text Tree none = none
 no_reach text Specifier none = none
-no_reach text (Source told) none = none
-no_reach text (Convert told) none = none
-no_reach text (Info told) none = absurd none
+no_reach text (Source inner) none = none
+no_reach text (Convert inner) none = none
+no_reach text (Info inner) none = absurd none
 no_reach text Output none = none
 no_reach text OutOfMemory none = none
 
 pub asks_nothing : (text : List ℕ) (value : Data) (fault : Fault) → read_text text ≡ Some value
     → IsNoQuestion value fault → IsNoReach text fault
-asks_nothing text value (Info told) read none = (value, read, none)
+asks_nothing text value (Info inner) read none = (value, read, none)
 asks_nothing text value OutOfMemory read none = tt
 asks_nothing text value Input read none = absurd none
 asks_nothing text value Json read none = absurd none
 asks_nothing text value Tree read none = absurd none
 asks_nothing text value Specifier read none = absurd none
-asks_nothing text value (Source told) read none = absurd none
-asks_nothing text value (Convert told) read none = absurd none
+asks_nothing text value (Source inner) read none = absurd none
+asks_nothing text value (Convert inner) read none = absurd none
 asks_nothing text value Output read none = absurd none
+
+-- The question of a value is that of its text.
+pub asks_text : (text : List ℕ) (value : Data) (asked : Result Asked Fault) → read_text text ≡ Some value
+    → MatchResult asked (λ question. Asks value (entries_of question.infos) question.root)
+    (IsNoQuestion value)
+    → MatchResult asked (IsQuestionOf text) (IsNoReach text)
+asks_text text value (Ok question) read asks = (value, read, asks)
+asks_text text value (Err fault) read none = asks_nothing text value fault read none
+
+-- A text of which no flat list can be made.
+pub no_tape : (text : List ℕ) (inner : TapeFault)
+    → ((offset : ℕ) → inner ≡ tape.Json offset → read_text text ≡ None) → IsNoReach text (fault_of_tape inner)
+no_tape text (tape.Json offset) none = none offset refl
+no_tape text tape.OutOfMemory none = tt
 
 -- A value without a root or without modules.
 pub no_question : (value : Data) → reads_question value ≡ None → IsNoQuestion value (Info info.Shape)
@@ -106,37 +125,42 @@ no_question value none =
     let lacks : IsQuestionFault value info.Shape = rw none refl in
     ((λ same. cc (same)), lacks)
 
-pub no_infos : (ms : Members) (told : InfoFault) → IsFirstFault ms told → IsNoInfos ms (fault_of_info told)
-no_infos ms info.Shape first = ((λ same. cc (same)), first)
-no_infos ms info.Float first = ((λ same. cc (same)), first)
+pub no_infos : (ms : Members) (inner : InfoFault) → (inner ≢ info.OutOfMemory → IsFirstFault ms inner)
+    → IsNoInfos ms (fault_of_info inner)
+no_infos ms info.Shape first =
+    let apart : info.Shape ≢ info.OutOfMemory = λ same. cc (same) in
+    (apart, first apart)
+no_infos ms info.Float first =
+    let apart : info.Float ≢ info.OutOfMemory = λ same. cc (same) in
+    (apart, first apart)
 no_infos ms info.OutOfMemory first = tt
 
 -- A value whose modules can't be read.
 pub no_modules : (value : Data) (question : Question) (fault : Fault) → reads_question value ≡ Some question
     → IsNoInfos question.modules fault → IsNoQuestion value fault
-no_modules value question (Info told) asks none =
-    let first : IsQuestionFault value told = rw asks none.1 in
+no_modules value question (Info inner) asks none =
+    let first : IsQuestionFault value inner = rw asks none.1 in
     (none.0, first)
 no_modules value question OutOfMemory asks none = tt
 no_modules value question Input asks none = absurd none
 no_modules value question Json asks none = absurd none
 no_modules value question Tree asks none = absurd none
 no_modules value question Specifier asks none = absurd none
-no_modules value question (Source told) asks none = absurd none
-no_modules value question (Convert told) asks none = absurd none
+no_modules value question (Source inner) asks none = absurd none
+no_modules value question (Convert inner) asks none = absurd none
 no_modules value question Output asks none = absurd none
 
 -- A fault other than a failed allocation is one of the value.
 pub question_fault : (value : Data) (fault : Fault) → fault ≢ OutOfMemory → IsNoQuestion value fault
-    → (told : InfoFault) × (told ≢ info.OutOfMemory) × IsQuestionFault value told
-question_fault value (Info told) apart none = (told, none.0, none.1)
+    → (inner : InfoFault) × (inner ≢ info.OutOfMemory) × IsQuestionFault value inner
+question_fault value (Info inner) apart none = (inner, none.0, none.1)
 question_fault value OutOfMemory apart none = absurd (apart refl)
 question_fault value Input apart none = absurd none
 question_fault value Json apart none = absurd none
 question_fault value Tree apart none = absurd none
 question_fault value Specifier apart none = absurd none
-question_fault value (Source told) apart none = absurd none
-question_fault value (Convert told) apart none = absurd none
+question_fault value (Source inner) apart none = absurd none
+question_fault value (Convert inner) apart none = absurd none
 question_fault value Output apart none = absurd none
 
 -- A fault of the document is one of the run.
@@ -146,9 +170,9 @@ input_fault subcommand text Input has = tt
 input_fault subcommand text Json has = has
 input_fault subcommand text Tree has = has
 input_fault subcommand text Specifier has = has
-input_fault subcommand text (Source told) has = has
-input_fault subcommand text (Convert told) has = has
-input_fault subcommand text (Info told) has = has
+input_fault subcommand text (Source inner) has = has
+input_fault subcommand text (Convert inner) has = has
+input_fault subcommand text (Info inner) has = has
 input_fault subcommand text Output has = has
 input_fault subcommand text OutOfMemory has = has
 
@@ -158,9 +182,9 @@ run_fault subcommand text Input has = tt
 run_fault subcommand text Json has = has
 run_fault subcommand text Tree has = has
 run_fault subcommand text Specifier has = has
-run_fault subcommand text (Source told) has = has
-run_fault subcommand text (Convert told) has = has
-run_fault subcommand text (Info told) has = has
+run_fault subcommand text (Source inner) has = has
+run_fault subcommand text (Convert inner) has = has
+run_fault subcommand text (Info inner) has = has
 run_fault subcommand text Output has = tt
 run_fault subcommand text OutOfMemory has = has
 
@@ -178,9 +202,9 @@ failed_input subcommand text OutOfMemory failed = no_memory subcommand text
 failed_input subcommand text Json failed = absurd failed
 failed_input subcommand text Tree failed = absurd failed
 failed_input subcommand text Specifier failed = absurd failed
-failed_input subcommand text (Source told) failed = absurd failed
-failed_input subcommand text (Convert told) failed = absurd failed
-failed_input subcommand text (Info told) failed = absurd failed
+failed_input subcommand text (Source inner) failed = absurd failed
+failed_input subcommand text (Convert inner) failed = absurd failed
+failed_input subcommand text (Info inner) failed = absurd failed
 failed_input subcommand text Output failed = absurd failed
 
 pub failed_run : (subcommand : Subcommand) (text : List ℕ) (fault : Fault) → IsReadFailure fault
@@ -190,9 +214,9 @@ failed_run subcommand text OutOfMemory failed = no_memory subcommand text
 failed_run subcommand text Json failed = absurd failed
 failed_run subcommand text Tree failed = absurd failed
 failed_run subcommand text Specifier failed = absurd failed
-failed_run subcommand text (Source told) failed = absurd failed
-failed_run subcommand text (Convert told) failed = absurd failed
-failed_run subcommand text (Info told) failed = absurd failed
+failed_run subcommand text (Source inner) failed = absurd failed
+failed_run subcommand text (Convert inner) failed = absurd failed
+failed_run subcommand text (Info inner) failed = absurd failed
 failed_run subcommand text Output failed = absurd failed
 
 pub read_failure : (fault : Fault) → IsReadFailure fault → IsFailure fault
@@ -201,7 +225,7 @@ read_failure OutOfMemory failed = tt
 read_failure Json failed = absurd failed
 read_failure Tree failed = absurd failed
 read_failure Specifier failed = absurd failed
-read_failure (Source told) failed = absurd failed
-read_failure (Convert told) failed = absurd failed
-read_failure (Info told) failed = absurd failed
+read_failure (Source inner) failed = absurd failed
+read_failure (Convert inner) failed = absurd failed
+read_failure (Info inner) failed = absurd failed
 read_failure Output failed = absurd failed

@@ -379,7 +379,7 @@ LeavesFirstLines-none task input output fault failure =
 
 -- The fault that a `?` returns.
 pub exits : (r : Result Bool Fault) (P : Bool → Type 0) (Q : Fault → Type 0) (fault : Fault)
-    → IsErrAnd r (λ told. told ≡ fault) → Q fault → MatchResult r P Q
+    → IsErrAnd r (λ error. error ≡ fault) → Q fault → MatchResult r P Q
 exits r P Q fault err rest = let p = err_from_is_err_and r err in rw (p.1, p.2) rest
 
 -- A line for whose answer or report an allocation failed.

@@ -1,60 +1,42 @@
 -- Reading the information on modules, one after the other.
-use Rattle.std.proofs.Common.{
-  ◌≡◌,
-  ◌≢◌,
-  ℕ,
-  List,
-  ◌∷◌,
-  String,
-  Global,
-  Some,
-  None,
-  false,
-  inl,
-  inr,
-  refl,
-  sym,
-  subst,
-  ◌∙◌,
-  if◌then◌else◌,
-}
+use Rattle.std.proofs.Common.{◌≡◌, ℕ, List, ◌∷◌, Some, None, false, inl, inr, refl, sym, subst, ◌∙◌, ap}
 use Rattle.std.proofs.lemmas.Option.{none-some}
 use Rattle.serde_json.specs.Data.{Data, Members}
-use Rattle.serde_json.specs.View.{members_view, view}
 use Rattle.serde_json.specs.Written.{has_float}
-use Rattle.serde_json.specs.declared.value.Value.{Value}
+use Rattle.deno_graph_json.proofs.ObjectMembers.{Entry}
+use Rattle.deno_graph_json.specs.Data.{data_of, named_data}
 use Rattle.deno_graph_info.specs.InfoFault.{IsInfoFault}
 use Rattle.deno_graph_info.specs.Json.ModuleInfo.{reads_info}
 use Rattle.deno_graph_info.specs.declared.analysis.fault.InfoFault.{InfoFault}
 use Rattle.deno_graph_info.specs.declared.analysis.module_info.ModuleInfo.{ModuleInfo}
-use Rattle.modinfo.specs.Reach.{IsFirstFault, Question, modules_in, reads_question, reads_stored, root_in}
-
-abbrev Entries : Type 0
-Entries = List (String Global × Value)
+use Rattle.modinfo.specs.Reach.{IsFirstFault, modules_in, reads_question, reads_stored, root_in}
 
 pub stored_info : (d : Data) (m : ModuleInfo) → has_float d ≡ false → reads_info d ≡ Some m
     → reads_stored d ≡ Some m
 unfolding reads_stored
 stored_info d m whole is = rw whole is
 
--- After a module without a fault, the first fault of the others is the first of all.
-pub fault_after : (told : InfoFault) (left rest : Entries) (e : String Global × Value) (m : ModuleInfo)
-    → left ≡ e ∷ rest → reads_stored (view e.1) ≡ Some m → IsFirstFault (members_view rest) told
-    → IsFirstFault (members_view left) told
-fault_after told left rest e m first is fault =
-    subst (λ es. IsFirstFault (members_view es) told) (sym first)
-    (inr ((λ none. none-some m (sym none ∙ is)), fault))
-
--- The fault of the next module is the first of all.
-pub fault_here : (told : InfoFault) (left rest : Entries) (e : String Global × Value) → left ≡ e ∷ rest
-    → IsInfoFault (view e.1) told → IsFirstFault (members_view left) told
-fault_here told left rest e first fault =
-    subst (λ es. IsFirstFault (members_view es) told) (sym first) (inl fault)
+-- The first fault of the members that are left is the first of all.
+abbrev pub IsFaultOfAll : InfoFault → Members → List Entry → Type 0
+IsFaultOfAll inner all left = IsFirstFault (named_data left) inner → IsFirstFault all inner
 
 -- Before the first module.
-pub none_left : (told : InfoFault) (all left : Entries) → left ≡ all → IsFirstFault (members_view left) told
-    → IsFirstFault (members_view all) told
-none_left told all left whole fault = subst (λ es. IsFirstFault (members_view es) told) whole fault
+pub none_left : (inner : InfoFault) (all : Members) (found left : List Entry) → named_data found ≡ all
+    → left ≡ found → IsFaultOfAll inner all left
+none_left inner all found left is whole fault =
+    subst (λ ms. IsFirstFault ms inner) (ap named_data whole ∙ is) fault
+
+module _ (inner : InfoFault) (all : Members) (left rest : List Entry) (e : Entry) (first : left ≡ e ∷ rest)
+    (of_all : IsFaultOfAll inner all left) where
+  -- After a module without a fault.
+  pub fault_after : (m : ModuleInfo) → reads_stored (data_of e.1) ≡ Some m → IsFaultOfAll inner all rest
+  fault_after m is fault =
+      of_all (subst (λ es. IsFirstFault (named_data es) inner) (sym first)
+      (inr ((λ none. none-some m (sym none ∙ is)), fault)))
+
+  -- The fault of the next module is the first of all.
+  pub fault_here : IsInfoFault (data_of e.1) inner → IsFirstFault all inner
+  fault_here fault = of_all (subst (λ es. IsFirstFault (named_data es) inner) (sym first) (inl fault))
 
 -- ---- The two members of a document
 

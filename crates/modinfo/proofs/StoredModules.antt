@@ -50,7 +50,7 @@ use Rattle.modinfo.specs.declared.reach.StoredInfo.{StoredInfo}
 
 -- A fault other than a failed allocation.
 abbrev HasFault : (InfoFault → Type 0) → Type 0
-HasFault IsFault = (told : InfoFault) × (told ≢ info.OutOfMemory) × IsFault told
+HasFault IsFault = (inner : InfoFault) × (inner ≢ info.OutOfMemory) × IsFault inner
 
 -- ---- One module
 
@@ -84,9 +84,12 @@ AllModules ms = ((stored : List (List ℕ × StoredInfo)) × (reads_members read
 one_more : (key : List ℕ) (d : Data) (ms : Members) → OneModule d → AllModules ms
     → AllModules (member key d ms)
 unfolding reads_members
-one_more key d ms (inr (none, (told, apart, fault))) others = inr (rw none refl, (told, apart, inl fault))
-one_more key d ms (inl (found, stored, read)) (inr (none, (told, apart, first))) =
-    inr (rw (stored, none) refl, (told, apart, inr ((λ is. absurd (none-some found (sym is ∙ read))), first)))
+one_more key d ms (inr (none, (inner, apart, fault))) others = inr (rw none refl, (inner, apart, inl fault))
+one_more key d ms (inl (found, stored, read)) (inr (none, (inner, apart, first))) =
+    inr (
+      rw (stored, none) refl,
+      (inner, apart, inr ((λ is. absurd (none-some found (sym is ∙ read))), first)),
+    )
 one_more key d ms (inl (found, stored, read)) (inl (others, all_stored, all_read)) =
     inl ((key, record { info = found }) ∷ others, rw (stored, all_stored) refl, rw (read, all_read) refl)
 
@@ -135,10 +138,10 @@ with_modules ms root members rooted is (inl (stored, all_stored, all_read)) =
         ),
       ),
     )
-with_modules ms root members rooted is (inr (none, (told, apart, first))) =
-    let fault : IsQuestionFault (object ms) told = rw (rooted, is) first
+with_modules ms root members rooted is (inr (none, (inner, apart, first))) =
+    let fault : IsQuestionFault (object ms) inner = rw (rooted, is) first
     in
-    inr (rw (rooted, by_members (get_member (codes "modules") ms), is, none) refl, (told, apart, fault))
+    inr (rw (rooted, by_members (get_member (codes "modules") ms), is, none) refl, (inner, apart, fault))
 
 by_parts : (ms : Members) (root : Option (List ℕ)) (members : Option Members)
     → (get_member (codes "root") ms >>= as_str) ≡ root

@@ -72,14 +72,14 @@ IsConvertedText document text = (after : Data) × IsConversionOf document after 
 
 -- Why a document isn't converted: it isn't JSON, or its value can't be converted; or an allocation failed.
 abbrev pub IsNoConversion : List ℕ → Fault → Type 0
-IsNoConversion document (fault_of.Convert told) = (told ≢ convert.OutOfMemory)
-    × (before : Data) × (read_text document ≡ Some before) × IsConvertFault before told
+IsNoConversion document (fault_of.Convert inner) = (inner ≢ convert.OutOfMemory)
+    × (before : Data) × (read_text document ≡ Some before) × IsConvertFault before inner
 IsNoConversion document fault = IsNoJson document fault
 
 -- Why a document of `reach` has no answer: it isn't JSON, or its value has a fault; or an allocation failed.
 abbrev pub IsNoReach : List ℕ → Fault → Type 0
-IsNoReach document (fault_of.Info told) = (value : Data) × (read_text document ≡ Some value)
-    × IsNoQuestion value (fault_of.Info told)
+IsNoReach document (fault_of.Info inner) = (value : Data) × (read_text document ≡ Some value)
+    × IsNoQuestion value (fault_of.Info inner)
 IsNoReach document fault = IsNoJson document fault
 
 -- The answer of a subcommand to a document: compact JSON.

@@ -3,19 +3,14 @@ use Rattle.std.specs.Prelude.{◌≡◌, ◌≢◌, ◌⊎◌, ℕ, List, None, 
 use Rattle.serde_json.specs.Data.{Data}
 use Rattle.serde_json.specs.Read.{read as read_text}
 use Rattle.serde_json.specs.Written.{has_float}
-use Rattle.deno_graph_json.specs.Read.Error.{IsIn}
-use Rattle.deno_graph_json.specs.declared.error.Mismatch.{Mismatch}
-use Rattle.deno_graph_json.specs.declared.error.ReadError.TheVariants as read
 use Rattle.deno_graph_info.specs.Conversion.{IsConverted, IsConvertFault}
 use Rattle.deno_graph_info.specs.declared.analysis.fault.InfoFault.{InfoFault}
 use Rattle.deno_graph_info.specs.declared.analysis.fault.InfoFault.TheVariants.{OutOfMemory as NoMemory}
 use Rattle.deno_graph_info.specs.declared.analysis.module_info.ModuleInfo.{ModuleInfo}
 use Rattle.deno_graph_info.specs.declared.conversion.fault.ConvertFault.{ConvertFault}
 use Rattle.deno_graph_info.specs.declared.conversion.fault.ConvertFault.TheVariants as convert
-use Rattle.modinfo_document.specs.Report.{MatchReport, Reports}
+use Rattle.modinfo_document.specs.Report.{MatchReport}
 use Rattle.modinfo_document.specs.declared.report.Report.{Report}
-use Rattle.modinfo_document.specs.declared.report.Report.TheVariants.{Valid, Invalid}
-use Rattle.modinfo_document.specs.declared.report.FaultReport.{FaultReport}
 use Rattle.modinfo.specs.Reach.{Asks, IsQuestionFault}
 
 -- The value can be converted: it has no float, and there is a converted value.
@@ -60,13 +55,3 @@ IsNoQuestionText text = (read_text text ≡ None)
 -- `Valid` is returned only for a document of `reach`, `Invalid` only for a text with a fault as one.
 abbrev pub ReportsOnQuestion : List ℕ → Report → Type 0
 ReportsOnQuestion text = MatchReport (IsQuestionText text) (IsNoQuestionText text)
-
--- The pointer of the report leads to a value that isn't what the report expects there.
-abbrev pub PointsInto : Data → FaultReport → Type 0
-PointsInto value report = (mismatch : Mismatch) × IsIn value (read.Mismatch mismatch)
-    × Reports mismatch report
-
--- If the report is `Invalid`, its pointer leads to a value that isn't what the report expects there.
-abbrev pub HasPointerInto : Data → Report → Type 0
-HasPointerInto value (Valid _) = Unit {0}
-HasPointerInto value (Invalid report) = PointsInto value report

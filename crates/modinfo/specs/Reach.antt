@@ -76,6 +76,6 @@ IsQuestionFault d fault = MatchOption (reads_question d) (fault ≡ info.Shape)
 
 -- Why a value can't be read: its fault, or a failed allocation.
 abbrev pub IsNoQuestion : Data → Fault → Type 0
-IsNoQuestion d (Info told) = (told ≢ info.OutOfMemory) × IsQuestionFault d told
+IsNoQuestion d (Info inner) = (inner ≢ info.OutOfMemory) × IsQuestionFault d inner
 IsNoQuestion d OutOfMemory = Unit {0}
 IsNoQuestion d fault = ⊥

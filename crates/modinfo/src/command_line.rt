@@ -77,7 +77,7 @@ pub enum CommandLine {
 impl CommandLine {
     /// The command line with these arguments, `None` if they are wrong.
     pub fn from_words(words: &[&str]) -> Option<CommandLine>
-        ensures answer { (subcommand : Subcommand) → (has_lines : Bool)
+        ensures subcommand { (subcommand : Subcommand) → (has_lines : Bool)
             → map (λ word. word.now) words.now
             ≡ name_of subcommand ∷ (if has_lines then codes "--lines" ∷ [] else [])
             → result ≡ Some (command_line_of has_lines (Task.Answer subcommand)) }

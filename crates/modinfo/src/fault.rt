@@ -2,6 +2,7 @@ ghost use Rattle.std.specs.Prelude.{◌≡◌};
 ghost use Rattle.modinfo.specs.Fault.{name_of_conversion, name_of_fault, name_of_info, name_of_source};
 
 use deno_graph_info::analysis::{ConvertFault, InfoFault};
+use deno_graph_json::TapeFault;
 use deno_graph_source::tree::SourceFault;
 use modinfo_document::DocumentError;
 use std::alloc::{AllocError, AllocFailed};
@@ -136,12 +137,15 @@ impl From<DocumentError> for Fault {
     ghost use Rattle.std.specs.Prelude.{◌≡◌};
     ghost use Rattle.modinfo.specs.Fault.{fault_of_document};
 
-    ghost from_gives = { λ notation_fault fault. fault ≡ fault_of_document notation_fault };
+    ghost from_gives = { λ document_error fault. fault ≡ fault_of_document document_error };
 
     fn from(fault: DocumentError) -> Fault {
         match fault {
             DocumentError::Json { .. } => Fault::Json,
-            DocumentError::Tree(_) => Fault::Tree,
+            DocumentError::Tree(mismatch) => {
+                drop(mismatch);
+                Fault::Tree
+            }
             DocumentError::Specifier => Fault::Specifier,
             DocumentError::Source(fault) => Fault::Source(fault),
             DocumentError::OutOfMemory => Fault::OutOfMemory,
@@ -173,6 +177,20 @@ impl From<InfoFault> for Fault {
         match fault {
             InfoFault::OutOfMemory => Fault::OutOfMemory,
             fault => Fault::Info(fault),
+        }
+    }
+}
+
+impl From<TapeFault> for Fault {
+    ghost use Rattle.std.specs.Prelude.{◌≡◌};
+    ghost use Rattle.modinfo.specs.Fault.{fault_of_tape};
+
+    ghost from_gives = { λ tape_fault fault. fault ≡ fault_of_tape tape_fault };
+
+    fn from(fault: TapeFault) -> Fault {
+        match fault {
+            TapeFault::Json { .. } => Fault::Json,
+            TapeFault::OutOfMemory => Fault::OutOfMemory,
         }
     }
 }

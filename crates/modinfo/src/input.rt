@@ -4,10 +4,12 @@ ghost use Rattle.std.specs.Prelude.{◌≡◌, Some, IfSome, IsUtf8, MatchResult
 ghost use Rattle.serde_json.specs.View.{view};
 ghost use Rattle.serde_json.specs.Read.{read as read_text};
 ghost use Rattle.modinfo_document.specs.Document.{IsDocumentOf};
-ghost use Rattle.modinfo.specs.Answer.{IsNoJson, IsNoModule};
+ghost use Rattle.modinfo.specs.Answer.{IsNoJson, IsNoModule, IsNoReach};
 ghost use Rattle.modinfo.specs.internal.Answer.{IsReadFailure};
+ghost use Rattle.modinfo.specs.internal.Reach.{IsQuestionOf};
 
 use crate::fault::Fault;
+use crate::reach::{Question, parse_question};
 use modinfo_document::{Document, parse_document};
 use serde_json::Value;
 use simdutf8::basic;
@@ -21,6 +23,13 @@ pub fn document_of(alloc: Global, bytes: &[u8]) -> Result<Document, Fault>
     ensures { MatchResult result (IsDocumentOf bytes.now) (IsNoModule bytes.now) }
 {
     Ok(parse_document(alloc, text_of(bytes)?)?)
+}
+
+/// Reads a document of `reach`. `Input` if the bytes aren't UTF-8; else the faults of `parse_question`.
+pub fn question_of(alloc: Global, bytes: &[u8]) -> Result<Question, Fault>
+    ensures { MatchResult result (IsQuestionOf bytes.now) (IsNoReach bytes.now) }
+{
+    parse_question(alloc, text_of(bytes)?)
 }
 
 /// Reads JSON. `Input` if the bytes aren't UTF-8, `Json` if the text isn't JSON, `OutOfMemory` if an

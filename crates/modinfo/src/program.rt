@@ -39,7 +39,8 @@ pub fn serve<R: Read, W: Write, E: Write>(
     output: &mut W,
     errors: &mut E,
 ) -> u8
-    ensures answer { (subcommand : Subcommand) → map (λ word. word.now) words.now ≡ name_of subcommand ∷ []
+    ensures subcommand { (subcommand : Subcommand)
+        → map (λ word. word.now) words.now ≡ name_of subcommand ∷ []
         → (document : List ℕ) × IfSome (R.remaining input.old) (λ left. document ≡ left)
         × IsRun (PrintsAnswer subcommand document) (IsRunFault subcommand document)
         (W.contents output.old) (W.contents output.new) (E.contents errors.old) (E.contents errors.new)
@@ -81,7 +82,7 @@ pub fn serve<R: Read, W: Write, E: Write>(
         print_usage(errors, unexpected_word(words));
         return 2;
     };
-    match answer(alloc, command_line, input, output) {
+    match run_command_line(alloc, command_line, input, output) {
         Ok(passes) => status_of(passes),
         Err(fault) => {
             print_fault(errors, &fault);
@@ -147,13 +148,14 @@ fn print_line<E: Write>(errors: &mut E, text: &str)
 }
 
 /// Runs a command line, and returns whether its checks passed; true without a check.
-fn answer<R: Read, W: Write>(
+fn run_command_line<R: Read, W: Write>(
     alloc: Global,
     command_line: CommandLine,
     input: &mut R,
     output: &mut W,
 ) -> Result<bool, Fault>
-    ensures answer { (subcommand : Subcommand) → command_line ≡ CommandLine.Document (Task.Answer subcommand)
+    ensures subcommand { (subcommand : Subcommand)
+        → command_line ≡ CommandLine.Document (Task.Answer subcommand)
         → (document : List ℕ) × IfSome (R.remaining input.old) (λ left. document ≡ left)
         × MatchResult result
         (Leaves (PrintsAnswer subcommand document) (W.contents output.old) (W.contents output.new))
@@ -186,7 +188,7 @@ fn run_document<R: Read, W: Write>(
     input: &mut R,
     output: &mut W,
 ) -> Result<bool, Fault>
-    ensures answer { (subcommand : Subcommand) → task ≡ Task.Answer subcommand
+    ensures subcommand { (subcommand : Subcommand) → task ≡ Task.Answer subcommand
         → (document : List ℕ) × IfSome (R.remaining input.old) (λ left. document ≡ left)
         × MatchResult result
         (Leaves (PrintsAnswer subcommand document) (W.contents output.old) (W.contents output.new))

@@ -12,8 +12,8 @@ ghost use Rattle.modinfo.specs.Answer.{IsInfoText, IsModuleOf, IsNoConversion, I
 ghost use Rattle.modinfo.specs.internal.Request.{IsReadFrom, subcommand_of};
 
 use crate::fault::Fault;
-use crate::input::{document_of, parse_json};
-use crate::reach::reach_text;
+use crate::input::{document_of, parse_json, question_of};
+use crate::reach::Question;
 use crate::subcommand::Subcommand;
 use deno_graph_info::analysis::{ModuleInfo, module_graph_1_to_2_owned};
 use deno_graph_module_info::module_info;
@@ -30,7 +30,7 @@ pub enum Request {
     /// The stored information of one module, of version 1.
     Convert(Value),
     /// A root, and the information on modules.
-    Reach(Value),
+    Reach(Question),
 }
 
 impl Request {
@@ -44,7 +44,7 @@ impl Request {
         match subcommand {
             Subcommand::Analyze => Ok(Request::Analyze(document_of(alloc, document)?)),
             Subcommand::Convert => Ok(Request::Convert(parse_json(alloc, document)?)),
-            Subcommand::Reach => Ok(Request::Reach(parse_json(alloc, document)?)),
+            Subcommand::Reach => Ok(Request::Reach(question_of(alloc, document)?)),
         }
     }
 
@@ -58,7 +58,7 @@ impl Request {
         match self {
             Request::Analyze(document) => analyze(alloc, document),
             Request::Convert(before) => convert(alloc, before),
-            Request::Reach(question) => reach_text(alloc, question),
+            Request::Reach(question) => Ok(question.answer(alloc)?),
         }
     }
 }

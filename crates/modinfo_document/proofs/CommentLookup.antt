@@ -1,54 +1,25 @@
 -- Comments by position and number, among the entries of a side.
-use Rattle.std.proofs.Common.{
-  ◌≡◌,
-  ℕ,
-  zero,
-  suc,
-  ◌+◌,
-  ◌-◌,
-  ◌<◌,
-  ◌≤◌,
-  List,
-  [],
-  ◌∷◌,
-  ◌++◌,
-  length,
-  Bool,
-  true,
-  false,
-  eqb,
-  if◌then◌else◌,
-  codes,
-  Option,
-  Some,
-  None,
-  slice_get,
-  arith,
-  refl,
-  sym,
-  ap,
-  subst,
-  ◌∙◌,
-}
+use Rattle.std.proofs.Common.{◌≡◌, ℕ, zero, suc, ◌-◌, ◌<◌, ◌≤◌, List, [], ◌∷◌, ◌++◌, length, Bool, true}
+use Rattle.std.proofs.Common.{false, eqb, if◌then◌else◌, codes, Option, Some, None, slice_get, arith, refl}
+use Rattle.std.proofs.Common.{sym, ap, subst, ◌∙◌}
 use Rattle.std.proofs.lemmas.Option.{none-some, option_and_then_some, same_Some}
-use Rattle.deno_graph_json.specs.Value.{
-  Value,
-  Items,
-  no_items,
-  item,
-  item_count,
-  nth_item,
-  as_array,
-  as_object,
-  as_str,
-  as_whole,
-  last_named,
-  Members,
+use Rattle.serde_json.specs.Data.{Data, Items, no_items, item, Members}
+use Rattle.serde_json.specs.Events.{items_len}
+use Rattle.serde_json.specs.Find.{as_array, as_object, as_str, get_item, get_member}
+use Rattle.deno_graph_json.specs.Read.Partial.{
+  ◌>>=◌,
+  as_usize,
+  member_at,
+  member_or,
+  read_or,
+  reads_array,
+  reads_items,
 }
+use Rattle.deno_graph_json.proofs.Reading.{goes_on}
 use Rattle.deno_graph_source.specs.declared.tree.comments.CommentSide.{CommentSide}
 use Rattle.deno_graph_source.specs.declared.tree.comments.CommentSide.TheVariants.{Leading, Trailing}
+use Rattle.modinfo_document.specs.declared.comments.FiledEntry.{FiledEntry}
 use Rattle.modinfo_document.specs.Comments.{
-  FiledEntry,
   Sides,
   comments_at,
   reads_comment,
@@ -60,23 +31,22 @@ use Rattle.modinfo_document.specs.Comments.{
 use Rattle.modinfo_document.specs.Document.{Contents, reads_document}
 use Rattle.modinfo_document.specs.Kind.{media_types, reads_named}
 use Rattle.modinfo_document.specs.Node.{reads_program}
-use Rattle.modinfo_document.specs.Partial.{◌>>=◌, or_default, reads_array, reads_items, required}
 use Rattle.modinfo_document.specs.Lookup.{side_entries}
 use Rattle.modinfo_document.specs.internal.Lookup.{entry_items}
 use Rattle.modinfo_document.specs.Comments.{entry_with}
 use Rattle.modinfo_document.proofs.NodeLookup.{items_from, read_from, step}
-use Rattle.modinfo_document.proofs.Reading.{goes_on}
 
 -- The length of the list that is read is the number of items.
-items_count : {A : Type 0} (reads : Value → Option A) (values : Items) (xs : List A)
-    → reads_items reads values ≡ Some xs → item_count values ≡ length xs
+items_count : {A : Type 0} (reads : Data → Option A) (values : Items) (xs : List A)
+    → reads_items reads values ≡ Some xs → items_len values ≡ length xs
 unfolding reads_items
 items_count reads no_items xs is = ap length (same_Some [] xs is)
 items_count reads (item value values) xs is =
     let first = step (reads value) (λ x. reads_items reads values >>= (λ ys. Some (x ∷ ys))) xs is in
     let rest = step (reads_items reads values) (λ ys. Some (first.0 ∷ ys)) xs first.2 in
-    ap (λ n. n + 1) (items_count reads values rest.0 rest.1) ∙ omega arith
-    ∙ ap length (same_Some (first.0 ∷ rest.0) xs rest.2)
+    let counted = items_count reads values rest.0 rest.1 in
+    let all = ap length (same_Some (first.0 ∷ rest.0) xs rest.2) in
+    omega (arith, counted, all)
 
 -- The comments of an entry at a position: none if the entry has another position.
 abbrev IsFoundIn : FiledEntry → ℕ → Option Items → Type 0
@@ -94,27 +64,27 @@ by_test entry position values read true test
 by_test entry position values read false test None is = test
 by_test entry position values read false test (Some found) is = absurd (none-some found (sym is))
 
-found_in : (value : Value) (entry : FiledEntry) → reads_entry value ≡ Some entry
+found_in : (value : Data) (entry : FiledEntry) → reads_entry value ≡ Some entry
     → (position : ℕ) (found : Option Items)
     → found ≡ entry_items position value → IsFoundIn entry position found
-unfolding reads_entry entry_items required reads_array
+unfolding reads_entry entry_items member_at reads_array
 found_in value entry is position found at =
     option_and_then_some _ (as_object value) entry is
     (λ members object with_members. option_and_then_some _
-    (last_named (codes "pos") members >>= as_whole) entry with_members
+    (get_member (codes "pos") members >>= as_usize) entry with_members
     (λ pos pos_is with_pos. option_and_then_some _
-    (last_named (codes "comments") members >>= reads_array reads_comment) entry with_pos
+    (get_member (codes "comments") members >>= reads_array reads_comment) entry with_pos
     (λ comments read made. option_and_then_some (reads_array reads_comment)
-    (last_named (codes "comments") members) comments read
+    (get_member (codes "comments") members) comments read
     (λ array there is_array. option_and_then_some (reads_items reads_comment)
     (as_array array) comments is_array
     (λ values array_is read_values.
     subst (λ e. IsFoundIn e position found) (same_Some (entry_with pos comments) entry made)
     (by_test (entry_with pos comments) position values read_values (eqb pos position) refl found
     (at ∙ goes_on (as_object value) _ members _ object
-    (goes_on (last_named (codes "pos") members >>= as_whole) _ pos _ pos_is
+    (goes_on (get_member (codes "pos") members >>= as_usize) _ pos _ pos_is
     (ap (λ o. if eqb pos position then o else None)
-    (goes_on (last_named (codes "comments") members) as_array array (Some values) there array_is))))))))))
+    (goes_on (get_member (codes "comments") members) as_array array (Some values) there array_is))))))))))
 
 within_front : {A : Type 0} (xs ys : List A) (n : ℕ) → n < length xs → slice_get xs n ≡ slice_get (xs ++ ys) n
 within_front [] ys n fits = absurd (omega (arith, fits))
@@ -128,7 +98,7 @@ past_front (x ∷ xs) ys zero fits = absurd (omega (arith, fits))
 past_front (x ∷ xs) ys (suc n) fits = past_front xs ys n (omega (arith, fits))
     ∙ ap (slice_get ys) (omega arith)
 
-module _ (position : ℕ) (value : Value) (values : Items) (rest : List FiledEntry)
+module _ (position : ℕ) (value : Data) (values : Items) (rest : List FiledEntry)
     (is : reads_items reads_entry (item value values) ≡ Some rest) where
   split : (entry : FiledEntry) × (more : List FiledEntry) × (reads_entry value ≡ Some entry)
       × (reads_items reads_entry values ≡ Some more) × (entry ∷ more ≡ rest)
@@ -162,20 +132,20 @@ module _ (position : ℕ) (value : Value) (values : Items) (rest : List FiledEnt
         )
 
     -- The comment is one of the first entry.
-    pub within : (n : ℕ) → n < item_count comments
-        → (nth_item n comments >>= reads_comment) ≡ slice_get (comments_at position rest) n
+    pub within : (n : ℕ) → n < items_len comments
+        → (get_item n comments >>= reads_comment) ≡ slice_get (comments_at position rest) n
     within n fits =
         let count = items_count reads_comment comments split.0.comments here.0 in
-        read_from reads_comment (nth_item n comments) (slice_get split.0.comments n)
+        read_from reads_comment (get_item n comments) (slice_get split.0.comments n)
         (items_from reads_comment comments split.0.comments here.0 n)
         ∙ within_front split.0.comments (comments_at position split.1) n (subst (λ m. n < m) count fits)
         ∙ ap (λ cs. slice_get cs n) here.1
 
     -- The comment is one of a later entry.
-    pub past : (n : ℕ) → item_count comments ≤ n
+    pub past : (n : ℕ) → items_len comments ≤ n
         → (more : List FiledEntry) × (reads_items reads_entry values ≡ Some more)
         × (slice_get (comments_at position rest) n ≡ slice_get (comments_at position more)
-        (n - item_count comments))
+        (n - items_len comments))
     past n fits =
         let count = items_count reads_comment comments split.0.comments here.0 in (
           split.1,
@@ -198,7 +168,7 @@ abbrev pub IsOfEntries : List FiledEntry → Option Items → Type 0
 IsOfEntries entries None = entries ≡ []
 IsOfEntries entries (Some values) = reads_items reads_entry values ≡ Some entries
 
-of_array : (entries : List FiledEntry) (listed : Value) → reads_array reads_entry listed ≡ Some entries
+of_array : (entries : List FiledEntry) (listed : Data) → reads_array reads_entry listed ≡ Some entries
     → (found : Option Items)
     → found ≡ as_array listed → IsOfEntries entries found
 unfolding reads_array
@@ -209,8 +179,8 @@ of_array entries listed is (Some found) at =
     option_and_then_some (reads_items reads_entry) (as_array listed) entries is
     (λ values there read. ap (reads_items reads_entry) (same_Some found values (at ∙ there)) ∙ read)
 
-of_member : (entries : List FiledEntry) (member : Option Value)
-    → or_default (reads_array reads_entry) [] member ≡ Some entries
+of_member : (entries : List FiledEntry) (member : Option Data)
+    → read_or (reads_array reads_entry) [] member ≡ Some entries
     → (found : Option Items) → found ≡ (member >>= as_array) → IsOfEntries entries found
 of_member entries None is None at = sym (same_Some [] entries is)
 of_member entries None is (Some found) at = absurd (none-some found (sym at))
@@ -238,26 +208,26 @@ side_in side members sides is =
     of_side Trailing leading trailing first second = second
 
 -- The entries of a side, from the member of a document.
-abbrev pub side_items : CommentSide → Value → Option Items
-side_items side value = as_object value >>= (λ members. last_named (side_name side) members >>= as_array)
+abbrev pub side_items : CommentSide → Data → Option Items
+side_items side value = as_object value >>= (λ members. get_member (side_name side) members >>= as_array)
 
-pub entries_from : (value : Value) (contents : Contents) → reads_document value ≡ Some contents
+pub entries_from : (value : Data) (contents : Contents) → reads_document value ≡ Some contents
     → (side : CommentSide) (found : Option Items)
     → found ≡ side_items side value → IsOfEntries (side_entries contents.comments side) found
-unfolding reads_document required reads_side
+unfolding reads_document member_at reads_side member_or
 entries_from value contents is side found at =
     option_and_then_some _ (as_object value) contents is
     (λ members object with_members. option_and_then_some _
-    (last_named (codes "specifier") members >>= as_str) contents with_members
+    (get_member (codes "specifier") members >>= as_str) contents with_members
     (λ specifier _ with_specifier. option_and_then_some _
-    (last_named (codes "mediaType") members >>= reads_named media_types) contents with_specifier
+    (get_member (codes "mediaType") members >>= reads_named media_types) contents with_specifier
     (λ media_type _ with_media_type. option_and_then_some _
-    (last_named (codes "source") members >>= as_str) contents with_media_type
+    (get_member (codes "source") members >>= as_str) contents with_media_type
     (λ source _ with_source. option_and_then_some _ (reads_sides members) contents with_source
     (λ comments read with_comments. option_and_then_some _
-    (last_named (codes "program") members >>= reads_program) contents with_comments
+    (get_member (codes "program") members >>= reads_program) contents with_comments
     (λ program _ made.
     subst (λ s. IsOfEntries (side_entries s.comments side) found) (same_Some _ contents made)
-    (of_member (side_entries comments side) (last_named (side_name side) members)
+    (of_member (side_entries comments side) (get_member (side_name side) members)
     (side_in side members comments read) found
-    (at ∙ ap (λ o. o >>= (λ ms. last_named (side_name side) ms >>= as_array)) object))))))))
+    (at ∙ ap (λ o. o >>= (λ ms. get_member (side_name side) ms >>= as_array)) object))))))))

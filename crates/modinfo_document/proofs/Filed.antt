@@ -1,28 +1,7 @@
 -- Filing comments one after another.
-use Rattle.std.proofs.Common.{
-  inl,
-  inr,
-  ◌≡◌,
-  ℕ,
-  List,
-  [],
-  ◌∷◌,
-  ◌++◌,
-  append_assoc,
-  append-nil,
-  eqb,
-  if◌then◌else◌,
-  IsPermutation,
-  Option,
-  Some,
-  None,
-  unwrap_or,
-  refl,
-  sym,
-  ap,
-  subst,
-  ◌∙◌,
-}
+use Rattle.std.proofs.Common.{inl, inr, ◌≡◌, ℕ, List, [], ◌∷◌, ◌++◌, append_assoc, append-nil, eqb}
+use Rattle.std.proofs.Common.{if◌then◌else◌, IsPermutation, Option, Some, unwrap_or, refl, sym, ap, subst}
+use Rattle.std.proofs.Common.{◌∙◌}
 use Rattle.std.specs.List.Sorted.{IsStrictlySortedBy}
 use Rattle.std.proofs.lemmas.Bool.Decides.{eqb_tells}
 use Rattle.std.proofs.lemmas.Grind.{flat_map-append}
@@ -37,8 +16,8 @@ use Rattle.deno_graph_source.specs.Comments.{Ascends, Filing, FiledComments}
 use Rattle.deno_graph_source.specs.declared.tree.comments.CommentSide.{CommentSide}
 use Rattle.deno_graph_source.specs.declared.tree.comments.CommentSide.TheVariants.{Leading, Trailing}
 use Rattle.deno_graph_source.specs.declared.tree.comments.DependencyComment.{DependencyComment}
+use Rattle.modinfo_document.specs.declared.comments.FiledEntry.{FiledEntry}
 use Rattle.modinfo_document.specs.Comments.{
-  FiledEntry,
   entry_with,
   all_comments,
   comments_at,

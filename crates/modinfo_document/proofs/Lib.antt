@@ -1,8 +1,9 @@
-pub mod Reading
+pub mod Results
 pub mod Nodes
 pub mod OneDocument
 pub mod Filed
 pub mod Documents
 pub mod NodeLookup
 pub mod CommentLookup
+pub mod Places
 pub mod Urls

@@ -1,31 +1,6 @@
 -- A text has at most one document, and the text of a document with a source has no error.
-use Rattle.std.proofs.Common.{
-  ◌≡◌,
-  ◌≢◌,
-  ℕ,
-  ◌<◌,
-  ◌≤◌,
-  List,
-  [],
-  ◌∷◌,
-  ◌++◌,
-  Bool,
-  true,
-  false,
-  cond,
-  ◌⊎◌,
-  inl,
-  inr,
-  Some,
-  None,
-  Ok,
-  refl,
-  sym,
-  ap,
-  subst,
-  ◌∙◌,
-  arith,
-}
+use Rattle.std.proofs.Common.{◌≡◌, ◌≢◌, ℕ, ◌<◌, ◌≤◌, List, [], ◌∷◌, true, false, cond, inl, inr, Some, None}
+use Rattle.std.proofs.Common.{Ok, refl, sym, ap, subst, ◌∙◌, arith}
 use Rattle.std.specs.BTreeMap.{is_at}
 use Rattle.std.specs.List.{AllByRecursion}
 use Rattle.std.specs.List.Sorted.{IsStrictlySortedBy}
@@ -39,27 +14,17 @@ use Rattle.std.proofs.lemmas.Cmp.{nat_cmp_total}
 use Rattle.std.proofs.lemmas.Option.{none-some, same_Some}
 use Rattle.url.specs.Parts.{Parts}
 use Rattle.url.specs.Parser.{parse_url}
-use Rattle.deno_graph_json.specs.Value.{Value, plain_value}
-use Rattle.deno_graph_json.specs.View.{IsValueOf}
-use Rattle.deno_graph_json.proofs.Ahead.{same_ahead}
+use Rattle.serde_json.specs.Data.{Data}
+use Rattle.serde_json.specs.Read.{read as read_text}
 use Rattle.deno_graph_source.specs.ByOffset.{value_at}
-use Rattle.deno_graph_source.specs.Comments.{Ascends, Filing, FiledComments}
+use Rattle.deno_graph_source.specs.Comments.{Filing, FiledComments}
 use Rattle.deno_graph_source.specs.ParsedSource.{ParsedModule}
-use Rattle.deno_graph_source.specs.Source.{HasFault, IsValid}
+use Rattle.deno_graph_source.specs.Source.{IsValid}
 use Rattle.deno_graph_source.proofs.SourceFaults.{fault_refutes}
-use Rattle.deno_graph_source.specs.declared.tree.media_type.MediaType.{MediaType}
-use Rattle.deno_graph_source.specs.declared.tree.node.Program.{Program}
-use Rattle.modinfo_document.specs.Comments.{AreThoseOf, FiledEntry, HasCommentsOf, Sides}
-use Rattle.modinfo_document.specs.Document.{
-  Has,
-  HasDocumentError,
-  IsDocumentOf,
-  IsNoDocument,
-  IsNoSource,
-  IsSourceOf,
-  Contents,
-  reads_document,
-}
+use Rattle.modinfo_document.specs.declared.comments.FiledEntry.{FiledEntry}
+use Rattle.modinfo_document.specs.Comments.{AreThoseOf, HasCommentsOf, Sides}
+use Rattle.modinfo_document.specs.Document.{Has, HasDocumentError, IsDocumentOf, IsNoDocument, IsNoSource}
+use Rattle.modinfo_document.specs.Document.{IsSourceOf, reads_document}
 use Rattle.modinfo_document.specs.declared.document.Document.{Document}
 use Rattle.modinfo_document.specs.declared.error.DocumentError.{DocumentError}
 use Rattle.modinfo_document.specs.declared.error.DocumentError.TheVariants.{
@@ -69,7 +34,7 @@ use Rattle.modinfo_document.specs.declared.error.DocumentError.TheVariants.{
   Source,
   OutOfMemory,
 }
-use Rattle.modinfo_document.proofs.Reading.{some_with}
+use Rattle.modinfo_document.proofs.Results.{some_with}
 
 -- ---- Values by ascending positions
 
@@ -177,10 +142,8 @@ one_comments sides f g a b =
 
 -- ---- The value and the document of a text
 
-pub one_value : (text : List ℕ) (v w : Value) → IsValueOf text v → IsValueOf text w → v ≡ w
-one_value text v w a b =
-    let same = same_ahead a.0 b.0 [] [] (ap (λ ts. ts ++ []) (sym a.1.0 ∙ b.1.0)) in
-    a.2 ∙ ap plain_value same.0 ∙ sym b.2
+one_value : (text : List ℕ) (d e : Data) → read_text text ≡ Some d → read_text text ≡ Some e → d ≡ e
+one_value text d e a b = same_Some d e (sym a ∙ b)
 
 -- Two documents of one text are equal.
 pub record AreSame (d e : Document) : Type 0 where
@@ -244,7 +207,7 @@ no_source_fault d e url OutOfMemory same is valid apart none = apart refl
 
 no_document_fault : (text : List ℕ) (d : Document) (fault : DocumentError) → IsDocumentOf text d
     → fault ≢ OutOfMemory → IsNoDocument text fault → ⊥
-no_document_fault text d (Json offset) is apart none = none is.1.0 is.1.1
+no_document_fault text d (Json offset) is apart none = none-some is.0 (sym none ∙ is.1)
 no_document_fault text d (Tree mismatch) is apart none =
     let s = some_with (λ contents. Has contents d) (reads_document is.0) is.2 in
     let values = ap reads_document (one_value text none.0 is.0 none.1 is.1) in

@@ -16,7 +16,9 @@ use Rattle.std.specs.Prelude.{
   if◌then◌else◌,
 }
 use Rattle.std.specs.List.{flat_map}
-use Rattle.deno_graph_json.specs.Value.{Value, Members, as_object, as_str, as_whole, last_named}
+use Rattle.serde_json.specs.Data.{Data, Members}
+use Rattle.serde_json.specs.Find.{as_object, as_str}
+use Rattle.deno_graph_json.specs.Read.Partial.{◌>>=◌, as_usize, member_at, member_or, reads_array}
 use Rattle.deno_graph_source.specs.ByOffset.{all_items, value_at}
 use Rattle.deno_graph_source.specs.Comments.{Ascends, Filing, FiledComments}
 use Rattle.deno_graph_source.specs.declared.tree.comments.CommentSide.{CommentSide}
@@ -24,8 +26,8 @@ use Rattle.deno_graph_source.specs.declared.tree.comments.CommentSide.TheVariant
 use Rattle.deno_graph_source.specs.declared.tree.comments.CommentKind.{CommentKind}
 use Rattle.deno_graph_source.specs.declared.tree.comments.CommentKind.TheVariants.{Line, Block}
 use Rattle.deno_graph_source.specs.declared.tree.comments.DependencyComment.{DependencyComment}
-use Rattle.modinfo_document.specs.Partial.{◌>>=◌, reads_array, required, or_default}
 use Rattle.modinfo_document.specs.Literal.{reads_source_range}
+use Rattle.modinfo_document.specs.declared.comments.FiledEntry.{FiledEntry}
 use Rattle.modinfo_document.specs.Kind.{reads_named}
 
 -- The kinds of a comment, by name.
@@ -33,29 +35,24 @@ abbrev pub comment_kinds : List (List ℕ × CommentKind)
 comment_kinds = (codes "line", Line) ∷ (codes "block", Block) ∷ []
 
 -- A comment: `{"kind":"line","range":[START,END],"text":TEXT}`, or with the kind `block`.
-unfoldable pub reads_comment : Value → Option DependencyComment
+unfoldable pub reads_comment : Data → Option DependencyComment
 reads_comment value = do
   members ← as_object value
-  kind ← required (reads_named comment_kinds) (codes "kind") members
-  range ← required reads_source_range (codes "range") members
-  text ← required as_str (codes "text") members
+  kind ← member_at (reads_named comment_kinds) (codes "kind") members
+  range ← member_at reads_source_range (codes "range") members
+  text ← member_at as_str (codes "text") members
   Some (record { kind = kind; range = range; text = text })
-
--- An entry of `leading` or `trailing`: a position, and the comments to be filed there.
-pub record FiledEntry : Type 0 where
-  pub position : ℕ
-  pub comments : List DependencyComment
 
 -- The entry with this position and these comments.
 abbrev pub entry_with : ℕ → List DependencyComment → FiledEntry
 entry_with position comments = record { position = position; comments = comments }
 
 -- `{"pos":POSITION,"comments":[COMMENT ..]}`.
-unfoldable pub reads_entry : Value → Option FiledEntry
+unfoldable pub reads_entry : Data → Option FiledEntry
 reads_entry value = do
   members ← as_object value
-  position ← required as_whole (codes "pos") members
-  comments ← required (reads_array reads_comment) (codes "comments") members
+  position ← member_at as_usize (codes "pos") members
+  comments ← member_at (reads_array reads_comment) (codes "comments") members
   Some (record { position = position; comments = comments })
 
 -- The name of the member with the comments of a side.
@@ -65,7 +62,7 @@ side_name Trailing = codes "trailing"
 
 -- The entries of a side, none where the member is missing.
 unfoldable pub reads_side : CommentSide → Members → Option (List FiledEntry)
-reads_side side members = or_default (reads_array reads_entry) [] (last_named (side_name side) members)
+reads_side side members = member_or (reads_array reads_entry) (side_name side) [] members
 
 -- The comments of all entries with this position, in the order of the entries.
 abbrev pub comments_at : ℕ → List FiledEntry → List DependencyComment

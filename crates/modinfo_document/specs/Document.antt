@@ -1,17 +1,18 @@
 -- Module documents: reading one from a text, and making its source.
 use Rattle.std.specs.Prelude.{◌≡◌, ◌⊎◌, List, codes, ℕ, Option, Some, None, Ok, Err, false, IsSomeAnd}
 use Rattle.std.specs.Rc.{rc_str_bytes}
-use Rattle.deno_graph_json.specs.Flat.{IsUnreadable}
-use Rattle.deno_graph_json.specs.Value.{Value, Members, as_object, as_str}
-use Rattle.deno_graph_json.specs.View.{IsValueOf}
+use Rattle.serde_json.specs.Data.{Data}
+use Rattle.serde_json.specs.Find.{as_object, as_str}
+use Rattle.serde_json.specs.Read.{read as read_text}
+use Rattle.deno_graph_json.specs.Read.Error.{IsIn}
+use Rattle.deno_graph_json.specs.Read.Partial.{◌>>=◌, member_at}
+use Rattle.deno_graph_json.specs.declared.error.ReadError.TheVariants.{Mismatch}
 use Rattle.deno_graph_source.specs.declared.tree.media_type.MediaType.{MediaType}
 use Rattle.deno_graph_source.specs.declared.tree.node.Program.{Program}
-use Rattle.deno_graph_source.specs.Comments.{FiledComments}
 use Rattle.deno_graph_source.specs.ParsedSource.{ParsedModule}
 use Rattle.deno_graph_source.specs.Source.{HasFault, IsValid}
 use Rattle.url.specs.Parser.{parse_url}
 use Rattle.url.specs.declared.error.ParseError.{ParseError}
-use Rattle.modinfo_document.specs.Partial.{◌>>=◌, required}
 use Rattle.modinfo_document.specs.Kind.{media_types, reads_named}
 use Rattle.modinfo_document.specs.Comments.{Sides, reads_sides, AreThoseOf}
 use Rattle.modinfo_document.specs.Node.{reads_program}
@@ -35,14 +36,14 @@ pub record Contents : Type 0 where
 
 -- `{"specifier":TEXT,"mediaType":NAME,"source":TEXT,"leading":[ENTRY ..],"trailing":[ENTRY
 -- ..],"program":PROGRAM}`.
-unfoldable pub reads_document : Value → Option Contents
+unfoldable pub reads_document : Data → Option Contents
 reads_document value = do
   members ← as_object value
-  specifier ← required as_str (codes "specifier") members
-  media_type ← required (reads_named media_types) (codes "mediaType") members
-  source ← required as_str (codes "source") members
+  specifier ← member_at as_str (codes "specifier") members
+  media_type ← member_at (reads_named media_types) (codes "mediaType") members
+  source ← member_at as_str (codes "source") members
   comments ← reads_sides members
-  program ← required reads_program (codes "program") members
+  program ← member_at reads_program (codes "program") members
   Some (record {
     specifier = specifier;
     media_type = media_type;
@@ -61,13 +62,15 @@ pub record Has (contents : Contents) (document : Document) : Type 0 where
 
 -- The text is JSON, and the document has the contents of its value.
 abbrev pub IsDocumentOf : List ℕ → Document → Type 0
-IsDocumentOf text document = (value : Value) × IsValueOf text value
+IsDocumentOf text document = (value : Data) × (read_text text ≡ Some value)
     × IsSomeAnd (reads_document value) (λ contents. Has contents document)
 
--- Why the text is no document: it isn't JSON, or JSON of another form; or an allocation failed.
+-- Why the text is no document: it isn't JSON, or JSON of another form, with a value that isn't as expected;
+-- or an allocation failed.
 abbrev pub IsNoDocument : List ℕ → DocumentError → Type 0
-IsNoDocument text (Json _) = IsUnreadable text
-IsNoDocument text (Tree _) = (value : Value) × IsValueOf text value × (reads_document value ≡ None)
+IsNoDocument text (Json _) = read_text text ≡ None
+IsNoDocument text (Tree mismatch) = (value : Data) × (read_text text ≡ Some value)
+    × (reads_document value ≡ None) × IsIn value (Mismatch mismatch)
 IsNoDocument text OutOfMemory = Unit {0}
 IsNoDocument text Specifier = ⊥
 IsNoDocument text (Source _) = ⊥

@@ -1,4 +1,7 @@
--- The errors in reading a document's text, its specifier and its source, each as an error of the document.
+-- The errors in reading a document's text, its JSON, its specifier and its source, each as an error of the
+-- document.
+use Rattle.deno_graph_json.specs.declared.error.ReadError.{ReadError}
+use Rattle.deno_graph_json.specs.declared.error.ReadError.TheVariants as read
 use Rattle.deno_graph_json.specs.declared.flat.fault.TapeFault.{TapeFault}
 use Rattle.deno_graph_json.specs.declared.flat.fault.TapeFault.TheVariants.{
   Json as NoJson,
@@ -11,6 +14,7 @@ use Rattle.deno_graph_source.specs.declared.tree.fault.SourceFault.TheVariants a
 use Rattle.modinfo_document.specs.declared.error.DocumentError.{DocumentError}
 use Rattle.modinfo_document.specs.declared.error.DocumentError.TheVariants.{
   Json,
+  Tree,
   Specifier,
   Source,
   OutOfMemory,
@@ -20,6 +24,11 @@ use Rattle.modinfo_document.specs.declared.error.DocumentError.TheVariants.{
 abbrev pub of_tape : TapeFault → DocumentError
 of_tape (NoJson offset) = Json offset
 of_tape NoMemory = OutOfMemory
+
+-- The JSON has another form, or an allocation failed.
+abbrev pub of_read : ReadError → DocumentError
+of_read (read.Mismatch mismatch) = Tree mismatch
+of_read read.OutOfMemory = OutOfMemory
 
 -- The specifier isn't a URL, or an allocation failed. A URL of 4 GB counts as a failed allocation.
 abbrev pub of_url : ParseError → DocumentError

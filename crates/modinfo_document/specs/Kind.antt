@@ -1,6 +1,14 @@
 -- Reading a kind of node, by its name and its members; and the names that a document may have.
-use Rattle.std.specs.Prelude.{ℕ, List, [], ◌∷◌, codes, bytes_eq, Option, Some, None, if◌then◌else◌}
-use Rattle.deno_graph_json.specs.Value.{Value, Members, as_object, as_str, last_named}
+use Rattle.std.specs.Prelude.{ℕ, List, [], ◌∷◌, codes, bytes_eq, false, Option, Some, None, if◌then◌else◌}
+use Rattle.serde_json.specs.Data.{Data, null, boolean, number, string, array, object, Members}
+use Rattle.serde_json.specs.Find.{as_bool, as_object, as_str, get_member}
+use Rattle.deno_graph_json.specs.Read.Partial.{
+  ◌>>=◌,
+  member_at,
+  member_or,
+  reads_array,
+  reads_optional,
+}
 use Rattle.deno_graph_source.specs.declared.tree.node.Arg.{Arg}
 use Rattle.deno_graph_source.specs.declared.tree.node.BinaryOp.{BinaryOp}
 use Rattle.deno_graph_source.specs.declared.tree.node.BinaryOp.TheVariants.{Add, Other as OtherOperator}
@@ -51,7 +59,6 @@ use Rattle.deno_graph_source.specs.declared.tree.media_type.MediaType.TheVariant
   Json,
   Other as OtherType,
 }
-use Rattle.modinfo_document.specs.Partial.{◌>>=◌, reads_array, required, optional, or_default, flag}
 use Rattle.modinfo_document.specs.Literal.{reads_source_range, reads_string, reads_literal}
 
 -- The value of a name in a table.
@@ -80,21 +87,21 @@ media_types = (codes "JavaScript", JavaScript) ∷ (codes "Jsx", Jsx) ∷ (codes
     ∷ (codes "Other", OtherType) ∷ []
 
 -- A string that is a name of the table.
-unfoldable pub reads_named : {A : Type 0} → List (List ℕ × A) → Value → Option A
+unfoldable pub reads_named : {A : Type 0} → List (List ℕ × A) → Data → Option A
 reads_named table value = do
   name ← as_str value
   named table name
 
 -- An argument: `{"range":[START,END],"spread":BOOL}`.
-unfoldable pub reads_arg : Value → Option Arg
+unfoldable pub reads_arg : Data → Option Arg
 reads_arg value = do
   members ← as_object value
-  range ← required reads_source_range (codes "range") members
-  spread ← flag (codes "spread") members
+  range ← member_at reads_source_range (codes "range") members
+  spread ← member_or as_bool (codes "spread") false members
   Some (record { spread = spread; range = range })
 
 -- The key by the values of `str` and `ident`, of which exactly one is present.
-abbrev pub string_or_identifier : Option Value → Option Value → Option PropKey
+abbrev pub string_or_identifier : Option Data → Option Data → Option PropKey
 string_or_identifier (Some value) None = do
   text ← reads_string value
   Some (StrKey text)
@@ -105,92 +112,91 @@ string_or_identifier None None = None
 string_or_identifier (Some _) (Some _) = None
 
 -- A key that is known: `{"str":STRING}` or `{"ident":TEXT}`.
-unfoldable pub reads_static_key : Value → Option PropKey
-reads_static_key value = do
-  members ← as_object value
-  string_or_identifier (last_named (codes "str") members) (last_named (codes "ident") members)
-
--- The key, by its text if it is a string.
-abbrev pub key_of : Option (List ℕ) → Value → Option PropKey
-key_of (Some text) value = if bytes_eq text (codes "other") then Some OtherKey else reads_static_key value
-key_of None value = reads_static_key value
+unfoldable pub reads_static_key : Members → Option PropKey
+reads_static_key members =
+    string_or_identifier (get_member (codes "str") members) (get_member (codes "ident") members)
 
 -- A key: `"other"`, or one that is known.
-unfoldable pub reads_key : Value → Option PropKey
-reads_key value = key_of (as_str value) value
+unfoldable pub reads_key : Data → Option PropKey
+reads_key null = None
+reads_key (boolean _) = None
+reads_key (number _) = None
+reads_key (string text) = if bytes_eq text (codes "other") then Some OtherKey else None
+reads_key (array _) = None
+reads_key (object members) = reads_static_key members
 
 -- Reading each kind of node, from the members of the node.
 module _ (members : Members) where
   unfoldable pub reads_import_decl : Option Kind
   reads_import_decl = do
-    type_only ← flag (codes "typeOnly") members
-    phase ← or_default (reads_named phases) Evaluation (last_named (codes "phase") members)
-    has_specifiers ← flag (codes "hasSpecifiers") members
-    has_with ← flag (codes "hasWith") members
-    src ← required reads_literal (codes "src") members
+    type_only ← member_or as_bool (codes "typeOnly") false members
+    phase ← member_or (reads_named phases) (codes "phase") Evaluation members
+    has_specifiers ← member_or as_bool (codes "hasSpecifiers") false members
+    has_with ← member_or as_bool (codes "hasWith") false members
+    src ← member_at reads_literal (codes "src") members
     Some (ImportDecl type_only phase src has_specifiers has_with)
 
   unfoldable pub reads_named_export : Option Kind
   reads_named_export = do
-    type_only ← flag (codes "typeOnly") members
-    has_with ← flag (codes "hasWith") members
-    src ← optional reads_literal (codes "src") members
+    type_only ← member_or as_bool (codes "typeOnly") false members
+    has_with ← member_or as_bool (codes "hasWith") false members
+    src ← member_or (reads_optional reads_literal) (codes "src") None members
     Some (NamedExport type_only src has_with)
 
   unfoldable pub reads_export_all : Option Kind
   reads_export_all = do
-    type_only ← flag (codes "typeOnly") members
-    has_with ← flag (codes "hasWith") members
-    src ← required reads_literal (codes "src") members
+    type_only ← member_or as_bool (codes "typeOnly") false members
+    has_with ← member_or as_bool (codes "hasWith") false members
+    src ← member_at reads_literal (codes "src") members
     Some (ExportAll type_only src has_with)
 
   unfoldable pub reads_import_equals : Option Kind
   reads_import_equals = do
-    type_only ← flag (codes "typeOnly") members
-    is_export ← flag (codes "isExport") members
-    external ← optional reads_literal (codes "external") members
+    type_only ← member_or as_bool (codes "typeOnly") false members
+    is_export ← member_or as_bool (codes "isExport") false members
+    external ← member_or (reads_optional reads_literal) (codes "external") None members
     Some (ImportEquals type_only is_export external)
 
   unfoldable pub reads_import_type : Option Kind
   reads_import_type = do
-    has_with ← flag (codes "hasWith") members
-    arg ← required reads_literal (codes "arg") members
+    has_with ← member_or as_bool (codes "hasWith") false members
+    arg ← member_at reads_literal (codes "arg") members
     Some (ImportType arg has_with)
 
   unfoldable pub reads_module_decl : Option Kind
   reads_module_decl = do
-    name ← optional reads_literal (codes "name") members
+    name ← member_or (reads_optional reads_literal) (codes "name") None members
     Some (ModuleDecl name)
 
   unfoldable pub reads_call : Option Kind
   reads_call = do
-    callee ← required (reads_named callees) (codes "callee") members
-    args ← required (reads_array reads_arg) (codes "args") members
+    callee ← member_at (reads_named callees) (codes "callee") members
+    args ← member_at (reads_array reads_arg) (codes "args") members
     Some (Call callee args)
 
   unfoldable pub reads_str : Option Kind
   reads_str = do
-    text ← required reads_string (codes "value") members
+    text ← member_at reads_string (codes "value") members
     Some (Str text)
 
   unfoldable pub reads_template : Option Kind
   reads_template = do
-    quasis ← required (reads_array reads_string) (codes "quasis") members
+    quasis ← member_at (reads_array reads_string) (codes "quasis") members
     Some (Template quasis)
 
   unfoldable pub reads_binary : Option Kind
   reads_binary = do
-    operator ← required (reads_named operators) (codes "op") members
+    operator ← member_at (reads_named operators) (codes "op") members
     Some (Binary operator)
 
   unfoldable pub reads_ident : Option Kind
   reads_ident = do
-    name ← required as_str (codes "value") members
+    name ← member_at as_str (codes "value") members
     Some (Ident name)
 
   unfoldable pub reads_key_value : Option Kind
   reads_key_value = do
-    key ← required reads_key (codes "key") members
+    key ← member_at reads_key (codes "key") members
     Some (KeyValue key)
 
   -- The kinds by their names.
@@ -205,9 +211,14 @@ module _ (members : Members) where
       ∷ (codes "KeyValue", reads_key_value) ∷ (codes "Await", Some Await)
       ∷ (codes "Function", Some Function) ∷ (codes "ImportMeta", Some ImportMeta) ∷ []
 
-  -- The kind that the value names.
-  unfoldable pub reads_kind : Value → Option Kind
-  reads_kind value = do
-    name ← as_str value
+  -- The kind of this name.
+  unfoldable pub reads_kind_named : List ℕ → Option Kind
+  reads_kind_named name = do
     reading ← named kinds name
     reading
+
+  -- The kind that the member `kind` names.
+  unfoldable pub reads_kind : Option Kind
+  reads_kind = do
+    name ← member_at as_str (codes "kind") members
+    reads_kind_named name

@@ -1,14 +1,12 @@
-pub mod Returned
 pub mod Check
 pub mod Comments
 pub mod Document
 pub mod Error
 pub mod Kind
 pub mod Literal
-pub mod Mismatch
 pub mod Node
-pub mod Partial
 pub mod Lookup
 pub mod Pointer
 pub mod Report
+pub mod Result
 pub mod internal

@@ -1,43 +1,44 @@
 -- Ranges, strings and string literals of a module document.
 use Rattle.std.specs.Prelude.{ℕ, List, codes, Option, Some, None, nat_lt, if◌then◌else◌}
 use Rattle.std.specs.Str.{chars}
-use Rattle.deno_graph_json.specs.Value.{Value, as_whole, as_pair, as_object, as_str}
+use Rattle.serde_json.specs.Data.{Data, null, boolean, number, string, array, object, Items}
+use Rattle.serde_json.specs.Find.{as_object}
 use Rattle.deno_graph_base.specs.declared.text.position.SourceRange.{SourceRange}
 use Rattle.deno_graph_base.specs.JsString.{points_of_units}
+use Rattle.deno_graph_json.specs.Read.Partial.{◌>>=◌, as_usize, member_at, reads_items, reads_pair}
 use Rattle.deno_graph_source.specs.declared.tree.node.StrLit.{StrLit}
-use Rattle.modinfo_document.specs.Partial.{◌>>=◌, reads_array, required}
 
 -- `[START,END]`: two offsets, in bytes.
-unfoldable pub reads_source_range : Value → Option SourceRange
+unfoldable pub reads_source_range : Data → Option SourceRange
 reads_source_range value = do
-  pair ← as_pair value
-  Some (record { start = pair.0; end = pair.1 })
+  (start, end) ← reads_pair as_usize value
+  Some (record { start = start; end = end })
 
 -- A UTF-16 code unit.
-unfoldable pub reads_unit : Value → Option ℕ
+unfoldable pub reads_unit : Data → Option ℕ
 reads_unit value = do
-  unit ← as_whole value
+  unit ← as_usize value
   if nat_lt unit 65536 then Some unit else None
 
--- The code points of an array of UTF-16 code units.
-unfoldable pub reads_units : Value → Option (List ℕ)
-reads_units value = do
-  units ← reads_array reads_unit value
+-- The code points of UTF-16 code units.
+unfoldable pub reads_units : Items → Option (List ℕ)
+reads_units values = do
+  units ← reads_items reads_unit values
   Some (points_of_units units)
 
--- The characters of the text if there is one, else the code points of the units.
-abbrev pub text_or_units : Option (List ℕ) → Value → Option (List ℕ)
-text_or_units (Some text) value = Some (chars text)
-text_or_units None value = reads_units value
-
 -- The code points of a JavaScript string, which is a JSON string or an array of UTF-16 code units.
-unfoldable pub reads_string : Value → Option (List ℕ)
-reads_string value = text_or_units (as_str value) value
+unfoldable pub reads_string : Data → Option (List ℕ)
+reads_string null = None
+reads_string (boolean _) = None
+reads_string (number _) = None
+reads_string (string text) = Some (chars text)
+reads_string (array values) = reads_units values
+reads_string (object _) = None
 
 -- `{"value":STRING,"range":[START,END]}`.
-unfoldable pub reads_literal : Value → Option StrLit
+unfoldable pub reads_literal : Data → Option StrLit
 reads_literal value = do
   members ← as_object value
-  range ← required reads_source_range (codes "range") members
-  text ← required reads_string (codes "value") members
+  range ← member_at reads_source_range (codes "range") members
+  text ← member_at reads_string (codes "value") members
   Some (record { value = text; range = range })

@@ -1,17 +1,18 @@
 -- The values of a document that a program, a node and a comment are read from.
 use Rattle.std.specs.Prelude.{◌≡◌, ℕ, List, [], ◌∷◌, Option, Some, slice_get}
-use Rattle.deno_graph_json.specs.Value.{Value}
+use Rattle.serde_json.specs.Data.{Data}
+use Rattle.deno_graph_json.specs.Read.Partial.{◌>>=◌}
 use Rattle.deno_graph_source.specs.declared.tree.comments.CommentSide.{CommentSide}
 use Rattle.deno_graph_source.specs.declared.tree.comments.CommentSide.TheVariants.{Leading, Trailing}
 use Rattle.deno_graph_source.specs.declared.tree.node.Program.{Program}
 use Rattle.deno_graph_source.specs.NodePath.{NodePath, node_at}
-use Rattle.modinfo_document.specs.Partial.{◌>>=◌}
-use Rattle.modinfo_document.specs.Comments.{FiledEntry, Sides, comments_at, reads_comment}
+use Rattle.modinfo_document.specs.declared.comments.FiledEntry.{FiledEntry}
+use Rattle.modinfo_document.specs.Comments.{Sides, comments_at, reads_comment}
 use Rattle.modinfo_document.specs.Node.{reads_node, reads_program}
 
 -- The node at the path is read from the value; for the empty path, the program. There is a value exactly
 -- where there is a node.
-abbrev pub IsReadAt : Program → NodePath → Option Value → Type 0
+abbrev pub IsReadAt : Program → NodePath → Option Data → Type 0
 IsReadAt program [] found = (found >>= reads_program) ≡ Some program
 IsReadAt program (index ∷ path) found = (found >>= reads_node) ≡ node_at program.body (index ∷ path)
 
@@ -22,6 +23,6 @@ side_entries sides Trailing = sides.trailing
 
 -- The comment of this number, among those at a position, is read from the value. There is a value exactly
 -- where there is such a comment.
-abbrev pub IsCommentAt : List FiledEntry → ℕ → ℕ → Option Value → Type 0
+abbrev pub IsCommentAt : List FiledEntry → ℕ → ℕ → Option Data → Type 0
 IsCommentAt entries position number found = (found >>= reads_comment) ≡ slice_get
     (comments_at position entries) number

@@ -1,10 +1,11 @@
 -- Reading nodes and programs.
-use Rattle.std.specs.Prelude.{List, [], ◌∷◌, Bool, true, false, codes, bytes_eq, Option, Some, None}
-use Rattle.deno_graph_json.specs.Value.{
-  Value,
+use Rattle.std.specs.Prelude.{List, [], ◌∷◌, false, codes, Option, Some, None}
+use Rattle.std.specs.Ordering.{nat_cmp, match_ordering}
+use Rattle.std.specs.Cmp.Lexicographic.{slice_cmp}
+use Rattle.serde_json.specs.Data.{
+  Data,
   null,
   boolean,
-  whole,
   number,
   string,
   array,
@@ -15,49 +16,40 @@ use Rattle.deno_graph_json.specs.Value.{
   Members,
   no_members,
   member,
-  as_object,
-  last_named,
 }
+use Rattle.serde_json.specs.Find.{as_bool, as_object}
+use Rattle.deno_graph_json.specs.Read.Partial.{◌>>=◌, member_at, member_or, reads_array}
 use Rattle.deno_graph_source.specs.declared.tree.node.Node.{Node, roll-Node}
 use Rattle.deno_graph_source.specs.declared.tree.node.Program.{Program}
-use Rattle.modinfo_document.specs.Partial.{◌>>=◌, required, flag}
 use Rattle.modinfo_document.specs.Literal.{reads_source_range}
 use Rattle.modinfo_document.specs.Kind.{reads_kind}
 
 -- The node with these members and these children.
 unfoldable pub node_with : Members → Option (List Node) → Option Node
 node_with members below = do
-  range ← required reads_source_range (codes "range") members
-  kind ← required (reads_kind members) (codes "kind") members
+  range ← member_at reads_source_range (codes "range") members
+  kind ← reads_kind members
   children ← below
   Some (roll-Node (record { range = range; kind = kind; children = children }))
 
--- The children of the last member `children`: those of a later one, if there is one, else those of this one.
-abbrev pub last_read : Option Value → Option (List Node) → Bool → Option (List Node) → Option (List Node)
-last_read (Some _) later is_here here = later
-last_read None later true here = here
-last_read None later false here = Some []
-
 unfoldable mutual
   -- `{"kind":KIND,"range":[START,END],"children":[NODE ..]}`, with the members of its kind.
-  pub reads_node : Value → Option Node
+  pub reads_node : Data → Option Node
   reads_node null = None
   reads_node (boolean b) = None
-  reads_node (whole n) = None
-  reads_node number = None
+  reads_node (number x) = None
   reads_node (string s) = None
-  reads_node (array vs) = None
+  reads_node (array values) = None
   reads_node (object members) = node_with members (children_in members)
 
   -- An array of nodes.
-  pub reads_nodes : Value → Option (List Node)
+  pub reads_nodes : Data → Option (List Node)
   reads_nodes null = None
   reads_nodes (boolean b) = None
-  reads_nodes (whole n) = None
-  reads_nodes number = None
+  reads_nodes (number x) = None
   reads_nodes (string s) = None
-  reads_nodes (array vs) = reads_each vs
-  reads_nodes (object ms) = None
+  reads_nodes (array values) = reads_each values
+  reads_nodes (object _) = None
 
   -- Each item of an array as a node.
   pub reads_each : Items → Option (List Node)
@@ -67,18 +59,17 @@ unfoldable mutual
     nodes ← reads_each values
     Some (node ∷ nodes)
 
-  -- The nodes of the last member `children`, none where there is no such member.
+  -- The nodes of the member `children`, none if there is no such member. An object has a name once.
   pub children_in : Members → Option (List Node)
   children_in no_members = Some []
-  children_in (member name value members) =
-      last_read (last_named (codes "children") members) (children_in members)
-      (bytes_eq name (codes "children")) (reads_nodes value)
+  children_in (member name value members) = match_ordering (slice_cmp nat_cmp (codes "children") name)
+      (children_in members) (reads_nodes value) (children_in members)
 
 -- `{"range":[START,END],"body":[NODE ..],"shebang":BOOL}`.
-unfoldable pub reads_program : Value → Option Program
+unfoldable pub reads_program : Data → Option Program
 reads_program value = do
   members ← as_object value
-  range ← required reads_source_range (codes "range") members
-  has_shebang ← flag (codes "shebang") members
-  body ← required reads_nodes (codes "body") members
+  range ← member_at reads_source_range (codes "range") members
+  has_shebang ← member_or as_bool (codes "shebang") false members
+  body ← member_at (reads_array reads_node) (codes "body") members
   Some (record { range = range; body = body; has_shebang = has_shebang })

@@ -1,9 +1,12 @@
 -- Reports on documents.
-use Rattle.std.specs.Prelude.{◌≡◌, Bool, [], true, IsSomeAnd}
+use Rattle.std.specs.Prelude.{◌≡◌, Bool, [], true, IfSome, IsSomeAnd}
 use Rattle.std.specs.String.{string_bytes}
+use Rattle.serde_json.specs.Data.{Data}
+use Rattle.deno_graph_json.specs.Read.Error.{IsIn}
 use Rattle.deno_graph_json.specs.Read.Expected.{words}
 use Rattle.deno_graph_json.specs.declared.error.Mismatch.{Mismatch}
-use Rattle.modinfo_document.specs.Pointer.{pointer_text}
+use Rattle.deno_graph_json.specs.declared.error.ReadError.TheVariants as read
+use Rattle.modinfo_document.specs.Pointer.{LeadsInto, pointer_text}
 use Rattle.modinfo_document.specs.declared.report.Report.{Report}
 use Rattle.modinfo_document.specs.declared.report.FaultReport.{FaultReport}
 use Rattle.modinfo_document.specs.declared.report.warning.Warnings.{Warnings}
@@ -28,3 +31,19 @@ abbrev pub Reports : Mismatch → FaultReport → Type 0
 Reports mismatch report =
     IsSomeAnd report.pointer (λ pointer. string_bytes pointer ≡ pointer_text mismatch.path)
     × (string_bytes report.expected ≡ words mismatch.expected)
+
+-- The pointer of the report leads to a value that isn't what the report expects there.
+abbrev pub PointsInto : Data → FaultReport → Type 0
+PointsInto value report = (mismatch : Mismatch) × IsIn value (read.Mismatch mismatch)
+    × Reports mismatch report
+
+-- If the report is `Invalid`, its pointer leads to a value that isn't what the report expects there.
+abbrev pub HasPointerInto : Data → Report → Type 0
+HasPointerInto value (Valid _) = Unit {0}
+HasPointerInto value (Invalid report) = PointsInto value report
+
+-- Each pointer of the report leads to a part of the value.
+abbrev pub HasPlaces : Data → FaultReport → Type 0
+HasPlaces value report =
+    IfSome report.pointer (λ pointer. LeadsInto value (string_bytes pointer))
+    × IfSome report.other (λ pointer. LeadsInto value (string_bytes pointer))

@@ -2,5 +2,3 @@
 pub mod Comments
 pub mod Document
 pub mod Lookup
-pub mod Mismatch
-pub mod Returned

@@ -1,19 +1,22 @@
 //! Checking module documents.
 
-ghost use Rattle.std.specs.Prelude.{◌≡◌, ℕ, IfOk, IfSome, IsNone, List, None, Ok};
+ghost use Rattle.std.specs.Prelude.{◌≡◌, ℕ, IfOk, IfSome, IsNone, List, None, Ok, Some};
 ghost use Rattle.std.specs.Rc.{rc_str_bytes};
-ghost use Rattle.deno_graph_json.specs.View.{IsValueOf, tape_value};
+ghost use Rattle.serde_json.specs.Data.{Data};
+ghost use Rattle.serde_json.specs.Read.{read as read_text};
+ghost use Rattle.deno_graph_json.specs.Data.{tape_data};
 ghost use Rattle.url.specs.Parts.{Parts};
 ghost use Rattle.url.specs.Parser.{parse_url};
 ghost use Rattle.deno_graph_source.specs.Source.{HasFault, IsValid};
-ghost use Rattle.modinfo_document.specs.Document.{IsDocumentOf};
+ghost use Rattle.modinfo_document.specs.Document.{IsDocumentOf, reads_document};
 ghost use Rattle.modinfo_document.specs.Check.{ReportsOn};
+ghost use Rattle.modinfo_document.specs.Report.{HasPointerInto};
 
 use crate::report::{
     Report, find_warnings, json_report_at, source_report, specifier_report, tree_report,
 };
 use crate::{Document, DocumentError, read_document};
-use deno_graph_json::{Tape, TapeFault};
+use deno_graph_json::{Element, ReadError, Tape, TapeFault};
 use deno_graph_source::tree::{SourceFaultPlace, source_fault_place};
 use json::Scratch;
 use std::alloc::{AllocError, Global};
@@ -21,7 +24,9 @@ use std::alloc::{AllocError, Global};
 /// Checks a text as a module document. Returns `Valid` if its source can be analyzed, else `Invalid`
 /// with the first fault. The only error is a failed allocation.
 pub fn check_document(alloc: Global, text: &str) -> Result<Report, AllocError>
-    ensures { IfOk result (ReportsOn text.now) }
+    ensures verdict { IfOk result (ReportsOn text.now) }
+    ensures place { (value : Data) → read_text text.now ≡ Some value → reads_document value ≡ None
+        → IfOk result (HasPointerInto value) }
 {
     let mut scratch = Scratch::new(alloc);
     match Tape::read(alloc, text, &mut scratch) {
@@ -35,37 +40,42 @@ pub fn check_document(alloc: Global, text: &str) -> Result<Report, AllocError>
 
 /// Checks the JSON of a document.
 fn check_tape(alloc: Global, tape: &Tape<'_>) -> Result<Report, AllocError>
-    ensures { (text : List ℕ) → IsValueOf text (tape_value tape.now) → IfOk result (ReportsOn text) }
+    ensures verdict { (text : List ℕ) → read_text text ≡ Some (tape_data tape.now)
+        → IfOk result (ReportsOn text) }
+    ensures place { reads_document (tape_data tape.now) ≡ None
+        → IfOk result (HasPointerInto (tape_data tape.now)) }
 {
     match read_document(alloc, tape.root()) {
-        Ok(document) => check_parts(alloc, tape, &document),
-        Err(DocumentError::OutOfMemory) => Err(AllocError),
-        Err(fault) => Ok(Report::Invalid(tree_report(alloc, tape, &fault)?)),
+        Ok(document) => check_parts(alloc, tape.root(), &document),
+        Err(ReadError::Mismatch(mismatch)) => {
+            Ok(Report::Invalid(tree_report(alloc, &mismatch)?))
+        }
+        Err(ReadError::OutOfMemory) => Err(AllocError),
     }
 }
 
-/// Checks the specifier, and then the source.
-fn check_parts(alloc: Global, tape: &Tape<'_>, document: &Document) -> Result<Report, AllocError>
+/// Checks the specifier of the document at `root`, and then the source.
+fn check_parts(alloc: Global, root: Element<'_>, document: &Document) -> Result<Report, AllocError>
     ensures { (text : List ℕ) → IsDocumentOf text document.now → IfOk result (ReportsOn text) }
 {
     match document.url(alloc) {
-        Ok(_) => check_source(alloc, tape, document),
+        Ok(_) => check_source(alloc, root, document),
         Err(DocumentError::OutOfMemory) => Err(AllocError),
         Err(fault) => Ok(Report::Invalid(specifier_report(alloc, &fault)?)),
     }
 }
 
-/// Checks the tree and the comments against the source text.
-fn check_source(alloc: Global, tape: &Tape<'_>, document: &Document) -> Result<Report, AllocError>
+/// Checks the tree and the comments of the document at `root` against the source text.
+fn check_source(alloc: Global, root: Element<'_>, document: &Document) -> Result<Report, AllocError>
     ensures { (text : List ℕ) → IsDocumentOf text document.now
         → (url : Parts) → parse_url None document.now.specifier ≡ Ok url → IfOk result (ReportsOn text) }
 {
     match fault_place(alloc, document)? {
         Some(found) => {
             let length = document.source.len();
-            Ok(Report::Invalid(source_report(alloc, tape, length, &found)?))
+            Ok(Report::Invalid(source_report(alloc, root, length, &found)?))
         }
-        None => Ok(Report::Valid(find_warnings(alloc, tape, document)?)),
+        None => Ok(Report::Valid(find_warnings(alloc, root, document)?)),
     }
 }
 

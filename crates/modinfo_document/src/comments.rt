@@ -1,22 +1,20 @@
 //! Reading comments.
 
-ghost use Rattle.std.specs.Prelude.{◌≡◌, [], ◌∷◌, IfErr, OnOk};
-ghost use Rattle.deno_graph_json.specs.Tape.{array_of_elements, object_of_members};
-ghost use Rattle.deno_graph_json.specs.View.{items_left, members_of, value_of};
-ghost use Rattle.modinfo_document.specs.Mismatch.{IsIn};
-ghost use Rattle.modinfo_document.specs.Returned.{Returns, ReturnsBy};
-ghost use Rattle.modinfo_document.specs.Comments.{AreThoseOf, comment_kinds};
-ghost use Rattle.modinfo_document.specs.internal.Comments.{AddsOn, AreAppendedOn};
+ghost use Rattle.std.specs.Prelude.{◌≡◌, [], ◌∷◌, OnOk};
+ghost use Rattle.serde_json.specs.Data.{object, string};
+ghost use Rattle.deno_graph_json.specs.Data.{members_data};
+ghost use Rattle.deno_graph_json.specs.Read.Result.{IsReadResult};
+ghost use Rattle.modinfo_document.specs.Comments.{AreThoseOf, comment_kinds, side_name};
 ghost use Rattle.modinfo_document.specs.Comments.{reads_comment, reads_entry, reads_side, reads_sides};
-ghost use Rattle.modinfo_document.specs.Comments.{entry_with, side_name};
-ghost use Rattle.modinfo_document.specs.Kind.{reads_named};
-ghost use Rattle.modinfo_document.specs.Partial.{reads_array, reads_items};
+ghost use Rattle.modinfo_document.specs.Kind.{named, reads_named};
+ghost use Rattle.modinfo_document.specs.Result.{IsReadResultBy};
+ghost use Rattle.modinfo_document.specs.internal.Comments.{AddsOn, AreAppendedOn};
 
-use crate::error::{DocumentError, Expected};
-use crate::member::{elements_of, members_of, mismatch, offset, range, required, text, text_of};
-use deno_graph_json::{Element, Elements, Members};
+use crate::member::{FromElement, read_member, read_member_or};
+use deno_graph_json::read::{read_object, read_str};
+use deno_graph_json::{Element, Expected, Members, ReadError};
 use deno_graph_source::tree::{CommentKind, CommentSide, Comments, DependencyComment};
-use deno_graph_source::values::Text;
+use deno_graph_source::values::Items;
 use std::alloc::{AllocError, Global};
 
 /// The name of the member with the comments of a side.
@@ -29,85 +27,82 @@ pub fn member_of(side: CommentSide) -> &'static str
     }
 }
 
-/// Reads the comments of a document: its members `leading` and `trailing`, arrays of
-/// `{"pos":OFFSET,"comments":[COMMENT ..]}`. Keeps their order.
-pub fn read_comments(alloc: Global, members: Members<'_>) -> Result<Comments, DocumentError>
-    ensures mismatch { IfErr result (IsIn (object_of_members members.entry)) }
-    ensures read { ReturnsBy AreThoseOf (reads_sides (members_of members.entry)) result }
+/// An entry of `leading` or `trailing`: comments, and the position at which they are filed, an offset in
+/// bytes.
+#[derive(Drop)]
+pub struct FiledEntry {
+    pub position: usize,
+    pub comments: Items<DependencyComment>,
+}
+
+/// Reads an entry, `{"pos":OFFSET,"comments":[COMMENT ..]}`.
+impl FromElement for FiledEntry {
+    ghost reads = { reads_entry };
+
+    #[tactic(auto, using(deno_graph_json::proofs::Reading::reading), unfolding(crate::specs::Comments::reads_entry))]
+    fn from_element(alloc: Global, value: Element<'_>) -> Result<FiledEntry, ReadError> {
+        let members = read_object(alloc, value)?;
+        let position = read_member(alloc, members, "pos")?;
+        let comments = read_member(alloc, members, "comments")?;
+        Ok(FiledEntry { position, comments })
+    }
+}
+
+/// Reads the comments of a document: its members `leading` and `trailing`, arrays of entries. Keeps
+/// their order.
+pub fn read_comments(alloc: Global, members: Members<'_>) -> Result<Comments, ReadError>
+    ensures { IsReadResultBy AreThoseOf (object (members_data members.entry))
+        (reads_sides (members_data members.entry)) result }
 {
+    let leading = read_side(alloc, members, CommentSide::Leading)?;
+    let trailing = read_side(alloc, members, CommentSide::Trailing)?;
     let mut comments = Comments::new(alloc);
-    read_side(alloc, members, CommentSide::Leading, &mut comments)?;
-    read_side(alloc, members, CommentSide::Trailing, &mut comments)?;
+    file_entries(leading, CommentSide::Leading, &mut comments)?;
+    file_entries(trailing, CommentSide::Trailing, &mut comments)?;
     Ok(comments)
 }
 
-/// Reads the comments of one side, none if the member is missing.
+/// Reads the entries of one side, none if the member is missing.
+#[tactic(auto, unfolding(crate::specs::Comments::reads_side))]
 fn read_side(
     alloc: Global,
     members: Members<'_>,
     side: CommentSide,
-    comments: &mut Comments,
-) -> Result<(), DocumentError>
-    ensures mismatch { IfErr result (IsIn (object_of_members members.entry)) }
-    ensures read { ReturnsBy (λ entries _. AreAppendedOn side comments.old comments.new entries)
-        (reads_side side (members_of members.entry)) result }
+) -> Result<Items<FiledEntry>, ReadError>
+    ensures { IsReadResult (object (members_data members.entry))
+        (reads_side side (members_data members.entry)) result }
 {
-    match members.get(member_of(side)) {
-        Some(entries) => read_entries(alloc, entries, side, comments),
-        None => Ok(()),
-    }
+    read_member_or(alloc, members, member_of(side), Items::new(alloc))
 }
 
-/// Reads an array of entries.
-fn read_entries(
-    alloc: Global,
-    entries: Element<'_>,
+/// Files the comments of each entry on one side.
+fn file_entries(
+    entries: Items<FiledEntry>,
     side: CommentSide,
     comments: &mut Comments,
-) -> Result<(), DocumentError>
-    ensures mismatch { IfErr result (IsIn entries.entry) }
-    ensures read { ReturnsBy (λ read _. AreAppendedOn side comments.old comments.new read)
-        (reads_array reads_entry (value_of entries.entry)) result }
+) -> Result<(), AllocError>
+    ensures { OnOk result (AreAppendedOn side comments.old comments.new entries) }
 {
-    for entry in elements_of(entries)? {
-        read_entry(alloc, entry, side, comments)?;
+    for entry in entries.into_vec() {
+        file_entry(entry, side, comments)?;
     }
     Ok(())
 }
 
-/// Reads an entry, and files its comments at its position, an offset in bytes.
-fn read_entry(
-    alloc: Global,
-    entry: Element<'_>,
+/// Files the comments of an entry on one side.
+fn file_entry(
+    entry: FiledEntry,
     side: CommentSide,
     comments: &mut Comments,
-) -> Result<(), DocumentError>
-    ensures mismatch { IfErr result (IsIn entry.entry) }
-    ensures read { ReturnsBy (λ read _. AreAppendedOn side comments.old comments.new (read ∷ []))
-        (reads_entry (value_of entry.entry)) result }
+) -> Result<(), AllocError>
+    ensures { OnOk result (AreAppendedOn side comments.old comments.new (entry ∷ [])) }
 {
-    let members = members_of(entry)?;
-    let pos = offset(required(members, "pos")?)?;
-    let values = elements_of(required(members, "comments")?)?;
-    file_comments(alloc, values, side, pos, comments)
-}
-
-/// Reads comments, and files them at a position of one side.
-fn file_comments(
-    alloc: Global,
-    values: Elements<'_>,
-    side: CommentSide,
-    pos: usize,
-    comments: &mut Comments,
-) -> Result<(), DocumentError>
-    ensures mismatch { IfErr result (IsIn (array_of_elements values.entry)) }
-    ensures read { ReturnsBy (λ filed _. AreAppendedOn side comments.old comments.new
-        (entry_with pos filed ∷ []))
-        (reads_items reads_comment (items_left values.entry)) result }
-{
-    for value in values {
-        let comment = read_comment(alloc, value)?;
-        add(comments, side, pos, comment)?;
+    let FiledEntry {
+        position,
+        comments: filed,
+    } = entry;
+    for comment in filed.into_vec() {
+        add(comments, side, position, comment)?;
     }
     Ok(())
 }
@@ -128,28 +123,40 @@ fn add(
 }
 
 /// Reads a comment, `{"kind":"line","range":[START,END],"text":TEXT}`, or with the kind `block`.
-#[tactic(auto, using(crate::proofs::Reading::reading), unfolding(crate::specs::Comments::reads_comment, crate::specs::Partial::required))]
-fn read_comment(alloc: Global, value: Element<'_>) -> Result<DependencyComment, DocumentError>
-    ensures mismatch { IfErr result (IsIn value.entry) }
-    ensures read { Returns (reads_comment (value_of value.entry)) result }
-{
-    let members = members_of(value)?;
-    let kind = read_comment_kind(required(members, "kind")?)?;
-    let range = range(members)?;
-    let text = Text::from_str(alloc, text(members, "text")?)?;
-    Ok(DependencyComment { kind, range, text })
+impl FromElement for DependencyComment {
+    ghost reads = { reads_comment };
+
+    #[tactic(auto, using(deno_graph_json::proofs::Reading::reading), unfolding(crate::specs::Comments::reads_comment))]
+    fn from_element(alloc: Global, value: Element<'_>) -> Result<DependencyComment, ReadError> {
+        let members = read_object(alloc, value)?;
+        let kind = read_member(alloc, members, "kind")?;
+        let range = read_member(alloc, members, "range")?;
+        let text = read_member(alloc, members, "text")?;
+        Ok(DependencyComment { kind, range, text })
+    }
+}
+
+/// Reads the kind of a comment by its name.
+impl FromElement for CommentKind {
+    ghost reads = { reads_named comment_kinds };
+
+    #[tactic(auto, using(deno_graph_json::proofs::Reading::reading), unfolding(crate::specs::Kind::reads_named))]
+    fn from_element(alloc: Global, value: Element<'_>) -> Result<CommentKind, ReadError> {
+        let name = read_str(alloc, value)?;
+        comment_kind_named(alloc, name)
+    }
 }
 
 const COMMENT_KINDS: &[&str] = &["line", "block"];
 
-#[tactic(auto, using(crate::proofs::Reading::reading), unfolding(crate::specs::Kind::reads_named, crate::specs::Kind::named))]
-fn read_comment_kind(value: Element<'_>) -> Result<CommentKind, DocumentError>
-    ensures mismatch { IfErr result (IsIn value.entry) }
-    ensures read { Returns (reads_named comment_kinds (value_of value.entry)) result }
+/// Returns the kind of this name.
+#[tactic(auto, unfolding(crate::specs::Kind::named))]
+fn comment_kind_named(alloc: Global, name: &str) -> Result<CommentKind, ReadError>
+    ensures { IsReadResult (string name.now) (named comment_kinds name.now) result }
 {
-    match text_of(value)? {
+    match name {
         "line" => Ok(CommentKind::Line),
         "block" => Ok(CommentKind::Block),
-        _ => Err(mismatch(value, Expected::OneOf(COMMENT_KINDS))),
+        _ => Err(ReadError::expected(alloc, Expected::Names(COMMENT_KINDS))),
     }
 }

@@ -1,23 +1,19 @@
 //! Module documents.
 
-ghost use Rattle.std.specs.Prelude.{◌≡◌, IfErr, MatchResult, None, Ok};
+ghost use Rattle.std.specs.Prelude.{◌≡◌, MatchResult, None, Ok};
 ghost use Rattle.url.specs.Parser.{parse_url};
-ghost use Rattle.deno_graph_json.specs.Tape.{object_of_members};
-ghost use Rattle.deno_graph_json.specs.View.{members_of, value_of};
-ghost use Rattle.modinfo_document.specs.Returned.{ReturnsBy};
-ghost use Rattle.modinfo_document.specs.Document.{Has, IsDocumentOf, IsNoDocument};
-ghost use Rattle.modinfo_document.specs.internal.Document.{HasTree};
-ghost use Rattle.modinfo_document.specs.Document.{IsNoSource, IsSourceOf};
+ghost use Rattle.serde_json.specs.Data.{object};
+ghost use Rattle.deno_graph_json.specs.Data.{data_of, members_data};
+ghost use Rattle.modinfo_document.specs.Document.{Has, IsDocumentOf, IsNoDocument, IsNoSource, IsSourceOf};
 ghost use Rattle.modinfo_document.specs.Document.{reads_document};
-ghost use Rattle.modinfo_document.specs.internal.Document.{reads_tree};
-ghost use Rattle.modinfo_document.specs.Mismatch.{IsIn};
+ghost use Rattle.modinfo_document.specs.Result.{IsReadResultBy};
+ghost use Rattle.modinfo_document.specs.internal.Document.{HasTree, reads_tree};
 
 use crate::comments::read_comments;
 use crate::error::DocumentError;
-use crate::media_type::read_media_type;
-use crate::member::{members_of, required, text};
-use crate::node::read_program;
-use deno_graph_json::{Element, Members, Tape};
+use crate::member::read_member;
+use deno_graph_json::read::read_object;
+use deno_graph_json::{Element, Members, ObjectReader, ReadError, Tape};
 use deno_graph_source::tree::{Comments, MediaType, ParsedSource, Program};
 use deno_graph_source::values::Text;
 use json::Scratch;
@@ -36,16 +32,16 @@ pub struct Document {
     pub comments: Comments,
 }
 
-/// Reads a document. `Tree` with the first mismatch if the value has another form, `OutOfMemory` if
-/// an allocation fails.
-pub fn read_document(alloc: Global, value: Element<'_>) -> Result<Document, DocumentError>
-    ensures mismatch { IfErr result (IsIn value.entry) }
-    ensures read { ReturnsBy Has (reads_document (value_of value.entry)) result }
+/// Reads a document. Returns `Mismatch` with the path to the first value that isn't as expected, or
+/// `OutOfMemory` if an allocation fails.
+pub fn read_document(alloc: Global, value: Element<'_>) -> Result<Document, ReadError>
+    ensures { IsReadResultBy Has (data_of value.entry) (reads_document (data_of value.entry)) result }
 {
-    let members = members_of(value)?;
-    let specifier = Text::from_str(alloc, text(members, "specifier")?)?;
-    let media_type = read_media_type(required(members, "mediaType")?)?;
-    let source = RcStr::from_str(alloc, text(members, "source")?)?;
+    let members = read_object(alloc, value)?;
+    let specifier = read_member(alloc, members, "specifier")?;
+    let media_type = read_member(alloc, members, "mediaType")?;
+    let text = ObjectReader::of_members(alloc, members).read_str("source")?;
+    let source = RcStr::from_str(alloc, text)?;
     let (comments, program) = read_tree(alloc, members)?;
     Ok(Document {
         specifier,
@@ -57,13 +53,12 @@ pub fn read_document(alloc: Global, value: Element<'_>) -> Result<Document, Docu
 }
 
 /// Reads the comments and the program.
-#[tactic(auto, using(crate::proofs::Reading::reading_by), unfolding(crate::specs::internal::Document::reads_tree, crate::specs::Partial::required))]
-fn read_tree(alloc: Global, members: Members<'_>) -> Result<(Comments, Program), DocumentError>
-    ensures mismatch { IfErr result (IsIn (object_of_members members.entry)) }
-    ensures read { ReturnsBy HasTree (reads_tree (members_of members.entry)) result }
+fn read_tree(alloc: Global, members: Members<'_>) -> Result<(Comments, Program), ReadError>
+    ensures { IsReadResultBy HasTree (object (members_data members.entry))
+        (reads_tree (members_data members.entry)) result }
 {
     let comments = read_comments(alloc, members)?;
-    let program = read_program(alloc, required(members, "program")?)?;
+    let program = read_member(alloc, members, "program")?;
     Ok((comments, program))
 }
 
@@ -75,7 +70,7 @@ pub fn parse_document(alloc: Global, text: &str) -> Result<Document, DocumentErr
 {
     let mut scratch = Scratch::new(alloc);
     let tape = Tape::read(alloc, text, &mut scratch)?;
-    read_document(alloc, tape.root())
+    Ok(read_document(alloc, tape.root())?)
 }
 
 impl Document {

@@ -1,61 +1,78 @@
 //! Reading literals, identifiers and binary expressions, each from the members of its node.
 
-ghost use Rattle.std.specs.Prelude.{IfErr};
-ghost use Rattle.deno_graph_json.specs.Tape.{object_of_members};
-ghost use Rattle.modinfo_document.specs.Mismatch.{IsIn};
-ghost use Rattle.deno_graph_json.specs.View.{members_of};
-ghost use Rattle.modinfo_document.specs.Returned.{Returns};
+ghost use Rattle.serde_json.specs.Data.{object, string};
+ghost use Rattle.deno_graph_json.specs.Data.{members_data};
+ghost use Rattle.deno_graph_json.specs.Read.Result.{IsReadResult};
+ghost use Rattle.modinfo_document.specs.Kind.{named, operators, reads_named};
 ghost use Rattle.modinfo_document.specs.Kind.{reads_str, reads_template, reads_binary, reads_ident};
 
-use crate::error::{DocumentError, Expected};
-use crate::literal::{read_string, read_strings};
-use crate::member::{mismatch, required, text, text_of};
-use deno_graph_json::Members;
+use crate::member::{FromElement, read_member};
+use deno_graph_json::read::read_str as read_name;
+use deno_graph_json::{Element, Expected, Members, ReadError};
 use deno_graph_source::tree::{BinaryOp, Kind};
-use deno_graph_source::values::Text;
 use std::alloc::Global;
 
 /// Reads a string literal.
-#[tactic(auto, using(crate::proofs::Reading::reading), unfolding(crate::specs::Kind::reads_str, crate::specs::Partial::required))]
-pub fn read_str(alloc: Global, members: Members<'_>) -> Result<Kind, DocumentError>
-    ensures mismatch { IfErr result (IsIn (object_of_members members.entry)) }
-    ensures read { Returns (reads_str (members_of members.entry)) result }
+#[tactic(auto, using(deno_graph_json::proofs::Reading::reading), unfolding(crate::specs::Kind::reads_str))]
+pub fn read_str(alloc: Global, members: Members<'_>) -> Result<Kind, ReadError>
+    ensures { IsReadResult (object (members_data members.entry))
+        (reads_str (members_data members.entry)) result }
 {
-    Ok(Kind::Str(read_string(alloc, required(members, "value")?)?))
+    let text = read_member(alloc, members, "value")?;
+    Ok(Kind::Str(text))
 }
 
 /// Reads an untagged template.
-#[tactic(auto, using(crate::proofs::Reading::reading), unfolding(crate::specs::Kind::reads_template, crate::specs::Partial::required))]
-pub fn read_template(alloc: Global, members: Members<'_>) -> Result<Kind, DocumentError>
-    ensures mismatch { IfErr result (IsIn (object_of_members members.entry)) }
-    ensures read { Returns (reads_template (members_of members.entry)) result }
+#[tactic(auto, using(deno_graph_json::proofs::Reading::reading), unfolding(crate::specs::Kind::reads_template))]
+pub fn read_template(alloc: Global, members: Members<'_>) -> Result<Kind, ReadError>
+    ensures { IsReadResult (object (members_data members.entry))
+        (reads_template (members_data members.entry)) result }
 {
-    let quasis = read_strings(alloc, required(members, "quasis")?)?;
+    let quasis = read_member(alloc, members, "quasis")?;
     Ok(Kind::Template(quasis))
+}
+
+/// Reads a binary expression.
+#[tactic(auto, using(deno_graph_json::proofs::Reading::reading), unfolding(crate::specs::Kind::reads_binary))]
+pub fn read_binary(alloc: Global, members: Members<'_>) -> Result<Kind, ReadError>
+    ensures { IsReadResult (object (members_data members.entry))
+        (reads_binary (members_data members.entry)) result }
+{
+    let operator = read_member(alloc, members, "op")?;
+    Ok(Kind::Binary(operator))
+}
+
+/// Reads an operator by its name.
+impl FromElement for BinaryOp {
+    ghost reads = { reads_named operators };
+
+    #[tactic(auto, using(deno_graph_json::proofs::Reading::reading), unfolding(crate::specs::Kind::reads_named))]
+    fn from_element(alloc: Global, value: Element<'_>) -> Result<BinaryOp, ReadError> {
+        let name = read_name(alloc, value)?;
+        operator_named(alloc, name)
+    }
 }
 
 const OPERATORS: &[&str] = &["add", "other"];
 
-/// Reads a binary expression.
-#[tactic(auto, using(crate::proofs::Reading::reading), unfolding(crate::specs::Kind::reads_binary, crate::specs::Kind::reads_named, crate::specs::Kind::named, crate::specs::Partial::required))]
-pub fn read_binary(members: Members<'_>) -> Result<Kind, DocumentError>
-    ensures mismatch { IfErr result (IsIn (object_of_members members.entry)) }
-    ensures read { Returns (reads_binary (members_of members.entry)) result }
+/// Returns an operator of this name.
+#[tactic(auto, unfolding(crate::specs::Kind::named))]
+fn operator_named(alloc: Global, name: &str) -> Result<BinaryOp, ReadError>
+    ensures { IsReadResult (string name.now) (named operators name.now) result }
 {
-    let value = required(members, "op")?;
-    match text_of(value)? {
-        "add" => Ok(Kind::Binary(BinaryOp::Add)),
-        "other" => Ok(Kind::Binary(BinaryOp::Other)),
-        _ => Err(mismatch(value, Expected::OneOf(OPERATORS))),
+    match name {
+        "add" => Ok(BinaryOp::Add),
+        "other" => Ok(BinaryOp::Other),
+        _ => Err(ReadError::expected(alloc, Expected::Names(OPERATORS))),
     }
 }
 
 /// Reads an identifier.
-#[tactic(auto, using(crate::proofs::Reading::reading), unfolding(crate::specs::Kind::reads_ident))]
-pub fn read_ident(alloc: Global, members: Members<'_>) -> Result<Kind, DocumentError>
-    ensures mismatch { IfErr result (IsIn (object_of_members members.entry)) }
-    ensures read { Returns (reads_ident (members_of members.entry)) result }
+#[tactic(auto, using(deno_graph_json::proofs::Reading::reading), unfolding(crate::specs::Kind::reads_ident))]
+pub fn read_ident(alloc: Global, members: Members<'_>) -> Result<Kind, ReadError>
+    ensures { IsReadResult (object (members_data members.entry))
+        (reads_ident (members_data members.entry)) result }
 {
-    let name = Text::from_str(alloc, text(members, "value")?)?;
+    let name = read_member(alloc, members, "value")?;
     Ok(Kind::Ident(name))
 }

@@ -1,22 +1,21 @@
 //! Reading the kind of a node.
 
-ghost use Rattle.std.specs.Prelude.{IfErr};
-ghost use Rattle.deno_graph_json.specs.Tape.{IsInside, object_of_members};
-ghost use Rattle.modinfo_document.specs.Mismatch.{IsIn};
-ghost use Rattle.deno_graph_json.specs.View.{members_of, value_of};
-ghost use Rattle.modinfo_document.specs.Returned.{Returns};
-ghost use Rattle.modinfo_document.specs.Kind.{reads_kind};
+ghost use Rattle.std.specs.Prelude.{◌≡◌, Some, codes, option_map};
+ghost use Rattle.serde_json.specs.Data.{object, string};
+ghost use Rattle.serde_json.specs.Find.{get_member};
+ghost use Rattle.deno_graph_json.specs.Data.{data_of, members_data};
+ghost use Rattle.deno_graph_json.specs.Read.Result.{IsReadResult};
+ghost use Rattle.modinfo_document.specs.Kind.{reads_kind, reads_kind_named};
 
 use crate::call::read_call;
 use crate::declaration::{
     read_export_all, read_import_decl, read_import_equals, read_import_type, read_module_decl,
     read_named_export,
 };
-use crate::error::{DocumentError, Expected};
 use crate::expression::{read_binary, read_ident, read_str, read_template};
-use crate::member::{mismatch, text_of};
+use crate::member::found_str;
 use crate::property::read_key_value;
-use deno_graph_json::{Element, Members};
+use deno_graph_json::{Element, Expected, Members, ObjectReader, ReadError};
 use deno_graph_source::tree::Kind;
 use std::alloc::Global;
 
@@ -42,18 +41,29 @@ pub const KINDS: &[&str] = &[
     "Other",
 ];
 
-/// Reads the kind that `value` names, with the members of the kind from `members`.
-#[tactic(auto, using(crate::proofs::Reading::reading), unfolding(crate::specs::Kind::reads_kind, crate::specs::Kind::named))]
+/// Reads the kind of a node from the members of the node. `found` is the member `kind`.
+#[tactic(auto, using(deno_graph_json::proofs::Reading::reading), unfolding(crate::specs::Kind::reads_kind))]
 pub fn read_kind(
     alloc: Global,
     members: Members<'_>,
-    value: Element<'_>,
-) -> Result<Kind, DocumentError>
-    ensures mismatch { IsInside value.entry (object_of_members members.entry)
-        → IfErr result (IsIn (object_of_members members.entry)) }
-    ensures read { Returns (reads_kind (members_of members.entry) (value_of value.entry)) result }
+    found: Option<Element<'_>>,
+) -> Result<Kind, ReadError>
+    requires { option_map data_of found ≡ get_member (codes "kind") (members_data members) }
+    ensures { IsReadResult (object (members_data members.entry))
+        (reads_kind (members_data members.entry)) result }
 {
-    match text_of(value)? {
+    let name = found_str(alloc, members, "kind", found)?;
+    read_kind_named(alloc, members, name)
+}
+
+/// Reads the kind of this name, which is the member `kind`.
+#[tactic(auto, using(deno_graph_json::proofs::Reading::reading), unfolding(crate::specs::Kind::reads_kind_named, crate::specs::Kind::named))]
+fn read_kind_named(alloc: Global, members: Members<'_>, name: &str) -> Result<Kind, ReadError>
+    requires { get_member (codes "kind") (members_data members) ≡ Some (string name.now) }
+    ensures { IsReadResult (object (members_data members.entry))
+        (reads_kind_named (members_data members.entry) name.now) result }
+{
+    match name {
         "Other" => Ok(Kind::Other),
         "ImportDecl" => read_import_decl(alloc, members),
         "NamedExport" => read_named_export(alloc, members),
@@ -65,13 +75,16 @@ pub fn read_kind(
         "Call" => read_call(alloc, members),
         "Str" => read_str(alloc, members),
         "Template" => read_template(alloc, members),
-        "Binary" => read_binary(members),
+        "Binary" => read_binary(alloc, members),
         "Ident" => read_ident(alloc, members),
         "Object" => Ok(Kind::Object),
         "KeyValue" => read_key_value(alloc, members),
         "Await" => Ok(Kind::Await),
         "Function" => Ok(Kind::Function),
         "ImportMeta" => Ok(Kind::ImportMeta),
-        _ => Err(mismatch(value, Expected::OneOf(KINDS))),
+        _ => {
+            let object = ObjectReader::of_members(alloc, members);
+            Err(object.member_error("kind", Expected::Names(KINDS)))
+        }
     }
 }

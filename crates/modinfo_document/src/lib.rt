@@ -22,7 +22,7 @@ pub mod report;
 
 pub use check::check_document;
 pub use document::{Document, parse_document, read_document};
-pub use error::{DocumentError, ElementMismatch, Expected};
+pub use error::DocumentError;
 pub use kind::KINDS;
 pub use literal::read_string;
 pub use lookup::{comment_at, node_at};

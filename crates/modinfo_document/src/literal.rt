@@ -1,122 +1,98 @@
-ghost use Rattle.std.specs.Prelude.{IfErr, IfSome};
-ghost use Rattle.deno_graph_json.specs.Tape.{object_of_members};
-ghost use Rattle.modinfo_document.specs.Mismatch.{IsIn};
-ghost use Rattle.modinfo_document.specs.internal.Mismatch.{IsMemberOf};
-ghost use Rattle.std.specs.Prelude.{option_map, codes, ◌≡◌};
-ghost use Rattle.deno_graph_json.specs.Value.{last_named};
-ghost use Rattle.deno_graph_json.specs.View.{members_of, value_of};
-ghost use Rattle.modinfo_document.specs.Returned.{Returns};
-ghost use Rattle.modinfo_document.specs.Literal.{reads_literal, reads_string, reads_unit, reads_units};
-ghost use Rattle.modinfo_document.specs.Partial.{optional, reads_array};
+//! Reading ranges, strings and string literals.
 
-use crate::array::{FromElement, read_array, read_items};
-use crate::error::{DocumentError, Expected};
-use crate::member::{members_of, mismatch, optional, present, range_of};
-use deno_graph_json::{Element, Members};
-use deno_graph_source::text::JsString;
+ghost use Rattle.serde_json.specs.Data.{array};
+ghost use Rattle.deno_graph_json.specs.Data.{data_of, elements_data};
+ghost use Rattle.deno_graph_json.specs.Read.Result.{IsReadResult};
+ghost use Rattle.modinfo_document.specs.Literal.{reads_literal, reads_source_range, reads_string, reads_unit, reads_units};
+
+use crate::array::read_items;
+use crate::member::{FromElement, read_found};
+use deno_graph_json::read::read_object;
+use deno_graph_json::{Element, Elements, Expected, Form, ReadError, View};
+use deno_graph_source::text::{JsString, SourceRange};
 use deno_graph_source::tree::StrLit;
 use deno_graph_source::values::Items;
 use std::alloc::Global;
 
-/// Reads the string literal at the member `name`; none if the member is missing or null.
-#[tactic(auto, using(crate::proofs::Reading::reading), unfolding(crate::specs::Partial::optional))]
-pub fn optional_literal(
-    alloc: Global,
-    members: Members<'_>,
-    name: &str,
-) -> Result<Option<StrLit>, DocumentError>
-    ensures mismatch { IfErr result (IsIn (object_of_members members.entry)) }
-    ensures read { Returns (optional reads_literal name.now (members_of members.entry)) result }
-{
-    match optional(members, name) {
-        None => Ok(None),
-        Some(value) => Ok(Some(read_literal(alloc, value)?)),
+/// Reads a range, `[START,END]`: two offsets, in bytes.
+impl FromElement for SourceRange {
+    ghost reads = { reads_source_range };
+
+    fn from_element(alloc: Global, value: Element<'_>) -> Result<SourceRange, ReadError> {
+        match value.as_pair() {
+            Some((start, end)) => Ok(SourceRange {
+                start: start as usize,
+                end: end as usize,
+            }),
+            None => Err(ReadError::expected(
+                alloc,
+                Expected::WholePair("two whole numbers, [start,end]"),
+            )),
+        }
     }
 }
 
 /// Reads a string literal, `{"value":STRING,"range":[START,END]}`.
-#[tactic(auto, using(crate::proofs::Reading::reading), unfolding(crate::specs::Literal::reads_literal, crate::specs::Partial::required))]
-pub fn read_literal(alloc: Global, value: Element<'_>) -> Result<StrLit, DocumentError>
-    ensures mismatch { IfErr result (IsIn value.entry) }
-    ensures read { Returns (reads_literal (value_of value.entry)) result }
-{
-    let members = members_of(value)?;
-    let (range, value) = literal_members(members);
-    let range = range_of(present(members, "range", range)?)?;
-    let value = read_string(alloc, present(members, "value", value)?)?;
-    Ok(StrLit { value, range })
-}
+impl FromElement for StrLit {
+    ghost reads = { reads_literal };
 
-/// Finds the last members `range` and `value`.
-fn literal_members<'a>(members: Members<'a>) -> (Option<Element<'a>>, Option<Element<'a>>)
-    ensures range { IfSome result.0 (IsMemberOf members.entry) }
-    ensures value { IfSome result.1 (IsMemberOf members.entry) }
-    ensures last_range { option_map value_of result.0
-        ≡ last_named (codes "range") (members_of members.entry) }
-    ensures last_value { option_map value_of result.1
-        ≡ last_named (codes "value") (members_of members.entry) }
-{
-    let mut range = None;
-    let mut value = None;
-    for (name, found) in members.entries() {
-        match name {
-            "range" => range = Some(found),
-            "value" => value = Some(found),
-            _ => (),
-        }
-    }
-    (range, value)
-}
-
-/// Reads an array of JavaScript strings.
-pub fn read_strings(alloc: Global, value: Element<'_>) -> Result<Items<JsString>, DocumentError>
-    ensures mismatch { IfErr result (IsIn value.entry) }
-    ensures read { Returns (reads_array reads_string (value_of value.entry)) result }
-{
-    read_array(alloc, value)
-}
-
-impl FromElement for JsString {
-    ghost reads = { reads_string };
-
-    fn from_element(alloc: Global, value: Element<'_>) -> Result<JsString, DocumentError> {
-        read_string(alloc, value)
+    #[tactic(auto, using(deno_graph_json::proofs::Reading::reading), unfolding(crate::specs::Literal::reads_literal))]
+    fn from_element(alloc: Global, value: Element<'_>) -> Result<StrLit, ReadError> {
+        let members = read_object(alloc, value)?;
+        let mut found = [None; 2];
+        members.find(&["range", "value"], &mut found);
+        let [range, text] = found;
+        let range = read_found(alloc, members, "range", range)?;
+        let value = read_found(alloc, members, "value", text)?;
+        Ok(StrLit { value, range })
     }
 }
 
 /// Reads a JavaScript string: a string, or an array of UTF-16 code units.
-#[tactic(auto, using(crate::proofs::Reading::reading), unfolding(crate::specs::Literal::reads_string))]
-pub fn read_string(alloc: Global, value: Element<'_>) -> Result<JsString, DocumentError>
-    ensures mismatch { IfErr result (IsIn value.entry) }
-    ensures read { Returns (reads_string (value_of value.entry)) result }
-{
-    match value.as_str() {
-        Some(text) => Ok(JsString::from_str(alloc, text)?),
-        None => read_units(alloc, value),
+impl FromElement for JsString {
+    ghost reads = { reads_string };
+
+    fn from_element(alloc: Global, value: Element<'_>) -> Result<JsString, ReadError> {
+        read_string(alloc, value)
     }
 }
 
-/// Reads an array of UTF-16 code units.
-#[tactic(auto, using(crate::proofs::Reading::reading), unfolding(crate::specs::Literal::reads_units, crate::specs::Partial::reads_array))]
-fn read_units(alloc: Global, value: Element<'_>) -> Result<JsString, DocumentError>
-    ensures mismatch { IfErr result (IsIn value.entry) }
-    ensures read { Returns (reads_units (value_of value.entry)) result }
+const EXPECTED_STRING: Expected = Expected::OneOf(
+    "a string or an array of units of UTF-16",
+    &[Form::String, Form::Array],
+);
+
+/// Reads a JavaScript string: a string, or an array of UTF-16 code units.
+#[tactic(auto, unfolding(crate::specs::Literal::reads_string))]
+pub fn read_string(alloc: Global, value: Element<'_>) -> Result<JsString, ReadError>
+    ensures { IsReadResult (data_of value.entry) (reads_string (data_of value.entry)) result }
 {
-    let values = value
-        .elements()
-        .ok_or(mismatch(value, Expected::SourceString))?;
+    match value.view() {
+        View::String(text) => Ok(JsString::from_str(alloc, text)?),
+        View::Array(values) => read_units(alloc, values),
+        _ => Err(ReadError::expected(alloc, EXPECTED_STRING)),
+    }
+}
+
+/// Reads UTF-16 code units.
+#[tactic(auto, using(deno_graph_json::proofs::Reading::reading), unfolding(crate::specs::Literal::reads_units))]
+fn read_units(alloc: Global, values: Elements<'_>) -> Result<JsString, ReadError>
+    ensures { IsReadResult (array (elements_data values.entry))
+        (reads_units (elements_data values.entry)) result }
+{
     let units: Items<u16> = read_items(alloc, values)?;
     Ok(JsString::from_units(alloc, units.as_slice())?)
 }
 
+/// Reads a UTF-16 code unit.
 impl FromElement for u16 {
     ghost reads = { reads_unit };
 
-    #[tactic(auto, using(crate::proofs::Reading::reading), unfolding(crate::specs::Literal::reads_unit))]
-    fn from_element(_alloc: Global, value: Element<'_>) -> Result<u16, DocumentError> {
-        match value.as_u64() {
-            Some(unit) if unit < 65536 => Ok(unit as u16),
-            _ => Err(mismatch(value, Expected::Unit)),
+    #[tactic(auto, unfolding(crate::specs::Literal::reads_unit, deno_graph_json::specs::Read::Partial::as_usize))]
+    fn from_element(alloc: Global, value: Element<'_>) -> Result<u16, ReadError> {
+        match value.view() {
+            View::Whole(unit) if unit < 65536 => Ok(unit as u16),
+            _ => Err(ReadError::expected(alloc, Expected::Below(65536))),
         }
     }
 }

@@ -1,13 +1,23 @@
-ghost use Rattle.std.specs.Prelude.{IfErr};
-ghost use Rattle.modinfo_document.specs.Mismatch.{IsIn};
-ghost use Rattle.deno_graph_json.specs.View.{value_of};
-ghost use Rattle.modinfo_document.specs.Returned.{Returns};
-ghost use Rattle.modinfo_document.specs.Kind.{media_types, reads_named};
+ghost use Rattle.serde_json.specs.Data.{string};
+ghost use Rattle.deno_graph_json.specs.Read.Result.{IsReadResult};
+ghost use Rattle.modinfo_document.specs.Kind.{media_types, named, reads_named};
 
-use crate::error::{DocumentError, Expected};
-use crate::member::{mismatch, text_of};
-use deno_graph_json::Element;
+use crate::member::FromElement;
+use deno_graph_json::read::read_str;
+use deno_graph_json::{Element, Expected, ReadError};
 use deno_graph_source::tree::MediaType;
+use std::alloc::Global;
+
+/// Reads a media type by its name.
+impl FromElement for MediaType {
+    ghost reads = { reads_named media_types };
+
+    #[tactic(auto, using(deno_graph_json::proofs::Reading::reading), unfolding(crate::specs::Kind::reads_named))]
+    fn from_element(alloc: Global, value: Element<'_>) -> Result<MediaType, ReadError> {
+        let name = read_str(alloc, value)?;
+        media_type_named(alloc, name)
+    }
+}
 
 const MEDIA_TYPES: &[&str] = &[
     "JavaScript",
@@ -25,13 +35,12 @@ const MEDIA_TYPES: &[&str] = &[
     "Other",
 ];
 
-/// Reads a media type by its name.
-#[tactic(auto, using(crate::proofs::Reading::reading), unfolding(crate::specs::Kind::reads_named, crate::specs::Kind::named))]
-pub fn read_media_type(value: Element<'_>) -> Result<MediaType, DocumentError>
-    ensures mismatch { IfErr result (IsIn value.entry) }
-    ensures read { Returns (reads_named media_types (value_of value.entry)) result }
+/// Returns a media type of this name.
+#[tactic(auto, unfolding(crate::specs::Kind::named))]
+fn media_type_named(alloc: Global, name: &str) -> Result<MediaType, ReadError>
+    ensures { IsReadResult (string name.now) (named media_types name.now) result }
 {
-    match text_of(value)? {
+    match name {
         "JavaScript" => Ok(MediaType::JavaScript),
         "Jsx" => Ok(MediaType::Jsx),
         "Mjs" => Ok(MediaType::Mjs),
@@ -45,6 +54,6 @@ pub fn read_media_type(value: Element<'_>) -> Result<MediaType, DocumentError>
         "Tsx" => Ok(MediaType::Tsx),
         "Json" => Ok(MediaType::Json),
         "Other" => Ok(MediaType::Other),
-        _ => Err(mismatch(value, Expected::OneOf(MEDIA_TYPES))),
+        _ => Err(ReadError::expected(alloc, Expected::Names(MEDIA_TYPES))),
     }
 }

@@ -1,149 +1,167 @@
 //! Reading the members of a JSON object.
 
-ghost use Rattle.std.specs.Prelude.{◌≡◌, Some, IfErr, IfOk, IfSome, option_map, codes, false};
-ghost use Rattle.deno_graph_json.specs.Tape.{TakesSame, IsInside, array_of_elements, object_of_members};
-ghost use Rattle.deno_graph_json.specs.Value.{as_bool, as_str, as_object, as_array, as_whole, last_named};
-ghost use Rattle.deno_graph_json.specs.View.{value_of, members_of, items_left};
-ghost use Rattle.modinfo_document.specs.Returned.{Returns};
-ghost use Rattle.modinfo_document.specs.internal.Returned.{ReturnsSeen, IsMismatch};
-ghost use Rattle.modinfo_document.specs.Literal.{reads_source_range};
-ghost use Rattle.modinfo_document.specs.Mismatch.{IsIn};
-ghost use Rattle.modinfo_document.specs.internal.Mismatch.{IsInOptional};
-ghost use Rattle.modinfo_document.specs.Partial.{required, or_default, flag, unless_null};
+ghost use Rattle.std.specs.Prelude.{◌≡◌, MatchResult, Some, option_map};
+ghost use Rattle.serde_json.specs.Data.{Data, object, string};
+ghost use Rattle.serde_json.specs.Find.{as_bool, as_str, get, get_member};
+ghost use Rattle.deno_graph_json.specs.Data.{data_of, members_data};
+ghost use Rattle.deno_graph_json.specs.Read.Partial.{as_usize, member_at, member_or, reads_optional};
+ghost use Rattle.deno_graph_json.specs.Read.Result.{IsReadError, IsReadResult};
 
-use crate::error::{DocumentError, ElementMismatch, Expected};
-use deno_graph_json::{Element, Elements, Members};
-use deno_graph_source::text::SourceRange;
+use deno_graph_json::read::read_str;
+use deno_graph_json::{Element, Expected, FromJson, Members, ReadError, View};
+use deno_graph_source::values::Text;
+use std::alloc::Global;
 
-/// The error of a value that isn't what is expected there.
-pub fn mismatch(value: Element<'_>, expected: Expected) -> DocumentError
-    ensures place { IsIn value.entry result }
-    ensures mismatch { IsMismatch result }
-{
-    let element = value.number();
-    DocumentError::Tree(ElementMismatch { element, expected })
+/// A type that can be read from a value in a document. Like `FromJson`, which can't be implemented
+/// here for types of other crates.
+pub trait FromElement {
+    ghost use Rattle.std.specs.Prelude.{Option};
+    ghost use Rattle.serde_json.specs.Data.{Data};
+
+    /// The value that is read from JSON data, or `None` if the data can't be read.
+    ghost reads: { Data → Option Self };
+
+    /// Reads the value. Returns `Mismatch` with the path to a part of `value` that isn't as expected,
+    /// or `OutOfMemory` if an allocation fails.
+    fn from_element(alloc: Global, value: Element<'_>) -> Result<Self, ReadError>
+        ensures { IsReadResult (data_of value.entry) (reads (data_of value.entry)) result };
 }
 
-/// The members of an object. `Tree` if the value is none.
-pub fn members_of<'a>(value: Element<'a>) -> Result<Members<'a>, DocumentError>
-    ensures object { IfOk result (λ members. TakesSame (object_of_members members) value.entry) }
-    ensures mismatch { IfErr result (IsIn value.entry) }
-    ensures read { ReturnsSeen members_of (as_object (value_of value.entry)) result }
-{
-    value.members().ok_or(mismatch(value, Expected::Object))
+impl FromElement for bool {
+    ghost reads = { as_bool };
+
+    fn from_element(alloc: Global, value: Element<'_>) -> Result<bool, ReadError> {
+        bool::from_json(alloc, value)
+    }
 }
 
-/// The elements of an array. `Tree` if the value is none.
-pub fn elements_of<'a>(value: Element<'a>) -> Result<Elements<'a>, DocumentError>
-    ensures array { IfOk result (λ elements. TakesSame (array_of_elements elements) value.entry) }
-    ensures mismatch { IfErr result (IsIn value.entry) }
-    ensures read { ReturnsSeen items_left (as_array (value_of value.entry)) result }
-{
-    value.elements().ok_or(mismatch(value, Expected::Array))
+impl FromElement for usize {
+    ghost reads = { as_usize };
+
+    fn from_element(alloc: Global, value: Element<'_>) -> Result<usize, ReadError> {
+        usize::from_json(alloc, value)
+    }
 }
 
-/// The text of a string. `Tree` if the value is none.
-pub fn text_of<'a>(value: Element<'a>) -> Result<&'a str, DocumentError>
-    ensures mismatch { IfErr result (IsIn value.entry) }
-    ensures read { ReturnsSeen (λ text. text.now) (as_str (value_of value.entry)) result }
-{
-    value.as_str().ok_or(mismatch(value, Expected::String))
+impl FromElement for Text {
+    ghost reads = { as_str };
+
+    fn from_element(alloc: Global, value: Element<'_>) -> Result<Text, ReadError> {
+        Text::from_json(alloc, value)
+    }
 }
 
-/// The last member `name`. `Tree` if there is none.
-pub fn required<'a>(members: Members<'a>, name: &'static str) -> Result<Element<'a>, DocumentError>
-    ensures member { IfOk result (λ value. IsInside value (object_of_members members.entry)) }
-    ensures mismatch { IfErr result (IsIn (object_of_members members.entry)) }
-    ensures read { ReturnsSeen value_of (last_named name.now (members_of members.entry)) result }
-{
-    present(members, name, members.get(name))
+impl<T: FromElement> FromElement for Option<T> {
+    ghost reads = { reads_optional T.reads };
+
+    #[tactic(auto, unfolding(deno_graph_json::specs::Read::Partial::reads_optional))]
+    fn from_element(alloc: Global, value: Element<'_>) -> Result<Option<T>, ReadError> {
+        match value.view() {
+            View::Null => Ok(None),
+            _ => {
+                let item = T::from_element(alloc, value)?;
+                Ok(Some(item))
+            }
+        }
+    }
 }
 
-/// The member `name` that was found. `Tree` if none was.
-pub fn present<'a>(
-    members: Members<'a>,
+/// Reads the required member `name`.
+pub fn read_member<T: FromElement>(
+    alloc: Global,
+    members: Members<'_>,
     name: &'static str,
-    found: Option<Element<'a>>,
-) -> Result<Element<'a>, DocumentError>
-    ensures member { IfOk result (λ value. found.entry ≡ Some value) }
-    ensures mismatch { IfErr result (IsIn (object_of_members members.entry)) }
-    ensures read { ReturnsSeen value_of (option_map value_of found.entry) result }
+) -> Result<T, ReadError>
+    ensures { IsReadResult (object (members_data members.entry))
+        (member_at T.reads name.now (members_data members.entry)) result }
 {
-    let element = members.number();
-    let expected = Expected::Member(name);
-    found.ok_or(DocumentError::Tree(ElementMismatch { element, expected }))
+    read_found(alloc, members, name, members.get(name))
 }
 
-/// The last member `name`, `None` if it is missing or null.
-pub fn optional<'a>(members: Members<'a>, name: &str) -> Option<Element<'a>>
-    ensures member { IfSome result (λ value. IsInside value (object_of_members members.entry)) }
-    ensures value { option_map value_of result
-        ≡ unless_null (last_named name.now (members_of members.entry)) }
+/// Reads the member `name`, or returns `default` if the object has no such member.
+pub fn read_member_or<T: FromElement + Drop>(
+    alloc: Global,
+    members: Members<'_>,
+    name: &str,
+    default: T,
+) -> Result<T, ReadError>
+    ensures { IsReadResult (object (members_data members.entry))
+        (member_or T.reads name.now default (members_data members.entry)) result }
 {
-    members.get(name).filter(|value| !value.is_null())
+    read_found_or(alloc, members, name, members.get(name), default)
 }
 
-/// The text of the last member `name`. `Tree` if it is missing or no string.
-#[tactic(auto, using(crate::proofs::Reading::reading), unfolding(crate::specs::Partial::required))]
-pub fn text<'a>(members: Members<'a>, name: &'static str) -> Result<&'a str, DocumentError>
-    ensures mismatch { IfErr result (IsIn (object_of_members members.entry)) }
-    ensures read { ReturnsSeen (λ text. text.now)
-        (required as_str name.now (members_of members.entry)) result }
-{
-    text_of(required(members, name)?)
-}
-
-/// The last member `name` as a boolean, false if it is missing.
-#[tactic(auto, unfolding(crate::specs::Partial::flag))]
-pub fn flag(members: Members<'_>, name: &str) -> Result<bool, DocumentError>
-    ensures mismatch { IfErr result (IsIn (object_of_members members.entry)) }
-    ensures read { Returns (flag name.now (members_of members.entry)) result }
-{
-    truth_or_false(members.get(name))
-}
-
-/// The element that was found as a boolean, false if none was.
-pub fn truth_or_false(found: Option<Element<'_>>) -> Result<bool, DocumentError>
-    ensures mismatch { IfErr result (IsInOptional found.entry) }
-    ensures read { Returns (or_default as_bool false (option_map value_of found.entry)) result }
+/// Like `read_member`, for a member that was looked for.
+#[tactic(auto, unfolding(deno_graph_json::specs::Read::Partial::member_at))]
+pub fn read_found<T: FromElement>(
+    alloc: Global,
+    members: Members<'_>,
+    name: &'static str,
+    found: Option<Element<'_>>,
+) -> Result<T, ReadError>
+    requires { option_map data_of found ≡ get_member name.now (members_data members) }
+    ensures { IsReadResult (object (members_data members.entry))
+        (member_at T.reads name.now (members_data members.entry)) result }
 {
     match found {
-        None => Ok(false),
-        Some(value) => value.as_bool().ok_or(mismatch(value, Expected::Bool)),
+        Some(value) => read_value(alloc, name, value),
+        None => Err(ReadError::expected(alloc, Expected::Member(name))),
     }
 }
 
-/// Reads the last member `range`: two offsets, in bytes.
-#[tactic(auto, using(crate::proofs::Reading::reading), unfolding(crate::specs::Partial::required))]
-pub fn range(members: Members<'_>) -> Result<SourceRange, DocumentError>
-    ensures mismatch { IfErr result (IsIn (object_of_members members.entry)) }
-    ensures read { Returns (required reads_source_range (codes "range") (members_of members.entry)) result }
+/// Like `read_member_or`, for a member that was looked for.
+#[tactic(auto, unfolding(deno_graph_json::specs::Read::Partial::member_or))]
+pub fn read_found_or<T: FromElement + Drop>(
+    alloc: Global,
+    members: Members<'_>,
+    name: &str,
+    found: Option<Element<'_>>,
+    default: T,
+) -> Result<T, ReadError>
+    requires { option_map data_of found ≡ get_member name.now (members_data members) }
+    ensures { IsReadResult (object (members_data members.entry))
+        (member_or T.reads name.now default (members_data members.entry)) result }
 {
-    range_of(required(members, "range")?)
-}
-
-/// Reads a range: two offsets, in bytes.
-#[tactic(auto, unfolding(crate::specs::Literal::reads_source_range))]
-pub fn range_of(value: Element<'_>) -> Result<SourceRange, DocumentError>
-    ensures mismatch { IfErr result (IsIn value.entry) }
-    ensures read { Returns (reads_source_range (value_of value.entry)) result }
-{
-    match value.as_pair() {
-        Some((start, end)) => Ok(SourceRange {
-            start: start as usize,
-            end: end as usize,
-        }),
-        None => Err(mismatch(value, Expected::Range)),
+    match found {
+        Some(value) => read_value(alloc, name, value),
+        None => Ok(default),
     }
 }
 
-/// Reads an offset, in bytes.
-pub fn offset(value: Element<'_>) -> Result<usize, DocumentError>
-    ensures mismatch { IfErr result (IsIn value.entry) }
-    ensures read { Returns (as_whole (value_of value.entry)) result }
+/// Returns the text of the required member `name`, which was looked for.
+#[tactic(auto, unfolding(deno_graph_json::specs::Read::Partial::member_at))]
+pub fn found_str<'a>(
+    alloc: Global,
+    members: Members<'_>,
+    name: &'static str,
+    found: Option<Element<'a>>,
+) -> Result<&'a str, ReadError>
+    requires { option_map data_of found ≡ get_member name.now (members_data members) }
+    ensures { MatchResult result
+        (λ text. get_member name.now (members_data members.entry) ≡ Some (string text.now))
+        (IsReadError (object (members_data members.entry))
+        (member_at as_str name.now (members_data members.entry))) }
 {
-    match value.as_u64() {
-        Some(offset) => Ok(offset as usize),
-        None => Err(mismatch(value, Expected::Whole)),
+    match found {
+        Some(value) => match read_str(alloc, value) {
+            Ok(text) => Ok(text),
+            Err(error) => Err(error.in_member(alloc, name)),
+        },
+        None => Err(ReadError::expected(alloc, Expected::Member(name))),
+    }
+}
+
+/// Reads the value of the member `name`.
+pub fn read_value<T: FromElement>(
+    alloc: Global,
+    name: &str,
+    value: Element<'_>,
+) -> Result<T, ReadError>
+    ensures { (object : Data) → get name.now object ≡ Some (data_of value.entry)
+        → IsReadResult object (T.reads (data_of value.entry)) result }
+{
+    match T::from_element(alloc, value) {
+        Ok(item) => Ok(item),
+        Err(error) => Err(error.in_member(alloc, name)),
     }
 }

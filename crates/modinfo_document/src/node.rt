@@ -1,67 +1,59 @@
 //! Reading nodes and programs.
 
-ghost use Rattle.std.specs.Prelude.{IfErr, IfSome};
-ghost use Rattle.modinfo_document.specs.Mismatch.{IsIn};
-ghost use Rattle.modinfo_document.specs.internal.Mismatch.{IsMemberOf};
-ghost use Rattle.std.specs.Prelude.{◌≡◌, option_map, codes};
-ghost use Rattle.deno_graph_json.specs.Value.{last_named};
-ghost use Rattle.deno_graph_json.specs.View.{value_of, members_of};
-ghost use Rattle.modinfo_document.specs.Returned.{Returns};
-ghost use Rattle.modinfo_document.specs.Node.{reads_node, reads_nodes, reads_program};
+ghost use Rattle.std.specs.Prelude.{◌≡◌, codes, option_map};
+ghost use Rattle.serde_json.specs.Data.{object};
+ghost use Rattle.serde_json.specs.Find.{get_member};
+ghost use Rattle.deno_graph_json.specs.Data.{data_of, members_data};
+ghost use Rattle.deno_graph_json.specs.Read.Result.{IsReadResult};
+ghost use Rattle.modinfo_document.specs.Node.{children_in, reads_node, reads_nodes, reads_program};
 
-use crate::error::DocumentError;
 use crate::kind::read_kind;
-use crate::member::{elements_of, flag, members_of, present, range, range_of, required};
-use deno_graph_json::{Element, Members};
+use crate::member::{FromElement, read_found, read_member, read_member_or};
+use deno_graph_json::read::{read_array, read_object};
+use deno_graph_json::{Element, Members, ReadError};
 use deno_graph_source::tree::{Node, Program};
 use deno_graph_source::values::Items;
 use std::alloc::Global;
 
 /// Reads a program, `{"range":[START,END],"body":[NODE ..],"shebang":BOOL}`.
-#[tactic(auto, using(crate::proofs::Reading::reading), unfolding(crate::specs::Node::reads_program, crate::specs::Partial::required))]
-pub fn read_program(alloc: Global, value: Element<'_>) -> Result<Program, DocumentError>
-    ensures mismatch { IfErr result (IsIn value.entry) }
-    ensures read { Returns (reads_program (value_of value.entry)) result }
-{
-    let members = members_of(value)?;
-    let range = range(members)?;
-    let has_shebang = flag(members, "shebang")?;
-    let body = read_nodes(alloc, required(members, "body")?)?;
-    Ok(Program {
-        range,
-        body,
-        has_shebang,
-    })
+impl FromElement for Program {
+    ghost reads = { reads_program };
+
+    #[tactic(auto, using(deno_graph_json::proofs::Reading::reading), unfolding(crate::specs::Node::reads_program))]
+    fn from_element(alloc: Global, value: Element<'_>) -> Result<Program, ReadError> {
+        let members = read_object(alloc, value)?;
+        let range = read_member(alloc, members, "range")?;
+        let has_shebang = read_member_or(alloc, members, "shebang", false)?;
+        let body = read_member(alloc, members, "body")?;
+        Ok(Program {
+            range,
+            body,
+            has_shebang,
+        })
+    }
 }
 
-/// Reads an array of nodes.
-#[cycle(read)]
-fn read_nodes(alloc: Global, value: Element<'_>) -> Result<Items<Node>, DocumentError>
-    ensures mismatch { IfErr result (IsIn value.entry) }
-    ensures read { Returns (reads_nodes (value_of value.entry)) result }
-{
-    let values = elements_of(value)?;
-    let mut nodes = Vec::with_capacity(alloc, values.array_len())?;
-    for value in values {
-        nodes.push(read_node(alloc, value)?)?;
+/// Reads a node, with all nodes below.
+impl FromElement for Node {
+    ghost reads = { reads_node };
+
+    fn from_element(alloc: Global, value: Element<'_>) -> Result<Node, ReadError> {
+        read_node(alloc, value)
     }
-    Ok(Items::from_vec(nodes))
 }
 
 /// Reads a node, with all nodes below.
 #[cycle(read)]
-pub fn read_node(alloc: Global, value: Element<'_>) -> Result<Node, DocumentError>
-    ensures mismatch { IfErr result (IsIn value.entry) }
-    ensures read { Returns (reads_node (value_of value.entry)) result }
+fn read_node(alloc: Global, value: Element<'_>) -> Result<Node, ReadError>
+    ensures { IsReadResult (data_of value.entry) (reads_node (data_of value.entry)) result }
 {
-    let members = members_of(value)?;
-    let found = NodeMembers::find(members);
-    let range = range_of(present(members, "range", found.range)?)?;
-    let kind = read_kind(alloc, members, present(members, "kind", found.kind)?)?;
-    let children = match found.children {
-        None => Items::new(alloc),
-        Some(children) => read_nodes(alloc, children)?,
-    };
+    let members = read_object(alloc, value)?;
+    let mut found = [None; 3];
+    members.find(&["range", "kind", "children"], &mut found);
+    let [range, kind, children] = found;
+    let range = read_found(alloc, members, "range", range)?;
+    let kind = read_kind(alloc, members, kind)?;
+    let children = read_children(alloc, members, children)?;
     Ok(Node {
         range,
         kind,
@@ -69,42 +61,39 @@ pub fn read_node(alloc: Global, value: Element<'_>) -> Result<Node, DocumentErro
     })
 }
 
-/// The members that every node may have.
-#[derive(Clone, Copy)]
-struct NodeMembers<'a> {
-    range: Option<Element<'a>>,
-    kind: Option<Element<'a>>,
-    children: Option<Element<'a>>,
+/// Reads the children of a node. `found` is the member `children`.
+#[cycle(read)]
+fn read_children(
+    alloc: Global,
+    members: Members<'_>,
+    found: Option<Element<'_>>,
+) -> Result<Items<Node>, ReadError>
+    requires { option_map data_of found ≡ get_member (codes "children") (members_data members) }
+    ensures { IsReadResult (object (members_data members.entry))
+        (children_in (members_data members.entry)) result }
+{
+    match found {
+        None => Ok(Items::new(alloc)),
+        Some(children) => match read_nodes(alloc, children) {
+            Ok(nodes) => Ok(nodes),
+            Err(error) => Err(error.in_member(alloc, "children")),
+        },
+    }
 }
 
-impl<'a> NodeMembers<'a> {
-    /// Finds the last member of each name.
-    fn find(members: Members<'a>) -> NodeMembers<'a>
-        ensures range { IfSome result.range (IsMemberOf members.entry) }
-        ensures kind { IfSome result.kind (IsMemberOf members.entry) }
-        ensures children { IfSome result.children (IsMemberOf members.entry) }
-        ensures last_range { option_map value_of result.range
-            ≡ last_named (codes "range") (members_of members.entry) }
-        ensures last_kind { option_map value_of result.kind
-            ≡ last_named (codes "kind") (members_of members.entry) }
-        ensures last_children { option_map value_of result.children
-            ≡ last_named (codes "children") (members_of members.entry) }
-    {
-        let mut range = None;
-        let mut kind = None;
-        let mut children = None;
-        for (name, value) in members.entries() {
-            match name {
-                "range" => range = Some(value),
-                "kind" => kind = Some(value),
-                "children" => children = Some(value),
-                _ => (),
-            }
-        }
-        NodeMembers {
-            range,
-            kind,
-            children,
+/// Reads an array of nodes.
+#[cycle(read)]
+fn read_nodes(alloc: Global, value: Element<'_>) -> Result<Items<Node>, ReadError>
+    ensures { IsReadResult (data_of value.entry) (reads_nodes (data_of value.entry)) result }
+{
+    let values = read_array(alloc, value)?;
+    let mut nodes = Items::with_capacity(alloc, values.len())?;
+    for item in values {
+        let number = nodes.len();
+        match read_node(alloc, item) {
+            Ok(node) => nodes.push(node)?,
+            Err(error) => return Err(error.in_item(number)),
         }
     }
+    Ok(nodes)
 }

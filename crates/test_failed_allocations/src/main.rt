@@ -3,7 +3,7 @@
 //!     test_failed_allocations           each call, once
 //!     test_failed_allocations NAME      one call
 //!
-//! `tools/refuse_memory` runs each call with each of its allocations failing in turn. Prints one
+//! `tools/fail_allocations` runs each call with each of its allocations failing in turn. Prints one
 //! line per call: whether the call returned or was out of memory. Status 0 if the state after the
 //! call is right, 1 if it is wrong, and 3 if an allocation failed outside the call.
 #![tactic(auto)]

@@ -1,9 +1,11 @@
 //! The name of each fault of the program, from each error of a library.
 
 use deno_graph_info::analysis::{ConvertFault, InfoFault};
+use deno_graph_json::{Expected, Mismatch};
 use deno_graph_source::tree::SourceFault;
+use deno_graph_source::values::Items;
 use modinfo::Fault;
-use modinfo::document::{DocumentError, ElementMismatch, Expected};
+use modinfo::document::DocumentError;
 use serde_json::{Error, Value};
 use std::alloc::{AllocError, AllocFailed};
 use std::process::Abort;
@@ -17,8 +19,8 @@ fn assert_names(rt: &(impl AllocGlobal + Abort), faults: &[(Fault, &str)]) {
 
 #[test]
 fn faults_of_a_document(rt: HostRuntime) {
-    let mismatch = ElementMismatch {
-        element: 0,
+    let mismatch = Mismatch {
+        path: Items::new(rt.alloc()),
         expected: Expected::Object,
     };
     assert_names(

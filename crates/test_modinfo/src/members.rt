@@ -42,13 +42,13 @@ const DOCUMENT: &str = r#"{
 ]}}"#;
 
 /// Stands after the name of each member, and nowhere else.
-const BEHIND_NAME: &str = "\":";
+const AFTER_NAME: &str = "\":";
 
 #[test]
 fn each_member_is_read(rt: HostRuntime) {
     let read = read_of(&rt, DOCUMENT);
     assert!(rt; read.is_some());
-    for number in 1..DOCUMENT.split(BEHIND_NAME).count() {
+    for number in 1..DOCUMENT.split(AFTER_NAME).count() {
         let found = read_of(&rt, with_renamed(&rt, number).as_str());
         assert!(rt; found != read, "the member {number}");
     }
@@ -57,12 +57,12 @@ fn each_member_is_read(rt: HostRuntime) {
 /// The document with its member of this number, from 1, renamed.
 fn with_renamed(rt: &(impl AllocGlobal + Abort), number: usize) -> String {
     let mut text = String::new(rt.alloc());
-    for (place, part) in DOCUMENT.split(BEHIND_NAME).enumerate() {
-        if place == number {
+    for (index, part) in DOCUMENT.split(AFTER_NAME).enumerate() {
+        if index == number {
             text.push('_').expect(rt, "memory");
         }
-        if place > 0 {
-            text.push_str(BEHIND_NAME).expect(rt, "memory");
+        if index > 0 {
+            text.push_str(AFTER_NAME).expect(rt, "memory");
         }
         text.push_str(part).expect(rt, "memory");
     }

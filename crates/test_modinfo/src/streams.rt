@@ -63,7 +63,7 @@ impl Write for FailingWriter {
 }
 
 #[test]
-fn a_failed_read_gives_nothing(rt: HostRuntime) {
+fn a_failed_read_prints_nothing(rt: HostRuntime) {
     let bytes = DOCUMENT.as_bytes();
     for reads_before in 0..=bytes.len() {
         for kind in [ErrorKind::UnexpectedEof, ErrorKind::Interrupted] {

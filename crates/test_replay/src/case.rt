@@ -42,7 +42,7 @@ impl<'a> Case<'a> {
             "output" | "errors" | "answer" => self.read_answer(word, rest),
             "output-from" => self.read_lines_from(rt, "output", rest),
             "answer-from" => self.read_lines_from(rt, "answer", rest),
-            _ => Err(CaseError::Invalid("a line of it begins with no word of a row")),
+            _ => Err(CaseError::Invalid("a line of it begins with no word of a test case")),
         }
     }
 

@@ -1,5 +1,5 @@
 use deno_graph_info::analysis::InfoFault;
-use deno_graph_json::TapeFault;
+use deno_graph_json::{ReadError, TapeFault};
 use deno_graph_source::tree::SourceFault;
 use modinfo::document::DocumentError;
 use std::alloc::{AllocError, AllocFailed};
@@ -57,6 +57,15 @@ impl From<TapeFault> for CaseError {
         match fault {
             TapeFault::Json { .. } => CaseError::Invalid("its input is no JSON"),
             TapeFault::OutOfMemory => CaseError::OutOfMemory,
+        }
+    }
+}
+
+impl From<ReadError> for CaseError {
+    fn from(error: ReadError) -> CaseError {
+        match error {
+            ReadError::Mismatch(_) => CaseError::Invalid("its input can't be read"),
+            ReadError::OutOfMemory => CaseError::OutOfMemory,
         }
     }
 }

@@ -77,6 +77,6 @@ fn push_line<'a>(
     }
     match blocks.last_mut() {
         Some(block) => Ok(block.lines.push((word, rest))?),
-        None => Err(CaseError::Invalid("a line is before the first row")),
+        None => Err(CaseError::Invalid("a line is before the first test case")),
     }
 }

@@ -52,7 +52,7 @@ where
     let mut are_well = true;
     for block in blocks {
         if !names.insert(block.name)? {
-            println!(rt; "row {} is there twice", block.name)?;
+            println!(rt; "test case {} is there twice", block.name)?;
             are_well = false;
         }
         are_well &= is_replayed(rt, block)?;
@@ -67,10 +67,10 @@ where
 {
     let case = Case::read(rt, block)?;
     let answer = answer_of(rt.alloc(), case.words.as_slice(), case.input.as_slice());
-    is_stated(rt, block.name, case.expected.as_str(), answer)
+    is_expected(rt, block.name, case.expected.as_str(), answer)
 }
 
-fn is_stated<R: Print>(
+fn is_expected<R: Print>(
     rt: &R,
     name: &str,
     expected: &str,
@@ -80,13 +80,13 @@ fn is_stated<R: Print>(
         Ok(answer) => {
             let is_same = answer.as_str() == expected;
             if !is_same {
-                print!(rt; "row {name} has to answer\n{expected}and answers\n{answer}")?;
+                print!(rt; "test case {name} has to return\n{expected}and returns\n{answer}")?;
             }
             Ok(is_same)
         }
         Err(CaseError::OutOfMemory) => Err(CaseError::OutOfMemory),
         Err(fault) => {
-            println!(rt; "row {name} can't be run: {fault}")?;
+            println!(rt; "test case {name} can't be run: {fault}")?;
             Ok(false)
         }
     }
@@ -103,7 +103,7 @@ where
             return print_answer(rt, block);
         }
     }
-    Err(CaseError::Invalid("no row has this name"))
+    Err(CaseError::Invalid("no test case has this name"))
 }
 
 fn print_answer<R>(rt: &R, block: &Block<'_>) -> Result<bool, CaseError>

@@ -21,7 +21,7 @@ def pytest_addoption(parser: pytest.Parser) -> None:
 
 
 def analyzed(lines: bytes) -> bytes:
-    """What one process answers."""
+    """What one process prints."""
     return subprocess.run([MODINFO, "analyze", "--lines"], input=lines, stdout=subprocess.PIPE, check=True).stdout
 
 
@@ -55,8 +55,8 @@ def documents(files: list[str], folder: Path) -> Path:
     )
     lines = run.stdout.splitlines(keepends=True)
     # A file with a syntax error has no document, and two more lines with the place. A warning takes none away.
-    said = [line for line in run.stderr.splitlines() if line.startswith(b"modinfo-typescript: ")]
-    assert len(lines) + sum(b": warning: " not in line for line in said) == len(files)
+    reported = [line for line in run.stderr.splitlines() if line.startswith(b"modinfo-typescript: ")]
+    assert len(lines) + sum(b": warning: " not in line for line in reported) == len(files)
     assert len(lines) >= 0.9 * len(files)
     lines[len(lines) // 2 : len(lines) // 2] = [b"\n", b"{}\n", b"\xff\n", b"[" * 1000 + b"\n"]
     path = folder / "documents.jsonl"

@@ -63,8 +63,8 @@ function moduleOf({ path, module, fault }) {
   if (module) {
     return module;
   }
-  const known = fault && withoutExcerpt(fault);
-  return { specifier: canonicalUrl(absolute(path)), references: [], ...(known && { fault: known }) };
+  const kept = fault && withoutExcerpt(fault);
+  return { specifier: canonicalUrl(absolute(path)), references: [], ...(kept && { fault: kept }) };
 }
 
 /**

@@ -51,7 +51,7 @@ function tried(make, text, { warn, ...options }) {
     warnings.forEach(warn);
     return document;
   } catch {
-    // The next one may take it; else the error of the last says why not.
+    // The next parser may take it; if none does, the error of the last is thrown.
     return undefined;
   }
 }

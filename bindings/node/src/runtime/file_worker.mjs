@@ -14,8 +14,8 @@
  *
  * @typedef {object} Task
  * @property {string} path
- * @property {import("../files/analysis_cache.mjs").Analysis} [known] what is found in the file, where that is
- *   known; else it is read
+ * @property {import("../files/analysis_cache.mjs").Analysis} [cached] what is found in the file, where that is
+ *   cached; else the file is read
  * @property {boolean} [isKept] whether the result has what is found in the file
  *
  * @typedef {object} FileResult
@@ -90,8 +90,8 @@ function buffersOf({ line }) {
  * @param {Task} task
  * @returns {Promise<FileResult>}
  */
-async function analyze(service, { path, known, isKept }) {
-  const { info, warnings } = known ?? await analyzeFile(service, path);
+async function analyze(service, { path, cached, isKept }) {
+  const { info, warnings } = cached ?? await analyzeFile(service, path);
   const common = { ...warningsOf(warnings), ...(isKept && { info }) };
   return resolve ? { ...common, ...resolved(path, info) } : { ...common, line: infoLine(path, info) };
 }

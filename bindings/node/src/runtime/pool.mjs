@@ -102,7 +102,7 @@ export class Pool {
     await Promise.all(this.#lanes.map((lane) => lane.close()));
   }
 
-  /** Gives tasks to workers as long as there is room. */
+  /** Sends tasks to workers as long as there is room. */
   #deal() {
     if (this.#broken) {
       this.#rejectWaiting(this.#broken);

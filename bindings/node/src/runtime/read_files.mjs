@@ -53,11 +53,11 @@ export async function* readFiles(files, { jobs, work, timeout, cache }) {
 async function readByCache(pool, file, { maxBytes = Infinity, resolve }, cache) {
   const { path } = file;
   const { state, analysis } = cache.find(path);
-  const known = state && Number(state.size) <= maxBytes ? analysis : undefined;
-  if (known && !resolve && !file.error && !file.isLeft) {
-    return { path, line: infoLine(path, known.info), warnings: known.warnings };
+  const cached = state && Number(state.size) <= maxBytes ? analysis : undefined;
+  if (cached && !resolve && !file.error && !file.isLeft) {
+    return { path, line: infoLine(path, cached.info), warnings: cached.warnings };
   }
-  const { info, ...result } = await readFile(pool, file, { path, known, isKept: !known });
+  const { info, ...result } = await readFile(pool, file, { path, cached, isKept: !cached });
   if (info !== undefined) {
     cache.add(path, state, { info, warnings: result.warnings });
   }

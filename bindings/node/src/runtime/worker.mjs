@@ -3,7 +3,7 @@
 import { parentPort } from "node:worker_threads";
 
 /**
- * Answers tasks until the pool is closed. Several may be under way at once; their results are sent
+ * Handles tasks until the pool is closed. Several may be under way at once; their results are sent
  * together where they are there together.
  * @param {(task: any) => Promise<{ result: unknown, transfer: ArrayBuffer[] }>} handle
  * @param {() => Promise<void>} close

@@ -114,7 +114,7 @@ export class Browser {
   }
 
   /**
-   * Waits until a function says so.
+   * Waits until a function returns true.
    * @param {string} body of the function
    * @param {...unknown} args its arguments
    */
@@ -240,7 +240,7 @@ async function addressOf(driver) {
       return `http://127.0.0.1:${port}`;
     }
   }
-  throw new Error("chromedriver ended before it said where it listens");
+  throw new Error("chromedriver ended before it printed where it listens");
 }
 
 /**

@@ -64,7 +64,7 @@ shown("each module has its text, and its specifiers are marked in it", async () 
   }
 });
 
-shown("a table says what each place names", async () => {
+shown("a table shows what each range names", async () => {
   await open(example);
   await openModule("src/main.ts");
   /** @type {string[][]} */

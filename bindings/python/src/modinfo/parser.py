@@ -42,7 +42,7 @@ class Parser:
 
     The process ends with the `with`. `command` is the program that is run; the words `--lines --null -` come after it,
     and the paths go to its standard input. A file that has no document, since it has a syntax error or can't be
-    read, is left out: after the last document ParserError is raised with what the parser said, or with
+    read, is left out: after the last document ParserError is raised with what the parser printed, or with
     `keep_going` nothing is raised, and `messages` has it.
     """
 

@@ -4,7 +4,7 @@ use modinfo::Fault;
 use std::fs;
 use std::path::{Path, PathBuf};
 
-/// One call of one of the functions, and what it has to answer. Each test uses some of its parts.
+/// One call of one of the functions, and what it has to return. Each test uses some of its parts.
 #[allow(dead_code)]
 pub struct Call {
     pub name: String,
@@ -16,7 +16,7 @@ pub struct Call {
 
 #[allow(dead_code)]
 impl Call {
-    /// What the crate answers.
+    /// The answer of the crate.
     pub fn answer(&self) -> Result<String, Fault> {
         match self.command.as_str() {
             "analyze" => modinfo::analyze(&self.document).map_err(Fault::from),
@@ -39,7 +39,7 @@ pub fn root() -> PathBuf {
     Path::new(env!("CARGO_MANIFEST_DIR")).join("../..")
 }
 
-/// Each example's document with the answer that it has to give.
+/// Each example's document with its expected answer.
 pub fn examples() -> Vec<Call> {
     [
         ("analyze", ".json", ".out.json"),
@@ -67,12 +67,12 @@ pub fn examples() -> Vec<Call> {
 }
 
 /// The test cases of docs/ROWS.md that run the program on one document.
-pub fn rows() -> Vec<Call> {
+pub fn test_cases() -> Vec<Call> {
     let folder = root().join("crates/test_replay/data");
     files(&folder, ".rows")
         .iter()
         .flat_map(|file| blocks(&read(file)))
-        .filter_map(|row| call(&folder, &row))
+        .filter_map(|case| call(&folder, &case))
         .collect()
 }
 
@@ -92,27 +92,27 @@ fn read(path: &Path) -> String {
 }
 
 /// The lines of a test case: the word, and the rest of the line.
-type Row = Vec<(String, String)>;
+type TestCase = Vec<(String, String)>;
 
-pub fn blocks(text: &str) -> Vec<Row> {
-    let mut rows: Vec<Row> = Vec::new();
+pub fn blocks(text: &str) -> Vec<TestCase> {
+    let mut cases: Vec<TestCase> = Vec::new();
     for line in text
         .lines()
         .filter(|line| !line.is_empty() && !line.starts_with('#'))
     {
         let (word, rest) = line.split_once(' ').unwrap_or((line, ""));
         if word == "row" {
-            rows.push(Row::new());
+            cases.push(TestCase::new());
         }
-        let row = rows.last_mut().expect("a row begins with its name");
-        row.push((word.to_owned(), rest.to_owned()));
+        let case = cases.last_mut().expect("a test case begins with its name");
+        case.push((word.to_owned(), rest.to_owned()));
     }
-    rows
+    cases
 }
 
 /// The text of the lines with a word, with line feeds between them.
-pub fn field(row: &Row, word: &str) -> Option<String> {
-    let lines: Vec<_> = row
+pub fn field(case: &TestCase, word: &str) -> Option<String> {
+    let lines: Vec<_> = case
         .iter()
         .filter(|line| line.0 == word)
         .map(|line| line.1.as_str())
@@ -126,39 +126,39 @@ fn is_call(words: &str) -> bool {
     ["analyze", "convert", "reach"].contains(&command) || words == "check"
 }
 
-fn call(folder: &Path, row: &Row) -> Option<Call> {
-    let called = field(row, "call")?;
+fn call(folder: &Path, case: &TestCase) -> Option<Call> {
+    let called = field(case, "call")?;
     let command = called.strip_prefix("serve ")?.to_owned();
     if !is_call(&command) {
         return None;
     }
     Some(Call {
-        name: field(row, "row")?,
+        name: field(case, "row")?,
         command,
-        document: document(folder, row),
-        wanted: wanted(folder, row),
+        document: document(folder, case),
+        wanted: wanted(folder, case),
     })
 }
 
-fn document(folder: &Path, row: &Row) -> Vec<u8> {
-    if let Some(digits) = field(row, "bytes") {
+fn document(folder: &Path, case: &TestCase) -> Vec<u8> {
+    if let Some(digits) = field(case, "bytes") {
         return digits
             .split_whitespace()
             .map(|byte| u8::from_str_radix(byte, 16).expect("a byte"))
             .collect();
     }
-    match field(row, "input-from") {
-        Some(name) => fs::read(folder.join(name)).expect("the row's input"),
-        None => field(row, "input").unwrap_or_default().into_bytes(),
+    match field(case, "input-from") {
+        Some(name) => fs::read(folder.join(name)).expect("the test case's input"),
+        None => field(case, "input").unwrap_or_default().into_bytes(),
     }
 }
 
-fn wanted(folder: &Path, row: &Row) -> Result<String, String> {
-    if let Some(fault) = field(row, "errors") {
+fn wanted(folder: &Path, case: &TestCase) -> Result<String, String> {
+    if let Some(fault) = field(case, "errors") {
         return Err(fault.trim_start_matches("modinfo: ").to_owned());
     }
-    Ok(match field(row, "output-from") {
+    Ok(match field(case, "output-from") {
         Some(name) => read(&folder.join(name)).trim_end().to_owned(),
-        None => field(row, "output").expect("the row's output"),
+        None => field(case, "output").expect("the test case's output"),
     })
 }

@@ -14,21 +14,22 @@ ghost use Rattle.deno_graph_dep.specs.Descriptor.{DynamicDescriptor, Descriptor,
 ghost use Rattle.deno_graph_dep.specs.DescriptorOf.{IsDescriptorOf};
 ghost use Rattle.deno_graph_dep.specs.DependencyRules.{is_dependency};
 
-/// Only a dependency has a descriptor.
+/// Ensures that only a dependency has a descriptor.
 pub fn only_dependencies_have_descriptors()
     ensures { (comments : FiledComments) (node : Node) (descriptor : Descriptor)
         → IsDescriptorOf comments node descriptor → is_dependency node ≡ true }
 {}
 
-/// Each dependency has a descriptor, where the node and all nodes below it have the children that
-/// their kinds need. Nodes of a valid source have these.
+/// Ensures that each dependency has a descriptor, if the node and all nodes below the node have the
+/// children that their kinds need, as nodes of a valid source have.
 pub fn each_dependency_has_a_descriptor()
     ensures { (comments : FiledComments) (node : Node)
         → is_dependency node ≡ true → All IsShaped (nodes_in node)
         → (descriptor : Descriptor) × IsDescriptorOf comments node descriptor }
 {}
 
-/// The body of each such program has exactly one list of descriptors.
+/// Ensures that a body has at most one list of descriptors, and has one if all nodes of the program
+/// have the children that their kinds need.
 pub fn each_body_has_dependencies()
     ensures some { (comments : FiledComments) (program : Program) → All IsShaped (nodes_of program)
         → (descriptors : List Descriptor) × AreDependencies comments program.body descriptors }
@@ -38,14 +39,14 @@ pub fn each_body_has_dependencies()
         → descriptors ≡ others }
 {}
 
-/// A node has one descriptor at most.
+/// Ensures that a node has at most one descriptor.
 pub fn a_descriptor_is_unique()
     ensures { (comments : FiledComments) (node : Node) (descriptor other : Descriptor)
         → IsDescriptorOf comments node descriptor → IsDescriptorOf comments node other
         → descriptor ≡ other }
 {}
 
-/// The descriptor of a call with a spread first argument holds nothing of the argument.
+/// Ensures that the descriptor of a call with a spread first argument has nothing of the argument.
 pub fn a_spread_argument_is_unknown()
     ensures { (comments : FiledComments) (node : Node) (callee : Callee)
         (args : List Arg) (arg : Arg) (descriptor : DynamicDescriptor)

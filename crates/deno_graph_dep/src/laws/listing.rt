@@ -7,7 +7,7 @@ ghost use Rattle.deno_graph_dep.specs.DependencyRules.{children_to_visit};
 ghost use Rattle.deno_graph_dep.specs.Listing.{IsListing, Precedes, Rules};
 ghost use Rattle.deno_graph_source.specs.NodePath.{NodePath};
 
-/// A body has exactly one listing.
+/// Ensures that a body has exactly one listing.
 pub fn one_listing()
     ensures some { (rules : Rules) (body : List Node)
         → (paths : List NodePath) × IsListing rules body paths }
@@ -15,7 +15,8 @@ pub fn one_listing()
         → IsListing rules body paths → IsListing rules body others → paths ≡ others }
 {}
 
-/// The tree order is a strict total order: of two different paths exactly one precedes the other.
+/// Ensures that the tree order is a strict total order: of two different paths exactly one precedes
+/// the other.
 pub fn tree_order()
     ensures one { (rules : Rules) (body : List Node) (p q : NodePath)
         → p ≢ q → Precedes rules body p q ⊎ Precedes rules body q p }
@@ -25,7 +26,7 @@ pub fn tree_order()
         → Precedes rules body p q → Precedes rules body q r → Precedes rules body p r }
 {}
 
-/// A dependency comes right before the dependencies inside it, or right after them.
+/// Ensures that a dependency comes right before or right after the dependencies inside the node.
 pub fn own_nodes_and_inside()
     ensures { (node : Node)
         → dependencies_in node

@@ -10,7 +10,7 @@ use crate::analysis::dynamic_dependency::{DynamicDependencyDescriptor, read_dyna
 use crate::analysis::import_attributes::ImportAttributes;
 use crate::analysis::static_dependency::{StaticDependencyDescriptor, read_static};
 use deno_graph_base::values::TryClone;
-use deno_graph_json::{Expected, FromJson, ObjectReader, ReadError, TextWriter, ToJson};
+use deno_graph_json::{Element, Expected, FromJson, ObjectReader, ReadError, TextWriter, ToJson};
 use serde_json::Value;
 use std::alloc::{AllocError, Global};
 
@@ -114,7 +114,7 @@ impl FromJson for DependencyDescriptor {
     ghost reads = { reads_dependency };
 
     #[tactic(auto, using(deno_graph_json::proofs::Reading::reading), unfolding(crate::specs::Json::Dependency::reads_dependency))]
-    fn from_json(alloc: Global, value: &Value) -> Result<DependencyDescriptor, ReadError> {
+    fn from_json(alloc: Global, value: Element<'_>) -> Result<DependencyDescriptor, ReadError> {
         let object = ObjectReader::new(alloc, value)?;
         let dependency_type = object.read_str("type")?;
         read_dependency(dependency_type, &object)

@@ -10,8 +10,8 @@ ghost use Rattle.deno_graph_json.specs.Read.Result.{IsReadResult};
 use deno_graph_base::values::{Items, Text, TryClone};
 use deno_graph_json::read::read_items;
 use deno_graph_json::{
-    Expected, Form, FromJson, MemberWriter, ObjectReader, ReadError, TextWriter, ToJson, ToObject,
-    object_value, write_object,
+    Element, Expected, Form, FromJson, MemberWriter, ObjectReader, ReadError, TextWriter, ToJson,
+    ToObject, View, object_value, write_object,
 };
 use serde_json::Value;
 use std::alloc::{AllocError, Global};
@@ -89,11 +89,11 @@ impl FromJson for DynamicArgument {
     ghost reads = { reads_argument };
 
     #[tactic(auto, unfolding(crate::specs::Json::DynamicArgument::reads_argument))]
-    fn from_json(alloc: Global, value: &Value) -> Result<DynamicArgument, ReadError> {
-        match value {
-            Value::Null => Ok(DynamicArgument::Expr),
-            Value::String(text) => Ok(DynamicArgument::String(Text::from_str(alloc, text)?)),
-            Value::Array(values) => {
+    fn from_json(alloc: Global, value: Element<'_>) -> Result<DynamicArgument, ReadError> {
+        match value.view() {
+            View::Null => Ok(DynamicArgument::Expr),
+            View::String(text) => Ok(DynamicArgument::String(Text::from_str(alloc, text)?)),
+            View::Array(values) => {
                 let parts = read_items(alloc, values)?;
                 Ok(DynamicArgument::Template(parts))
             }
@@ -157,7 +157,7 @@ impl FromJson for DynamicTemplatePart {
     ghost reads = { reads_part };
 
     #[tactic(auto, using(deno_graph_json::proofs::Reading::reading), unfolding(crate::specs::Json::DynamicArgument::reads_part))]
-    fn from_json(alloc: Global, value: &Value) -> Result<DynamicTemplatePart, ReadError> {
+    fn from_json(alloc: Global, value: Element<'_>) -> Result<DynamicTemplatePart, ReadError> {
         let object = ObjectReader::new(alloc, value)?;
         let part_type = object.read_str("type")?;
         read_part(part_type, &object)

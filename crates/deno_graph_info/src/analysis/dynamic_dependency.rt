@@ -12,8 +12,8 @@ use deno_graph_base::text::PositionRange;
 use deno_graph_base::values::TryClone;
 use deno_graph_json::read::read_str;
 use deno_graph_json::{
-    Expected, Form, FromJson, MemberWriter, ObjectReader, ReadError, TextWriter, ToJson, ToObject,
-    object_value, write_object,
+    Element, Expected, Form, FromJson, MemberWriter, ObjectReader, ReadError, TextWriter, ToJson,
+    ToObject, object_value, write_object,
 };
 use serde_json::Value;
 use std::alloc::{AllocError, Global};
@@ -79,7 +79,7 @@ impl FromJson for DynamicDependencyKind {
     ghost reads = { reads_dynamic_kind };
 
     #[tactic(auto, using(deno_graph_json::proofs::Reading::reading), unfolding(crate::specs::Json::DynamicDependency::reads_dynamic_kind))]
-    fn from_json(alloc: Global, value: &Value) -> Result<DynamicDependencyKind, ReadError> {
+    fn from_json(alloc: Global, value: Element<'_>) -> Result<DynamicDependencyKind, ReadError> {
         let name = read_str(alloc, value)?;
         kind_named(alloc, name)
     }

@@ -1,4 +1,5 @@
 use deno_graph_json::ReadError;
+use std::alloc::AllocError;
 use thiserror::Error;
 
 /// Why a `ModuleInfo` can't be read.
@@ -25,5 +26,16 @@ impl From<ReadError> for InfoFault {
             ReadError::Mismatch(_) => InfoFault::Shape,
             ReadError::OutOfMemory => InfoFault::OutOfMemory,
         }
+    }
+}
+
+impl From<AllocError> for InfoFault {
+    ghost use Rattle.std.specs.Prelude.{◌≡◌};
+    ghost use Rattle.deno_graph_info.specs.declared.analysis.fault.InfoFault.TheVariants.{OutOfMemory};
+
+    ghost from_gives = { λ _ fault. fault ≡ OutOfMemory };
+
+    fn from(_error: AllocError) -> InfoFault {
+        InfoFault::OutOfMemory
     }
 }

@@ -7,10 +7,10 @@ ghost use Rattle.deno_graph_json.specs.Read.Result.{IsReadResult};
 
 use deno_graph_base::values::{Text, TextMap, TryClone};
 use deno_graph_json::{
-    Expected, Form, FromJson, MemberWriter, ObjectReader, ObjectWriter, ReadError, TextWriter,
-    ToJson,
+    Element, Expected, Form, FromJson, MemberWriter, ObjectReader, ObjectWriter, ReadError,
+    TextWriter, ToJson, View,
 };
-use serde_json::{Map, Value};
+use serde_json::Value;
 use std::alloc::{AllocError, Global};
 
 /// The value of an import attribute.
@@ -59,10 +59,10 @@ impl FromJson for ImportAttribute {
     ghost reads = { reads_attribute };
 
     #[tactic(auto, unfolding(crate::specs::Json::ImportAttributes::reads_attribute))]
-    fn from_json(alloc: Global, value: &Value) -> Result<ImportAttribute, ReadError> {
-        match value {
-            Value::Null => Ok(ImportAttribute::Unknown),
-            Value::String(text) => Ok(ImportAttribute::Known(Text::from_str(alloc, text)?)),
+    fn from_json(alloc: Global, value: Element<'_>) -> Result<ImportAttribute, ReadError> {
+        match value.view() {
+            View::Null => Ok(ImportAttribute::Unknown),
+            View::String(text) => Ok(ImportAttribute::Known(Text::from_str(alloc, text)?)),
             _ => Err(ReadError::expected(alloc, EXPECTED_ATTRIBUTE)),
         }
     }
@@ -173,10 +173,10 @@ impl FromJson for ImportAttributes {
     ghost reads = { reads_attributes };
 
     #[tactic(auto, unfolding(crate::specs::Json::ImportAttributes::reads_attributes))]
-    fn from_json(alloc: Global, value: &Value) -> Result<ImportAttributes, ReadError> {
-        match value {
-            Value::String(text) => read_name(alloc, text),
-            Value::Object(members) => read_known(alloc, &ObjectReader::of_members(alloc, members)),
+    fn from_json(alloc: Global, value: Element<'_>) -> Result<ImportAttributes, ReadError> {
+        match value.view() {
+            View::String(text) => read_name(alloc, text),
+            View::Object(members) => read_known(alloc, &ObjectReader::of_members(alloc, members)),
             _ => Err(ReadError::expected(alloc, EXPECTED_ATTRIBUTES)),
         }
     }
@@ -199,7 +199,7 @@ fn read_name(alloc: Global, name: &str) -> Result<ImportAttributes, ReadError>
 fn read_known(alloc: Global, object: &ObjectReader) -> Result<ImportAttributes, ReadError>
     ensures { IsReadResult (value_of object.now) (known_attributes (readable object.now)) result }
 {
-    if object.member_count() == 1 {
+    if object.has_one_name() {
         let known = object.read("known")?;
         Ok(ImportAttributes::Known(known))
     } else {

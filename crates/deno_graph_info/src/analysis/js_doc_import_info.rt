@@ -5,8 +5,8 @@ use crate::analysis::SpecifierWithRange;
 use crate::analysis::specifier_with_mode::{put_specifier_with_mode, read_specifier_with_mode};
 use deno_graph_base::values::{TryClone, TypeScriptTypesResolutionMode};
 use deno_graph_json::{
-    FromJson, MemberWriter, ObjectReader, ReadError, TextWriter, ToJson, ToObject, object_value,
-    write_object,
+    Element, FromJson, MemberWriter, ObjectReader, ReadError, TextWriter, ToJson, ToObject,
+    object_value, write_object,
 };
 use serde_json::Value;
 use std::alloc::{AllocError, Global};
@@ -58,7 +58,7 @@ impl FromJson for JsDocImportInfo {
     ghost reads = { reads_js_doc_import };
 
     #[tactic(auto, using(deno_graph_json::proofs::Reading::reading), unfolding(crate::specs::Json::JsDocImportInfo::reads_js_doc_import))]
-    fn from_json(alloc: Global, value: &Value) -> Result<JsDocImportInfo, ReadError> {
+    fn from_json(alloc: Global, value: Element<'_>) -> Result<JsDocImportInfo, ReadError> {
         let object = ObjectReader::new(alloc, value)?;
         let (specifier, resolution_mode) = read_specifier_with_mode(&object)?;
         Ok(JsDocImportInfo {

@@ -1,4 +1,4 @@
-ghost use Rattle.std.specs.Prelude.{◌≡◌, [], false, Some, None, IfOk, IfErr, refl, string_bytes};
+ghost use Rattle.std.specs.Prelude.{◌≡◌, ◌≢◌, [], false, Some, None, IfOk, IfErr, refl, string_bytes};
 ghost use Rattle.serde_json.specs.View.{view};
 ghost use Rattle.serde_json.specs.Written.{compact_text, has_float as holds_float};
 ghost use Rattle.deno_graph_info.specs.InfoFault.{IsInfoFault};
@@ -10,8 +10,8 @@ use crate::analysis::type_script_reference::TypeScriptReference;
 use crate::analysis::{DependencyDescriptor, SpecifierWithRange};
 use deno_graph_base::values::{Items, TryClone};
 use deno_graph_json::{
-    FromJson, MemberWriter, ObjectReader, ReadError, TextWriter, ToJson, ToObject, has_float,
-    object_value, text_of, write_object,
+    Element, FromJson, MemberWriter, ObjectReader, ReadError, Tape, TextWriter, ToJson, ToObject,
+    find_float, has_float, object_value, text_of, write_object,
 };
 use serde_json::Value;
 use std::alloc::{AllocError, Global};
@@ -40,6 +40,8 @@ pub struct ModuleInfo {
 
 impl ModuleInfo {
     ghost use Rattle.deno_graph_info.specs.declared.analysis.module_info.ModuleInfo.{ModuleInfo};
+    ghost use Rattle.deno_graph_info.specs.declared.analysis.fault.InfoFault.TheVariants.{OutOfMemory};
+    ghost use Rattle.deno_graph_json.specs.Data.{data_of};
 
     /// Returns an empty result of a module that is no script. Allocates nothing.
     pub fn new(alloc: Global) -> ModuleInfo
@@ -74,9 +76,23 @@ impl ModuleInfo {
         ensures err { IfErr result (IsInfoFault (view value.now)) }
     {
         if has_float(value) {
-            Err(InfoFault::Float)
-        } else {
-            Ok(ModuleInfo::from_json(alloc, value)?)
+            return Err(InfoFault::Float);
+        }
+        let tape = Tape::from_value(alloc, value)?;
+        Ok(ModuleInfo::from_json(alloc, tape.root())?)
+    }
+
+    /// Like `from_value`, for a value in a flat list. Allocates more only where the value has a float.
+    pub fn from_element(alloc: Global, value: Element<'_>) -> Result<ModuleInfo, InfoFault>
+        ensures ok { IfOk result (λ info. (holds_float (data_of value.entry) ≡ false)
+            × (reads_info (data_of value.entry) ≡ Some info)) }
+        ensures err { IfErr result (λ fault. fault ≢ OutOfMemory
+            → IsInfoFault (data_of value.entry) fault) }
+    {
+        match find_float(alloc, value) {
+            Ok(()) => Ok(ModuleInfo::from_json(alloc, value)?),
+            Err(ReadError::Mismatch(_)) => Err(InfoFault::Float),
+            Err(ReadError::OutOfMemory) => Err(InfoFault::OutOfMemory),
         }
     }
 
@@ -158,7 +174,7 @@ impl FromJson for ModuleInfo {
     ghost reads = { reads_info };
 
     #[tactic(auto, using(deno_graph_json::proofs::Reading::reading), unfolding(crate::specs::Json::ModuleInfo::reads_info))]
-    fn from_json(alloc: Global, value: &Value) -> Result<ModuleInfo, ReadError> {
+    fn from_json(alloc: Global, value: Element<'_>) -> Result<ModuleInfo, ReadError> {
         let object = ObjectReader::new(alloc, value)?;
         let is_script = object.read_or("script", false)?;
         let dependencies = object.read_list("dependencies")?;

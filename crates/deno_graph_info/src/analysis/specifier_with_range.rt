@@ -6,8 +6,8 @@ ghost use Rattle.deno_graph_json.specs.Read.Result.{IsReadResult};
 use deno_graph_base::text::PositionRange;
 use deno_graph_base::values::{Text, TryClone};
 use deno_graph_json::{
-    FromJson, MemberWriter, ObjectReader, ReadError, TextWriter, ToJson, ToObject, object_value,
-    write_object,
+    Element, FromJson, MemberWriter, ObjectReader, ReadError, TextWriter, ToJson, ToObject,
+    object_value, write_object,
 };
 use serde_json::Value;
 use std::alloc::{AllocError, Global};
@@ -60,7 +60,7 @@ impl FromJson for SpecifierWithRange {
     ghost reads = { reads_specifier };
 
     #[tactic(auto, using(deno_graph_json::proofs::Reading::reading), unfolding(crate::specs::Json::SpecifierWithRange::reads_specifier))]
-    fn from_json(alloc: Global, value: &Value) -> Result<SpecifierWithRange, ReadError> {
+    fn from_json(alloc: Global, value: Element<'_>) -> Result<SpecifierWithRange, ReadError> {
         let object = ObjectReader::new(alloc, value)?;
         read_specifier(&object)
     }

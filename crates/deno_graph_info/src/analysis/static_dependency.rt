@@ -10,8 +10,8 @@ use deno_graph_base::text::PositionRange;
 use deno_graph_base::values::{Text, TryClone};
 use deno_graph_json::read::read_str;
 use deno_graph_json::{
-    Expected, Form, FromJson, MemberWriter, ObjectReader, ReadError, TextWriter, ToJson, ToObject,
-    object_value, write_object,
+    Element, Expected, Form, FromJson, MemberWriter, ObjectReader, ReadError, TextWriter, ToJson,
+    ToObject, object_value, write_object,
 };
 use serde_json::Value;
 use std::alloc::{AllocError, Global};
@@ -74,7 +74,7 @@ impl FromJson for StaticDependencyKind {
     ghost reads = { reads_static_kind };
 
     #[tactic(auto, using(deno_graph_json::proofs::Reading::reading), unfolding(crate::specs::Json::StaticDependency::reads_static_kind))]
-    fn from_json(alloc: Global, value: &Value) -> Result<StaticDependencyKind, ReadError> {
+    fn from_json(alloc: Global, value: Element<'_>) -> Result<StaticDependencyKind, ReadError> {
         let name = read_str(alloc, value)?;
         kind_named(alloc, name)
     }

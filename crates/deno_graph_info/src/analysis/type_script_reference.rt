@@ -10,8 +10,8 @@ use crate::analysis::specifier_with_mode::{put_specifier_with_mode, read_specifi
 use crate::analysis::specifier_with_range::{SpecifierWithRange, read_specifier};
 use deno_graph_base::values::{TryClone, TypeScriptTypesResolutionMode};
 use deno_graph_json::{
-    Expected, FromJson, MemberWriter, ObjectReader, ReadError, TextWriter, ToJson, ToObject,
-    object_value, write_object,
+    Element, Expected, FromJson, MemberWriter, ObjectReader, ReadError, TextWriter, ToJson,
+    ToObject, object_value, write_object,
 };
 use serde_json::Value;
 use std::alloc::{AllocError, Global};
@@ -91,7 +91,7 @@ impl FromJson for TypeScriptReference {
     ghost reads = { reads_reference };
 
     #[tactic(auto, using(deno_graph_json::proofs::Reading::reading), unfolding(crate::specs::Json::TypeScriptReference::reads_reference))]
-    fn from_json(alloc: Global, value: &Value) -> Result<TypeScriptReference, ReadError> {
+    fn from_json(alloc: Global, value: Element<'_>) -> Result<TypeScriptReference, ReadError> {
         let object = ObjectReader::new(alloc, value)?;
         let reference_type = object.read_str("type")?;
         read_reference(reference_type, &object)

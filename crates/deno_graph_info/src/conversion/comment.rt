@@ -4,8 +4,7 @@ ghost use Rattle.deno_graph_info.specs.Comment.{reads_stored_comment};
 
 use deno_graph_base::text::PositionRange;
 use deno_graph_base::values::Text;
-use deno_graph_json::{FromJson, ObjectReader, ReadError};
-use serde_json::Value;
+use deno_graph_json::{Element, FromJson, ObjectReader, ReadError};
 use std::alloc::Global;
 
 /// A comment before a dependency.
@@ -21,7 +20,7 @@ impl FromJson for Comment {
     ghost reads = { reads_stored_comment };
 
     #[tactic(auto, unfolding(crate::specs::Comment::reads_stored_comment))]
-    fn from_json(alloc: Global, value: &Value) -> Result<Comment, ReadError> {
+    fn from_json(alloc: Global, value: Element<'_>) -> Result<Comment, ReadError> {
         let object = ObjectReader::new(alloc, value)?;
         let text = object.read("text")?;
         let range = object.read("range")?;

@@ -12,8 +12,7 @@ use crate::conversion::comment::Comment;
 use crate::conversion::fault::ConvertFault;
 use crate::conversion::types::types_named;
 use deno_graph_base::values::Items;
-use deno_graph_json::object_reader::find_member;
-use deno_graph_json::{ObjectReader, ReadError, ToJson, has_float};
+use deno_graph_json::{FromJson, ReadError, Tape, ToJson, has_float};
 use deno_graph_pragmas::finders::laws::captures_are_unique;
 use serde_json::{Map, Value, put};
 use std::alloc::{AllocError, Global};
@@ -68,17 +67,13 @@ fn convert_value(alloc: Global, value: Value) -> Result<Value, ConvertFault>
 }
 
 /// Returns whether the value is an object with an array `dependencies`.
-#[tactic(auto, unfolding(crate::specs::Conversion::dependencies_in, deno_graph_json::specs::Read::Partial::member_at))]
+#[tactic(auto, using(crate::proofs::NamedMembers::dependencies_named))]
 fn has_dependencies(value: &Value) -> bool
     ensures { IsTrue result ↔ IsSome (dependencies_in (view value.now)) }
 {
-    let Some(members) = value.as_object() else {
-        return false;
-    };
-    let Some(dependencies) = find_member(members, "dependencies") else {
-        return false;
-    };
-    dependencies.is_array()
+    value
+        .get("dependencies")
+        .is_some_and(|dependencies| dependencies.is_array())
 }
 
 /// Converts the dependencies of an object that has dependencies.
@@ -189,14 +184,15 @@ pub fn column_overflows(alloc: Global, dependency: &Value) -> Result<bool, Alloc
 
 /// Reads the leading comments of a dependency. Returns None if they aren't an array of readable
 /// comments.
-#[tactic(auto, unfolding(crate::specs::Conversion::comments_in))]
+#[tactic(auto, using(crate::proofs::NamedMembers::comments_named))]
 fn read_comments(alloc: Global, dependency: &Value) -> Result<Option<Items<Comment>>, AllocError>
     ensures { IfOk result (λ comments. comments ≡ comments_in (view dependency.now)) }
 {
-    let Some(members) = dependency.as_object() else {
+    let Some(comments) = dependency.get("leadingComments") else {
         return Ok(None);
     };
-    match ObjectReader::of_members(alloc, members).read("leadingComments") {
+    let tape = Tape::from_value(alloc, comments)?;
+    match FromJson::from_json(alloc, tape.root()) {
         Ok(comments) => Ok(Some(comments)),
         Err(ReadError::Mismatch(_)) => Ok(None),
         Err(ReadError::OutOfMemory) => Err(AllocError),

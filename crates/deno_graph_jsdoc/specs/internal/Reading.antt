@@ -6,8 +6,8 @@ use Rattle.std.specs.Str.{chars}
 use denote.Ref.{Bor}
 use Rattle.deno_graph_jsdoc.specs.JsDocGrammar.{◌·◌, Attribute, Begins, EmptyOr, Is, IsSpace, IsGap, IsClause}
 use Rattle.deno_graph_jsdoc.specs.JsDocGrammar.{IsSecond, AreAttributes, ends_ident, mode_of}
-use Rattle.deno_graph_jsdoc.specs.JsDocImport.{Import, Mode, StatesImport, EndsDeclaration, EndsDynamicImport}
-use Rattle.deno_graph_jsdoc.specs.JsDocImport.{import_of}
+use Rattle.deno_graph_jsdoc.specs.JsDocImport.{Import, Mode, BeginsWithImport, EndsDeclaration}
+use Rattle.deno_graph_jsdoc.specs.JsDocImport.{EndsDynamicImport, import_of}
 use Rattle.deno_graph_jsdoc.specs.declared.import.JsDocImport.{JsDocImport}
 use Rattle.deno_graph_base.specs.declared.values.resolution_mode.TypeScriptTypesResolutionMode.{
   TypeScriptTypesResolutionMode,
@@ -30,20 +30,20 @@ IsModeBlockEnd mode text =
 
 -- a declaration from after its `@import` on, and a dynamic import from after its `import` on
 abbrev pub IsDeclarationEnd : List ℕ → Import → List ℕ → Type 0
-IsDeclarationEnd = StatesImport (IsGap · IsClause · IsSpace · Is (codes "from") · IsSpace) EndsDeclaration
+IsDeclarationEnd = BeginsWithImport (IsGap · IsClause · IsSpace · Is (codes "from") · IsSpace) EndsDeclaration
 
 abbrev pub IsDynamicEnd : List ℕ → Import → List ℕ → Type 0
-IsDynamicEnd = StatesImport (IsSpace · Is (codes "(") · IsSpace) EndsDynamicImport
+IsDynamicEnd = BeginsWithImport (IsSpace · Is (codes "(") · IsSpace) EndsDynamicImport
 
 -- a declaration from its `from` on, and the argument list of a dynamic import
 abbrev pub IsSource : List ℕ → Import → List ℕ → Type 0
-IsSource = StatesImport (Is (codes "from") · IsSpace) EndsDeclaration
+IsSource = BeginsWithImport (Is (codes "from") · IsSpace) EndsDeclaration
 
 abbrev pub EndsArguments : List ℕ → Mode → List ℕ → Type 0
 EndsArguments after mode rest = Begins (IsSpace · IsSecond mode · IsSpace · Is (codes ")")) after rest
 
 abbrev pub HasArguments : List ℕ → Import → List ℕ → Type 0
-HasArguments = StatesImport (IsSpace · Is (codes "(") · IsSpace) EndsArguments
+HasArguments = BeginsWithImport (IsSpace · Is (codes "(") · IsSpace) EndsArguments
 
 -- The result is a value and a rest: `input` is a text of `P value` and then the rest, and with no other value
 -- and rest that has `Follow`. The result is None if `input` is such a text with no value and rest.
@@ -66,28 +66,28 @@ ReadsImport G input (Some (rest, import)) =
 
 -- like `ReadsImport`, for a result without the rest
 abbrev pub ReadsImportAlone : (List ℕ → Import → List ℕ → Type 0) → List ℕ → Option Import → Type 0
-ReadsImportAlone G input answer =
-    (rest : List ℕ) × ReadsImport G input (option_map (λ import. (rest, import)) answer)
+ReadsImportAlone G input result =
+    (rest : List ℕ) × ReadsImport G input (option_map (λ import. (rest, import)) result)
 
 -- the results of parsers as lists of characters: the rest, alone or with what was read
 abbrev pub rest_of : Option (Bor (List ℕ)) → Option (List ℕ × Unit {0})
-rest_of answer = option_map (λ rest. (chars rest.now, tt)) answer
+rest_of result = option_map (λ rest. (chars rest.now, tt)) result
 
 abbrev pub text_of : Option (Bor (List ℕ)) → Option (List ℕ)
 text_of text = option_map (λ text. chars text.now) text
 
 abbrev pub rest_and_text : Option (Bor (List ℕ) × Bor (List ℕ)) → Option (List ℕ × List ℕ)
-rest_and_text answer = option_map (λ found. (chars found.0.now, chars found.1.now)) answer
+rest_and_text result = option_map (λ found. (chars found.0.now, chars found.1.now)) result
 
 abbrev pub rest_and_attribute : Option (Bor (List ℕ) × (Bor (List ℕ) × Bor (List ℕ)))
     → Option (List ℕ × Attribute)
-rest_and_attribute answer =
+rest_and_attribute result =
     option_map
     (λ found. (chars found.0.now, record { key = chars found.1.0.now; value = chars found.1.1.now }))
-    answer
+    result
 
 abbrev pub rest_and_mode : Option (Bor (List ℕ) × Mode) → Option (List ℕ × Mode)
-rest_and_mode answer = option_map (λ found. (chars found.0.now, found.1)) answer
+rest_and_mode result = option_map (λ found. (chars found.0.now, found.1)) result
 
 abbrev pub rest_and_import : Option (Bor (List ℕ) × JsDocImport) → Option (List ℕ × Import)
 rest_and_import None = None

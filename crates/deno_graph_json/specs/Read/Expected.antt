@@ -2,7 +2,11 @@
 use Rattle.std.specs.Prelude.{
   ◌≡◌,
   ℕ,
+  ◌+◌,
+  ◌≤◌,
   List,
+  [],
+  ◌∷◌,
   ◌++◌,
   ◌==◌,
   codes,
@@ -13,12 +17,16 @@ use Rattle.std.specs.Prelude.{
   Some,
   None,
   IsSomeAnd,
+  is_some,
+  if◌then◌else◌,
 }
+use Rattle.std.specs.Borrow.{Bor}
+use Rattle.std.specs.Fmt.{decimal}
 use Rattle.std.specs.List.{AllByRecursion}
-use Rattle.serde_json.specs.Data.{Data, null, boolean, number, string, array, object}
+use Rattle.serde_json.specs.Data.{Data, null, boolean, number, string, array, object, Members}
 use Rattle.serde_json.specs.Events.{members_len}
-use Rattle.serde_json.specs.Find.{as_array, as_bool, as_number, as_object, as_str, get, is_float}
-use Rattle.deno_graph_json.specs.Read.Partial.{as_usize, pair_in}
+use Rattle.serde_json.specs.Find.{as_array, as_bool, as_number, as_object, as_str, get, get_member, is_float}
+use Rattle.deno_graph_json.specs.Read.Partial.{as_usize, pair_in, reads_pair}
 use Rattle.deno_graph_json.specs.declared.expected.Expected.{Expected}
 use Rattle.deno_graph_json.specs.declared.expected.Expected.TheVariants as expected
 use Rattle.deno_graph_json.specs.declared.expected.Form.{Form}
@@ -28,6 +36,21 @@ use Rattle.deno_graph_json.specs.declared.expected.Form.TheVariants as form
 abbrev pub IsNeither : List ℕ → List ℕ → Data → Type 0
 IsNeither first second value = (text : List ℕ) → as_str value ≡ Some text
     → (bytes_eq text first ≡ false) × (bytes_eq text second ≡ false)
+
+-- the value, if a string, is none of these
+abbrev pub IsNoneOf : List (Bor (List ℕ)) → Data → Type 0
+IsNoneOf names value = (text : List ℕ) → as_str value ≡ Some text
+    → AllByRecursion (λ name. bytes_eq text name.now ≡ false) names
+
+-- the value, if a whole number, isn't below the limit
+abbrev pub IsNotBelow : ℕ → Data → Type 0
+IsNotBelow limit value = (n : ℕ) → as_usize value ≡ Some n → limit ≤ n
+
+-- how many of the names are those of members
+abbrev pub name_count : List (Bor (List ℕ)) → Members → ℕ
+name_count [] ms = 0
+name_count (name ∷ names) ms =
+    (if is_some (get_member name.now ms) then 1 else 0) + name_count names ms
 
 -- whether the value has the form
 abbrev pub has_form : Form → Data → Bool
@@ -61,6 +84,12 @@ has_form form.ObjectOfOne (number _) = false
 has_form form.ObjectOfOne (string _) = false
 has_form form.ObjectOfOne (array _) = false
 has_form form.ObjectOfOne (object members) = members_len members == 1
+has_form (form.ObjectWithOneOf names) null = false
+has_form (form.ObjectWithOneOf names) (boolean _) = false
+has_form (form.ObjectWithOneOf names) (number _) = false
+has_form (form.ObjectWithOneOf names) (string _) = false
+has_form (form.ObjectWithOneOf names) (array _) = false
+has_form (form.ObjectWithOneOf names) (object members) = name_count names.now members == 1
 
 -- the value isn't as expected
 abbrev pub IsNot : Expected → Data → Type 0
@@ -70,10 +99,23 @@ IsNot expected.Integer value = IsSomeAnd (as_number value) (λ n. is_float n ≡
 IsNot expected.String value = as_str value ≡ None
 IsNot expected.Array value = as_array value ≡ None
 IsNot expected.Object value = as_object value ≡ None
+IsNot (expected.Below limit) value = IsNotBelow limit value
 IsNot (expected.Pair _) value = pair_in value ≡ None
+IsNot (expected.WholePair _) value = reads_pair as_usize value ≡ None
 IsNot (expected.Member name) value = get name.now value ≡ None
 IsNot (expected.Either first second) value = IsNeither first.now second.now value
+IsNot (expected.Names names) value = IsNoneOf names.now value
 IsNot (expected.OneOf _ forms) value = AllByRecursion (λ f. has_form f value ≡ false) forms.now
+
+-- the names, each after a comma
+abbrev pub after_commas : List (Bor (List ℕ)) → List ℕ
+after_commas [] = []
+after_commas (name ∷ names) = codes ", " ++ name.now ++ after_commas names
+
+-- the names in words, with commas between them
+abbrev pub name_words : List (Bor (List ℕ)) → List ℕ
+name_words [] = codes "one of "
+name_words (name ∷ names) = codes "one of " ++ name.now ++ after_commas names
 
 -- what is expected, in words
 abbrev pub words : Expected → List ℕ
@@ -83,7 +125,10 @@ words expected.Integer = codes "a whole number, written without a point or an ex
 words expected.String = codes "a string"
 words expected.Array = codes "an array"
 words expected.Object = codes "an object"
+words (expected.Below limit) = codes "a whole number below " ++ decimal limit
 words (expected.Pair items) = items.now
+words (expected.WholePair items) = items.now
 words (expected.Member name) = codes "a member `" ++ name.now ++ codes "`"
 words (expected.Either first second) = first.now ++ codes " or " ++ second.now
+words (expected.Names names) = name_words names.now
 words (expected.OneOf text _) = text.now

@@ -1,9 +1,10 @@
-ghost use Rattle.std.specs.Prelude.{◌≡◌, ◌≢◌, ◌<◌, ◌≤◌, ◌+◌, ◌++◌, ◌∷◌, [], false, ℕ};
-ghost use Rattle.std.specs.Prelude.{length, map, vec_len, IfOk, OnOk, OnErr, IsTrue, Err};
+ghost use Rattle.std.specs.Prelude.{◌≡◌, ◌≢◌, ◌==◌, ◌<◌, ◌≤◌, ◌+◌, ◌++◌, ◌∷◌, [], true, false, ℕ};
+ghost use Rattle.std.specs.Prelude.{length, map, vec_len, slice_index, IfOk, OnOk, OnErr, IsTrue, Err, option_map};
 ghost use Rattle.json.specs.Print.{IsNumber, IsPrintableOrBad};
 ghost use Rattle.json.specs.Reads.{token_of};
 ghost use Rattle.json.specs.Token.{begin_array, begin_object};
-ghost use Rattle.deno_graph_json.specs.Flat.{plain, number_node, number_fits};
+ghost use Rattle.serde_json.specs.Read.{number_of, number_from, float_of};
+ghost use Rattle.deno_graph_json.specs.Flat.{plain, number, number_node, number_fits};
 ghost use Rattle.deno_graph_json.specs.internal.Parsing.{IsPut, NoneAhead};
 ghost use Rattle.deno_graph_json.specs.Flat.{IsFlatText, IsUnreadable};
 ghost use Rattle.deno_graph_json.specs.declared.flat.fault.TapeFault.TheVariants.{Json};
@@ -11,6 +12,7 @@ ghost use Rattle.deno_graph_json.specs.declared.flat.fault.TapeFault.TheVariants
 use crate::Node;
 use crate::flat::digits::short_whole;
 use crate::flat::fault::TapeFault;
+use fast_float::Numeral;
 use json::{Reader, Scratch, Token};
 use std::alloc::{AllocFailed, Global};
 
@@ -23,7 +25,6 @@ pub fn read<'a>(
     text: &'a str,
     scratch: &'a mut Scratch,
 ) -> Result<Vec<Node<'a>>, TapeFault>
-    ensures some { IfOk result (λ nodes. 0 < vec_len nodes) }
     ensures flat { IfOk result (λ nodes. IsFlatText text.now nodes.items) }
     ensures unreadable { (offset : ℕ) → result ≡ Err (Json offset) → IsUnreadable text.now }
 {
@@ -221,16 +222,58 @@ impl<'a> Parser<'a> {
 /// Returns the node of a number. Returns `Json` if the number is too large for a float.
 #[inline(never)]
 fn any_number<'a>(digits: &str) -> Result<Node<'a>, Stop>
-    requires { IsNumber digits.now }
     ensures node { IfOk result (λ node. plain node ≡ number_node digits.now) }
     ensures fits { OnOk result (IsTrue (number_fits digits.now)) }
     ensures large { result ≡ Err Stop.Json → number_fits digits.now ≡ false }
 {
-    if let Ok(whole) = fast_float::parse_u64(digits.as_bytes()) {
-        return Ok(Node::Whole(whole));
+    parse_number(digits).ok_or(Stop::Json)
+}
+
+/// Parses a number of JSON. `None` if it is too large for a float.
+fn parse_number<'a>(text: &str) -> Option<Node<'a>>
+    ensures { option_map plain result ≡ option_map number (number_of text.now) }
+{
+    let bytes = text.as_bytes();
+    if has_minus(bytes) {
+        negative(&Numeral::scan(&bytes[1..]))
+    } else {
+        unsigned(&Numeral::scan(bytes))
     }
-    match fast_float::parse::<f64, _>(digits.as_bytes()) {
-        Ok(number) if number.is_finite() => Ok(Node::Number),
-        _ => Err(Stop::Json),
+}
+
+/// Returns whether the text begins with a minus sign.
+#[inline(always)]
+fn has_minus(bytes: &[u8]) -> bool
+    ensures value { result ≡ (slice_index bytes.now 0 == 45) }
+    ensures some { IsTrue result → 0 < length bytes.now }
+{
+    !bytes.is_empty() && bytes[0] == b'-'
+}
+
+/// Returns the node of a number without a sign. `None` if it is too large for a float.
+fn unsigned<'a>(numeral: &Numeral<'_>) -> Option<Node<'a>>
+    ensures { option_map plain result ≡ option_map number (number_from false numeral.now) }
+{
+    match numeral.to_u64() {
+        Some(whole) => Some(Node::Whole(whole)),
+        None => float(false, numeral),
     }
+}
+
+/// Returns the node of a number after its minus sign. `None` if it is too large for a float.
+fn negative<'a>(numeral: &Numeral<'_>) -> Option<Node<'a>>
+    ensures { option_map plain result ≡ option_map number (number_from true numeral.now) }
+{
+    match numeral.to_i64(true) {
+        Some(number) if number < 0 => Some(Node::Negative(number)),
+        _ => float(true, numeral),
+    }
+}
+
+/// Returns the node of the nearest float. `None` if it isn't finite.
+fn float<'a>(is_negative: bool, numeral: &Numeral<'_>) -> Option<Node<'a>>
+    ensures { option_map plain result ≡ option_map number (float_of is_negative numeral.now) }
+{
+    let number = numeral.to_float::<f64>(is_negative);
+    number.is_finite().then_some(Node::Float(number))
 }

@@ -1,7 +1,8 @@
 //! The JSDoc imports of a source.
 
 ghost use Rattle.std.specs.Prelude.{IfOk, All};
-ghost use Rattle.deno_graph_module_info.specs.JsDocInfo.{CoversInSameQuotes, IsJsDocList};
+ghost use Rattle.deno_graph_module_info.specs.JsDocInfo.{IsJsDocList};
+ghost use Rattle.deno_graph_module_info.specs.Spelled.{CoversInSameQuotes};
 ghost use Rattle.deno_graph_module_info.specs.CommentImports.{AreApart, reads_jsdoc};
 ghost use Rattle.deno_graph_source.specs.Comments.{comments_of};
 ghost use Rattle.deno_graph_source.specs.Source.{IsSpelled};

@@ -3,7 +3,8 @@
 ghost use Rattle.std.specs.Prelude.{◌≡◌, map, true, IfOk};
 ghost use Rattle.std.specs.List.{All};
 ghost use Rattle.deno_graph_jsdoc.specs.JsDocImport.{import_of};
-ghost use Rattle.deno_graph_module_info.specs.JsDocInfo.{CoversInSameQuotes, IsJsDocList, info_of};
+ghost use Rattle.deno_graph_module_info.specs.JsDocInfo.{IsJsDocList, info_of};
+ghost use Rattle.deno_graph_module_info.specs.Spelled.{CoversInSameQuotes};
 ghost use Rattle.deno_graph_module_info.specs.CommentImports.{AreApart, IsQuotedAt, reads_jsdoc};
 ghost use Rattle.deno_graph_source.specs.Source.{IsSpelled};
 

@@ -49,7 +49,7 @@ after_piece (run test) text = after_some test text
 after_piece (exactly word) text = after_exactly word text
 after_piece (keyword word) text = after_keyword word text
 
--- what follows the pieces in turn
+-- what follows the pieces, one after another
 abbrev pub after_pieces : List Piece → List ℕ → Option (List ℕ)
 after_pieces [] text = Some text
 after_pieces (first ∷ others) text = option_and_then (after_pieces others) (after_piece first text)

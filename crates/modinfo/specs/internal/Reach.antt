@@ -6,7 +6,10 @@ use Rattle.serde_json.specs.Written.{has_float}
 use Rattle.deno_graph_json.specs.Read.Partial.{◌>>=◌, member_at, reads_map, unless_float}
 use Rattle.deno_graph_info.specs.Json.ModuleInfo.{reads_info}
 use Rattle.deno_graph_info.specs.declared.analysis.fault.InfoFault.TheVariants as info
-use Rattle.modinfo.specs.Reach.{IsFirstFault}
+use Rattle.serde_json.specs.Read.{read as read_text}
+use Rattle.deno_graph_base.specs.TextMap.{entries_of}
+use Rattle.modinfo.specs.Reach.{Asks, IsFirstFault}
+use Rattle.modinfo.specs.declared.reach.Question.{Question}
 use Rattle.modinfo.specs.declared.reach.StoredInfo.{StoredInfo}
 use Rattle.modinfo.specs.declared.fault.Fault.{Fault}
 use Rattle.modinfo.specs.declared.fault.Fault.TheVariants.{Info, OutOfMemory}
@@ -26,8 +29,13 @@ reads_modules d = do
   modules ← member_at (reads_map reads_stored_info) (codes "modules") ms
   Some (modules, root)
 
+-- The question of a document.
+abbrev pub IsQuestionOf : List ℕ → Question → Type 0
+IsQuestionOf document question = (value : Data) × (read_text document ≡ Some value)
+    × Asks value (entries_of question.infos) question.root
+
 -- Why the modules can't be read: the first fault, or a failed allocation.
 abbrev pub IsNoInfos : Members → Fault → Type 0
-IsNoInfos ms (Info told) = (told ≢ info.OutOfMemory) × IsFirstFault ms told
+IsNoInfos ms (Info inner) = (inner ≢ info.OutOfMemory) × IsFirstFault ms inner
 IsNoInfos ms OutOfMemory = Unit {0}
 IsNoInfos ms fault = ⊥

@@ -3,11 +3,12 @@
 ghost use Rattle.std.specs.Prelude.{◌≡◌, IfOk, IfSome, IsNone, MatchOption};
 ghost use Rattle.serde_json.specs.View.{view};
 ghost use Rattle.deno_graph_info.specs.Conversion.{IsConverted, IsConvertFault};
-ghost use Rattle.modinfo.specs.Check.{CanBeConverted, PointsInto};
+ghost use Rattle.modinfo_document.specs.Report.{PointsInto};
+ghost use Rattle.modinfo.specs.Check.{CanBeConverted};
 
 use deno_graph_info::analysis::{ConvertFault, module_graph_1_to_2};
 use deno_graph_info::conversion::column_overflows;
-use deno_graph_json::{ReadError, find_float};
+use deno_graph_json::{ReadError, Tape, find_float};
 use modinfo_document::report::FaultReport;
 use serde_json::Value;
 use std::alloc::{AllocError, Global};
@@ -41,7 +42,8 @@ pub fn conversion_report(
 fn float_report(alloc: Global, name: String, value: &Value) -> Result<FaultReport, AllocError>
     ensures { IfOk result (PointsInto (view value.now)) }
 {
-    match find_float(alloc, value) {
+    let tape = Tape::from_value(alloc, value)?;
+    match find_float(alloc, tape.root()) {
         Err(ReadError::Mismatch(mismatch)) => FaultReport::of_mismatch(alloc, name, &mismatch),
         _ => Err(AllocError),
     }

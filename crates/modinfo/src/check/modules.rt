@@ -3,16 +3,15 @@
 ghost use Rattle.std.specs.Prelude.{◌≡◌, IfOk, Some};
 ghost use Rattle.serde_json.specs.Data.{Data};
 ghost use Rattle.serde_json.specs.Read.{read as read_text};
-ghost use Rattle.serde_json.specs.View.{view};
-ghost use Rattle.modinfo_document.specs.Report.{MatchReport};
-ghost use Rattle.modinfo.specs.Check.{AsksNone, AsksSome, HasPointerInto, ReportsOnQuestion};
+ghost use Rattle.deno_graph_json.specs.Data.{data_of};
+ghost use Rattle.modinfo_document.specs.Report.{HasPointerInto, MatchReport};
+ghost use Rattle.modinfo.specs.Check.{AsksNone, AsksSome, ReportsOnQuestion};
 
-use crate::check::text::read_json;
 use crate::reach::read_modules;
 use deno_graph_info::analysis::InfoFault;
-use deno_graph_json::{Expected, Mismatch, ReadError};
-use modinfo_document::report::{FaultReport, Report, Warnings, json_report};
-use serde_json::Value;
+use deno_graph_json::{Element, Expected, Mismatch, ReadError, Tape, TapeFault};
+use json::Scratch;
+use modinfo_document::report::{FaultReport, Report, Warnings, json_report_at};
 use std::alloc::{AllocError, Global};
 
 /// Checks a text as a document of `reach`: a root, and the information on modules. The only error is a
@@ -21,16 +20,20 @@ pub fn check_modules(alloc: Global, text: &str) -> Result<Report, AllocError>
     ensures verdict { IfOk result (ReportsOnQuestion text.now) }
     ensures place { (value : Data) → read_text text.now ≡ Some value → IfOk result (HasPointerInto value) }
 {
-    match read_json(alloc, text)? {
-        Some(value) => report_question(alloc, &value),
-        None => Ok(Report::Invalid(json_report(alloc, text)?)),
+    let mut scratch = Scratch::new(alloc);
+    match Tape::read(alloc, text, &mut scratch) {
+        Ok(tape) => report_question(alloc, tape.root()),
+        Err(TapeFault::Json { offset }) => Ok(Report::Invalid(json_report_at(
+            alloc, text, offset,
+        )?)),
+        Err(TapeFault::OutOfMemory) => Err(AllocError),
     }
 }
 
 /// Checks the JSON of a document of `reach`.
-fn report_question(alloc: Global, value: &Value) -> Result<Report, AllocError>
-    ensures verdict { IfOk result (MatchReport (AsksSome (view value.now)) (AsksNone (view value.now))) }
-    ensures place { IfOk result (HasPointerInto (view value.now)) }
+fn report_question(alloc: Global, value: Element<'_>) -> Result<Report, AllocError>
+    ensures verdict { IfOk result (MatchReport (AsksSome (data_of value.entry)) (AsksNone (data_of value.entry))) }
+    ensures place { IfOk result (HasPointerInto (data_of value.entry)) }
 {
     match read_modules(alloc, value) {
         Ok(_) => Ok(Report::Valid(Warnings::new(alloc))),

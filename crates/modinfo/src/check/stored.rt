@@ -5,7 +5,8 @@ ghost use Rattle.serde_json.specs.Data.{Data};
 ghost use Rattle.serde_json.specs.Read.{read as read_text};
 ghost use Rattle.serde_json.specs.View.{view};
 ghost use Rattle.serde_json.specs.Written.{has_float};
-ghost use Rattle.modinfo.specs.Check.{HasPointerInto, ReportsOnStored};
+ghost use Rattle.modinfo_document.specs.Report.{HasPointerInto};
+ghost use Rattle.modinfo.specs.Check.{ReportsOnStored};
 ghost use Rattle.modinfo.specs.internal.Check.{ReportsOnValue};
 
 use crate::check::conversion::{conversion_report, convert_in_place};

@@ -5,7 +5,8 @@ use Rattle.deno_graph_source.specs.Comments.{Ascends, Filing, FiledComments}
 use Rattle.deno_graph_source.specs.declared.tree.comments.CommentSide.{CommentSide}
 use Rattle.deno_graph_source.specs.declared.tree.comments.CommentSide.TheVariants.{Leading, Trailing}
 use Rattle.deno_graph_source.specs.declared.tree.comments.DependencyComment.{DependencyComment}
-use Rattle.modinfo_document.specs.Comments.{FiledEntry, all_comments, comments_at, followed_by}
+use Rattle.modinfo_document.specs.declared.comments.FiledEntry.{FiledEntry}
+use Rattle.modinfo_document.specs.Comments.{all_comments, comments_at, followed_by}
 
 -- A comment was filed on one side, and the other side is unchanged.
 abbrev pub AddsOn : CommentSide → FiledComments → FiledComments → ℕ → DependencyComment → Type 0

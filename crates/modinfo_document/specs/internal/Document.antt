@@ -1,9 +1,9 @@
 -- Comments and program of a document.
 use Rattle.std.specs.Prelude.{◌≡◌, codes, Option, Some}
-use Rattle.deno_graph_json.specs.Value.{Members}
+use Rattle.serde_json.specs.Data.{Members}
+use Rattle.deno_graph_json.specs.Read.Partial.{◌>>=◌, member_at}
 use Rattle.deno_graph_source.specs.Comments.{FiledComments}
 use Rattle.deno_graph_source.specs.declared.tree.node.Program.{Program}
-use Rattle.modinfo_document.specs.Partial.{◌>>=◌, required}
 use Rattle.modinfo_document.specs.Comments.{Sides, reads_sides, AreThoseOf}
 use Rattle.modinfo_document.specs.Node.{reads_program}
 
@@ -11,7 +11,7 @@ use Rattle.modinfo_document.specs.Node.{reads_program}
 unfoldable pub reads_tree : Members → Option (Sides × Program)
 reads_tree members = do
   comments ← reads_sides members
-  program ← required reads_program (codes "program") members
+  program ← member_at reads_program (codes "program") members
   Some (comments, program)
 
 -- The comments are those of these entries, and the program is this one.

@@ -1,27 +1,40 @@
--- Values inside a document.
+-- Datas inside a document.
 use Rattle.std.specs.Prelude.{ℕ, List, [], ◌∷◌, codes, Option, Some, None, ◌==◌, if◌then◌else◌}
-use Rattle.deno_graph_json.specs.Value.{Value, Items, as_array, as_whole, as_object, last_named, nth_item}
+use Rattle.serde_json.specs.Data.{Data, Items}
+use Rattle.serde_json.specs.Find.{as_array, as_object, get_item, get_member}
+use Rattle.deno_graph_json.specs.Read.Partial.{◌>>=◌, as_usize, member_at}
 use Rattle.deno_graph_source.specs.NodePath.{NodePath}
-use Rattle.modinfo_document.specs.Partial.{◌>>=◌, required}
 
--- The item of this number, in the array that is the last member of this name.
-unfoldable pub member_item : List ℕ → ℕ → Value → Option Value
+-- The member of this name.
+unfoldable pub member_of : List ℕ → Data → Option Data
+member_of name value = do
+  members ← as_object value
+  get_member name members
+
+-- The items of the array that is the member of this name.
+unfoldable pub items_of : List ℕ → Data → Option Items
+items_of name value = do
+  found ← member_of name value
+  as_array found
+
+-- The item of this number, in the array that is the member of this name.
+unfoldable pub member_item : List ℕ → ℕ → Data → Option Data
 member_item name number value = do
   members ← as_object value
-  found ← last_named name members
+  found ← get_member name members
   values ← as_array found
-  nth_item number values
+  get_item number values
 
 -- The value of the node at a path below a node, from the value of that node.
-abbrev pub below : NodePath → Value → Option Value
+abbrev pub below : NodePath → Data → Option Data
 below [] value = Some value
 below (index ∷ path) value = do
   child ← member_item (codes "children") index value
   below path child
 
 -- The comments of an entry, `None` where the entry has another position.
-unfoldable pub entry_items : ℕ → Value → Option Items
+unfoldable pub entry_items : ℕ → Data → Option Items
 entry_items position value = do
   members ← as_object value
-  found ← required as_whole (codes "pos") members
-  if found == position then required as_array (codes "comments") members else None
+  found ← member_at as_usize (codes "pos") members
+  if found == position then member_at as_array (codes "comments") members else None

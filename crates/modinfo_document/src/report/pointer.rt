@@ -1,9 +1,9 @@
 //! Paths as JSON Pointers.
 
-ghost use Rattle.std.specs.Prelude.{◌≡◌, ◌++◌, IfOk, OnOk};
+ghost use Rattle.std.specs.Prelude.{◌≡◌, ◌++◌, IfOk, OnOk, flat_map};
 ghost use Rattle.std.specs.String.{string_bytes};
 ghost use Rattle.deno_graph_json.specs.Pointer.{part_of_token};
-ghost use Rattle.modinfo_document.specs.Pointer.{part_of, pointer_text};
+ghost use Rattle.modinfo_document.specs.Pointer.{part_of, pointer_text, token_text};
 
 use deno_graph_json::{ReferenceToken, Step, push_token};
 use deno_graph_source::values::Items;
@@ -40,4 +40,16 @@ fn pointer_step(step: &Step) -> ReferenceToken<'_>
         Step::Item(number) => ReferenceToken::Index(*number),
         Step::Member(name) => ReferenceToken::Name(name.as_str()),
     }
+}
+
+/// The JSON Pointer of a path, whose first token is the outermost. The only error is a failed
+/// allocation.
+pub fn pointer_to(alloc: Global, tokens: &[ReferenceToken<'_>]) -> Result<String, AllocError>
+    ensures { IfOk result (λ pointer. string_bytes pointer ≡ flat_map token_text tokens.now) }
+{
+    let mut pointer = String::new(alloc);
+    for token in tokens {
+        push_token(&mut pointer, *token)?;
+    }
+    Ok(pointer)
 }

@@ -1,55 +1,66 @@
 //! Reports on faults of a source.
 
+ghost use Rattle.std.specs.Prelude.{IfOk, IfSome};
+ghost use Rattle.std.specs.String.{string_bytes};
+ghost use Rattle.serde_json.specs.Data.{Data};
+ghost use Rattle.deno_graph_json.specs.Data.{data_of};
+ghost use Rattle.modinfo_document.specs.Pointer.{IsInside, LeadsInto};
+ghost use Rattle.modinfo_document.specs.Report.{HasPlaces};
+
+use crate::lookup::member;
 use crate::report::FaultReport;
-use crate::report::element::{element_of, element_of_comment, member};
-use deno_graph_json::{Element, Tape};
+use crate::report::element::{Located, faulty_value, located_comment};
+use deno_graph_json::Element;
 use deno_graph_source::text::SourceRange;
 use deno_graph_source::tree::{FaultPlace, NodePart, ShapeRule, SourceFault, SourceFaultPlace};
 use std::alloc::{AllocError, Global};
 
-/// The report on a fault of the source, whose length is given in bytes. The only error is a failed
-/// allocation.
+/// The report on a fault of the source, whose length is given in bytes, of the document at `root`. The
+/// only error is a failed allocation.
 pub fn source_report(
     alloc: Global,
-    tape: &Tape<'_>,
+    root: Element<'_>,
     length: usize,
     found: &SourceFaultPlace,
-) -> Result<FaultReport, AllocError> {
-    let root = tape.root();
-    let value = element_of(root, found);
+) -> Result<FaultReport, AllocError>
+    ensures { IfOk result (HasPlaces (data_of root.entry)) }
+{
+    let faulty = faulty_value(alloc, root, found)?;
+    let other = other_comment(alloc, root, &found.place)?;
     Ok(FaultReport {
         fault: format!(in alloc; "{}", found.fault)?,
-        pointer: pointer_of_element(alloc, tape, value)?,
-        other: pointer_of_element(alloc, tape, other_element(root, &found.place))?,
-        range: range_of(value),
+        range: range_of(&faulty),
+        pointer: pointer_of(faulty),
+        other: pointer_of(other),
         at: None,
         expected: expected(alloc, found, length)?,
     })
 }
 
 /// Finds the other of two comments that share a byte.
-fn other_element<'a>(root: Element<'a>, place: &FaultPlace) -> Option<Element<'a>> {
+fn other_comment<'a>(
+    alloc: Global,
+    root: Element<'a>,
+    place: &FaultPlace,
+) -> Result<Option<Located<'a>>, AllocError>
+    ensures { IfOk result (IsInside (data_of root.entry)) }
+{
     match place {
-        FaultPlace::Comments(first, _) => element_of_comment(root, *first),
-        _ => None,
+        FaultPlace::Comments(first, _) => located_comment(alloc, root, *first),
+        _ => Ok(None),
     }
 }
 
-/// The JSON Pointer of an element, if there is one.
-fn pointer_of_element(
-    alloc: Global,
-    tape: &Tape<'_>,
-    value: Option<Element<'_>>,
-) -> Result<Option<String>, AllocError> {
-    match value {
-        Some(value) => Ok(Some(tape.pointer(alloc, value.number())?)),
-        None => Ok(None),
-    }
+fn pointer_of(found: Option<Located<'_>>) -> Option<String>
+    ensures { (root : Data) → IsInside root found.entry → IfSome result (λ pointer. LeadsInto root (string_bytes pointer)) }
+{
+    let Located { pointer, .. } = found?;
+    Some(pointer)
 }
 
 /// The range at a value: the value is one, or has one as its member `range`.
-fn range_of(value: Option<Element<'_>>) -> Option<SourceRange> {
-    let value = value?;
+fn range_of(found: &Option<Located<'_>>) -> Option<SourceRange> {
+    let value = found.as_ref()?.value;
     let (start, end) = member(value, "range").unwrap_or(value).as_pair()?;
     Some(SourceRange {
         start: start as usize,
@@ -92,6 +103,6 @@ fn expected_children(place: &FaultPlace) -> &'static str {
         ShapeRule::Template => "one child fewer than quasis",
         ShapeRule::Binary => "two children",
         ShapeRule::KeyValue => "a child, which is the property's value",
-        ShapeRule::Call => "a child for each argument, behind the callee where that is expr",
+        ShapeRule::Call => "a child for each argument, after the callee where that is expr",
     }
 }

@@ -1,24 +1,19 @@
 //! Reports on JSON that isn't a module document, and on a specifier that isn't a URL.
 
+ghost use Rattle.std.specs.Prelude.{IfOk};
+ghost use Rattle.modinfo_document.specs.Report.{Reports};
+
 use crate::DocumentError;
 use crate::report::FaultReport;
-use deno_graph_json::Tape;
+use deno_graph_json::Mismatch;
 use std::alloc::{AllocError, Global};
 
 /// The report on JSON that isn't a module document. The only error is a failed allocation.
-pub fn tree_report(
-    alloc: Global,
-    tape: &Tape<'_>,
-    fault: &DocumentError,
-) -> Result<FaultReport, AllocError> {
-    let name = format!(in alloc; "{fault}")?;
-    match fault {
-        DocumentError::Tree(mismatch) => {
-            let expected = format!(in alloc; "{}", mismatch.expected)?;
-            Ok(FaultReport::of_value(name, tape.pointer(alloc, mismatch.element)?, expected))
-        }
-        _ => Ok(FaultReport::new(name, String::from_str(alloc, "a document")?)),
-    }
+pub fn tree_report(alloc: Global, mismatch: &Mismatch) -> Result<FaultReport, AllocError>
+    ensures { IfOk result (Reports mismatch.now) }
+{
+    let fault = String::from_str(alloc, "Tree")?;
+    FaultReport::of_mismatch(alloc, fault, mismatch)
 }
 
 /// The report on a specifier that isn't a URL. The only error is a failed allocation.

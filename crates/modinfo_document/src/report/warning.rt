@@ -1,7 +1,8 @@
 ghost use Rattle.std.specs.Prelude.{◌↔◌, IsTrue};
 ghost use Rattle.modinfo_document.specs.Report.{HasNone};
 
-use deno_graph_json::{Element, Tape};
+use crate::report::pointer::pointer_to;
+use deno_graph_json::ReferenceToken;
 use std::alloc::{AllocError, Global};
 
 /// The number of warnings that are kept for a document.
@@ -41,19 +42,19 @@ impl Warnings {
         self.kept.is_empty() && self.more == 0
     }
 
-    /// Adds a warning about a value of the document. The only error is a failed allocation.
+    /// Adds a warning about the value at this path, from the outermost token on. The only error is a
+    /// failed allocation.
     pub fn add(
         &mut self,
         alloc: Global,
-        tape: &Tape<'_>,
-        value: Element<'_>,
+        path: &[ReferenceToken<'_>],
         says: &'static str,
     ) -> Result<(), AllocError> {
         if self.kept.len() >= MAX_KEPT {
             self.more = self.more.saturating_add(1);
             return Ok(());
         }
-        let pointer = tape.pointer(alloc, value.number())?;
+        let pointer = pointer_to(alloc, path)?;
         self.kept.push(Warning { pointer, says })?;
         Ok(())
     }

@@ -1,9 +1,10 @@
 //! Finding values of a valid document that its author may not have meant.
 
-use crate::report::element::{elements, literal_of, member};
+use crate::lookup::{elements, member};
+use crate::report::element::literal_of;
 use crate::report::warning::Warnings;
 use crate::{Document, Role, member_names};
-use deno_graph_json::{Element, Elements, Tape};
+use deno_graph_json::{Element, ReferenceToken};
 use deno_graph_source::tree::MediaType;
 use std::alloc::{AllocError, Global};
 
@@ -23,153 +24,199 @@ const EARLIER: &str = "the range starts before that of the child in front of it"
 #[derive(Drop)]
 struct Survey<'a> {
     alloc: Global,
-    tape: &'a Tape<'a>,
     source: &'a str,
     is_code: bool,
+    /// The steps to the value that is looked at, from the outermost on.
+    path: Vec<ReferenceToken<'a>>,
     warnings: Warnings,
 }
 
-/// Finds the warnings about a valid document. The only error is a failed allocation.
-pub fn find_warnings(
+/// Finds the warnings about a valid document, which was read from the value `root`. The only error is a
+/// failed allocation.
+pub fn find_warnings<'a>(
     alloc: Global,
-    tape: &Tape<'_>,
-    document: &Document,
+    root: Element<'a>,
+    document: &'a Document,
 ) -> Result<Warnings, AllocError> {
     let mut survey = Survey {
         alloc,
-        tape,
         source: document.source.as_str(),
         is_code: document.media_type != MediaType::Json && document.media_type != MediaType::Other,
+        path: Vec::new(alloc),
         warnings: Warnings::new(alloc),
     };
-    survey.document(tape.root())?;
+    survey.document(root)?;
     Ok(survey.warnings)
 }
 
-impl Survey<'_> {
-    fn document(&mut self, root: Element<'_>) -> Result<(), AllocError> {
+impl<'a> Survey<'a> {
+    fn document(&mut self, root: Element<'a>) -> Result<(), AllocError> {
         self.members(root, Role::Document)?;
-        self.entries(elements(root, "leading"))?;
-        self.entries(elements(root, "trailing"))?;
+        self.entries(root, "leading")?;
+        self.entries(root, "trailing")?;
         match member(root, "program") {
             Some(program) => self.program(program),
             None => Ok(()),
         }
     }
 
-    fn program(&mut self, program: Element<'_>) -> Result<(), AllocError> {
+    fn program(&mut self, program: Element<'a>) -> Result<(), AllocError> {
+        self.enter("program")?;
         self.members(program, Role::Program)?;
-        match member(program, "body") {
-            Some(body) => self.nodes(body, offsets_of(program)),
-            None => Ok(()),
-        }
+        self.nodes(program, "body")
     }
 
-    fn warn(&mut self, value: Element<'_>, says: &'static str) -> Result<(), AllocError> {
-        self.warnings.add(self.alloc, self.tape, value, says)
+    /// Goes to the member of this name.
+    fn enter(&mut self, name: &'a str) -> Result<(), AllocError> {
+        Ok(self.path.push(ReferenceToken::Name(name))?)
+    }
+
+    /// Goes to the element with this index.
+    fn enter_item(&mut self, number: usize) -> Result<(), AllocError> {
+        Ok(self.path.push(ReferenceToken::Index(number))?)
+    }
+
+    /// Goes back to the value around.
+    fn leave(&mut self) {
+        self.path.pop();
+    }
+
+    /// Warns about the value that is looked at.
+    fn warn(&mut self, says: &'static str) -> Result<(), AllocError> {
+        self.warnings.add(self.alloc, self.path.as_slice(), says)
+    }
+
+    /// Warns about the member of this name.
+    fn warn_at(&mut self, name: &'a str, says: &'static str) -> Result<(), AllocError> {
+        self.enter(name)?;
+        self.warn(says)?;
+        self.leave();
+        Ok(())
     }
 
     /// Warns about the members of an object that nothing reads.
-    fn members(&mut self, value: Element<'_>, role: Role<'_>) -> Result<(), AllocError> {
+    fn members(&mut self, value: Element<'a>, role: Role<'_>) -> Result<(), AllocError> {
         let Some(members) = value.members() else {
             return Ok(());
         };
-        for (name, value) in members.entries() {
+        for (name, _) in members.entries() {
             if !is_read(role, name) {
-                self.warn(value, UNREAD)?;
+                self.warn_at(name, UNREAD)?;
             }
         }
         Ok(())
     }
 
-    /// Warns about comments and their positions.
-    fn entries(&mut self, entries: Option<Elements<'_>>) -> Result<(), AllocError> {
-        let Some(entries) = entries else {
+    /// Warns about the comments of a side, and their positions.
+    fn entries(&mut self, root: Element<'a>, side: &'a str) -> Result<(), AllocError> {
+        let Some(entries) = elements(root, side) else {
             return Ok(());
         };
+        self.enter(side)?;
+        let mut number = 0usize;
         for entry in entries {
+            self.enter_item(number)?;
             self.members(entry, Role::CommentEntry)?;
-            if let Some(pos) = member(entry, "pos") {
-                self.position(pos)?;
-            }
-            self.each(elements(entry, "comments"), Role::Comment)?;
+            self.position(entry)?;
+            self.each(entry, "comments", Role::Comment)?;
+            self.leave();
+            number = number.saturating_add(1);
         }
+        self.leave();
         Ok(())
     }
 
-    /// Warns about the members of each object in an array that nothing reads.
-    fn each(&mut self, values: Option<Elements<'_>>, role: Role<'_>) -> Result<(), AllocError> {
-        let Some(values) = values else {
+    /// Warns about the members of each object in the array `name` that nothing reads.
+    fn each(
+        &mut self,
+        value: Element<'a>,
+        name: &'a str,
+        role: Role<'_>,
+    ) -> Result<(), AllocError> {
+        let Some(values) = elements(value, name) else {
             return Ok(());
         };
+        self.enter(name)?;
+        let mut number = 0usize;
         for value in values {
+            self.enter_item(number)?;
             self.members(value, role)?;
+            self.leave();
+            number = number.saturating_add(1);
         }
+        self.leave();
         Ok(())
     }
 
     /// Warns about a position at which no comment is looked for.
-    fn position(&mut self, pos: Element<'_>) -> Result<(), AllocError> {
-        match pos.as_u64() {
-            Some(at) if at as usize > self.source.len() => self.warn(pos, BEYOND),
-            Some(at) if !self.source.is_char_boundary(at as usize) => self.warn(pos, INSIDE),
+    fn position(&mut self, entry: Element<'a>) -> Result<(), AllocError> {
+        match member(entry, "pos").and_then(|pos| pos.as_u64()) {
+            Some(at) if at as usize > self.source.len() => self.warn_at("pos", BEYOND),
+            Some(at) if !self.source.is_char_boundary(at as usize) => self.warn_at("pos", INSIDE),
             _ => Ok(()),
         }
     }
 
-    /// Warns about the nodes of an array, whose parent has this range.
+    /// Warns about the nodes in the array `name` of a node or a program.
     #[cycle(walk)]
-    fn nodes(&mut self, array: Element<'_>, range: (u64, u64)) -> Result<(), AllocError> {
-        let Some(nodes) = array.elements() else {
+    fn nodes(&mut self, parent: Element<'a>, name: &'a str) -> Result<(), AllocError> {
+        let Some(nodes) = elements(parent, name) else {
             return Ok(());
         };
-        let (first, last) = range;
+        let (first, last) = offsets_of(parent);
         let mut before = first;
+        self.enter(name)?;
+        let mut number = 0usize;
         for node in nodes {
+            self.enter_item(number)?;
             let (start, end) = offsets_of(node);
             if start < first || end > last {
-                self.warn(node, OUTSIDE)?;
+                self.warn(OUTSIDE)?;
             } else if start < before {
-                self.warn(node, EARLIER)?;
+                self.warn(EARLIER)?;
             } else {
                 before = start;
             }
             self.node(node)?;
+            self.leave();
+            number = number.saturating_add(1);
         }
+        self.leave();
         Ok(())
     }
 
     /// Warns about a node, and all nodes below.
     #[cycle(walk)]
-    fn node(&mut self, node: Element<'_>) -> Result<(), AllocError> {
+    fn node(&mut self, node: Element<'a>) -> Result<(), AllocError> {
         let kind = member(node, "kind").and_then(|kind| kind.as_str());
         self.members(node, Role::Node(kind.unwrap_or("Other")))?;
         self.parts(node)?;
-        match member(node, "children") {
-            Some(array) => self.nodes(array, offsets_of(node)),
-            None => Ok(()),
-        }
+        self.nodes(node, "children")
     }
 
     /// Warns about the literal, the arguments and the key of a node.
-    fn parts(&mut self, node: Element<'_>) -> Result<(), AllocError> {
-        if let Some(literal) = literal_of(node) {
+    fn parts(&mut self, node: Element<'a>) -> Result<(), AllocError> {
+        if let Some((name, literal)) = literal_of(node) {
+            self.enter(name)?;
             self.literal(literal)?;
+            self.leave();
         }
-        self.each(elements(node, "args"), Role::Argument)?;
+        self.each(node, "args", Role::Argument)?;
         if let Some(key) = member(node, "key") {
+            self.enter("key")?;
             self.members(key, Role::Key)?;
+            self.leave();
         }
         Ok(())
     }
 
     /// Warns about a literal without quotes in the source.
-    fn literal(&mut self, literal: Element<'_>) -> Result<(), AllocError> {
+    fn literal(&mut self, literal: Element<'a>) -> Result<(), AllocError> {
         self.members(literal, Role::Literal)?;
         let (start, end) = offsets_of(literal);
         let spelling = self.source.get(start as usize..end as usize);
         if self.is_code && !spelling.is_some_and(|spelling| is_quoted(spelling)) {
-            return self.warn(literal, UNQUOTED);
+            return self.warn(UNQUOTED);
         }
         Ok(())
     }

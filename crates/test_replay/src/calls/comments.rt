@@ -7,7 +7,7 @@ use std::alloc::Global;
 
 /// A line for each comment: its side and position, for each position of the source in order. Then a line
 /// with the number of comments.
-pub fn listed(alloc: Global, source: &ParsedSource) -> Result<String, CaseError> {
+pub fn filed(alloc: Global, source: &ParsedSource) -> Result<String, CaseError> {
     let comments = source.comments();
     let mut answer = String::new(alloc);
     for pos in 0..=source.text().as_str().len() {

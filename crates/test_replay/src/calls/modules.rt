@@ -112,7 +112,7 @@ fn every_way_to(
     if by_copies(alloc, source, info)? && by_dependencies(alloc, source, info)? {
         valued(alloc, &to_value(alloc, info)?)
     } else {
-        named(alloc, "other ways lead elsewhere")
+        named(alloc, "other calls have another result")
     }
 }
 

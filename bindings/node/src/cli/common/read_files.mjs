@@ -212,7 +212,7 @@ async function* counted(files, reporter) {
   }
 }
 
-/** Says on the error output what is wrong with files. */
+/** Prints what is wrong with files to the error output. */
 export class FileReporter {
   status = 0;
   #name;

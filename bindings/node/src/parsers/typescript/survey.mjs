@@ -250,9 +250,9 @@ function putFirstLast(todo, from) {
  * @returns {Uint8Array} by the number of the kind
  */
 function rolesOf(compiler) {
-  const known = rolesByCompiler.get(compiler);
-  if (known) {
-    return known;
+  const cached = rolesByCompiler.get(compiler);
+  if (cached) {
+    return cached;
   }
   const kinds = kindsOf(compiler);
   const roles = new Uint8Array(compiler.SyntaxKind.Count);

@@ -29,6 +29,6 @@ returns-in-None g c =
     (sources c.look_up.new.store) c.parse_and_store.result c.in_ok-look_up.ensures.ok
     (subst (λ found. IfSome found (λ source. ¬ MatchesInput (input_of_options options) source))
     c.in_ok-look_up.ensures.found c.in-None.ensures.absent)
-    c.parse_and_store.ensures.answer c.parse_and_store.ensures.allowed c.parse_and_store.ensures.kept
+    c.parse_and_store.ensures.outcome c.parse_and_store.ensures.allowed c.parse_and_store.ensures.kept
     c.parse_and_store.ensures.err c.parse_and_store.ensures.function c.parse_and_store.ensures.counted
     c.parse_and_store.ensures.sound

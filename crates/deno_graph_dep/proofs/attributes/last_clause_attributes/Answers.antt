@@ -57,11 +57,11 @@ returns-in-Some-last c =
     IfOk-weaker c.parse_import_attributes_from_object_lit.result
     (AreObjectAttributes c.in-Some-last.object.now)
     (AreClauseAttributes c.args.properties.now)
-    (λ result gives. AreClauseAttributes-last c.args.properties.now c.loop-property.property-index
+    (λ result given. AreClauseAttributes-last c.args.properties.now c.loop-property.property-index
     c.loop-property.after_with
     (option_copied c.loop-property.last) c.in-Some-last.object.now result c.loop-property-test.false
     (ap option_copied c.in-Some-last.is)
-    c.loop-property.invariant gives)
+    c.loop-property.invariant given)
     c.parse_import_attributes_from_object_lit.ensures
 
 pub returns-in-None : goal.returns-in-None

@@ -5,7 +5,7 @@ use Rattle.std.specs.List.Sorted.{IsPartitionedBy, IsPartitionPoint}
 use Rattle.deno_graph_jsdoc.specs.JsDocImport.{import_of}
 use Rattle.deno_graph_jsdoc.specs.internal.Pass.{GainsImport}
 use Rattle.deno_graph_jsdoc.specs.declared.import.JsDocImport.{JsDocImport}
-use Rattle.deno_graph_jsdoc.proofs.Ascending.{GainsImport-placed, GainsImport-there, is_before, placed}
+use Rattle.deno_graph_jsdoc.proofs.Ascending.{GainsImport-at, GainsImport-there, is_before, is_partitioned}
 use Rattle.deno_graph_jsdoc.proofs.pass.insert.Goals as goal
 use Rattle.deno_graph_jsdoc.proofs.pass.insert.Goals.{After-get, in-Some+else-other-start, in_default}
 
@@ -20,7 +20,7 @@ point c =
     (IsPartitionPoint-from_clause (is_before c.args.import.specifier_range.start) c.as_slice.result.now
     c.partition_point-at.result c.partition_point-at.ensures.partitioned
     (subst (IsPartitionedBy (is_before c.args.import.specifier_range.start)) (sym c.as_slice.ensures.value)
-    (placed c.args.imports.now.items c.requires.ascending c.args.import.specifier_range.start))
+    (is_partitioned c.args.imports.now.items c.requires.ascending c.args.import.specifier_range.start))
     (λ a r f called. search rules))
 
 pub returns-then-other-start-clause-ok : goal.returns-then-other-start-clause-ok
@@ -37,7 +37,7 @@ pub returns-clause-ok : goal.returns-clause-ok
 returns-clause-ok c =
     let items = c.args.imports.now.items in
     let at = c.partition_point-at.result in
-    let last = GainsImport-placed items c.requires.ascending c.args.import
+    let last = GainsImport-at items c.requires.ascending c.args.import
     at (omega (arith, c.partition_point-at.ensures.bound, ap length c.as_slice.ensures.value))
     (point (goal.at.returns-clause-ok c).After-get)
     (λ d inside. elim c.match-get.branch [

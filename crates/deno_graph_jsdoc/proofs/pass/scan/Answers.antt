@@ -172,14 +172,14 @@ declared c =
     × Keeps after cache in
     elim c.if-ends_with_at.branch [
       | then-ends_with_at+in_ok-add w ↦
-          let answer = w.find_import-found.ensures.found in
+          let read = w.find_import-found.ensures.found in
           let found = decl_take text i.front (beyond here) after (through here) (skips here) (longer here)
           (map import_of w.add.new.imports.items)
-          (option_map (λ import. (answer.0, import)) (option_map import_of w.find_import-found.result))
+          (option_map (λ import. (read.0, import)) (option_map import_of w.find_import-found.result))
           i.found
           (declaration_here text i.front before after i.cut (whole here) (split here).1
-          (c.ends_with_at.ensures.0 w.if-ends_with_at.true)) answer.1
-          (takes answer.0 (beyond here) c.loop-before.imports.items w.add.new.imports.items
+          (c.ends_with_at.ensures.0 w.if-ends_with_at.true)) read.1
+          (takes read.0 (beyond here) c.loop-before.imports.items w.add.new.imports.items
           w.find_import-found.result (length c.args.text.now - length c.in-Some.after.now) (by here)
           w.in_ok-add.ensures) in
           subst (λ v. State v c.if-ends_with_at.decl_starts c.if-ends_with_at.cache) (sym w.imports-is)
@@ -215,7 +215,7 @@ loop-before-preserved-in_ok-add-2 c =
     let before = chars c.in-Some.before.now in
     let after = chars c.in-Some.after.now in
     let so_far = declared at.After-leaves_open in
-    let answer = c.find_import.ensures.found in
+    let read = c.find_import.ensures.found in
     record {
       utf8 = search rules;
       front = beyond here;
@@ -224,10 +224,10 @@ loop-before-preserved-in_ok-add-2 c =
       found =
           dynamic_take text i.front (beyond here) after (through here) (skips here) (longer here)
           (map import_of c.add-then-leaves_open.new.imports.items)
-          (option_map (λ import. (answer.0, import)) (option_map import_of c.find_import.result)) so_far.0
+          (option_map (λ import. (read.0, import)) (option_map import_of c.find_import.result)) so_far.0
           (dynamic_here text i.front before after i.cut (whole here) (split here).1
-          (c.leaves_open.ensures.0 c.if-leaves_open.true)) answer.1
-          (takes answer.0 (beyond here) c.if-ends_with_at.imports.items
+          (c.leaves_open.ensures.0 c.if-leaves_open.true)) read.1
+          (takes read.0 (beyond here) c.if-ends_with_at.imports.items
           c.add-then-leaves_open.new.imports.items c.find_import.result
           (length c.args.text.now - length c.in-Some.after.now) (by here) c.in_ok-add-2.ensures);
       keeps = so_far.1;

@@ -1,59 +1,97 @@
-use Rattle.std.proofs.Common.{String, Global, refl, subst, ◌∙◌}
+use Rattle.std.proofs.Common.{true, false, Some, None, arith, ap, ◌∙◌}
 use Rattle.serde_json.specs.Data.{array, object}
-use Rattle.serde_json.specs.View.{view, items_view, members_view}
-use Rattle.serde_json.specs.Written.{has_float, items_have_float}
-use Rattle.serde_json.specs.declared.value.Value.{Value}
-use Rattle.deno_graph_json.proofs.Floats.{float_later, float_error, item_hit, member_hit}
-use Rattle.deno_graph_json.proofs.ObjectMembers.{rest_begin, rest_here}
-use Rattle.deno_graph_json.proofs.Reading.{item_here, error_around}
-use Rattle.deno_graph_json.specs.Read.Result.{IsReadError}
+use Rattle.serde_json.specs.Written.{has_float, items_have_float, members_have_float}
+use Rattle.deno_graph_json.specs.Data.{data_of, named_data, elements_data, members_data}
+use Rattle.deno_graph_json.proofs.ArrayElements.{count_next, elements_next, from_next, from_here}
+use Rattle.deno_graph_json.proofs.ArrayElements.{depth_of_item}
+use Rattle.deno_graph_json.proofs.Floats.{none_of, float_error, items_after, members_after}
+use Rattle.deno_graph_json.proofs.ObjectMembers.{Entry, rest_next, rest_here, depth_of_member}
+use Rattle.deno_graph_json.proofs.Reading.{error_around}
 use Rattle.deno_graph_json.specs.Read.Partial.{unless_float}
 use Rattle.deno_graph_json.proofs.float.+find_float.Goals as goal
 
+pub find_float_in_items-find_float_in-requires : goal.find_float_in_items-find_float_in-requires
+find_float_in_items-find_float_in-requires t c =
+    let all = elements_data c.args.items in
+    let d = data_of c.in-Some.item in
+    let first = elements_next c.loop-item.item-iterator c.next.new.self (Some c.in-Some.item)
+    c.in-Some.ensures.steps in
+    let here = from_here c.loop-item.number all _ _ d c.loop-item.invariant.4 first in
+    (omega (arith, c.decreases, depth_of_item c.loop-item.number all d here), tt)
+
 pub find_float_in_items-returns-in-Err : goal.find_float_in_items-returns-in-Err
 find_float_in_items-returns-in-Err t c =
-    let all = c.deref-item-items.result.now in
-    let here = item_here all c.loop-item.item-index c.loop-item.number c.item-item.result
-    c.loop-item-test.true
-    c.item-item.is c.loop-item.invariant.1 in
-    let around = error_around (array (items_view all)) (view c.item-item.result)
-    (unless_float (has_float (view c.item-item.result))) c.in-Err.error c.in_item.result
-    (c.in_item.ensures.place (array (items_view all)) (view c.item-item.result) here)
-    c.in_item.ensures.mismatch
-    c.in-Err.ensures in
-    let h = float_error (array (items_view all)) (has_float (view c.item-item.result))
-    (items_have_float (items_view all)) c.in_item.result
-    (item_hit all c.loop-item.item-index c.item-item.result c.loop-item-test.true c.item-item.is
-    c.loop-item.invariant.0) around in
-    subst (λ vs. IsReadError (array (items_view vs)) (unless_float (items_have_float (items_view vs)))
-    c.in_item.result)
-    c.deref-item-items.ensures.value h
+    let all = elements_data c.args.items in
+    let left = elements_data c.loop-item.item-iterator in
+    let rest = elements_data c.next.new.self in
+    let d = data_of c.in-Some.item in
+    let kept = c.loop-item.invariant in
+    let first = elements_next c.loop-item.item-iterator c.next.new.self (Some c.in-Some.item)
+    c.in-Some.ensures.steps in
+    float_error (array all) (has_float d) (items_have_float all) c.in_item.result
+    (items_after true all left rest d kept.3 first)
+    (error_around (array all) d (unless_float (has_float d)) c.in-Err.error c.in_item.result
+    (c.in_item.ensures.place (array all) d (from_here c.loop-item.number all left rest d kept.4 first))
+    c.in_item.ensures.mismatch c.in-Err.ensures)
 
-pub find_float_in_members-loop-name-init : goal.find_float_in_members-loop-name-init
-find_float_in_members-loop-name-init t c =
-    let is = c.into_iter-name-iterator.ensures.into_iter_gives ∙ c.iter-name-items.ensures.rest in
-    rw is (record {
-      floats = refl;
-      passed = rest_begin c.args.members.now.entries c.args.members.now.entries
-          c.iter-name-items.ensures.ordered refl;
-    })
+pub find_float_in_items-loop-item-preserved : goal.find_float_in_items-loop-item-preserved
+find_float_in_items-loop-item-preserved t c =
+    let all = elements_data c.args.items in
+    let left = elements_data c.loop-item.item-iterator in
+    let rest = elements_data c.next.new.self in
+    let d = data_of c.in-Some.item in
+    let kept = c.loop-item.invariant in
+    let steps = c.in-Some.ensures.steps in
+    let first = elements_next c.loop-item.item-iterator c.next.new.self (Some c.in-Some.item) steps in (
+      tt,
+      tt,
+      omega (arith, kept.2, count_next c.loop-item.item-iterator c.next.new.self c.in-Some.item steps),
+      items_after false all left rest d kept.3 first (none_of (has_float d) c.in_default.ensures),
+      from_next c.loop-item.number all left rest d kept.4 first,
+    )
+
+pub find_float_in_items-returns : goal.find_float_in_items-returns
+find_float_in_items-returns t c =
+    let none = elements_next c.loop-item.item-iterator c.next.new.self None c.in-None.ensures.steps in
+    ap unless_float (c.loop-item.invariant.3 ∙ ap items_have_float none)
+
+pub find_float_in_members-find_float_in-requires : goal.find_float_in_members-find_float_in-requires
+find_float_in_members-find_float_in-requires t c =
+    let e : Entry = (c.in-Some.name.now, c.in-Some.value.now) in (
+      omega (
+        arith,
+        c.decreases,
+        depth_of_member (members_data c.args.members) c.loop-name.name-iterator
+            c.next.new.self e c.loop-name.invariant.1 c.in-Some.ensures.steps,
+      ),
+      tt,
+    )
 
 pub find_float_in_members-returns-in-Err : goal.find_float_in_members-returns-in-Err
 find_float_in_members-returns-in-Err t c =
-    let e : String Global × Value = (c.in-Some.name.now, c.in-Some.value.now) in
-    let all = c.args.members.now.entries in
-    let here = rest_here all c.loop-name.name-iterator c.next.new.self e c.as_str.result.now
-    c.loop-name.invariant.passed c.in-Some.ensures.steps c.as_str.ensures.value in
-    float_error (object (members_view all)) (has_float (view e.1)) _ c.in_member.result
-    (member_hit all c.loop-name.name-iterator c.next.new.self e c.loop-name.invariant.floats
-    c.in-Some.ensures.steps)
-    (error_around (object (members_view all)) (view e.1) (unless_float (has_float (view e.1)))
-    c.in-Err.error
-    c.in_member.result (c.in_member.ensures.place (object (members_view all)) (view e.1) here)
+    let e : Entry = (c.in-Some.name.now, c.in-Some.value.now) in
+    let d = data_of e.1 in
+    let all = members_data c.args.members in
+    let left = c.loop-name.name-iterator in
+    let rest = c.next.new.self in
+    let first = c.in-Some.ensures.steps in
+    let kept = c.loop-name.invariant in
+    float_error (object all) (has_float d) (members_have_float all) c.in_member.result
+    (members_after true all (named_data left) (named_data rest) e.0 d kept.0 (ap named_data first))
+    (error_around (object all) d (unless_float (has_float d)) c.in-Err.error c.in_member.result
+    (c.in_member.ensures.place (object all) d (rest_here all left rest e kept.1 first))
     c.in_member.ensures.mismatch c.in-Err.ensures)
 
 pub find_float_in_members-loop-name-preserved : goal.find_float_in_members-loop-name-preserved
 find_float_in_members-loop-name-preserved t c =
-    let e : String Global × Value = (c.in-Some.name.now, c.in-Some.value.now) in
-    float_later c.args.members.now.entries c.loop-name.name-iterator c.next.new.self e c.loop-name.invariant
-    c.in-Some.ensures.steps c.in_default.ensures
+    let e : Entry = (c.in-Some.name.now, c.in-Some.value.now) in
+    let d = data_of e.1 in
+    let all = members_data c.args.members in
+    let left = c.loop-name.name-iterator in
+    let rest = c.next.new.self in
+    let first = c.in-Some.ensures.steps in
+    let kept = c.loop-name.invariant in (
+      members_after false all (named_data left) (named_data rest) e.0 d kept.0 (ap named_data first)
+          (none_of (has_float d) c.in_default.ensures),
+      rest_next all left rest e kept.1 first,
+    )

@@ -2,7 +2,7 @@ use Rattle.std.proofs.Common.{◌≡◌, subst, refl}
 use Rattle.deno_graph_pragmas.specs.Finders as finder
 use Rattle.deno_graph_pragmas.specs.Match.{IsCapturedIn, IsQuotedIn, IsSliceIn, match_part_of}
 use Rattle.deno_graph_pragmas.specs.Split.{HasSplit}
-use Rattle.deno_graph_module_info.specs.References.{StatesMode}
+use Rattle.deno_graph_module_info.specs.References.{IsModeOf}
 use Rattle.deno_graph_module_info.proofs.references.referred.Goals as goal
 
 pub specifier_of_match-requires : goal.specifier_of_match-requires
@@ -46,7 +46,7 @@ returns-in_ok-specifier-in-Some-find_types_reference-clause-is c =
             c.in-Some-find_types_reference.ensures.found;
         is_specifier = (c.in_ok-specifier-in-Some-find_types_reference).ensures.is;
       },
-      subst (λ t. StatesMode t c.resolution_mode-resolution_mode.result) text
+      subst (λ t. IsModeOf t c.resolution_mode-resolution_mode.result) text
           c.resolution_mode-resolution_mode.ensures,
     )
 

@@ -44,10 +44,10 @@ lines-init g c = (
 pub returns-in_err-write_waiting : goal.returns-in_err-write_waiting
 returns-in_err-write_waiting g c =
     let (done, sent, taken, prints, appended) = c.lines.invariant in
-    let (told, front) = c.in_err-write_waiting.ensures in
+    let (is_fault, front) = c.in_err-write_waiting.ensures in
     exits _ _ _ c.in_err-write_waiting.field-0.0 c.from_residual-in_err-write_waiting.ensures.1
     (LeavesFirstLines-at c.args.task _ _ _ _ done c.lines.is_passed (sent ++ c.lines.waiting.items)
-    c.in_err-write_waiting.field-0.0 (subst IsFailure (sym told) tt)
+    c.in_err-write_waiting.field-0.0 (subst IsFailure (sym is_fault) tt)
     (TakesLines-same _ _ _ done c.in_ok-input.ensures taken) prints
     (AppendsFront-more _ _ _ sent c.lines.waiting.items appended front))
 
@@ -71,12 +71,12 @@ returns-in_err-write_waiting-in-None g c =
     let (done, sent, taken, prints, appended) = c.lines.invariant in
     let (written, split, wrote, empty) = c.in_ok-write_waiting.ensures in
     let (same, end) = rw c.in-None.is at c.in_ok-passes.ensures in
-    let (told, front) = c.in_err-write_waiting-in-None.ensures in
+    let (is_fault, front) = c.in_err-write_waiting-in-None.ensures in
     let new = c.run_next.new.waiting.items in
     exits _ _ _ c.in_err-write_waiting-in-None.field-0.0
     c.from_residual-in_err-write_waiting-in-None.ensures.1
     (LeavesFirstLines-at c.args.task _ _ _ _ done c.lines.is_passed ((sent ++ written) ++ new)
-    c.in_err-write_waiting-in-None.field-0.0 (subst IsFailure (sym told) tt)
+    c.in_err-write_waiting-in-None.field-0.0 (subst IsFailure (sym is_fault) tt)
     (TakesLines-same _ _ _ done c.in_ok-input.ensures taken)
     (PrintsLines-written c.args.task done c.lines.is_passed sent c.lines.waiting.items written new prints
     (split ∙ ap (λ l. written ++ l) (sym same)))

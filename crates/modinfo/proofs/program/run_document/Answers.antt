@@ -8,8 +8,8 @@ use Rattle.modinfo.proofs.Written.{known_or_none}
 use Rattle.modinfo.proofs.program.run_document.Goals as goal
 
 -- The input wasn't read.
-pub returns-in_err-document-clause-answer : goal.returns-in_err-document-clause-answer
-returns-in_err-document-clause-answer g c subcommand is =
+pub returns-in_err-document-clause-subcommand : goal.returns-in_err-document-clause-subcommand
+returns-in_err-document-clause-subcommand g c subcommand is =
     let f = err_from_is_err_and c.from_residual.result c.from_residual.ensures.1 in
     let known = g.R.Read.remaining c.args.input.now in (
       unwrap_or known [],
@@ -33,8 +33,8 @@ returns-in_err-document-clause-check g c subcommand is_strict is =
     )
 
 -- An allocation for the line feed failed.
-pub returns-in_err-push-clause-answer : goal.returns-in_err-push-clause-answer
-returns-in_err-push-clause-answer g c subcommand is =
+pub returns-in_err-push-clause-subcommand : goal.returns-in_err-push-clause-subcommand
+returns-in_err-push-clause-subcommand g c subcommand is =
     let pushed = c.from_residual-in_err-push in
     let f = err_from_is_err_and pushed.result pushed.ensures.1 in (
       c.in_ok-document.document.items,
@@ -46,8 +46,8 @@ returns-in_err-push-clause-answer g c subcommand is =
     )
 
 -- The line is the answer and a line feed.
-pub returns-clause-answer : goal.returns-clause-answer
-returns-clause-answer g c subcommand is =
+pub returns-clause-subcommand : goal.returns-clause-subcommand
+returns-clause-subcommand g c subcommand is =
     let found = rw is at c.in_ok-line.ensures in (
       c.in_ok-document.document.items,
       c.in_ok-document.ensures,

@@ -11,9 +11,9 @@ use Rattle.modinfo.proofs.program.serve.Goals as goal
 
 -- Wrong arguments are none of these.
 
-pub returns-in_default-clause-answer : goal.returns-in_default-clause-answer
-returns-in_default-clause-answer g c subcommand words =
-    absurd (none-some _ (sym c.in_default.is ∙ c.from_words.ensures.answer subcommand false words))
+pub returns-in_default-clause-subcommand : goal.returns-in_default-clause-subcommand
+returns-in_default-clause-subcommand g c subcommand words =
+    absurd (none-some _ (sym c.in_default.is ∙ c.from_words.ensures.subcommand subcommand false words))
 
 pub returns-in_default-clause-check : goal.returns-in_default-clause-check
 returns-in_default-clause-check g c subcommand flags words one =
@@ -25,7 +25,7 @@ returns-in_default-clause-check_analyze g c flags words one =
 
 pub returns-in_default-clause-lines : goal.returns-in_default-clause-lines
 returns-in_default-clause-lines g c subcommand words =
-    absurd (none-some _ (sym c.in_default.is ∙ c.from_words.ensures.answer subcommand true words))
+    absurd (none-some _ (sym c.in_default.is ∙ c.from_words.ensures.subcommand subcommand true words))
 
 pub returns-in_default-clause-check_lines : goal.returns-in_default-clause-check_lines
 returns-in_default-clause-check_lines g c subcommand flags words many =
@@ -37,10 +37,10 @@ returns-in_default-clause-check_analyze_lines g c flags words many =
 
 -- A line was printed.
 
-pub returns-in-Ok-clause-answer : goal.returns-in-Ok-clause-answer
-returns-in-Ok-clause-answer g c subcommand words =
-    let is = same_Some _ _ (sym c.in-Some.is ∙ c.from_words.ensures.answer subcommand false words) in
-    let ran = c.in-Ok.ensures.answer subcommand is in
+pub returns-in-Ok-clause-subcommand : goal.returns-in-Ok-clause-subcommand
+returns-in-Ok-clause-subcommand g c subcommand words =
+    let is = same_Some _ _ (sym c.in-Some.is ∙ c.from_words.ensures.subcommand subcommand false words) in
+    let ran = c.in-Ok.ensures.subcommand subcommand is in
     (ran.0, ran.1, printed c.in-Ok.passes ran.2.0 ran.2.1 c.status_of.ensures ran.2.2 (Keeps-refl _))
 
 pub returns-in-Ok-clause-check : goal.returns-in-Ok-clause-check
@@ -61,10 +61,10 @@ returns-in-Ok-clause-check_analyze g c flags words one =
 
 -- There was a fault.
 
-pub returns-in-Err-clause-answer : goal.returns-in-Err-clause-answer
-returns-in-Err-clause-answer g c subcommand words =
-    let is = same_Some _ _ (sym c.in-Some.is ∙ c.from_words.ensures.answer subcommand false words) in
-    let ran = c.in-Err.ensures.answer subcommand is in
+pub returns-in-Err-clause-subcommand : goal.returns-in-Err-clause-subcommand
+returns-in-Err-clause-subcommand g c subcommand words =
+    let is = same_Some _ _ (sym c.in-Some.is ∙ c.from_words.ensures.subcommand subcommand false words) in
+    let ran = c.in-Err.ensures.subcommand subcommand is in
     (ran.0, ran.1, failed c.in-Err.fault ran.2.0 refl ran.2.1 c.print_fault.ensures)
 
 pub returns-in-Err-clause-check : goal.returns-in-Err-clause-check
@@ -87,7 +87,7 @@ returns-in-Err-clause-check_analyze g c flags words one =
 
 pub returns-in-Ok-clause-lines : goal.returns-in-Ok-clause-lines
 returns-in-Ok-clause-lines g c subcommand words =
-    let is = same_Some _ _ (sym c.in-Some.is ∙ c.from_words.ensures.answer subcommand true words) in
+    let is = same_Some _ _ (sym c.in-Some.is ∙ c.from_words.ensures.subcommand subcommand true words) in
     lines_printed c.in-Ok.passes (c.in-Ok.ensures.lines (Answer subcommand) is) c.status_of.ensures
     (Keeps-refl _)
 
@@ -107,7 +107,7 @@ returns-in-Ok-clause-check_analyze_lines g c flags words many =
 
 pub returns-in-Err-clause-lines : goal.returns-in-Err-clause-lines
 returns-in-Err-clause-lines g c subcommand words =
-    let is = same_Some _ _ (sym c.in-Some.is ∙ c.from_words.ensures.answer subcommand true words) in
+    let is = same_Some _ _ (sym c.in-Some.is ∙ c.from_words.ensures.subcommand subcommand true words) in
     lines_failed c.in-Err.fault (c.in-Err.ensures.lines (Answer subcommand) is) refl c.print_fault.ensures
 
 pub returns-in-Err-clause-check_lines : goal.returns-in-Err-clause-check_lines

@@ -7,8 +7,8 @@ use Rattle.modinfo.specs.Answer.{IsNoModule}
 use Rattle.modinfo.specs.Fault.{fault_of_document}
 use Rattle.modinfo.proofs.request.source_of.Goals as goal
 
-no_module : (text : List ℕ) (told : DocumentError) → HasDocumentError text told
-    → IsNoModule text (fault_of_document told)
+no_module : (text : List ℕ) (inner : DocumentError) → HasDocumentError text inner
+    → IsNoModule text (fault_of_document inner)
 no_module text (error.Json place) has = (error.Json place, refl, has)
 no_module text (error.Tree mismatch) has = (error.Tree mismatch, refl, has)
 no_module text error.Specifier has = (error.Specifier, refl, has)

@@ -1,38 +1,30 @@
 use Rattle.std.proofs.Common.{◌≡◌, arith, Some}
-use Rattle.deno_graph_json.specs.View.{members_of}
-use Rattle.deno_graph_source.specs.declared.tree.comments.CommentSide.TheVariants.{Leading, Trailing}
-use Rattle.modinfo_document.specs.Comments.{Sides, reads_side, reads_sides}
-use Rattle.modinfo_document.specs.internal.Comments.{AreAppendedOn}
+use Rattle.deno_graph_json.specs.Data.{members_data}
+use Rattle.deno_graph_json.proofs.Reading.{goes_on}
+use Rattle.modinfo_document.specs.Comments.{Sides, reads_sides}
 use Rattle.modinfo_document.proofs.Filed.{both_sides}
-use Rattle.modinfo_document.proofs.Reading.{goes_on, reading_by, some_and, some_with}
+use Rattle.modinfo_document.proofs.Results.{reading_by, some_and}
 use Rattle.modinfo_document.proofs.comments.read_comments.Goals as goal
 
-pub returns-in_err-read_side-clause-read : goal.returns-in_err-read_side-clause-read
+pub returns-in_err-leading : goal.returns-in_err-leading
 unfolding reads_sides
-returns-in_err-read_side-clause-read c = grind (arith, reading_by)
+returns-in_err-leading c = grind (arith, reading_by)
 
-pub returns-in_err-read_side-2-clause-read : goal.returns-in_err-read_side-2-clause-read
+pub returns-in_err-trailing : goal.returns-in_err-trailing
 unfolding reads_sides
-returns-in_err-read_side-2-clause-read c =
-    let ms = members_of c.args.members in
-    let leading = some_with (AreAppendedOn Leading c.new-comments.result c.read_side.new.comments)
-    (reads_side Leading ms) c.in_ok-read_side.ensures.read in
-    let is = leading.1 in
-    grind (arith, reading_by, is)
+returns-in_err-trailing c = grind (arith, reading_by)
 
-pub returns-clause-read : goal.returns-clause-read
+pub returns : goal.returns
 unfolding reads_sides
-returns-clause-read c =
-    let ms = members_of c.args.members in
-    let leading = some_with (AreAppendedOn Leading c.new-comments.result c.read_side.new.comments)
-    (reads_side Leading ms) c.in_ok-read_side.ensures.read in
-    let trailing = some_with (AreAppendedOn Trailing c.read_side.new.comments c.read_side-2.new.comments)
-    (reads_side Trailing ms) c.in_ok-read_side-2.ensures.read in
-    let leading_is = leading.1 in
-    let trailing_is = trailing.1 in
-    let sides : Sides = record { leading = leading.0; trailing = trailing.0 } in
+returns c =
+    let ms = members_data c.args.members in
+    let leading_is = c.in_ok-leading.ensures in
+    let trailing_is = c.in_ok-trailing.ensures in
+    let sides : Sides = record { leading = c.in_ok-leading.leading; trailing = c.in_ok-trailing.trailing } in
     let is : reads_sides ms ≡ Some sides =
     grind (arith, goes_on, leading_is, trailing_is) in
     some_and _ _ sides is
-    (both_sides c.new-comments.result c.read_side.new.comments c.read_side-2.new.comments leading.0 trailing.0
-    c.new-comments.ensures.leading c.new-comments.ensures.trailing leading.2 trailing.2)
+    (both_sides c.new-comments.result c.file_entries.new.comments c.file_entries-2.new.comments
+    c.in_ok-leading.leading c.in_ok-trailing.trailing
+    c.new-comments.ensures.leading c.new-comments.ensures.trailing c.in_ok-file_entries.ensures
+    c.in_ok-file_entries-2.ensures)

@@ -1,31 +1,30 @@
-use Rattle.std.proofs.Common.{ℕ, List, Result, Ok, Err, MatchResult}
-use Rattle.deno_graph_json.specs.Value.{Value}
-use Rattle.deno_graph_json.specs.View.{IsValueOf, tape_value}
-use Rattle.modinfo_document.specs.Returned.{ReturnsBy}
-use Rattle.modinfo_document.specs.Document.{Has, IsDocumentOf, IsNoDocument, reads_document}
-use Rattle.modinfo_document.specs.declared.document.Document.{Document}
-use Rattle.modinfo_document.specs.declared.error.DocumentError.{DocumentError}
-use Rattle.modinfo_document.specs.declared.error.DocumentError.TheVariants.{
-  Json,
-  Tree,
-  Specifier,
-  Source,
-  OutOfMemory,
-}
+use Rattle.std.proofs.Common.{◌≡◌, ℕ, List, Some}
+use Rattle.std.proofs.lemmas.Result.{err_from_is_err_and}
+use Rattle.serde_json.specs.Data.{Data}
+use Rattle.serde_json.specs.Read.{read as read_text}
+use Rattle.deno_graph_json.specs.Data.{tape_data}
+use Rattle.deno_graph_json.specs.Read.Result.{IsReadError}
+use Rattle.deno_graph_json.specs.declared.error.ReadError.{ReadError}
+use Rattle.deno_graph_json.specs.declared.error.ReadError.TheVariants.{Mismatch, OutOfMemory}
+use Rattle.modinfo_document.specs.Document.{IsNoDocument, reads_document}
+use Rattle.modinfo_document.specs.Error.{of_read}
 use Rattle.modinfo_document.proofs.document.parse_document.Goals as goal
 
--- The document of the value is the document of the text.
-of_text : (text : List ℕ) (value : Value) (answer : Result Document DocumentError) → IsValueOf text value
-    → ReturnsBy Has (reads_document value) answer → MatchResult answer (IsDocumentOf text) (IsNoDocument text)
-of_text text value (Ok document) is h = (value, is, h)
-of_text text value (Err (Tree mismatch)) is h = (value, is, h)
-of_text text value (Err OutOfMemory) is h = tt
-of_text text value (Err (Json offset)) is h = absurd h
-of_text text value (Err Specifier) is h = absurd h
-of_text text value (Err (Source fault)) is h = absurd h
+-- The error in the value of the text is an error of the text.
+of_text : (text : List ℕ) (value : Data) (error : ReadError) → read_text text ≡ Some value
+    → IsReadError value (reads_document value) error → IsNoDocument text (of_read error)
+of_text text value (Mismatch found) is h = (value, is, h.0, h.1)
+of_text text value OutOfMemory is h = tt
+
+pub returns-in_err-read_document : goal.returns-in_err-read_document
+returns-in_err-read_document c =
+    let error = rw c.root.ensures.json at c.in_err-read_document.ensures in
+    let is = err_from_is_err_and c.from_residual-in_err-read_document.result
+    c.from_residual-in_err-read_document.ensures.1 in
+    rw (is.1, is.2) (of_text c.args.text.now (tape_data c.in_ok-tape.tape) c.in_err-read_document.field-0.0
+    c.in_ok-tape.ensures.json error)
 
 pub returns : goal.returns
 returns c =
-    let read = rw c.root.ensures.value at c.read_document.ensures.read in
-    of_text c.args.text.now (tape_value c.in_ok-tape.tape) c.read_document.result c.in_ok-tape.ensures.value
-    read
+    let read = rw c.root.ensures.json at c.in_ok-read_document.ensures in
+    (tape_data c.in_ok-tape.tape, c.in_ok-tape.ensures.json, read)

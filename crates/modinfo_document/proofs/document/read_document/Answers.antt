@@ -1,58 +1,68 @@
-use Rattle.std.proofs.Common.{◌≡◌, arith, Some, refl, ap, ◌∙◌}
-use Rattle.deno_graph_json.specs.View.{members_of, value_of}
+use Rattle.std.proofs.Common.{◌≡◌, arith, Some, codes, refl, sym, ap, subst, ◌∙◌}
+use Rattle.serde_json.specs.Data.{object, string}
+use Rattle.serde_json.specs.Find.{as_str, get_member}
+use Rattle.deno_graph_json.specs.Data.{data_of, members_data}
+use Rattle.deno_graph_json.specs.Read.Partial.{◌>>=◌, member_at}
 use Rattle.modinfo_document.specs.Document.{Has, reads_document}
+use Rattle.modinfo_document.specs.Result.{IsReadResultBy}
 use Rattle.modinfo_document.specs.internal.Document.{HasTree, reads_tree}
-use Rattle.modinfo_document.specs.Partial.{◌>>=◌, required}
-use Rattle.modinfo_document.proofs.Documents.{document_read, stated_with}
-use Rattle.modinfo_document.proofs.Reading.{exits_by, goes_on, reading_by, some_and, some_with}
+use Rattle.modinfo_document.proofs.Documents.{document_read, contents_with}
+use Rattle.modinfo_document.proofs.Results.{exits_by, is_object, reading_by, some_and, some_with}
 use Rattle.modinfo_document.proofs.document.read_document.Goals as goal
 
-pub returns-in_err-members-clause-read : goal.returns-in_err-members-clause-read
-unfolding reads_document required
-returns-in_err-members-clause-read c = grind (arith, reading_by)
+pub returns-in_err-members : goal.returns-in_err-members
+unfolding reads_document
+returns-in_err-members c = grind (arith, reading_by)
 
-pub returns-in_err-text-clause-read : goal.returns-in_err-text-clause-read
-unfolding reads_document required
-returns-in_err-text-clause-read c = grind (arith, reading_by)
+pub returns-in_err-specifier : goal.returns-in_err-specifier
+unfolding reads_document
+returns-in_err-specifier c = grind (arith, reading_by)
 
-pub returns-in_err-required-clause-read : goal.returns-in_err-required-clause-read
-unfolding reads_document required
-returns-in_err-required-clause-read c = grind (arith, reading_by)
+pub returns-in_err-media_type : goal.returns-in_err-media_type
+unfolding reads_document
+returns-in_err-media_type c = grind (arith, reading_by)
 
-pub returns-in_err-media_type-clause-read : goal.returns-in_err-media_type-clause-read
-unfolding reads_document required
-returns-in_err-media_type-clause-read c = grind (arith, reading_by)
+pub returns-in_err-text : goal.returns-in_err-text
+unfolding reads_document
+returns-in_err-text c =
+    let same = c.of_members.ensures in
+    grind (arith, reading_by, same)
 
-pub returns-in_err-text-2-clause-read : goal.returns-in_err-text-2-clause-read
-unfolding reads_document required
-returns-in_err-text-2-clause-read c = grind (arith, reading_by)
+pub returns-in_err-comments : goal.returns-in_err-comments
+unfolding member_at
+returns-in_err-comments c =
+    let ms = members_data c.in_ok-members.members in
+    let d = data_of c.args.value in
+    let text = c.in_ok-text.text.now in
+    let there : get_member (codes "source") ms ≡ Some (string text) =
+    subst (λ m. get_member (codes "source") m ≡ Some (string text)) c.of_members.ensures
+    c.in_ok-text.ensures in
+    let source : member_at as_str (codes "source") ms ≡ Some text = ap (λ o. o >>= as_str) there in
+    let is = document_read c.in_ok-specifier.specifier c.in_ok-media_type.media_type text
+    (object ms) ms refl c.in_ok-specifier.ensures c.in_ok-media_type.ensures source in
+    subst (λ v. IsReadResultBy Has v (reads_document v) c.from_residual-in_err-comments.result)
+    (sym (is_object d ms c.in_ok-members.ensures))
+    (rw is (exits_by Has (object ms) (reads_tree ms) _ c.in_err-comments.field-0.0 _
+    c.from_residual-in_err-comments.ensures.1 c.in_err-comments.ensures))
 
-pub returns-in_err-comments-clause-read : goal.returns-in_err-comments-clause-read
-unfolding required
-returns-in_err-comments-clause-read c =
-    let is = document_read c.in_ok-text.field-0.now c.in_ok-media_type.media_type c.in_ok-text-2.field-0.now
-    (value_of c.args.value) (members_of c.in_ok-members.members) c.in_ok-members.ensures.read
-    c.in_ok-text.ensures.read
-    (goes_on _ _ _ _ c.in_ok-required.ensures.read c.in_ok-media_type.ensures.read)
-    c.in_ok-text-2.ensures.read in
-    rw is (exits_by Has (reads_tree (members_of c.in_ok-members.members)) _ c.in_err-comments.field-0.0 _
-    c.from_residual-in_err-comments.ensures.1 c.in_err-comments.ensures.read)
-
-pub returns-clause-read : goal.returns-clause-read
-unfolding required
-returns-clause-read c =
-    let is = document_read c.in_ok-text.field-0.now c.in_ok-media_type.media_type c.in_ok-text-2.field-0.now
-    (value_of c.args.value) (members_of c.in_ok-members.members) c.in_ok-members.ensures.read
-    c.in_ok-text.ensures.read
-    (goes_on _ _ _ _ c.in_ok-required.ensures.read c.in_ok-media_type.ensures.read)
-    c.in_ok-text-2.ensures.read in
+pub returns : goal.returns
+unfolding member_at
+returns c =
+    let ms = members_data c.in_ok-members.members in
+    let text = c.in_ok-text.text.now in
+    let there : get_member (codes "source") ms ≡ Some (string text) =
+    subst (λ m. get_member (codes "source") m ≡ Some (string text)) c.of_members.ensures
+    c.in_ok-text.ensures in
+    let source : member_at as_str (codes "source") ms ≡ Some text = ap (λ o. o >>= as_str) there in
+    let is = document_read c.in_ok-specifier.specifier c.in_ok-media_type.media_type text
+    (data_of c.args.value) ms c.in_ok-members.ensures c.in_ok-specifier.ensures c.in_ok-media_type.ensures
+    source in
     let tree = some_with (λ tree. HasTree tree (c.in_ok-comments.comments, c.in_ok-comments.program))
-    (reads_tree (members_of c.in_ok-members.members)) c.in_ok-comments.ensures.read in
-    let contents = stated_with c.in_ok-text.field-0.now c.in_ok-media_type.media_type
-    c.in_ok-text-2.field-0.now in
+    (reads_tree ms) c.in_ok-comments.ensures in
+    let contents = contents_with c.in_ok-specifier.specifier c.in_ok-media_type.media_type text in
     some_and _ _ (contents tree.0) (is ∙ ap (λ o. o >>= (λ t. Some (contents t))) tree.1)
     (record {
-      specifier = c.in_ok-specifier.ensures;
+      specifier = refl;
       media_type = refl;
       source = c.in_ok-source.ensures.ok;
       comments = tree.2.0;

@@ -1,20 +1,25 @@
-use Rattle.std.specs.Prelude.{◌≡◌}
-use Rattle.deno_graph_json.specs.View.{items_left, value_of}
-use Rattle.modinfo_document.specs.Node.{reads_node, reads_nodes}
-use Rattle.modinfo_document.specs.Partial.{reads_items}
-use Rattle.modinfo_document.proofs.Reading.{before}
-use Rattle.deno_graph_json.specs.Tape.{TakesSame, array_of_elements, size_of}
+-- The nodes so far were read, and the other items are left.
+use Rattle.std.proofs.Common.{◌≡◌, ◌+◌, ◌*◌, length}
+use Rattle.serde_json.specs.Data.{depth, members_depth}
+use Rattle.deno_graph_json.specs.Data.{data_of, elements_data, members_data}
+use Rattle.deno_graph_json.specs.Read.Partial.{reads_items}
+use Rattle.deno_graph_json.proofs.ArrayElements.{AreFrom}
+use Rattle.deno_graph_json.proofs.Reading.{before}
+use Rattle.modinfo_document.specs.Node.{reads_node}
 use Rattle.modinfo_document.proofs.node.+read.Given as goal
 
 abbrev pub decreases-read_node : goal.decreases-read_node
-decreases-read_node l = size_of l.value
+decreases-read_node l = 3 * depth (data_of l.value)
+
+abbrev pub decreases-read_children : goal.decreases-read_children
+decreases-read_children l = 3 * members_depth (members_data l.members) + 2
 
 abbrev pub decreases-read_nodes : goal.decreases-read_nodes
-decreases-read_nodes l = size_of l.value
+decreases-read_nodes l = 3 * depth (data_of l.value) + 1
 
-abbrev pub invariant-read_nodes-loop-value : goal.invariant-read_nodes-loop-value
-invariant-read_nodes-loop-value l = (goal.iterator-read_nodes-loop-value).can_next l.value-iterator
-    × (goal.iterator-read_nodes-loop-value).is_finite l.value-iterator
-    × TakesSame (array_of_elements l.value-iterator) l.initial.value
-    × (before l.nodes.items (reads_items reads_node (items_left l.value-iterator)) ≡ reads_nodes
-    (value_of l.initial.value))
+abbrev pub invariant-read_nodes-loop-item : goal.invariant-read_nodes-loop-item
+invariant-read_nodes-loop-item l = (goal.iterator-read_nodes-loop-item).can_next l.item-iterator
+    × (goal.iterator-read_nodes-loop-item).is_finite l.item-iterator
+    × AreFrom (length l.nodes) (elements_data l.initial.item-iterator) (elements_data l.item-iterator)
+    × (reads_items reads_node (elements_data l.initial.item-iterator)
+    ≡ before l.nodes (reads_items reads_node (elements_data l.item-iterator)))

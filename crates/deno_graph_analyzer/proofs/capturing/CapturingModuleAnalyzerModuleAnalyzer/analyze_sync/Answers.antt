@@ -3,7 +3,7 @@ use Rattle.deno_graph_analyzer.specs.CapturingModuleAnalyzer.{parser_of}
 use Rattle.deno_graph_analyzer.proofs.Analyses.{analysis_of_outcome}
 use Rattle.deno_graph_analyzer.proofs.capturing.CapturingModuleAnalyzerModuleAnalyzer.analyze_sync.Goals as goal
 
-pub returns-clause-answer : goal.returns-clause-answer
-returns-clause-answer g c = λ sound.
+pub returns-clause-info : goal.returns-clause-info
+returns-clause-info g c = λ sound.
     analysis_of_outcome (g.P.EsParser.parses (parser_of c.args.self.now)) _ c.parse_program.result
-    c.info_of.result c.info_of.ensures (c.parse_program.ensures.answer sound)
+    c.info_of.result c.info_of.ensures (c.parse_program.ensures.sound_result sound)

@@ -1,4 +1,4 @@
--- Each round enters a node or leaves one, and returns the node or passes it.
+-- Each iteration enters a node or leaves one, and returns the node or passes it.
 use Rattle.std.proofs.Common.{OnErr, Result, Ok, Err, sym, ◌∙◌}
 use Rattle.std.proofs.lemmas.List.{nil_from_length}
 use Rattle.deno_graph_dep.proofs.Counts.{IsStackOf-enter, IsStackOf-leave}
@@ -14,7 +14,7 @@ use Rattle.deno_graph_dep.proofs.Progress.{
   IsStackOf-same,
   to_come-same,
 }
-use Rattle.deno_graph_dep.proofs.Steps.{rounds-enter, rounds-leave}
+use Rattle.deno_graph_dep.proofs.Steps.{iterations_left-enter, iterations_left-leave}
 use Rattle.deno_graph_dep.proofs.stack.Stack.next_dependency.Goals as goal
 
 on_err : {A E P : Type 0} (result : Result A E) → P → OnErr result P
@@ -80,7 +80,7 @@ returns-then-comes_before_inside-clause-rises c body s =
 
 pub nodes-smaller-else-comes_before_inside : goal.nodes-smaller-else-comes_before_inside
 nodes-smaller-else-comes_before_inside c =
-    rounds-enter c.nodes.self c.enter.new.self c.in-Some.node c.in-Some.siblings
+    iterations_left-enter c.nodes.self c.enter.new.self c.in-Some.node c.in-Some.siblings
     (record {
       first = c.in-Some.ensures.cases.0;
       frames = c.in_ok-enter.ensures.frames;
@@ -167,7 +167,7 @@ returns-then-comes_after_inside-clause-rises c body s =
 
 pub nodes-smaller : goal.nodes-smaller
 nodes-smaller c =
-    rounds-leave c.nodes.self c.leave.new.self c.in-Some-leave.node c.in-Some-leave.ensures.leaves.0
+    iterations_left-leave c.nodes.self c.leave.new.self c.in-Some-leave.node c.in-Some-leave.ensures.leaves.0
     (record {
       none = nil_from_length c.nodes.self.nodes.now c.in_default.ensures.cases;
       frames = c.in-Some-leave.ensures.leaves.1;

@@ -43,7 +43,7 @@ loop-after-smaller c =
     let shorter = Begins-shorter c.in_ok-rest.ensures.0 in
     omega (arith, ap length c.skip_space-after.ensures)
 
--- what is cached of the text after a comma
+-- the cache of the text after a comma
 cache : (c : In_ok-rest) → AreCached (chars c.in_ok-rest.rest.now) c.args.cache.now
 cache c =
     AreCached-after c.args.cache.now c.in_ok-rest.ensures.0

@@ -1,4 +1,4 @@
--- A mode is named by the bytes of a text as by its characters.
+-- The bytes of a text name the same mode as its characters.
 use Rattle.std.proofs.Common.{sym, ap, ◌∙◌, rules, option_and_then}
 use Rattle.std.specs.Str.{IsUtf8}
 use Rattle.deno_graph_base.specs.ResolutionMode.{mode_named}

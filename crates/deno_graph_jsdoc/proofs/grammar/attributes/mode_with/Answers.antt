@@ -1,4 +1,4 @@
--- The first of two names stays, and else there is one mode.
+-- The first of two modes counts.
 use Rattle.std.proofs.Common.{sym, ap, ◌∙◌, option_and_then}
 use Rattle.std.specs.Str.{chars}
 use Rattle.deno_graph_base.specs.ResolutionMode.{mode_named}

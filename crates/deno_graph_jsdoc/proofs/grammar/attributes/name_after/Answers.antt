@@ -1,4 +1,4 @@
--- The first of two names stays.
+-- The first of two names counts.
 use Rattle.std.proofs.Common.{◌∷◌, [], sym, ap, ◌∙◌}
 use Rattle.std.specs.Str.{chars}
 use Rattle.deno_graph_jsdoc.specs.internal.Reading.{text_of}

@@ -1,4 +1,4 @@
--- After each comma the rest of the text is an end of it.
+-- The text after each comma is an end of the text.
 use Rattle.std.proofs.Common.{lit<, ◌≡◌, List, ℕ, ◌∷◌, ◌++◌, length, sym, ap, ◌∙◌, subst, append_assoc}
 use Rattle.std.proofs.Common.{rules}
 use Rattle.std.proofs.lemmas.List.Elements.{All-push}

@@ -1,4 +1,4 @@
--- After each brace the rest of the text is an end of it.
+-- The text after each brace is an end of the text.
 use Rattle.std.proofs.Common.{lit<, ◌≡◌, List, ℕ, ◌+◌, ◌∷◌, ◌++◌, length, take, sym, ap, ◌∙◌, subst}
 use Rattle.std.proofs.Common.{append_assoc, rules}
 use Rattle.std.proofs.lemmas.List.Elements.{All-push}

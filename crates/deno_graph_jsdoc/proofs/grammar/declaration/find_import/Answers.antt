@@ -13,7 +13,7 @@ use Rattle.deno_graph_jsdoc.specs.declared.import.JsDocImport.{JsDocImport}
 use Rattle.deno_graph_jsdoc.proofs.Braces.{IsUnclosed-back, Keeps-back, Keeps-next, opening}
 use Rattle.deno_graph_jsdoc.proofs.Clauses.{Head, head_no_gap}
 use Rattle.deno_graph_jsdoc.proofs.Declarations.{no_clause, names_without_end, names_head, after_clause}
-use Rattle.deno_graph_jsdoc.proofs.Imports.{StatesImport-within, byte_count_before, counted_from}
+use Rattle.deno_graph_jsdoc.proofs.Imports.{BeginsWithImport-within, byte_count_before, counted_from}
 use Rattle.deno_graph_jsdoc.proofs.Cached.{AreCached-after}
 use Rattle.deno_graph_jsdoc.proofs.grammar.declaration.find_import.Goals as goal
 use Rattle.deno_graph_jsdoc.proofs.grammar.declaration.find_import.Goals.{In-Some, In_ok-end, In_ok-import-2}
@@ -120,7 +120,7 @@ within : (c : In_ok-import-2) → (c.in_ok-import-2.field-0.now.1.specifier_rang
 within c =
     let end = subst (IsNextEnd (chars c.in-Some.inside.now))
     (sym c.in_ok-end.ensures.value) c.advance.ensures in
-    StatesImport-within (Is (codes "from") · IsSpace) EndsDeclaration c.in_ok-end.end.now.from.now
+    BeginsWithImport-within (Is (codes "from") · IsSpace) EndsDeclaration c.in_ok-end.end.now.from.now
     (import_of c.in_ok-import-2.field-0.now.1) _ end.is_end.from_utf8 (source c).0
 
 pub moved-requires-clause-fits : goal.moved-requires-clause-fits
@@ -143,7 +143,7 @@ returns-clause-found c =
 
 pub returns-clause-within : goal.returns-clause-within
 returns-clause-within c =
-    StatesImport-within (IsGap · IsClause · IsSpace · Is (codes "from") · IsSpace) EndsDeclaration
+    BeginsWithImport-within (IsGap · IsClause · IsSpace · Is (codes "from") · IsSpace) EndsDeclaration
     c.args.input.now
     _ _ c.utf8.input (returns-clause-found c).1.0
 

@@ -11,14 +11,14 @@ use Rattle.deno_graph_jsdoc.proofs.grammar.declaration.parse_jsdoc_import_decl.G
 
 at_word : (c : In_ok-after) → Reads Anything AtWord (chars c.args.input.now)
     (Some (chars c.in_ok-after.after.now, tt))
-at_word c = subst (λ answer. Reads Anything AtWord (chars c.args.input.now) (rest_of answer))
+at_word c = subst (λ result. Reads Anything AtWord (chars c.args.input.now) (rest_of result))
     c.in_ok-after.ensures.ok_part c.word.ensures
 
 pub returns-in_err-after-clause-only : goal.returns-in_err-after-clause-only
-returns-in_err-after-clause-only c = λ import rest states.
+returns-in_err-after-clause-only c = λ import rest begins.
     absurd (no_word (chars c.args.input.now)
-    (subst (λ answer. Reads Anything AtWord (chars c.args.input.now) (rest_of answer))
-    c.in_err-after.ensures.ok_part c.word.ensures) import rest states)
+    (subst (λ result. Reads Anything AtWord (chars c.args.input.now) (rest_of result))
+    c.in_err-after.ensures.ok_part c.word.ensures) import rest begins)
 
 pub counted_from-requires-clause-end : goal.counted_from-requires-clause-end
 counted_from-requires-clause-end c =

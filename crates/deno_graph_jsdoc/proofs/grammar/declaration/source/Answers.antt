@@ -4,8 +4,8 @@ use Rattle.std.proofs.lemmas.Str.{encodes-chars}
 use Rattle.std.specs.Str.{IsUtf8, chars}
 use Rattle.deno_graph_jsdoc.specs.JsDocGrammar.{◌·◌, Is, IsSpace}
 use Rattle.deno_graph_jsdoc.specs.JsDocImport.{EndsDeclaration, byte_count}
-use Rattle.deno_graph_jsdoc.proofs.Imports.{no_head, no_quote, stated, ends_at, byte_count_before}
-use Rattle.deno_graph_jsdoc.proofs.Imports.{StatesImport-within}
+use Rattle.deno_graph_jsdoc.proofs.Imports.{no_head, no_quote, import_read, ends_at, byte_count_before}
+use Rattle.deno_graph_jsdoc.proofs.Imports.{BeginsWithImport-within}
 use Rattle.deno_graph_jsdoc.proofs.Cached.{AreCached-after, AreCached-skipped}
 use Rattle.deno_graph_jsdoc.proofs.grammar.declaration.source.Goals as goal
 use Rattle.deno_graph_jsdoc.proofs.grammar.declaration.source.Goals.{In_ok-quoted}
@@ -36,7 +36,7 @@ returns-clause-parsed c =
     c.unwrap_or-resolution_mode.result
     c.skip_space-after.ensures c.with_attributes.ensures c.unwrap_or-resolution_mode.ensures in
     let utf8 : IsUtf8 c.in_ok-after.specifier.now = search rules in
-    stated (Is (codes "from") · IsSpace) EndsDeclaration (chars c.args.input.now)
+    import_read (Is (codes "from") · IsSpace) EndsDeclaration (chars c.args.input.now)
     (chars c.in_ok-quoted.quoted.now) c.in_ok-quoted.ensures
     (chars c.in_ok-after.after.now) (chars c.in_ok-after.specifier.now) c.in_ok-after.ensures _ _ refl
     (omega (arith, before (goal.at.returns-clause-parsed c).In_ok-quoted))
@@ -45,7 +45,7 @@ returns-clause-parsed c =
 
 pub returns-clause-within : goal.returns-clause-within
 returns-clause-within c =
-    StatesImport-within (Is (codes "from") · IsSpace) EndsDeclaration c.args.input.now _ _ c.utf8.input
+    BeginsWithImport-within (Is (codes "from") · IsSpace) EndsDeclaration c.args.input.now _ _ c.utf8.input
     (returns-clause-parsed c).0
 
 pub with_attributes-requires : goal.with_attributes-requires

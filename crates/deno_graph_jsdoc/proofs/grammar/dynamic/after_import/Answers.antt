@@ -4,7 +4,7 @@ use Rattle.std.specs.Str.{chars}
 use Rattle.deno_graph_jsdoc.specs.JsDocGrammar.{◌·◌, Is, IsSpace}
 use Rattle.deno_graph_jsdoc.specs.JsDocImport.{EndsDynamicImport, import_of}
 use Rattle.deno_graph_jsdoc.proofs.Arguments.{no_arguments, after_arguments}
-use Rattle.deno_graph_jsdoc.proofs.Imports.{StatesImport-within}
+use Rattle.deno_graph_jsdoc.proofs.Imports.{BeginsWithImport-within}
 use Rattle.deno_graph_jsdoc.proofs.grammar.dynamic.after_import.Goals as goal
 
 pub returns-in_err-rest-clause-parsed : goal.returns-in_err-rest-clause-parsed
@@ -25,6 +25,6 @@ returns-clause-parsed c =
 
 pub returns-clause-within : goal.returns-clause-within
 returns-clause-within c =
-    StatesImport-within (IsSpace · Is (codes "(") · IsSpace) EndsDynamicImport c.args.input.now _ _
+    BeginsWithImport-within (IsSpace · Is (codes "(") · IsSpace) EndsDynamicImport c.args.input.now _ _
     c.utf8.input
     (returns-clause-parsed c).0

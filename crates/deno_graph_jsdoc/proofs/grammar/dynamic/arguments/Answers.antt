@@ -7,8 +7,8 @@ use Rattle.deno_graph_jsdoc.specs.internal.Reading.{EndsArguments, Reads}
 use Rattle.deno_graph_jsdoc.specs.JsDocImport.{byte_count}
 use Rattle.deno_graph_jsdoc.specs.internal.Cache.{AreCachedSpaces}
 use Rattle.deno_graph_jsdoc.proofs.Arguments.{open_none, open_read, arguments_end}
-use Rattle.deno_graph_jsdoc.proofs.Imports.{no_head, no_quote, no_tail, stated, byte_count_before}
-use Rattle.deno_graph_jsdoc.proofs.Imports.{StatesImport-within}
+use Rattle.deno_graph_jsdoc.proofs.Imports.{no_head, no_quote, no_tail, import_read, byte_count_before}
+use Rattle.deno_graph_jsdoc.proofs.Imports.{BeginsWithImport-within}
 use Rattle.deno_graph_jsdoc.proofs.Cached.{AreCached-after, AreCached-skipped, AreCachedSpaces-after}
 use Rattle.deno_graph_jsdoc.proofs.Cached.{AreCachedSpaces-skipped}
 use Rattle.deno_graph_jsdoc.proofs.Cached.{AreCachedSpaces-options}
@@ -63,7 +63,7 @@ returns-clause-parsed c =
     (Some (chars c.in_ok-rest.rest.now, tt)) (rw c.skip_cached.ensures at c.in_ok-rest.ensures) in
     let utf8 : IsUtf8 c.in_ok-after.specifier.now = search rules in
     let opened = (goal.at.returns-clause-parsed c).In_ok-quoted in
-    stated (IsSpace · Is (codes "(") · IsSpace) EndsArguments (chars c.args.input.now)
+    import_read (IsSpace · Is (codes "(") · IsSpace) EndsArguments (chars c.args.input.now)
     (chars c.in_ok-quoted.quoted.now) (open_at opened)
     (chars c.in_ok-after.after.now) (chars c.in_ok-after.specifier.now) c.in_ok-after.ensures _ _ refl
     (omega (arith, before opened))
@@ -72,8 +72,8 @@ returns-clause-parsed c =
 
 pub returns-clause-within : goal.returns-clause-within
 returns-clause-within c =
-    StatesImport-within (IsSpace · Is (codes "(") · IsSpace) EndsArguments c.args.input.now _ _ c.utf8.input
-    (returns-clause-parsed c).0
+    BeginsWithImport-within (IsSpace · Is (codes "(") · IsSpace) EndsArguments c.args.input.now _ _
+    c.utf8.input (returns-clause-parsed c).0
 
 pub options-requires-clause-lists : goal.options-requires-clause-lists
 options-requires-clause-lists c =

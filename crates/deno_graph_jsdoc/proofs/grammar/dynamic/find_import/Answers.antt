@@ -18,7 +18,7 @@ pub returns-in_err-rest-clause-found : goal.returns-in_err-rest-clause-found
 returns-in_err-rest-clause-found c =
     rw c.from_residual.ensures ([], no_arguments (chars c.args.input.now) c.in_err-rest.ensures.parsed)
 
--- whether more is left than the end that has no brace
+-- whether the rest is longer than the end without a brace
 closed : (input rest : List ℕ) (import : JsDocImport) (count : ℕ) → IsUtf8 rest → IsUnclosed
     (chars input) count → ReadsImport HasArguments (chars input) (Some (chars rest, import_of import))
     → ReadsImportAlone IsDynamicEnd (chars input)

@@ -11,14 +11,14 @@ use Rattle.deno_graph_jsdoc.proofs.grammar.dynamic.parse_jsdoc_dynamic_import.Go
 
 first : (c : In_ok-after) → Reads Anything First (chars c.args.input.now)
     (Some (chars c.in_ok-after.after.now, tt))
-first c = subst (λ answer. Reads Anything First (chars c.args.input.now) (rest_of answer))
+first c = subst (λ result. Reads Anything First (chars c.args.input.now) (rest_of result))
     c.in_ok-after.ensures.ok_part c.first_import.ensures
 
 pub returns-in_err-after-clause-only : goal.returns-in_err-after-clause-only
-returns-in_err-after-clause-only c = λ import rest states.
+returns-in_err-after-clause-only c = λ import rest begins.
     absurd (no_import (chars c.args.input.now)
-    (subst (λ answer. Reads Anything First (chars c.args.input.now) (rest_of answer))
-    c.in_err-after.ensures.ok_part c.first_import.ensures) import rest states)
+    (subst (λ result. Reads Anything First (chars c.args.input.now) (rest_of result))
+    c.in_err-after.ensures.ok_part c.first_import.ensures) import rest begins)
 
 pub counted_from-requires-clause-end : goal.counted_from-requires-clause-end
 counted_from-requires-clause-end c =

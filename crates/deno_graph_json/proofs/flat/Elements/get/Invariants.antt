@@ -1,5 +1,4 @@
-use Rattle.std.proofs.Common.{◌≡◌, ℕ}
-use Rattle.deno_graph_json.specs.Tape.{ArePassed, array_of_elements, place_of}
+use Rattle.std.proofs.Common.{◌≡◌}
 use Rattle.deno_graph_json.specs.Value.{nth_item}
 use Rattle.deno_graph_json.specs.View.{items_left}
 use Rattle.deno_graph_json.proofs.flat.Elements.get.Given as goal
@@ -7,9 +6,4 @@ use Rattle.deno_graph_json.proofs.flat.Elements.get.Given as goal
 abbrev pub invariant-loop-element : goal.invariant-loop-element
 invariant-loop-element l = (goal.iterator-loop-element).can_next l.element-iterator
     × (goal.iterator-loop-element).is_finite l.element-iterator
-    × (array_of_elements l.element-iterator ≡ array_of_elements l.fn.self)
-    × ((place : ℕ) → ArePassed (array_of_elements l.fn.self) (place_of l.element-iterator) l.left place
-    → ArePassed (array_of_elements l.fn.self) (place_of l.fn.self) l.fn.number place)
-    × ((place : ℕ) → ArePassed (array_of_elements l.fn.self) (place_of l.fn.self) l.fn.number place
-    → ArePassed (array_of_elements l.fn.self) (place_of l.element-iterator) l.left place)
     × (nth_item l.left (items_left l.element-iterator) ≡ nth_item l.fn.number (items_left l.fn.self))

@@ -2,6 +2,6 @@ use Rattle.std.proofs.Common.{refl}
 use Rattle.deno_graph_json.specs.View.{members_left, members_of}
 use Rattle.deno_graph_json.proofs.flat.Members.entries.Goals as goal
 
-pub returns-clause-members : goal.returns-clause-members
+pub returns : goal.returns
 unfolding members_left members_of
-returns-clause-members c = refl
+returns c = refl

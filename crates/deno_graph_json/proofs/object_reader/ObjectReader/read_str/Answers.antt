@@ -8,7 +8,7 @@ use Rattle.deno_graph_json.proofs.object_reader.ObjectReader.read_str.Goals as g
 pub returns-in-Err : goal.returns-in-Err
 unfolding member_at
 returns-in-Err c =
-    let here = sym c.in-Some.ensures in
+    let here = sym c.in-Some.ensures.json in
     read_error (value_of c.args.self.now) _ c.in_member.result
     (ap (λ o. o >>= as_str) here ∙ c.in-Err.ensures.1)
     (c.in_member.ensures.place (value_of c.args.self.now) _ here c.in-Err.ensures.2)

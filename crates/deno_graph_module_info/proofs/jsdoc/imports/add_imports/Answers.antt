@@ -24,9 +24,9 @@ use Rattle.deno_graph_jsdoc.specs.JsDocImports.{AreImportsIn}
 use Rattle.deno_graph_jsdoc.specs.internal.Pass.{GainsImport}
 use Rattle.deno_graph_jsdoc.specs.JsDocImport.{Import, import_of}
 use Rattle.deno_graph_jsdoc.specs.declared.import.JsDocImport.{JsDocImport}
-use Rattle.deno_graph_module_info.proofs.Gathered.{insert_next, insert_all, item_hit}
+use Rattle.deno_graph_module_info.proofs.Gathered.{import_in_text, insert_all, insert_next}
 use Rattle.deno_graph_module_info.proofs.ImportRanges.{inner_bounds}
-use Rattle.deno_graph_module_info.proofs.Pushed.{GainsImport-push, next_behind}
+use Rattle.deno_graph_module_info.proofs.Pushed.{GainsImport-push, next_after}
 use Rattle.deno_graph_module_info.proofs.jsdoc.imports.add_imports.Goals as goal
 use Rattle.deno_graph_module_info.proofs.jsdoc.imports.add_imports.Goals.{After-deref-import-items}
 
@@ -54,7 +54,7 @@ moved-requires-clause-order c =
     let here = (goal.at.moved-requires-clause-order c).After-deref-import-items in
     let inside : c.loop-import.import-index < length c.deref-import-items.result.now = search rules in
     (inner_bounds c.args.comment.now.text _ (utf8 here)
-    (item_hit 0 c.deref-import-items.result.now c.loop-import.import-index _
+    (import_in_text 0 c.deref-import-items.result.now c.loop-import.import-index _
     (chars c.args.comment.now.text) inside (inners here))).0
 
 pub moved-requires-clause-fits : goal.moved-requires-clause-fits
@@ -62,7 +62,7 @@ moved-requires-clause-fits c =
     let here = (goal.at.moved-requires-clause-fits c).After-deref-import-items in
     let inside : c.loop-import.import-index < length c.deref-import-items.result.now = search rules in
     let bound = (inner_bounds c.args.comment.now.text _ (utf8 here)
-    (item_hit 0 c.deref-import-items.result.now c.loop-import.import-index no_import
+    (import_in_text 0 c.deref-import-items.result.now c.loop-import.import-index no_import
     (chars c.args.comment.now.text) inside (inners here))).1 in
     omega (arith, bound, c.requires.fits)
 
@@ -78,13 +78,13 @@ loop-import-preserved c =
     let pushed : map import_of c.push.new.self.items ≡ now ++ import ∷ [] =
     ap (map import_of) c.in_ok-push.ensures.items
     ∙ map-append import_of c.loop-import.imports.items (c.moved.result ∷ []) in
-    let behind = next_behind by items k no_import (map import_of c.args.imports.now.items) now
+    let later = next_after by items k no_import (map import_of c.args.imports.now.items) now
     (chars c.args.comment.now.text) inside (inners here) c.requires.before c.loop-import.invariant in
     insert_next by items k no_import (map import_of c.args.imports.now.items) now
     (map import_of c.push.new.self.items) import inside c.moved.ensures c.loop-import.invariant
     (subst (GainsImport now import) (sym pushed)
     (GainsImport-push now import c.loop-import.invariant.ascending (λ other has.
-    subst (λ (i : Import). other.start < i.start) (sym c.moved.ensures) (behind other has))))
+    subst (λ (i : Import). other.start < i.start) (sym c.moved.ensures) (later other has))))
 
 pub returns-clause-gains : goal.returns-clause-gains
 returns-clause-gains c =

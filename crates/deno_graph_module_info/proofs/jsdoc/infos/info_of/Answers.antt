@@ -1,10 +1,11 @@
--- The ends of the range that includes the two quotes are boundaries.
-use Rattle.std.proofs.Common.{◌≡◌, ◌++◌, inl, inr, ⊎_elim, codes, sym, ap, ◌∙◌, rules}
+-- The text of the specifier is text, and the range includes the two quotes.
+use Rattle.std.proofs.Common.{◌≡◌, sym, ◌∙◌, subst, rules}
 use Rattle.std.proofs.lemmas.Str.{encodes-chars}
 use Rattle.std.specs.Str.{IsUtf8, chars}
 use lib.Utf8.{encodes}
 use Rattle.deno_graph_jsdoc.specs.JsDocImport.{import_of}
-use Rattle.deno_graph_module_info.specs.CommentImports.{quoted_range}
+use Rattle.deno_graph_module_info.specs.Spelled.{CoversInSameQuotes}
+use Rattle.deno_graph_module_info.proofs.InSource.{in_same_quotes}
 use Rattle.deno_graph_module_info.proofs.jsdoc.infos.info_of.Goals as goal
 use Rattle.deno_graph_module_info.proofs.jsdoc.infos.info_of.Goals.{In_ok-from_str}
 
@@ -29,12 +30,13 @@ returns-clause-info c =
 
 pub returns-clause-covers : goal.returns-clause-covers
 returns-clause-covers c =
-    let text = spelled (goal.at.returns-clause-covers c).In_ok-from_str in (
-      quoted_range (import_of c.args.import.now),
-      record {
-        start = (c.requires.start, sym c.from_source_range.ensures.start);
-        end = (c.requires.end, sym c.from_source_range.ensures.end);
-      },
-      ⊎_elim (λ same. inl (same ∙ ap (λ t. codes "\"" ++ t ++ codes "\"") (sym text)))
-          (λ same. inr (same ∙ ap (λ t. codes "'" ++ t ++ codes "'") (sym text))) c.requires.quoted,
-    )
+    let text = spelled (goal.at.returns-clause-covers c).In_ok-from_str in
+    subst (CoversInSameQuotes c.args.text_info.now)
+    (λ k. record {
+      text = sym text k;
+      range = record {
+        start = sym c.from_source_range.ensures.start k;
+        end = sym c.from_source_range.ensures.end k;
+      };
+    })
+    (in_same_quotes c.args.text_info.now (import_of c.args.import.now) c.requires)

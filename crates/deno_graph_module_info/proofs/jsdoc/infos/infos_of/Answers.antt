@@ -4,7 +4,7 @@ use Rattle.std.proofs.lemmas.List.Elements.{All-push}
 use Rattle.std.specs.List.{All}
 use Rattle.deno_graph_jsdoc.specs.JsDocImport.{import_of}
 use Rattle.deno_graph_jsdoc.specs.declared.import.JsDocImport.{JsDocImport}
-use Rattle.deno_graph_module_info.specs.JsDocInfo.{CoversInSameQuotes}
+use Rattle.deno_graph_module_info.specs.Spelled.{CoversInSameQuotes}
 use Rattle.deno_graph_module_info.specs.CommentImports.{IsQuotedAt}
 use Rattle.deno_graph_info.specs.declared.analysis.js_doc_import_info.JsDocImportInfo.{JsDocImportInfo}
 use Rattle.deno_graph_module_info.proofs.InfoLemmas.{at_item, infos_more, infos_all}

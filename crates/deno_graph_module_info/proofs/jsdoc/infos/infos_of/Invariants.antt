@@ -2,7 +2,8 @@
 use Rattle.std.proofs.Common.{◌≡◌, take, map}
 use Rattle.std.specs.List.{All}
 use Rattle.deno_graph_jsdoc.specs.JsDocImport.{import_of}
-use Rattle.deno_graph_module_info.specs.JsDocInfo.{CoversInSameQuotes, info_of}
+use Rattle.deno_graph_module_info.specs.JsDocInfo.{info_of}
+use Rattle.deno_graph_module_info.specs.Spelled.{CoversInSameQuotes}
 use Rattle.deno_graph_module_info.proofs.jsdoc.infos.infos_of.Given as goal
 
 abbrev pub invariant-loop-import : goal.invariant-loop-import

@@ -1,4 +1,4 @@
--- None of the splits begins in what is passed.
+-- No split begins in the text that is passed.
 use Rattle.std.specs.Str.Iter.{chars_rest}
 use Rattle.deno_graph_pragmas.proofs.Attributes.{IsPassed}
 use Rattle.deno_graph_pragmas.proofs.finders.references.find_attribute.Given as goal

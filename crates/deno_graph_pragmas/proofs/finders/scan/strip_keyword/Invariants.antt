@@ -1,4 +1,4 @@
--- The letters that are left of the word, read in what is left of the text, leave what all of it does.
+-- The rest of the word, read at the start of the rest of the text, leaves what the whole word leaves.
 use Rattle.std.proofs.Common.{◌≡◌, drop}
 use Rattle.std.specs.Str.{chars, IsUtf8}
 use Rattle.std.specs.Str.Iter.{chars_rest}

@@ -1,5 +1,5 @@
 use Rattle.std.proofs.Common.{subst}
-use Rattle.serde_json.specs.View.{view}
+use Rattle.deno_graph_json.specs.Data.{data_of}
 use Rattle.deno_graph_json.specs.Read.Result.{IsReadError}
 use Rattle.modinfo.proofs.StoredModules.{asks_none, asks_some}
 use Rattle.modinfo.specs.internal.Reach.{reads_modules}
@@ -10,6 +10,6 @@ returns-in-Ok-clause-verdict c = asks_some _ c.in-Ok.field-0 c.in-Ok.ensures
 
 pub returns-in-Err-Mismatch-clause-verdict : goal.returns-in-Err-Mismatch-clause-verdict
 returns-in-Err-Mismatch-clause-verdict c =
-    let value = view c.args.value.now in
+    let value = data_of c.args.value in
     asks_none value
     (subst (IsReadError value (reads_modules value)) c.in-Err-Mismatch.field-0-is c.in-Err-Mismatch.ensures).0

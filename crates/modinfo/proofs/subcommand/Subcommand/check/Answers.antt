@@ -17,4 +17,4 @@ of_text text (Err refused) h = tt
 
 pub returns-in-Analyze : goal.returns-in-Analyze
 returns-in-Analyze c = rw c.in-Analyze.is (of_text c.args.document.now c.check_document.result
-    (rw c.in-Ok.ensures.cases.0 at c.check_document.ensures))
+    (rw c.in-Ok.ensures.cases.0 at c.check_document.ensures.verdict))

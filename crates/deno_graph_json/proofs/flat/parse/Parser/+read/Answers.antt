@@ -5,23 +5,25 @@ use Rattle.std.specs.Result.{OnOk}
 use Rattle.json.specs.Json.{null, boolean, string, array, object}
 use Rattle.json.specs.Token.{Token}
 use Rattle.json.specs.Reads.{token_of}
-use Rattle.deno_graph_json.specs.Flat.{PlainNode, plain, flat_list}
+use Rattle.deno_graph_json.specs.Flat.{plain, flat_list}
 use Rattle.deno_graph_json.specs.internal.Parsing.{IsAhead, IsPut, NoneAhead}
 use Rattle.deno_graph_json.specs.Flat as flat
 use Rattle.deno_graph_json.specs.declared.flat.Node.TheVariants as node
 use Rattle.deno_graph_json.specs.declared.flat.parse.Stop.TheVariants.{Json}
-use Rattle.deno_graph_json.proofs.Ahead.{put_one, put_number, none_number, none_deep_array, none_deep_object}
-use Rattle.deno_graph_json.proofs.Ahead.{none_begins}
-use Rattle.deno_graph_json.proofs.Ahead.{
+use Rattle.deno_graph_json.proofs.ValueTokens.{put_one, put_number, none_number, none_deep_array}
+use Rattle.deno_graph_json.proofs.ValueTokens.{none_deep_object}
+use Rattle.deno_graph_json.proofs.ValueTokens.{none_begins}
+use Rattle.deno_graph_json.proofs.ValueTokens.{
   no_array,
   ItemsPassed,
   array_ahead,
   items_left_more,
   items_passed_more,
 }
-use Rattle.deno_graph_json.proofs.Ahead.{items_passed_all}
-use Rattle.deno_graph_json.proofs.Ahead.{MembersLeft, MembersPassed, no_object, no_key_object, object_ahead}
-use Rattle.deno_graph_json.proofs.Ahead.{members_left_more, members_passed_more, members_passed_all}
+use Rattle.deno_graph_json.proofs.ValueTokens.{items_passed_all}
+use Rattle.deno_graph_json.proofs.ValueTokens.{MembersLeft, MembersPassed, no_object, no_key_object}
+use Rattle.deno_graph_json.proofs.ValueTokens.{object_ahead}
+use Rattle.deno_graph_json.proofs.ValueTokens.{members_left_more, members_passed_more, members_passed_all}
 use Rattle.deno_graph_json.proofs.Nested.{
   filled,
   room_taken,

@@ -1,6 +1,6 @@
 use Rattle.std.proofs.Common.{◌≡◌, ◌+◌, ◌*◌, ◌≤◌, ◌++◌, ◌∷◌, List, length, map}
 use Rattle.deno_graph_json.specs.Flat.{PlainNode, plain, array, object}
-use Rattle.deno_graph_json.proofs.Ahead.{ItemsPassed, ItemsLeft, MembersPassed, MembersLeft}
+use Rattle.deno_graph_json.proofs.ValueTokens.{ItemsPassed, ItemsLeft, MembersPassed, MembersLeft}
 use Rattle.deno_graph_json.proofs.flat.parse.Parser.+read.Given as goal
 
 abbrev pub decreases-value : goal.decreases-value

@@ -1,31 +1,31 @@
-use Rattle.std.proofs.Common.{◌≡◌, ◌<◌, ◌^◌, ◌++◌, ◌∷◌, [], map, true, arith, rules, subst, ap, ◌∙◌}
+use Rattle.std.proofs.Common.{◌≡◌, ◌<◌, ◌^◌, ◌++◌, ◌∷◌, [], map, Some, arith, rules, subst, sym, ap, ◌∙◌}
 use Rattle.std.proofs.lemmas.List.{map-append}
 use Rattle.std.specs.Str.Parse.{IsNumeral, digits_value}
-use Rattle.deno_graph_json.specs.Flat.{plain, whole, is_whole}
-use Rattle.deno_graph_json.proofs.Numbers.{whole_tested, tested_node, whole_fits}
+use Rattle.serde_json.specs.Data.{unsigned}
+use Rattle.serde_json.specs.Read.{number_of}
+use Rattle.deno_graph_json.specs.Flat.{plain}
+use Rattle.deno_graph_json.proofs.Numbers.{number_of_digits, read_node, read_fits}
 use Rattle.deno_graph_json.proofs.flat.parse.Parser.number.Goals as goal
 use Rattle.deno_graph_json.proofs.flat.parse.Parser.number.Goals.{In_ok-push-in-Some}
 
-is_whole_text : (c : In_ok-push-in-Some) → is_whole c.args.digits.now ≡ true
-is_whole_text c =
+whole_read : (c : In_ok-push-in-Some) → number_of c.args.digits.now ≡ Some (unsigned c.in-Some.whole)
+whole_read c =
     let text = c.args.digits.now in
     let is : IsNumeral 10 text = subst (IsNumeral 10) c.as_bytes.ensures.value c.in-Some.ensures.numeral in
     let value : c.in-Some.whole ≡ digits_value 10 text =
     c.in-Some.ensures.value ∙ ap (digits_value 10) c.as_bytes.ensures.value in
     let less : c.in-Some.whole < 2 ^ 64 = omega arith in
-    whole_tested text is (omega (arith, value))
+    number_of_digits text is (omega (arith, value)) ∙ ap (λ n. Some (unsigned n)) (sym value)
 
 pub returns-in_ok-push-in-Some-clause-nodes : goal.returns-in_ok-push-in-Some-clause-nodes
 returns-in_ok-push-in-Some-clause-nodes c =
-    let text = c.args.digits.now in
-    let value : c.in-Some.whole ≡ digits_value 10 text =
-    c.in-Some.ensures.value ∙ ap (digits_value 10) c.as_bytes.ensures.value in
     ap (map plain) c.in_ok-push-in-Some.ensures.items ∙ map-append plain _ _
     ∙ ap (λ node. map plain c.args.self.now.nodes.items ++ node ∷ [])
-    (ap whole value ∙ tested_node text (is_whole_text c))
+    (read_node c.args.digits.now (unsigned c.in-Some.whole) (whole_read c))
 
 pub returns-in_ok-push-in-Some-clause-fits : goal.returns-in_ok-push-in-Some-clause-fits
-returns-in_ok-push-in-Some-clause-fits c = whole_fits c.args.digits.now (is_whole_text c)
+returns-in_ok-push-in-Some-clause-fits c =
+    read_fits c.args.digits.now (unsigned c.in-Some.whole) (whole_read c)
 
 pub returns-in_err-push-in-Some : goal.returns-in_err-push-in-Some
 returns-in_err-push-in-Some c =
