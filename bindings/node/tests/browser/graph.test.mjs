@@ -318,19 +318,16 @@ shown("a folder of 200 modules is shown as layers of what one module leads to, t
   await open(page);
   const shownEdges = await browser.run(`return document.querySelectorAll("path[data-from]").length`);
   assert.ok(shownEdges > 10 && shownEdges < 100, String(shownEdges));
-  const lefts = async () => {
-    const found = await browser.run(`
-      return [...document.querySelectorAll(".node")].map((each) => Math.round(each.querySelector("rect").x.baseVal.value));
-    `);
-    return new Set(found).size;
-  };
+  const countColumns = `
+    return new Set([...document.querySelectorAll(".node rect")].map((each) => Math.round(each.x.baseVal.value))).size
+  `;
   // What leads to it, itself, what it leads to, and what that leads to.
-  assert.equal(await lefts(), 4);
+  assert.equal(await browser.run(countColumns), 4);
   assert.match(await browser.run(`return document.querySelector(".chosen-node").getAttribute("aria-label")`), /^m0\.js$/);
   assert.ok((await texts(".node.left")).length > 0, "what isn't drawn is counted");
   await browser.click('.step[aria-label="one layer fewer of what it leads to"]');
-  await browser.until(`return location.hash.endsWith("-1-1") && document.querySelector(".drawing svg") !== null`);
-  assert.equal(await lefts(), 3);
+  await browser.until(`${countColumns} === 3`);
+  assert.match(await browser.run("return location.hash"), /-1-1$/);
   await go("#layers-1");
   await browser.until(`return document.querySelector(".chosen-node")?.getAttribute("aria-label") !== "m0.js"`);
 });

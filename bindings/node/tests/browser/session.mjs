@@ -80,13 +80,17 @@ async function requests() {
 }
 
 /**
- * Opens a page from nothing, and waits until its picture or module is there.
+ * Opens a page from nothing, and waits until its picture or module is there. A list of choices stands below a graph as
+ * well, and is there before the graph.
  * @param {string} url
  */
 export async function open(url) {
   await browser.open("about:blank");
   await browser.open(url);
-  await browser.until(`return document.querySelector(".drawing svg, .drawing .none, .area, pre, .choices") !== null`);
+  await browser.until(`
+    const hasDrawing = document.querySelector(".drawing") !== null;
+    return document.querySelector(hasDrawing ? ".drawing svg, .drawing .none" : ".area, pre, .choices") !== null;
+  `);
 }
 
 /**
