@@ -9,7 +9,7 @@ ghost use Rattle.deno_graph_json.specs.Flat.{plain};
 ghost use Rattle.deno_graph_json.specs.Value.{AreOfValue, AreOfItems, AreOfMembers, item_count, items_in};
 
 mod digits;
-mod fault;
+mod error;
 mod find;
 mod from_value;
 mod parse;
@@ -18,7 +18,7 @@ mod split;
 mod view;
 
 use crate::flat::split::split_value;
-pub use fault::TapeFault;
+pub use error::TapeError;
 use json::Scratch;
 use std::alloc::Global;
 pub use view::View;
@@ -56,7 +56,7 @@ impl<'a> Tape<'a> {
     ghost use Rattle.deno_graph_json.specs.Flat.{IsUnreadable};
     ghost use Rattle.deno_graph_json.specs.Data.{data_of, tape_data};
     ghost use Rattle.deno_graph_json.specs.View.{tape_value, value_of, IsValueOf};
-    ghost use Rattle.deno_graph_json.specs.declared.flat.fault.TapeFault.TheVariants.{Json};
+    ghost use Rattle.deno_graph_json.specs.declared.flat.error.TapeError.TheVariants.{Json};
     ghost use Rattle.serde_json.specs.Read.{read as read_text};
 
     /// Reads a text to its end. Returns `Json` if the text isn't one JSON value, nests deeper than
@@ -65,7 +65,7 @@ impl<'a> Tape<'a> {
         alloc: Global,
         text: &'a str,
         scratch: &'a mut Scratch,
-    ) -> Result<Tape<'a>, TapeFault>
+    ) -> Result<Tape<'a>, TapeError>
         ensures value { IfOk result (λ tape. IsValueOf text.now (tape_value tape)) }
         ensures unreadable { (offset : ℕ) → result ≡ Err (Json offset) → IsUnreadable text.now }
         ensures json { IfOk result (λ tape. read_text text.now ≡ Some (tape_data tape)) }

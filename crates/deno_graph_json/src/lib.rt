@@ -17,7 +17,7 @@ pub mod write;
 
 pub use error::{Mismatch, ReadError, Step};
 pub use expected::{Expected, Form};
-pub use flat::{Element, Elements, Entries, Members, Node, Tape, TapeFault, View};
+pub use flat::{Element, Elements, Entries, Members, Node, Tape, TapeError, View};
 pub use float::{find_float, has_float};
 pub use object::{MemberWriter, ToObject, object_value, write_object};
 pub use object_reader::ObjectReader;

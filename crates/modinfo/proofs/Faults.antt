@@ -4,8 +4,8 @@ use Rattle.std.proofs.Common.{Result, Ok, Err, MatchResult}
 use Rattle.serde_json.specs.Data.{Data, Members}
 use Rattle.serde_json.specs.Read.{read as read_text}
 use Rattle.deno_graph_base.specs.TextMap.{entries_of}
-use Rattle.deno_graph_json.specs.declared.flat.fault.TapeFault.{TapeFault}
-use Rattle.deno_graph_json.specs.declared.flat.fault.TapeFault.TheVariants as tape
+use Rattle.deno_graph_json.specs.declared.flat.error.TapeError.{TapeError}
+use Rattle.deno_graph_json.specs.declared.flat.error.TapeError.TheVariants as tape
 use Rattle.deno_graph_info.specs.Conversion.{IsConvertFault}
 use Rattle.deno_graph_info.specs.declared.analysis.fault.InfoFault.{InfoFault}
 use Rattle.deno_graph_info.specs.declared.analysis.fault.InfoFault.TheVariants as info
@@ -114,7 +114,7 @@ asks_text text value (Ok question) read asks = (value, read, asks)
 asks_text text value (Err fault) read none = asks_nothing text value fault read none
 
 -- A text of which no flat list can be made.
-pub no_tape : (text : List ℕ) (inner : TapeFault)
+pub no_tape : (text : List ℕ) (inner : TapeError)
     → ((offset : ℕ) → inner ≡ tape.Json offset → read_text text ≡ None) → IsNoReach text (fault_of_tape inner)
 no_tape text (tape.Json offset) none = none offset refl
 no_tape text tape.OutOfMemory none = tt

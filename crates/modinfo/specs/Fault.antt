@@ -2,8 +2,8 @@
 use Rattle.std.specs.Prelude.{ℕ, List, codes}
 use Rattle.deno_graph_source.specs.declared.tree.fault.SourceFault.{SourceFault}
 use Rattle.deno_graph_source.specs.declared.tree.fault.SourceFault.TheVariants as source
-use Rattle.deno_graph_json.specs.declared.flat.fault.TapeFault.{TapeFault}
-use Rattle.deno_graph_json.specs.declared.flat.fault.TapeFault.TheVariants as tape
+use Rattle.deno_graph_json.specs.declared.flat.error.TapeError.{TapeError}
+use Rattle.deno_graph_json.specs.declared.flat.error.TapeError.TheVariants as tape
 use Rattle.modinfo_document.specs.declared.error.DocumentError.{DocumentError}
 use Rattle.modinfo_document.specs.declared.error.DocumentError.TheVariants as error
 use Rattle.deno_graph_info.specs.declared.analysis.fault.InfoFault.{InfoFault}
@@ -24,7 +24,7 @@ use Rattle.modinfo.specs.declared.fault.Fault.TheVariants.{
 }
 
 -- The fault for an error of a flat list.
-abbrev pub fault_of_tape : TapeFault → Fault
+abbrev pub fault_of_tape : TapeError → Fault
 fault_of_tape (tape.Json _) = Json
 fault_of_tape tape.OutOfMemory = OutOfMemory
 

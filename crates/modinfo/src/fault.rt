@@ -2,7 +2,7 @@ ghost use Rattle.std.specs.Prelude.{◌≡◌};
 ghost use Rattle.modinfo.specs.Fault.{name_of_conversion, name_of_fault, name_of_info, name_of_source};
 
 use deno_graph_info::analysis::{ConvertFault, InfoFault};
-use deno_graph_json::TapeFault;
+use deno_graph_json::TapeError;
 use deno_graph_source::tree::SourceFault;
 use modinfo_document::DocumentError;
 use std::alloc::{AllocError, AllocFailed};
@@ -181,16 +181,16 @@ impl From<InfoFault> for Fault {
     }
 }
 
-impl From<TapeFault> for Fault {
+impl From<TapeError> for Fault {
     ghost use Rattle.std.specs.Prelude.{◌≡◌};
     ghost use Rattle.modinfo.specs.Fault.{fault_of_tape};
 
     ghost from_gives = { λ tape_fault fault. fault ≡ fault_of_tape tape_fault };
 
-    fn from(fault: TapeFault) -> Fault {
+    fn from(fault: TapeError) -> Fault {
         match fault {
-            TapeFault::Json { .. } => Fault::Json,
-            TapeFault::OutOfMemory => Fault::OutOfMemory,
+            TapeError::Json { .. } => Fault::Json,
+            TapeError::OutOfMemory => Fault::OutOfMemory,
         }
     }
 }

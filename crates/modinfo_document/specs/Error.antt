@@ -2,8 +2,8 @@
 -- document.
 use Rattle.deno_graph_json.specs.declared.error.ReadError.{ReadError}
 use Rattle.deno_graph_json.specs.declared.error.ReadError.TheVariants as read
-use Rattle.deno_graph_json.specs.declared.flat.fault.TapeFault.{TapeFault}
-use Rattle.deno_graph_json.specs.declared.flat.fault.TapeFault.TheVariants.{
+use Rattle.deno_graph_json.specs.declared.flat.error.TapeError.{TapeError}
+use Rattle.deno_graph_json.specs.declared.flat.error.TapeError.TheVariants.{
   Json as NoJson,
   OutOfMemory as NoMemory,
 }
@@ -21,7 +21,7 @@ use Rattle.modinfo_document.specs.declared.error.DocumentError.TheVariants.{
 }
 
 -- The text isn't JSON, or an allocation failed.
-abbrev pub of_tape : TapeFault → DocumentError
+abbrev pub of_tape : TapeError → DocumentError
 of_tape (NoJson offset) = Json offset
 of_tape NoMemory = OutOfMemory
 

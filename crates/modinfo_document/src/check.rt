@@ -16,7 +16,7 @@ use crate::report::{
     Report, find_warnings, json_report_at, source_report, specifier_report, tree_report,
 };
 use crate::{Document, DocumentError, read_document};
-use deno_graph_json::{Element, ReadError, Tape, TapeFault};
+use deno_graph_json::{Element, ReadError, Tape, TapeError};
 use deno_graph_source::tree::{SourceFaultPlace, source_fault_place};
 use json::Scratch;
 use std::alloc::{AllocError, Global};
@@ -31,10 +31,10 @@ pub fn check_document(alloc: Global, text: &str) -> Result<Report, AllocError>
     let mut scratch = Scratch::new(alloc);
     match Tape::read(alloc, text, &mut scratch) {
         Ok(tape) => check_tape(alloc, &tape),
-        Err(TapeFault::Json { offset }) => Ok(Report::Invalid(json_report_at(
+        Err(TapeError::Json { offset }) => Ok(Report::Invalid(json_report_at(
             alloc, text, offset,
         )?)),
-        Err(TapeFault::OutOfMemory) => Err(AllocError),
+        Err(TapeError::OutOfMemory) => Err(AllocError),
     }
 }
 

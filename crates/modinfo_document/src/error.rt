@@ -1,4 +1,4 @@
-use deno_graph_json::{Mismatch, ReadError, TapeFault};
+use deno_graph_json::{Mismatch, ReadError, TapeError};
 use deno_graph_source::tree::SourceFault;
 use std::alloc::{AllocError, AllocFailed};
 use thiserror::Error;
@@ -9,7 +9,7 @@ use url::ParseError;
 #[derive(Debug, PartialEq, Eq, Drop, Error)]
 pub enum DocumentError {
     /// The text isn't JSON, nests deeper than 127 or has a number too large for a float. The offset,
-    /// in bytes, is that of `TapeFault::Json`.
+    /// in bytes, is that of `TapeError::Json`.
     #[error("Json")]
     Json { offset: usize },
     /// A value in the JSON isn't what is expected there.
@@ -48,16 +48,16 @@ impl<T: Drop> From<AllocFailed<T>> for DocumentError {
     }
 }
 
-impl From<TapeFault> for DocumentError {
+impl From<TapeError> for DocumentError {
     ghost use Rattle.std.specs.Prelude.{◌≡◌};
     ghost use Rattle.modinfo_document.specs.Error.{of_tape};
 
     ghost from_gives = { λ fault e. e ≡ of_tape fault };
 
-    fn from(fault: TapeFault) -> DocumentError {
+    fn from(fault: TapeError) -> DocumentError {
         match fault {
-            TapeFault::Json { offset } => DocumentError::Json { offset },
-            TapeFault::OutOfMemory => DocumentError::OutOfMemory,
+            TapeError::Json { offset } => DocumentError::Json { offset },
+            TapeError::OutOfMemory => DocumentError::OutOfMemory,
         }
     }
 }

@@ -1,5 +1,5 @@
 use deno_graph_info::analysis::InfoFault;
-use deno_graph_json::{ReadError, TapeFault};
+use deno_graph_json::{ReadError, TapeError};
 use deno_graph_source::tree::SourceFault;
 use modinfo::document::DocumentError;
 use std::alloc::{AllocError, AllocFailed};
@@ -52,11 +52,11 @@ impl From<serde_json::Error> for CaseError {
     }
 }
 
-impl From<TapeFault> for CaseError {
-    fn from(fault: TapeFault) -> CaseError {
+impl From<TapeError> for CaseError {
+    fn from(fault: TapeError) -> CaseError {
         match fault {
-            TapeFault::Json { .. } => CaseError::Invalid("its input is no JSON"),
-            TapeFault::OutOfMemory => CaseError::OutOfMemory,
+            TapeError::Json { .. } => CaseError::Invalid("its input is no JSON"),
+            TapeError::OutOfMemory => CaseError::OutOfMemory,
         }
     }
 }

@@ -7,14 +7,14 @@ ghost use Rattle.serde_json.specs.Read.{number_of, number_from, float_of};
 ghost use Rattle.deno_graph_json.specs.Flat.{plain, number, number_node, number_fits};
 ghost use Rattle.deno_graph_json.specs.internal.Parsing.{IsPut, NoneAhead};
 ghost use Rattle.deno_graph_json.specs.Flat.{IsFlatText, IsUnreadable};
-ghost use Rattle.deno_graph_json.specs.declared.flat.fault.TapeFault.TheVariants.{Json};
+ghost use Rattle.deno_graph_json.specs.declared.flat.error.TapeError.TheVariants.{Json};
 
 use crate::Node;
 use crate::flat::digits::short_whole;
-use crate::flat::fault::TapeFault;
+use crate::flat::error::TapeError;
 use fast_float::Numeral;
 use json::{Reader, Scratch, Token};
-use std::alloc::{AllocFailed, Global};
+use std::alloc::Global;
 
 /// The deepest nesting of arrays and objects that is read.
 const MAX_DEPTH: usize = 127;
@@ -24,7 +24,7 @@ pub fn read<'a>(
     alloc: Global,
     text: &'a str,
     scratch: &'a mut Scratch,
-) -> Result<Vec<Node<'a>>, TapeFault>
+) -> Result<Vec<Node<'a>>, TapeError>
     ensures flat { IfOk result (λ nodes. IsFlatText text.now nodes.items) }
     ensures unreadable { (offset : ℕ) → result ≡ Err (Json offset) → IsUnreadable text.now }
 {
@@ -33,13 +33,8 @@ pub fn read<'a>(
         nodes: Vec::new(alloc),
         offset: 0,
     };
-    match parser.root() {
-        Ok(()) => parser.finish(text),
-        Err(Stop::Json) => Err(TapeFault::Json {
-            offset: parser.offset,
-        }),
-        Err(Stop::OutOfMemory) => Err(TapeFault::OutOfMemory),
-    }
+    parser.root()?;
+    parser.finish(text)
 }
 
 /// Returns the byte offset of what follows the value of the text. The reader stops at `offset`, which
@@ -49,25 +44,6 @@ fn offset_after_value(text: &str, offset: usize) -> usize {
     match passed.iter().rposition(|byte| !byte.is_ascii_whitespace()) {
         Some(last) if passed[last] == b',' => last,
         _ => offset,
-    }
-}
-
-/// Why a value can't be read.
-#[derive(Clone, Copy)]
-enum Stop {
-    /// The token at the parser's offset can't follow the text before it, or a number is too large.
-    Json,
-    OutOfMemory,
-}
-
-impl<T: Drop> From<AllocFailed<T>> for Stop {
-    ghost use Rattle.std.specs.Prelude.{◌≡◌};
-    ghost use Rattle.deno_graph_json.specs.declared.flat.parse.Stop.TheVariants.{OutOfMemory};
-
-    ghost from_gives = { λ _ stop. stop ≡ OutOfMemory };
-
-    fn from(_error: AllocFailed<T>) -> Stop {
-        Stop::OutOfMemory
     }
 }
 
@@ -82,10 +58,10 @@ struct Parser<'a> {
 
 impl<'a> Parser<'a> {
     /// Reads the value of the text.
-    fn root(&mut self) -> Result<(), Stop>
+    fn root(&mut self) -> Result<(), TapeError>
         ensures put { OnOk result (IsPut 127 self.old.reader self.new.reader
             self.old.nodes.items self.new.nodes.items) }
-        ensures none { result ≡ Err Stop.Json → NoneAhead 127 self.old.reader }
+        ensures none { (offset : ℕ) → result ≡ Err (Json offset) → NoneAhead 127 self.old.reader }
     {
         let first = self.token()?;
         self.value(first, MAX_DEPTH)
@@ -93,29 +69,31 @@ impl<'a> Parser<'a> {
 
     /// Reads the next token, and keeps its offset.
     #[inline(always)]
-    fn token(&mut self) -> Result<Token<'a>, Stop>
+    fn token(&mut self) -> Result<Token<'a>, TapeError>
         ensures shorter { OnOk result (length self.new.reader < length self.old.reader) }
         ensures same { self.new.nodes ≡ self.old.nodes }
         ensures token { IfOk result (λ token. self.old.reader ≡ token_of token ∷ self.new.reader) }
         ensures good { IfOk result (λ token. IsPrintableOrBad (token_of token)) }
         ensures end { OnErr result (self.old.reader ≡ []) }
     {
-        self.offset = self.reader.offset();
-        self.reader.next().ok_or(Stop::Json)
+        let offset = self.reader.offset();
+        self.offset = offset;
+        self.reader.next().ok_or(TapeError::Json { offset })
     }
 
     /// Reads the rest of the value that begins with the token `first`. In the value, arrays and
     /// objects may nest to `depth`.
     #[cycle(read)]
     #[inline(always)]
-    fn value(&mut self, first: Token<'a>, depth: usize) -> Result<(), Stop>
+    fn value(&mut self, first: Token<'a>, depth: usize) -> Result<(), TapeError>
         requires { IsPrintableOrBad (token_of first) }
         ensures put { OnOk result (IsPut depth (token_of first.entry ∷ self.old.reader) self.new.reader
             self.old.nodes.items self.new.nodes.items) }
-        ensures none { result ≡ Err Stop.Json
+        ensures none { (offset : ℕ) → result ≡ Err (Json offset)
             → NoneAhead depth (token_of first.entry ∷ self.old.reader) }
         ensures shorter { OnOk result (length self.new.reader ≤ length self.old.reader) }
     {
+        let offset = self.offset;
         match first {
             Token::String(text) => Ok(self.nodes.push(Node::String(text))?),
             Token::Number(digits) => self.number(digits),
@@ -123,34 +101,40 @@ impl<'a> Parser<'a> {
             Token::Null => Ok(self.nodes.push(Node::Null)?),
             Token::BeginArray if depth > 0 => self.array(depth - 1),
             Token::BeginObject if depth > 0 => self.object(depth - 1),
-            Token::BeginArray | Token::BeginObject => Err(Stop::Json),
-            Token::EndArray | Token::EndObject | Token::Key(_) | Token::Bad => Err(Stop::Json),
+            Token::BeginArray | Token::BeginObject => Err(TapeError::Json { offset }),
+            Token::EndArray | Token::EndObject | Token::Key(_) | Token::Bad => {
+                Err(TapeError::Json { offset })
+            }
         }
     }
 
     /// Pushes the node of a number.
     #[inline(always)]
-    fn number(&mut self, digits: &str) -> Result<(), Stop>
+    fn number(&mut self, digits: &str) -> Result<(), TapeError>
         requires { IsNumber digits.now }
         ensures nodes { OnOk result (map plain self.new.nodes.items
             ≡ map plain self.old.nodes.items ++ number_node digits.now ∷ []) }
         ensures fits { OnOk result (IsTrue (number_fits digits.now)) }
-        ensures large { result ≡ Err Stop.Json → number_fits digits.now ≡ false }
+        ensures large { (offset : ℕ) → result ≡ Err (Json offset) → number_fits digits.now ≡ false }
         ensures reader { self.new.reader ≡ self.old.reader }
     {
         match short_whole(digits.as_bytes()) {
             Some(whole) => Ok(self.nodes.push(Node::Whole(whole))?),
-            None => Ok(self.nodes.push(any_number(digits)?)?),
+            None => {
+                let offset = self.offset;
+                let node = parse_number(digits).ok_or(TapeError::Json { offset })?;
+                Ok(self.nodes.push(node)?)
+            }
         }
     }
 
     /// Reads the rest of an array, after the bracket that opens it.
     #[cycle(read)]
     #[inline(never)]
-    fn array(&mut self, depth: usize) -> Result<(), Stop>
+    fn array(&mut self, depth: usize) -> Result<(), TapeError>
         ensures put { OnOk result (IsPut (depth + 1) (begin_array ∷ self.old.reader)
             self.new.reader self.old.nodes.items self.new.nodes.items) }
-        ensures none { result ≡ Err Stop.Json
+        ensures none { (offset : ℕ) → result ≡ Err (Json offset)
             → NoneAhead (depth + 1) (begin_array ∷ self.old.reader) }
         ensures shorter { OnOk result (length self.new.reader ≤ length self.old.reader) }
     {
@@ -175,10 +159,10 @@ impl<'a> Parser<'a> {
     /// Reads the rest of an object, after the brace that opens it.
     #[cycle(read)]
     #[inline(never)]
-    fn object(&mut self, depth: usize) -> Result<(), Stop>
+    fn object(&mut self, depth: usize) -> Result<(), TapeError>
         ensures put { OnOk result (IsPut (depth + 1) (begin_object ∷ self.old.reader)
             self.new.reader self.old.nodes.items self.new.nodes.items) }
-        ensures none { result ≡ Err Stop.Json
+        ensures none { (offset : ℕ) → result ≡ Err (Json offset)
             → NoneAhead (depth + 1) (begin_object ∷ self.old.reader) }
         ensures shorter { OnOk result (length self.new.reader ≤ length self.old.reader) }
     {
@@ -188,7 +172,11 @@ impl<'a> Parser<'a> {
             match self.token()? {
                 Token::Key(name) => self.nodes.push(Node::Key(name))?,
                 Token::EndObject => break,
-                _ => return Err(Stop::Json),
+                _ => {
+                    return Err(TapeError::Json {
+                        offset: self.offset,
+                    });
+                }
             }
             let first = self.token()?;
             self.value(first, depth)?;
@@ -199,7 +187,7 @@ impl<'a> Parser<'a> {
     }
 
     /// Returns the nodes. Returns `Json` if anything follows the value of the text.
-    fn finish(self, text: &str) -> Result<Vec<Node<'a>>, TapeFault>
+    fn finish(self, text: &str) -> Result<Vec<Node<'a>>, TapeError>
         ensures nodes { IfOk result (λ nodes. nodes ≡ self.entry.nodes) }
         ensures end { OnOk result (self.entry.reader ≡ []) }
         ensures more { OnErr result (self.entry.reader ≢ []) }
@@ -212,24 +200,15 @@ impl<'a> Parser<'a> {
         let offset = reader.offset();
         match reader.next() {
             None => Ok(nodes),
-            Some(_) => Err(TapeFault::Json {
+            Some(_) => Err(TapeError::Json {
                 offset: offset_after_value(text, offset),
             }),
         }
     }
 }
 
-/// Returns the node of a number. Returns `Json` if the number is too large for a float.
-#[inline(never)]
-fn any_number<'a>(digits: &str) -> Result<Node<'a>, Stop>
-    ensures node { IfOk result (λ node. plain node ≡ number_node digits.now) }
-    ensures fits { OnOk result (IsTrue (number_fits digits.now)) }
-    ensures large { result ≡ Err Stop.Json → number_fits digits.now ≡ false }
-{
-    parse_number(digits).ok_or(Stop::Json)
-}
-
 /// Parses a number of JSON. `None` if it is too large for a float.
+#[inline(never)]
 fn parse_number<'a>(text: &str) -> Option<Node<'a>>
     ensures { option_map plain result ≡ option_map number (number_of text.now) }
 {

@@ -9,7 +9,7 @@ ghost use Rattle.modinfo.specs.Check.{AsksNone, AsksSome, ReportsOnQuestion};
 
 use crate::reach::read_modules;
 use deno_graph_info::analysis::InfoFault;
-use deno_graph_json::{Element, Expected, Mismatch, ReadError, Tape, TapeFault};
+use deno_graph_json::{Element, Expected, Mismatch, ReadError, Tape, TapeError};
 use json::Scratch;
 use modinfo_document::report::{FaultReport, Report, Warnings, json_report_at};
 use std::alloc::{AllocError, Global};
@@ -23,10 +23,10 @@ pub fn check_modules(alloc: Global, text: &str) -> Result<Report, AllocError>
     let mut scratch = Scratch::new(alloc);
     match Tape::read(alloc, text, &mut scratch) {
         Ok(tape) => report_question(alloc, tape.root()),
-        Err(TapeFault::Json { offset }) => Ok(Report::Invalid(json_report_at(
+        Err(TapeError::Json { offset }) => Ok(Report::Invalid(json_report_at(
             alloc, text, offset,
         )?)),
-        Err(TapeFault::OutOfMemory) => Err(AllocError),
+        Err(TapeError::OutOfMemory) => Err(AllocError),
     }
 }
 

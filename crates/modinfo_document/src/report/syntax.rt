@@ -7,7 +7,7 @@ use crate::DocumentError;
 use crate::report::text_place::TextPlace;
 use crate::report::token::invalid_byte;
 use crate::report::{FaultReport, Report};
-use deno_graph_json::{Tape, TapeFault};
+use deno_graph_json::{Tape, TapeError};
 use json::Scratch;
 use simdutf8::basic;
 use std::alloc::{AllocError, Global};
@@ -17,7 +17,7 @@ use std::alloc::{AllocError, Global};
 pub fn json_report(alloc: Global, text: &str) -> Result<FaultReport, AllocError> {
     let mut scratch = Scratch::new(alloc);
     match Tape::read(alloc, text, &mut scratch) {
-        Err(TapeFault::Json { offset }) => json_report_at(alloc, text, offset),
+        Err(TapeError::Json { offset }) => json_report_at(alloc, text, offset),
         _ => Err(AllocError),
     }
 }

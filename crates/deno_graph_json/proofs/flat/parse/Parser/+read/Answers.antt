@@ -9,7 +9,7 @@ use Rattle.deno_graph_json.specs.Flat.{plain, flat_list}
 use Rattle.deno_graph_json.specs.internal.Parsing.{IsAhead, IsPut, NoneAhead}
 use Rattle.deno_graph_json.specs.Flat as flat
 use Rattle.deno_graph_json.specs.declared.flat.Node.TheVariants as node
-use Rattle.deno_graph_json.specs.declared.flat.parse.Stop.TheVariants.{Json}
+use Rattle.deno_graph_json.specs.declared.flat.error.TapeError.TheVariants.{Json}
 use Rattle.deno_graph_json.proofs.ValueTokens.{put_one, put_number, none_number, none_deep_array}
 use Rattle.deno_graph_json.proofs.ValueTokens.{none_deep_object}
 use Rattle.deno_graph_json.proofs.ValueTokens.{none_begins}
@@ -92,14 +92,14 @@ value-returns-in-Number-clause-put t c =
     (sym c.in-Number.is) put
 
 pub value-returns-in-Number-clause-none : goal.value-returns-in-Number-clause-none
-value-returns-in-Number-clause-none t c e =
+value-returns-in-Number-clause-none t c offset e =
     let text = c.in-Number.digits.now in
     let ts = c.args.self.now.reader in
     subst (λ k. NoneAhead c.args.depth (token_of k ∷ ts)) (sym c.in-Number.is)
-    (none_number c.args.depth text ts (c.number.ensures.large e))
+    (none_number c.args.depth text ts (c.number.ensures.large offset e))
 
 pub value-returns-in-EndArray-clause-none : goal.value-returns-in-EndArray-clause-none
-value-returns-in-EndArray-clause-none t c e =
+value-returns-in-EndArray-clause-none t c offset e =
     let ts = c.args.self.now.reader in
     let d = c.args.depth in
     elim c.in-EndArray.is [
@@ -117,13 +117,13 @@ value-returns-in-EndArray-clause-none t c e =
     ]
 
 pub value-returns-in-BeginArray-2-clause-none : goal.value-returns-in-BeginArray-2-clause-none
-value-returns-in-BeginArray-2-clause-none t c e =
+value-returns-in-BeginArray-2-clause-none t c offset e =
     let ts = c.args.self.now.reader in
     let none : c.args.depth ≡ 0 = omega arith in
     rw (none, c.in-BeginArray.is) (none_deep_array ts)
 
 pub value-returns-in-BeginArray-2-2-clause-none : goal.value-returns-in-BeginArray-2-2-clause-none
-value-returns-in-BeginArray-2-2-clause-none t c e =
+value-returns-in-BeginArray-2-2-clause-none t c offset e =
     let ts = c.args.self.now.reader in
     let none : c.args.depth ≡ 0 = omega arith in
     rw (none, c.in-BeginObject.is) (none_deep_object ts)
@@ -132,7 +132,7 @@ pub array-returns-in_err-push : goal.array-returns-in_err-push
 array-returns-in_err-push t c = record { put = search rules; none = search rules; shorter = search rules }
 
 pub array-returns-in_err-first-clause-none : goal.array-returns-in_err-first-clause-none
-array-returns-in_err-first-clause-none t c e =
+array-returns-in_err-first-clause-none t c offset e =
     let l = c.elements in
     let ended : l.self.reader ≡ [] = c.in_err-first.ensures.end in
     no_array c.args.depth c.args.self.now.reader l.self.reader l.invariant.3
@@ -146,9 +146,9 @@ array-returns-in_err-value-in_default t c =
     λ r is. c.in_default.not-EndArray (is_end_array c.in_ok-first.first (cc (sym token ∙ is))) in
     record {
       put = search rules;
-      none = λ e. let json : c.value.result ≡ Err Json = search rules in
+      none = λ offset e. let json : c.value.result ≡ Err (Json offset) = search rules in
           no_array c.args.depth c.args.self.now.reader l.self.reader l.invariant.3
-          (subst (NoneAhead c.args.depth) (sym token) (c.value.ensures.none json)) ended;
+          (subst (NoneAhead c.args.depth) (sym token) (c.value.ensures.none offset json)) ended;
       shorter = search rules;
     }
 
@@ -227,7 +227,7 @@ object-returns-in_err-push-in-Key t c =
     record { put = search rules; none = search rules; shorter = search rules }
 
 pub object-returns-in_err-name-clause-none : goal.object-returns-in_err-name-clause-none
-object-returns-in_err-name-clause-none t c e =
+object-returns-in_err-name-clause-none t c offset e =
     let l = c.members in
     let ended : l.self.reader ≡ [] = c.in_err-name.ensures.end in
     no_key_object c.args.depth c.args.self.now.reader l.self.reader l.invariant.3 (λ k r is. absurd (cc))
@@ -244,12 +244,12 @@ object-returns-in_default t c =
     λ r is. c.in_default.not-EndObject (is_end_object c.in_ok-name.field-0 (cc (sym token ∙ is))) in
     record {
       put = search rules;
-      none = λ e. no_key_object c.args.depth c.args.self.now.reader l.self.reader l.invariant.3 no_key no_end;
+      none = λ offset e. no_key_object c.args.depth c.args.self.now.reader l.self.reader l.invariant.3 no_key no_end;
       shorter = search rules;
     }
 
 pub object-returns-in_err-first-clause-none : goal.object-returns-in_err-first-clause-none
-object-returns-in_err-first-clause-none t c e =
+object-returns-in_err-first-clause-none t c offset e =
     let l = c.members in
     let d = c.args.depth in
     let name = c.in-Key.name.now in
@@ -262,17 +262,17 @@ object-returns-in_err-first-clause-none t c e =
     (subst (NoneAhead d) (sym ended) (none_begins d [] refl))
 
 pub object-returns-in_err-value-clause-none : goal.object-returns-in_err-value-clause-none
-object-returns-in_err-value-clause-none t c e =
+object-returns-in_err-value-clause-none t c offset e =
     let l = c.members in
     let d = c.args.depth in
     let name = c.in-Key.name.now in
     let rest = c.token.new.self.reader in
     let token : l.self.reader ≡ Token.key name ∷ rest =
     c.in_ok-name.ensures.token ∙ ap (λ k. token_of k ∷ rest) c.in-Key.is in
-    let json : c.value.result ≡ Err Json = search rules in
+    let json : c.value.result ≡ Err (Json offset) = search rules in
     no_object d name c.args.self.now.reader rest
     (subst (MembersLeft d c.args.self.now.reader) token l.invariant.3)
-    (subst (NoneAhead d) (sym c.in_ok-first.ensures.token) (c.value.ensures.none json))
+    (subst (NoneAhead d) (sym c.in_ok-first.ensures.token) (c.value.ensures.none offset json))
 
 pub object-members-preserved : goal.object-members-preserved
 object-members-preserved t c =

@@ -35,11 +35,11 @@ pub returns-in_err-push-in-None : goal.returns-in_err-push-in-None
 returns-in_err-push-in-None c =
     record { nodes = search rules; fits = search rules; large = search rules; reader = search rules }
 
-pub returns-in_err-any_number-in-None-clause-nodes : goal.returns-in_err-any_number-in-None-clause-nodes
-returns-in_err-any_number-in-None-clause-nodes c = search rules
+pub returns-in_err-node-in-None-clause-nodes : goal.returns-in_err-node-in-None-clause-nodes
+returns-in_err-node-in-None-clause-nodes c = search rules
 
-pub returns-in_err-any_number-in-None-clause-fits : goal.returns-in_err-any_number-in-None-clause-fits
-returns-in_err-any_number-in-None-clause-fits c = search rules
+pub returns-in_err-node-in-None-clause-fits : goal.returns-in_err-node-in-None-clause-fits
+returns-in_err-node-in-None-clause-fits c = search rules
 
-pub returns-in_err-any_number-in-None-clause-reader : goal.returns-in_err-any_number-in-None-clause-reader
-returns-in_err-any_number-in-None-clause-reader c = search rules
+pub returns-in_err-node-in-None-clause-reader : goal.returns-in_err-node-in-None-clause-reader
+returns-in_err-node-in-None-clause-reader c = search rules

@@ -2,7 +2,7 @@ use std::alloc::{AllocError, AllocFailed};
 
 /// Why a text can't be read.
 #[derive(Clone, Copy, Debug, PartialEq, Eq)]
-pub enum TapeFault {
+pub enum TapeError {
     /// The text isn't one JSON value, nests deeper than 127, or has a number too large for a float.
     /// `offset` is the byte offset of the token that can't be there, or the length of a text that ends
     /// too early. The offset is tested, not proved.
@@ -11,24 +11,24 @@ pub enum TapeFault {
     OutOfMemory,
 }
 
-impl From<AllocError> for TapeFault {
+impl From<AllocError> for TapeError {
     ghost use Rattle.std.specs.Prelude.{◌≡◌};
-    ghost use Rattle.deno_graph_json.specs.declared.flat.fault.TapeFault.TheVariants.{OutOfMemory};
+    ghost use Rattle.deno_graph_json.specs.declared.flat.error.TapeError.TheVariants.{OutOfMemory};
 
     ghost from_gives = { λ _ fault. fault ≡ OutOfMemory };
 
-    fn from(_error: AllocError) -> TapeFault {
-        TapeFault::OutOfMemory
+    fn from(_error: AllocError) -> TapeError {
+        TapeError::OutOfMemory
     }
 }
 
-impl<T: Drop> From<AllocFailed<T>> for TapeFault {
+impl<T: Drop> From<AllocFailed<T>> for TapeError {
     ghost use Rattle.std.specs.Prelude.{◌≡◌};
-    ghost use Rattle.deno_graph_json.specs.declared.flat.fault.TapeFault.TheVariants.{OutOfMemory};
+    ghost use Rattle.deno_graph_json.specs.declared.flat.error.TapeError.TheVariants.{OutOfMemory};
 
     ghost from_gives = { λ _ fault. fault ≡ OutOfMemory };
 
-    fn from(_error: AllocFailed<T>) -> TapeFault {
-        TapeFault::OutOfMemory
+    fn from(_error: AllocFailed<T>) -> TapeError {
+        TapeError::OutOfMemory
     }
 }
