@@ -19,7 +19,6 @@ use Rattle.std.proofs.Common.{
   ap,
   subst,
   ◌∙◌,
-  append_assoc,
 }
 use Rattle.std.proofs.lemmas.List.{map-append, take_all, take_more, at_drop_more, at_drop_all}
 use Rattle.std.proofs.lemmas.List.Elements.{All-more}
@@ -30,7 +29,8 @@ use Rattle.serde_json.specs.View.{view, items_of}
 use Rattle.serde_json.specs.Written.{items_outline}
 use Rattle.serde_json.specs.declared.value.Value.{Value}
 use Rattle.deno_graph_json.specs.Object.{with_entries, map_entries}
-use Rattle.deno_graph_json.specs.Text.{text_tokens}
+use Rattle.deno_graph_json.specs.Text.{Text, text_tokens, with_tokens}
+use Rattle.deno_graph_json.proofs.Texts.{with_tokens-twice}
 
 module _ {A : Type 0} (P : A → Type 0) (xs : List A) (i : ℕ) where
   -- a property of the items so far holds with one more item
@@ -65,24 +65,24 @@ module _ {A : Type 0} (json : A → Data) (xs : List A) (i : ℕ) where
       ap (λ es. array (items_of es)) (so_far ∙ ap (map json) (take_all i xs past))
 
   -- the text so far, with the tokens of the items that are left, is the same after an item is written
-  pub text_more : (x : A) (out new whole : List Token) → i < length xs → x ≡ get_or xs i x
-      → out ++ items_text json (drop i xs) ≡ whole → new ≡ out ++ text_tokens (json x)
-      → new ++ items_text json (drop (i + 1) xs) ≡ whole
+  pub text_more : (x : A) (out new whole : Text) → i < length xs → x ≡ get_or xs i x
+      → with_tokens (items_text json (drop i xs)) out ≡ whole → new ≡ with_tokens (text_tokens (json x)) out
+      → with_tokens (items_text json (drop (i + 1) xs)) new ≡ whole
   text_more x out new whole below is so_far written =
-      ap (λ ts. ts ++ items_text json (drop (i + 1) xs)) written
-      ∙ append_assoc out (text_tokens (json x)) (items_text json (drop (i + 1) xs))
-      ∙ ap (λ y. out ++ (text_tokens (json y) ++ items_text json (drop (i + 1) xs))) is
-      ∙ ap (λ ts. out ++ ts) (sym (at_drop_more (items_text json) xs i x below))
+      ap (with_tokens (items_text json (drop (i + 1) xs))) written
+      ∙ with_tokens-twice (text_tokens (json x)) (items_text json (drop (i + 1) xs)) out
+      ∙ ap (λ y. with_tokens (text_tokens (json y) ++ items_text json (drop (i + 1) xs)) out) is
+      ∙ ap (λ ts. with_tokens ts out) (sym (at_drop_more (items_text json) xs i x below))
       ∙ so_far
 
   -- at the end no item is left
-  pub text_all : (before out new begun : List Token) → length xs ≤ i → begun ≡ before ++ begin_array ∷ []
-      → out ++ items_text json (drop i xs) ≡ begun ++ items_text json xs → new ≡ out ++ end_array ∷ []
-      → new ≡ before ++ begin_array ∷ items_text json xs
+  pub text_all : (before out new begun : Text) → length xs ≤ i → begun ≡ with_tokens (begin_array ∷ []) before
+      → with_tokens (items_text json (drop i xs)) out ≡ with_tokens (items_text json xs) begun
+      → new ≡ with_tokens (end_array ∷ []) out → new ≡ with_tokens (begin_array ∷ items_text json xs) before
   text_all before out new begun past begins so_far closes =
-      closes ∙ ap (λ ts. out ++ ts) (sym (at_drop_all (items_text json) xs i past)) ∙ so_far
-      ∙ ap (λ ts. ts ++ items_text json xs) begins
-      ∙ append_assoc before (begin_array ∷ []) (items_text json xs)
+      closes ∙ ap (λ ts. with_tokens ts out) (sym (at_drop_all (items_text json) xs i past)) ∙ so_far
+      ∙ ap (with_tokens (items_text json xs)) begins
+      ∙ with_tokens-twice (begin_array ∷ []) (items_text json xs) before
 
 module _ {A S : Type 0} (with_member : List ℕ → Data → S → S) (json : A → Data) where
   -- the state with a member for each entry of a map

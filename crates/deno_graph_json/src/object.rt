@@ -1,18 +1,18 @@
 //! Types that are written as objects, member by member.
 
-ghost use Rattle.std.specs.Prelude.{◌≡◌, ◌++◌, false, All, IfOk, IfSome, OnOk, option_map, Some, true};
+ghost use Rattle.std.specs.Prelude.{◌≡◌, false, All, IfOk, IfSome, OnOk, option_map, Some, true};
 ghost use Rattle.serde_json.specs.Data.{string};
 ghost use Rattle.serde_json.specs.View.{view};
 ghost use Rattle.deno_graph_base.specs.TextMap.{IsAscending};
 ghost use Rattle.deno_graph_json.specs.Ascending.{has_ascending_keys};
 ghost use Rattle.deno_graph_json.specs.internal.MapEntries.{ascending-map};
 ghost use Rattle.deno_graph_json.specs.Object.{Entry, array_of, if_any, if_true, map_entries, object_of, unless, with_entries, with_present};
-ghost use Rattle.deno_graph_json.specs.Text.{text_tokens};
+ghost use Rattle.deno_graph_json.specs.Text.{text_tokens, with_tokens, text_in};
 
 use crate::object_writer::ObjectWriter;
-use crate::text_writer::TextWriter;
 use crate::write::ToJson;
 use deno_graph_base::values::{Items, TextMap};
+use json::Writer;
 use serde_json::Value;
 use std::alloc::{AllocError, Global};
 
@@ -118,9 +118,9 @@ pub fn object_value<T: ToObject>(alloc: Global, value: &T) -> Result<Value, Allo
 }
 
 /// Appends the object to a text. The only error is that an allocation fails.
-pub fn write_object<T: ToObject>(value: &T, out: &mut TextWriter) -> Result<(), AllocError>
+pub fn write_object<T: ToObject>(value: &T, out: &mut Writer) -> Result<(), AllocError>
     ensures text { OnOk result
-        (out.new ≡ out.old ++ text_tokens (object_of (T.entries value.now))) }
+        (text_in out.new ≡ with_tokens (text_tokens (object_of (T.entries value.now))) (text_in out.old)) }
     ensures held { OnOk result (T.is_held value.now) }
 {
     out.begin_object()?;

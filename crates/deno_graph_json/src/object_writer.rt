@@ -7,8 +7,8 @@ ghost use Rattle.deno_graph_json.specs.ObjectWriter.{written};
 ghost use Rattle.deno_graph_json.specs.Text.{with_member_text};
 
 use crate::object::MemberWriter;
-use crate::text_writer::TextWriter;
 use crate::write::ToJson;
+use json::Writer;
 use serde_json::{Map, Value, put};
 use std::alloc::{AllocError, Global};
 
@@ -58,13 +58,12 @@ impl MemberWriter for ObjectWriter {
     }
 }
 
-impl MemberWriter for TextWriter {
-    ghost use Rattle.std.specs.Prelude.{List};
-    ghost use Rattle.json.specs.Token.{Token};
+impl MemberWriter for Writer {
+    ghost use Rattle.deno_graph_json.specs.Text.{Text, text_in};
 
-    ghost State = { List Token };
+    ghost State = { Text };
 
-    ghost state = { λ ts. ts };
+    ghost state = { text_in };
 
     ghost with_member = { with_member_text };
 

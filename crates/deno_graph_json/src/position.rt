@@ -1,7 +1,7 @@
 ghost use Rattle.deno_graph_json.specs.Json.Position.{json_of_position, json_of_range, reads_position, reads_range, IsHeldPosition, IsHeldRange};
 
 use crate::read::read_pair;
-use crate::{Element, FromJson, ReadError, TextWriter, ToJson};
+use crate::{Element, FromJson, ReadError, ToJson, Writer};
 use deno_graph_base::text::{Position, PositionRange};
 use serde_json::{Value, json};
 use std::alloc::{AllocError, Global};
@@ -15,10 +15,10 @@ impl ToJson for Position {
         json!(in alloc; [self.line, self.character])
     }
 
-    fn write_text(&self, out: &mut TextWriter) -> Result<(), AllocError> {
+    fn write_text(&self, out: &mut Writer) -> Result<(), AllocError> {
         out.begin_array()?;
-        out.number(self.line)?;
-        out.number(self.character)?;
+        out.u64(self.line as u64)?;
+        out.u64(self.character as u64)?;
         out.end_array()
     }
 }
@@ -44,7 +44,7 @@ impl ToJson for PositionRange {
         json!(in alloc; [start, end])
     }
 
-    fn write_text(&self, out: &mut TextWriter) -> Result<(), AllocError> {
+    fn write_text(&self, out: &mut Writer) -> Result<(), AllocError> {
         out.begin_array()?;
         self.start.write_text(out)?;
         self.end.write_text(out)?;

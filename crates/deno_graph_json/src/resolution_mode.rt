@@ -5,7 +5,7 @@ ghost use Rattle.deno_graph_json.specs.Read.Result.{IsReadResult};
 ghost use Rattle.deno_graph_json.specs.Json.ResolutionMode.{json_of_mode, mode_name, reads_mode};
 
 use crate::read::read_str;
-use crate::{Element, Expected, FromJson, ReadError, TextWriter, ToJson};
+use crate::{Element, Expected, FromJson, ReadError, ToJson, Writer};
 use deno_graph_base::values::TypeScriptTypesResolutionMode;
 use serde_json::Value;
 use std::alloc::{AllocError, Global};
@@ -17,7 +17,7 @@ impl ToJson for TypeScriptTypesResolutionMode {
         Value::try_from_str(alloc, name_of(*self))
     }
 
-    fn write_text(&self, out: &mut TextWriter) -> Result<(), AllocError> {
+    fn write_text(&self, out: &mut Writer) -> Result<(), AllocError> {
         out.string(name_of(*self))
     }
 }

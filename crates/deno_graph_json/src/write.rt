@@ -1,16 +1,17 @@
 //! Writing values to JSON, as values and as text.
 
-ghost use Rattle.std.specs.Prelude.{◌≡◌, ◌++◌, All, IfOk, OnOk, string_bytes};
+ghost use Rattle.std.specs.Prelude.{◌≡◌, [], All, IfOk, OnOk, string_bytes};
+ghost use Rattle.json.specs.Print.{print};
 ghost use Rattle.serde_json.specs.Data.{boolean, string};
 ghost use Rattle.serde_json.specs.View.{view};
 ghost use Rattle.serde_json.specs.Written.{compact_text};
 ghost use Rattle.deno_graph_base.specs.TextMap.{IsAscending};
 ghost use Rattle.deno_graph_json.specs.Object.{array_of, map_object_of};
-ghost use Rattle.deno_graph_json.specs.Text.{text_tokens};
+ghost use Rattle.deno_graph_json.specs.Text.{text_tokens, with_tokens, text_in};
 
 use crate::object::{object_value, write_object};
-use crate::text_writer::TextWriter;
 use deno_graph_base::values::{Items, Text, TextMap};
+use json::Writer;
 use serde_json::Value;
 use std::alloc::{AllocError, Global};
 
@@ -31,9 +32,9 @@ pub trait ToJson {
         ensures held { OnOk result (is_held self.now) };
 
     /// Appends the JSON to a text. The only error is that an allocation fails.
-    fn write_text(&self, out: &mut TextWriter) -> Result<(), AllocError>
+    fn write_text(&self, out: &mut Writer) -> Result<(), AllocError>
         ensures text { OnOk result
-            (out.new ≡ out.old ++ text_tokens (json self.now)) }
+            (text_in out.new ≡ with_tokens (text_tokens (json self.now)) (text_in out.old)) }
         ensures held { OnOk result (is_held self.now) };
 }
 
@@ -42,9 +43,24 @@ pub trait ToJson {
 pub fn text_of<T: ToJson>(alloc: Global, value: &T) -> Result<String, AllocError>
     ensures { IfOk result (λ text. string_bytes text ≡ compact_text (T.json value.now)) }
 {
-    let mut out = TextWriter::new(alloc)?;
+    let mut out = new_writer(alloc)?;
     value.write_text(&mut out)?;
-    Ok(out.into_string())
+    Ok(into_text(out))
+}
+
+/// Returns a writer with an empty buffer. The only error is that an allocation fails.
+pub fn new_writer(alloc: Global) -> Result<Writer, AllocError>
+    ensures { IfOk result (λ out. text_in out ≡ ([], [])) }
+{
+    Ok(Writer::new(Vec::with_capacity(alloc, 128)?))
+}
+
+/// Returns the text that was written to an empty buffer. Allocates nothing.
+pub fn into_text(out: Writer) -> String
+    requires { out.before ≡ [] }
+    ensures { string_bytes result ≡ print out.tokens }
+{
+    unsafe { String::from_utf8_unchecked(out.into_inner()) }
 }
 
 impl ToJson for bool {
@@ -54,7 +70,7 @@ impl ToJson for bool {
         Ok(Value::Bool(*self))
     }
 
-    fn write_text(&self, out: &mut TextWriter) -> Result<(), AllocError> {
+    fn write_text(&self, out: &mut Writer) -> Result<(), AllocError> {
         out.boolean(*self)
     }
 }
@@ -66,7 +82,7 @@ impl ToJson for Text {
         Value::try_from_str(alloc, self.as_str())
     }
 
-    fn write_text(&self, out: &mut TextWriter) -> Result<(), AllocError> {
+    fn write_text(&self, out: &mut Writer) -> Result<(), AllocError> {
         out.string(self.as_str())
     }
 }
@@ -84,7 +100,7 @@ impl<T: ToJson> ToJson for Items<T> {
         Ok(Value::Array(values))
     }
 
-    fn write_text(&self, out: &mut TextWriter) -> Result<(), AllocError> {
+    fn write_text(&self, out: &mut Writer) -> Result<(), AllocError> {
         out.begin_array()?;
         for item in self.as_slice() {
             item.write_text(out)?;
@@ -102,7 +118,7 @@ impl<T: ToJson> ToJson for TextMap<T> {
         object_value(alloc, self)
     }
 
-    fn write_text(&self, out: &mut TextWriter) -> Result<(), AllocError> {
+    fn write_text(&self, out: &mut Writer) -> Result<(), AllocError> {
         write_object(self, out)
     }
 }

@@ -1,6 +1,6 @@
 //! Reports on documents: the fault of a document, and where it is. docs/FORMATS.md describes them.
 
-ghost use Rattle.std.specs.Prelude.{◌≡◌, ◌↔◌, IfOk, IsTrue, Some};
+ghost use Rattle.std.specs.Prelude.{◌≡◌, ◌↔◌, IfOk, IsTrue, OnOk, Some};
 ghost use Rattle.modinfo_document.specs.Report.{LetsPass, Reports};
 
 mod element;
@@ -14,7 +14,7 @@ mod warning;
 mod warnings;
 
 use crate::report::pointer::pointer_of;
-use deno_graph_json::{Mismatch, TextWriter};
+use deno_graph_json::{MemberWriter, Mismatch, Writer, into_text, new_writer};
 use deno_graph_source::text::SourceRange;
 pub(crate) use source::source_report;
 use std::alloc::{AllocError, Global};
@@ -117,30 +117,34 @@ impl Report {
 
     /// The report as one line of JSON, without a line feed. The only error is a failed allocation.
     pub fn to_line(&self, alloc: Global) -> Result<String, AllocError> {
-        let mut line = TextWriter::new(alloc)?;
+        let mut line = new_writer(alloc)?;
         match self {
             Report::Valid(warnings) => write_warnings(&mut line, warnings)?,
             Report::Invalid(fault) => write_fault(&mut line, fault)?,
         }
-        Ok(line.into_string())
+        Ok(into_text(line))
     }
 }
 
-fn write_fault(line: &mut TextWriter, report: &FaultReport) -> Result<(), AllocError> {
+fn write_fault(line: &mut Writer, report: &FaultReport) -> Result<(), AllocError>
+    ensures { OnOk result (line.new.before ≡ line.old.before) }
+{
     line.begin_object()?;
-    write_member(line, "fault", report.fault.as_str())?;
+    line.put_str("fault", report.fault.as_str())?;
     write_location(line, report)?;
-    write_member(line, "expected", report.expected.as_str())?;
+    line.put_str("expected", report.expected.as_str())?;
     line.end_object()
 }
 
 /// Writes the members with the location of the fault.
-fn write_location(line: &mut TextWriter, report: &FaultReport) -> Result<(), AllocError> {
+fn write_location(line: &mut Writer, report: &FaultReport) -> Result<(), AllocError>
+    ensures { OnOk result (line.new.before ≡ line.old.before) }
+{
     if let Some(pointer) = &report.pointer {
-        write_member(line, "pointer", pointer.as_str())?;
+        line.put_str("pointer", pointer.as_str())?;
     }
     if let Some(other) = &report.other {
-        write_member(line, "other", other.as_str())?;
+        line.put_str("other", other.as_str())?;
     }
     if let Some(range) = report.range {
         write_range(line, range)?;
@@ -151,15 +155,19 @@ fn write_location(line: &mut TextWriter, report: &FaultReport) -> Result<(), All
     }
 }
 
-fn write_range(line: &mut TextWriter, range: SourceRange) -> Result<(), AllocError> {
+fn write_range(line: &mut Writer, range: SourceRange) -> Result<(), AllocError>
+    ensures { OnOk result (line.new.before ≡ line.old.before) }
+{
     line.key("range")?;
     line.begin_array()?;
-    line.number(range.start)?;
-    line.number(range.end)?;
+    line.u64(range.start as u64)?;
+    line.u64(range.end as u64)?;
     line.end_array()
 }
 
-fn write_text_place(line: &mut TextWriter, at: TextPlace) -> Result<(), AllocError> {
+fn write_text_place(line: &mut Writer, at: TextPlace) -> Result<(), AllocError>
+    ensures { OnOk result (line.new.before ≡ line.old.before) }
+{
     line.key("at")?;
     line.begin_object()?;
     write_count(line, "line", at.position.line)?;
@@ -168,7 +176,9 @@ fn write_text_place(line: &mut TextWriter, at: TextPlace) -> Result<(), AllocErr
     line.end_object()
 }
 
-fn write_warnings(line: &mut TextWriter, warnings: &Warnings) -> Result<(), AllocError> {
+fn write_warnings(line: &mut Writer, warnings: &Warnings) -> Result<(), AllocError>
+    ensures { OnOk result (line.new.before ≡ line.old.before) }
+{
     line.begin_object()?;
     line.key("valid")?;
     line.boolean(true)?;
@@ -182,23 +192,22 @@ fn write_warnings(line: &mut TextWriter, warnings: &Warnings) -> Result<(), Allo
     line.end_object()
 }
 
-fn write_kept(line: &mut TextWriter, kept: &[Warning]) -> Result<(), AllocError> {
+fn write_kept(line: &mut Writer, kept: &[Warning]) -> Result<(), AllocError>
+    ensures { OnOk result (line.new.before ≡ line.old.before) }
+{
     line.begin_array()?;
     for warning in kept {
         line.begin_object()?;
-        write_member(line, "pointer", warning.pointer.as_str())?;
-        write_member(line, "says", warning.says)?;
+        line.put_str("pointer", warning.pointer.as_str())?;
+        line.put_str("says", warning.says)?;
         line.end_object()?;
     }
     line.end_array()
 }
 
-fn write_member(line: &mut TextWriter, name: &str, text: &str) -> Result<(), AllocError> {
+fn write_count(line: &mut Writer, name: &str, count: usize) -> Result<(), AllocError>
+    ensures { OnOk result (line.new.before ≡ line.old.before) }
+{
     line.key(name)?;
-    line.string(text)
-}
-
-fn write_count(line: &mut TextWriter, name: &str, count: usize) -> Result<(), AllocError> {
-    line.key(name)?;
-    line.number(count)
+    line.u64(count as u64)
 }

@@ -10,7 +10,7 @@ use crate::analysis::dynamic_dependency::{DynamicDependencyDescriptor, read_dyna
 use crate::analysis::import_attributes::ImportAttributes;
 use crate::analysis::static_dependency::{StaticDependencyDescriptor, read_static};
 use deno_graph_base::values::TryClone;
-use deno_graph_json::{Element, Expected, FromJson, ObjectReader, ReadError, TextWriter, ToJson};
+use deno_graph_json::{Element, Expected, FromJson, ObjectReader, ReadError, ToJson, Writer};
 use serde_json::Value;
 use std::alloc::{AllocError, Global};
 
@@ -102,7 +102,7 @@ impl ToJson for DependencyDescriptor {
         }
     }
 
-    fn write_text(&self, out: &mut TextWriter) -> Result<(), AllocError> {
+    fn write_text(&self, out: &mut Writer) -> Result<(), AllocError> {
         match self {
             DependencyDescriptor::Static(descriptor) => descriptor.write_text(out),
             DependencyDescriptor::Dynamic(descriptor) => descriptor.write_text(out),

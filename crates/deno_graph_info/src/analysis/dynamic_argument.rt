@@ -10,8 +10,8 @@ ghost use Rattle.deno_graph_json.specs.Read.Result.{IsReadResult};
 use deno_graph_base::values::{Items, Text, TryClone};
 use deno_graph_json::read::read_items;
 use deno_graph_json::{
-    Element, Expected, Form, FromJson, MemberWriter, ObjectReader, ReadError, TextWriter, ToJson,
-    ToObject, View, object_value, write_object,
+    Element, Expected, Form, FromJson, MemberWriter, ObjectReader, ReadError, ToJson, ToObject,
+    View, Writer, object_value, write_object,
 };
 use serde_json::Value;
 use std::alloc::{AllocError, Global};
@@ -70,7 +70,7 @@ impl ToJson for DynamicArgument {
         }
     }
 
-    fn write_text(&self, out: &mut TextWriter) -> Result<(), AllocError> {
+    fn write_text(&self, out: &mut Writer) -> Result<(), AllocError> {
         match self {
             DynamicArgument::String(text) => text.write_text(out),
             DynamicArgument::Template(parts) => parts.write_text(out),
@@ -129,7 +129,7 @@ impl ToJson for DynamicTemplatePart {
         object_value(alloc, self)
     }
 
-    fn write_text(&self, out: &mut TextWriter) -> Result<(), AllocError> {
+    fn write_text(&self, out: &mut Writer) -> Result<(), AllocError> {
         write_object(self, out)
     }
 }

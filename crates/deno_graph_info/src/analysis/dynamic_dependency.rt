@@ -12,8 +12,8 @@ use deno_graph_base::text::PositionRange;
 use deno_graph_base::values::TryClone;
 use deno_graph_json::read::read_str;
 use deno_graph_json::{
-    Element, Expected, Form, FromJson, MemberWriter, ObjectReader, ReadError, TextWriter, ToJson,
-    ToObject, object_value, write_object,
+    Element, Expected, Form, FromJson, MemberWriter, ObjectReader, ReadError, ToJson, ToObject,
+    Writer, object_value, write_object,
 };
 use serde_json::Value;
 use std::alloc::{AllocError, Global};
@@ -70,7 +70,7 @@ impl ToJson for DynamicDependencyKind {
         Value::try_from_str(alloc, self.name())
     }
 
-    fn write_text(&self, out: &mut TextWriter) -> Result<(), AllocError> {
+    fn write_text(&self, out: &mut Writer) -> Result<(), AllocError> {
         out.string(self.name())
     }
 }
@@ -145,7 +145,7 @@ impl ToJson for DynamicDependencyDescriptor {
         object_value(alloc, self)
     }
 
-    fn write_text(&self, out: &mut TextWriter) -> Result<(), AllocError> {
+    fn write_text(&self, out: &mut Writer) -> Result<(), AllocError> {
         write_object(self, out)
     }
 }

@@ -7,8 +7,8 @@ ghost use Rattle.deno_graph_json.specs.Read.Result.{IsReadResult};
 
 use deno_graph_base::values::{Text, TextMap, TryClone};
 use deno_graph_json::{
-    Element, Expected, Form, FromJson, MemberWriter, ObjectReader, ObjectWriter, ReadError,
-    TextWriter, ToJson, View,
+    Element, Expected, Form, FromJson, MemberWriter, ObjectReader, ObjectWriter, ReadError, ToJson,
+    View, Writer,
 };
 use serde_json::Value;
 use std::alloc::{AllocError, Global};
@@ -41,7 +41,7 @@ impl ToJson for ImportAttribute {
         }
     }
 
-    fn write_text(&self, out: &mut TextWriter) -> Result<(), AllocError> {
+    fn write_text(&self, out: &mut Writer) -> Result<(), AllocError> {
         match self {
             ImportAttribute::Unknown => out.null(),
             ImportAttribute::Known(value) => out.string(value.as_str()),
@@ -150,7 +150,7 @@ impl ToJson for ImportAttributes {
         }
     }
 
-    fn write_text(&self, out: &mut TextWriter) -> Result<(), AllocError> {
+    fn write_text(&self, out: &mut Writer) -> Result<(), AllocError> {
         match self {
             ImportAttributes::None => out.string("none"),
             ImportAttributes::Unknown => out.string("unknown"),

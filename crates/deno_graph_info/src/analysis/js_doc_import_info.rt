@@ -5,7 +5,7 @@ use crate::analysis::SpecifierWithRange;
 use crate::analysis::specifier_with_mode::{put_specifier_with_mode, read_specifier_with_mode};
 use deno_graph_base::values::{TryClone, TypeScriptTypesResolutionMode};
 use deno_graph_json::{
-    Element, FromJson, MemberWriter, ObjectReader, ReadError, TextWriter, ToJson, ToObject,
+    Element, FromJson, MemberWriter, ObjectReader, ReadError, ToJson, ToObject, Writer,
     object_value, write_object,
 };
 use serde_json::Value;
@@ -37,7 +37,7 @@ impl ToJson for JsDocImportInfo {
         object_value(alloc, self)
     }
 
-    fn write_text(&self, out: &mut TextWriter) -> Result<(), AllocError> {
+    fn write_text(&self, out: &mut Writer) -> Result<(), AllocError> {
         write_object(self, out)
     }
 }

@@ -10,7 +10,7 @@ use crate::analysis::type_script_reference::TypeScriptReference;
 use crate::analysis::{DependencyDescriptor, SpecifierWithRange};
 use deno_graph_base::values::{Items, TryClone};
 use deno_graph_json::{
-    Element, FromJson, MemberWriter, ObjectReader, ReadError, Tape, TextWriter, ToJson, ToObject,
+    Element, FromJson, MemberWriter, ObjectReader, ReadError, Tape, ToJson, ToObject, Writer,
     find_float, has_float, object_value, text_of, write_object,
 };
 use serde_json::Value;
@@ -146,7 +146,7 @@ impl ToJson for ModuleInfo {
         object_value(alloc, self)
     }
 
-    fn write_text(&self, out: &mut TextWriter) -> Result<(), AllocError> {
+    fn write_text(&self, out: &mut Writer) -> Result<(), AllocError> {
         write_object(self, out)
     }
 }

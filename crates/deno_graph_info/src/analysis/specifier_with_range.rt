@@ -6,7 +6,7 @@ ghost use Rattle.deno_graph_json.specs.Read.Result.{IsReadResult};
 use deno_graph_base::text::PositionRange;
 use deno_graph_base::values::{Text, TryClone};
 use deno_graph_json::{
-    Element, FromJson, MemberWriter, ObjectReader, ReadError, TextWriter, ToJson, ToObject,
+    Element, FromJson, MemberWriter, ObjectReader, ReadError, ToJson, ToObject, Writer,
     object_value, write_object,
 };
 use serde_json::Value;
@@ -38,7 +38,7 @@ impl ToJson for SpecifierWithRange {
         object_value(alloc, self)
     }
 
-    fn write_text(&self, out: &mut TextWriter) -> Result<(), AllocError> {
+    fn write_text(&self, out: &mut Writer) -> Result<(), AllocError> {
         write_object(self, out)
     }
 }

@@ -10,8 +10,8 @@ use deno_graph_base::text::PositionRange;
 use deno_graph_base::values::{Text, TryClone};
 use deno_graph_json::read::read_str;
 use deno_graph_json::{
-    Element, Expected, Form, FromJson, MemberWriter, ObjectReader, ReadError, TextWriter, ToJson,
-    ToObject, object_value, write_object,
+    Element, Expected, Form, FromJson, MemberWriter, ObjectReader, ReadError, ToJson, ToObject,
+    Writer, object_value, write_object,
 };
 use serde_json::Value;
 use std::alloc::{AllocError, Global};
@@ -65,7 +65,7 @@ impl ToJson for StaticDependencyKind {
         Value::try_from_str(alloc, self.name())
     }
 
-    fn write_text(&self, out: &mut TextWriter) -> Result<(), AllocError> {
+    fn write_text(&self, out: &mut Writer) -> Result<(), AllocError> {
         out.string(self.name())
     }
 }
@@ -153,7 +153,7 @@ impl ToJson for StaticDependencyDescriptor {
         object_value(alloc, self)
     }
 
-    fn write_text(&self, out: &mut TextWriter) -> Result<(), AllocError> {
+    fn write_text(&self, out: &mut Writer) -> Result<(), AllocError> {
         write_object(self, out)
     }
 }

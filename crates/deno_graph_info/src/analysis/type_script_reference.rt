@@ -10,8 +10,8 @@ use crate::analysis::specifier_with_mode::{put_specifier_with_mode, read_specifi
 use crate::analysis::specifier_with_range::{SpecifierWithRange, read_specifier};
 use deno_graph_base::values::{TryClone, TypeScriptTypesResolutionMode};
 use deno_graph_json::{
-    Element, Expected, FromJson, MemberWriter, ObjectReader, ReadError, TextWriter, ToJson,
-    ToObject, object_value, write_object,
+    Element, Expected, FromJson, MemberWriter, ObjectReader, ReadError, ToJson, ToObject, Writer,
+    object_value, write_object,
 };
 use serde_json::Value;
 use std::alloc::{AllocError, Global};
@@ -55,7 +55,7 @@ impl ToJson for TypeScriptReference {
         object_value(alloc, self)
     }
 
-    fn write_text(&self, out: &mut TextWriter) -> Result<(), AllocError> {
+    fn write_text(&self, out: &mut Writer) -> Result<(), AllocError> {
         write_object(self, out)
     }
 }

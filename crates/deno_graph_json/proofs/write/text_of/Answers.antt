@@ -1,11 +1,11 @@
-use Rattle.std.proofs.Common.{◌++◌, ap, ◌∙◌}
-use Rattle.deno_graph_json.specs.Text.{text_tokens}
-use Rattle.deno_graph_json.proofs.Texts.{print-text_tokens}
+use Rattle.std.proofs.Common.{ap, ◌∙◌}
+use Rattle.deno_graph_json.specs.Text.{text_tokens, with_tokens}
+use Rattle.deno_graph_json.proofs.Texts.{value_text}
 use Rattle.deno_graph_json.proofs.write.text_of.Goals as goal
 
 pub returns : goal.returns
 returns g c =
     let d = g.T.ToJson.json c.args.value.now in
-    c.into_string.ensures
-    ∙ print-text_tokens d c.write_text.new.out
-    (c.in_ok-write_text.ensures.text ∙ ap (λ ts. ts ++ text_tokens d) c.in_ok-out.ensures)
+    c.into_text.ensures
+    ∙ value_text d c.write_text.new.out
+    (c.in_ok-write_text.ensures.text ∙ ap (with_tokens (text_tokens d)) c.in_ok-out.ensures)
