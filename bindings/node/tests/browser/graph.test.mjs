@@ -6,7 +6,7 @@ import { folderOf } from "../run_commands.mjs";
 import { KEYS } from "./browser.mjs";
 import {
   browser, exampleReport, go, hasProgram, listed, open, place, report, shown, texts, untilModule,
-  untilMoved,
+  untilMoved, untilPlace,
 } from "./session.mjs";
 
 const example = exampleReport();
@@ -108,18 +108,18 @@ shown("edges of many modules of two folders are one edge with a count", async ()
   assert.deepEqual(await texts(".edge-count"), ["3"]);
 });
 
-/** How many edges of the graph are seen. */
-const edgesSeen = () => browser.run(`
+/** The script that counts the edges of the graph that are seen. */
+const COUNT_SEEN = `
   const edges = [...document.querySelectorAll(".edges .edge")];
-  return edges.filter((edge) => getComputedStyle(edge).display !== "none").length;
-`);
+  return edges.filter((edge) => getComputedStyle(edge).display !== "none").length
+`;
 
 shown("a click in the legend hides the edges of a kind, another one shows them", async () => {
   await open(example);
-  const all = await edgesSeen();
+  const all = await browser.run(COUNT_SEEN);
   for (const expected of [all - 1, all]) {
     await browser.click(".legend li:nth-child(4) button");
-    assert.equal(await edgesSeen(), expected);
+    await browser.until(`${COUNT_SEEN} === arguments[0]`, expected);
   }
 });
 
@@ -180,6 +180,8 @@ shown("dragging moves the drawing, and opens nothing", async () => {
     return { x: Math.round(left + 10), y: Math.round(top + 10) };
   `);
   await browser.drag(from, { x: from.x + 70, y: from.y - 30 });
+  await untilMoved(before);
+  await browser.until(`return document.querySelector(".dragging") === null`);
   const after = await place();
   assert.deepEqual([Math.round(after.x - before.x), Math.round(after.y - before.y)], [70, -30]);
   assert.equal(await browser.run("return location.hash"), "");
@@ -207,16 +209,15 @@ shown("keys move the drawing: + and - its size, 0 all of it on both sides, arrow
   await open(example);
   const start = await place();
   await browser.type("++");
-  assert.ok((await place()).scale > 1.4 * start.scale);
+  await untilPlace("scale > arguments[0]", 1.4 * start.scale);
   assert.equal(await isWhole(), false);
   await browser.type("-");
   await browser.type("0");
-  assert.deepEqual(await place(), start);
+  await untilPlace("String([x, y, scale]) === arguments[0]", String([start.x, start.y, start.scale]));
   assert.equal(await isWhole(), true);
   await browser.run(`document.querySelector(".drawing").focus()`);
   await browser.type(`${KEYS.left}${KEYS.left}${KEYS.up}`);
-  const moved = await place();
-  assert.deepEqual([moved.x - start.x > 100, moved.y - start.y > 50], [true, true]);
+  await untilPlace("x - arguments[0] > 100 && y - arguments[1] > 50", start.x, start.y);
 });
 
 shown("on a node the arrows go to the nearest one, and Enter opens it", async () => {
@@ -224,6 +225,7 @@ shown("on a node the arrows go to the nearest one, and Enter opens it", async ()
   const focused = () => browser.run(`return document.activeElement.getAttribute("aria-label")`);
   await browser.run(`document.querySelector('.node[aria-label="src/main.ts"]').focus()`);
   await browser.type(KEYS.right);
+  await browser.until(`return document.activeElement.getAttribute("aria-label") !== "src/main.ts"`);
   const second = await focused();
   assert.ok(second !== "src/main.ts" && (await listed()).includes(second), second);
   await browser.type(KEYS.enter);
@@ -233,6 +235,7 @@ shown("on a node the arrows go to the nearest one, and Enter opens it", async ()
 shown("a node that has the focus shows each edge of its modules, and the others fade", async () => {
   await open(example);
   await browser.run(`document.querySelector('.node[aria-label="src/legacy/archive_types.d.ts"]').focus()`);
+  await browser.until(`return document.querySelector(".near-edges .edge") !== null`);
   const near = await browser.run(`return [...document.querySelectorAll(".node.near")].map((each) => each.getAttribute("aria-label")).sort()`);
   assert.deepEqual(near, ["src/legacy/archive_types.d.ts", "src/main.ts", "src/report.ts"]);
   assert.equal(await browser.run(`return document.querySelectorAll(".near-edges .edge").length`), 2);
@@ -296,7 +299,10 @@ shown("the picture of sizes has areas by bytes and by modules, and folders open"
   const byModules = await areas();
   assert.ok(Math.abs(byModules["small/: 2 modules"] / byModules["big/: 1 module"] - 2) < 0.3);
   await browser.run(`document.querySelector('.area[title="small/: 2 modules"]').click()`);
-  await browser.until(`return document.querySelector('.area[title="small/b.js: 1 module"]') !== null`);
+  await browser.until(`
+    const has = (title) => document.querySelector('.area[title="' + title + '"]') !== null;
+    return has("small/b.js: 1 module") && !has("small/: 2 modules");
+  `);
   await browser.run(`document.querySelector('.area[title="small/b.js: 1 module"]').click()`);
   await untilModule("small/b.js");
 });
@@ -311,10 +317,12 @@ shown("a folder of 200 modules is shown as layers of what one module leads to, t
   const page = report(folderOf(FLAT));
   const size = { width: 1400, height: 760, deviceScaleFactor: 1, mobile: false };
   await browser.command("Emulation.setDeviceMetricsOverride", size);
+  await browser.until("return innerWidth === arguments[0] && innerHeight === arguments[1]", size.width, size.height);
   await open(page);
   const bottom = await browser.run(`return document.querySelector(".drawing").getBoundingClientRect().bottom`);
   assert.ok(bottom <= size.height, `the drawing ends at ${bottom}`);
   await browser.command("Emulation.clearDeviceMetricsOverride");
+  await browser.until("return innerWidth !== arguments[0]", size.width);
   await open(page);
   const shownEdges = await browser.run(`return document.querySelectorAll("path[data-from]").length`);
   assert.ok(shownEdges > 10 && shownEdges < 100, String(shownEdges));
@@ -329,5 +337,5 @@ shown("a folder of 200 modules is shown as layers of what one module leads to, t
   await browser.until(`${countColumns} === 3`);
   assert.match(await browser.run("return location.hash"), /-1-1$/);
   await go("#layers-1");
-  await browser.until(`return document.querySelector(".chosen-node")?.getAttribute("aria-label") !== "m0.js"`);
+  await browser.until(`return document.querySelector(".chosen-node")?.getAttribute("aria-label") === "m1.js"`);
 });

@@ -65,6 +65,7 @@ shown("of 20,000 modules the list makes the rows that are seen, and goes to the 
   assert.deepEqual(await texts(".shown"), ["20,000 modules"]);
   await browser.run(`document.querySelector("#filter").focus()`);
   await browser.type(`${KEYS.down}${KEYS.end}`);
+  await browser.until(`return document.activeElement.parentElement.getAttribute("aria-posinset") === "20000"`);
   const last = await browser.run(`return document.activeElement.dataset.module`);
   assert.ok(last !== undefined && (await listed()).length < 150);
   await browser.type(KEYS.enter);

@@ -9,9 +9,13 @@ import { folderOf } from "../run_commands.mjs";
 import { KEYS } from "./browser.mjs";
 import {
   EXAMPLE, browser, exampleReport, hasProgram, items, listed, open, openModule, report, shown, skip, texts, untilModule,
+  untilText,
 } from "./session.mjs";
 
 const example = exampleReport();
+
+/** @param {string} path of a module of the example */
+const readExample = (path) => readFileSync(join(EXAMPLE, path), "utf8");
 
 /** The marks of the open module: each with its kind and the text of its pieces. */
 const marks = () => browser.run(`
@@ -58,9 +62,10 @@ shown("each module has its text, and its specifiers are marked in it", async () 
   assert.deepEqual((await listed()).sort(), Object.keys(MARKS));
   for (const [path, expected] of Object.entries(MARKS)) {
     await openModule(path);
+    await untilText(readExample(path));
     const known = hasProgram ? expected : expected.filter((mark) => !mark.startsWith("jsdoc "));
     assert.deepEqual(await marks(), known, path);
-    assert.deepEqual((await texts("pre code")).join(""), readFileSync(join(EXAMPLE, path), "utf8"));
+    assert.deepEqual((await texts("pre code")).join(""), readExample(path));
   }
 });
 
@@ -107,6 +112,7 @@ shown("clicks lead from the graph to a module, and between marks and rows", asyn
   await open(example);
   await browser.click('.node[aria-label="src/page.tsx"]');
   await untilModule("src/page.tsx");
+  await untilText(readExample("src/page.tsx"));
   await browser.click(`.mark.static`);
   await browser.until(`return document.querySelector("tr.chosen .name")?.textContent === "./format/numbers.js"`);
   await browser.click(`tr[data-row="1"] .place`);
@@ -117,21 +123,25 @@ shown("clicks lead from the graph to a module, and between marks and rows", asyn
   await browser.run("history.back()");
   await untilModule("src/page.tsx");
   await browser.run(`location.hash = ""`);
-  await browser.until(`return document.querySelector("#list-missing li a") !== null`);
+  // The lists are below the graph, which moves them when it is drawn.
+  await browser.until(`return document.querySelector(".drawing svg") !== null`);
   await browser.click("#list-missing li a");
   await untilModule("src/main.ts");
   await browser.until(`return document.querySelector(".mark.chosen")?.textContent === '"./colours.js"'`);
 });
 
-const focused = () => browser.run(`return document.activeElement.title || document.activeElement.getAttribute("aria-label")`);
+/** @param {string} title or label of the element that has the focus then */
+const untilFocused = (title) => browser.until(`
+  return (document.activeElement.title || document.activeElement.getAttribute("aria-label")) === arguments[0];
+`, title);
 
 shown("everything is reached by keyboard", async () => {
   await open(example);
   await browser.type("/");
   await browser.type(`src/format${KEYS.down}${KEYS.down}`);
-  assert.equal(await focused(), "src/format/units.ts");
+  await untilFocused("src/format/units.ts");
   await browser.type(KEYS.up);
-  assert.equal(await focused(), "src/format/numbers.js");
+  await untilFocused("src/format/numbers.js");
   await browser.type(KEYS.enter);
   await untilModule("src/format/numbers.js");
   const chosen = (/** @type {string} */ name) => browser.until(`return document.querySelector("tr.chosen .name")?.textContent === arguments[0]`, name);
@@ -155,7 +165,7 @@ shown("after Enter in the filter the focus is in the module, so that each key do
   await browser.type("no");
   await untilModule("src/forecast.ts");
   await browser.type("/");
-  assert.equal(await focused(), "Filter modules");
+  await untilFocused("Filter modules");
 });
 
 shown("why a module is there is the shortest way from an entry, with the lines", async () => {
@@ -249,6 +259,7 @@ shown("texts and names that are made to break the page are shown as they are", a
   };
   for (const [path, text] of Object.entries(HOSTILE)) {
     await openModule(path, path.replace("\n", "[LF]").replace("\t", "[TAB]").replace("\u202e", "[U+202E]"));
+    await untilText(text);
     assert.equal((await texts("pre code")).join(""), text, path);
     assert.deepEqual(await marks(), expected[path] ?? [`static "./a.js"`], path);
     assert.equal(await strangers(), 0, path);
@@ -275,18 +286,21 @@ shown("a line feed and a tab in a file's name are shown by their names", async (
 shown("what isn't seen in a text is named", async () => {
   await open(report(folderOf(HOSTILE)));
   await openModule("e.js");
+  await untilText(HOSTILE["e.js"]);
   const names = await browser.run(`return [...document.querySelectorAll("pre .control")].map((each) => each.dataset.name)`);
   assert.deepEqual(names, ["BOM", "LS", "U+202E", "U+0007"]);
   assert.equal((await texts(".line")).length, 3);
 });
 
 shown("a syntax error is listed with its place, and marked there", async () => {
-  const folder = folderOf({ "a.ts": "let a = 1;\nlet b = ;\n", "b.ts": Buffer.of(0xff) });
+  const text = "let a = 1;\nlet b = ;\n";
+  const folder = folderOf({ "a.ts": text, "b.ts": Buffer.of(0xff) });
   await open(report(folder, [], 1));
   assert.deepEqual(await items("faults"), [
     "a.ts:2:9 Syntax Expression expected.", "b.ts Input the file is not UTF-8",
   ]);
   await openModule("a.ts");
+  await untilText(text);
   assert.deepEqual(await marks(), ["fault ;"]);
   await openModule("b.ts");
   assert.deepEqual(await texts("pre"), []);
@@ -380,6 +394,7 @@ shown("labels of the graph and of the picture of sizes are readable on what is b
 shown("on paper it is dark on white, without what is clicked, and nothing is cut off", async () => {
   await open(example);
   await openModule("src/main.ts");
+  await untilText(readExample("src/main.ts"));
   const features = [{ name: "prefers-color-scheme", value: "dark" }];
   await browser.command("Emulation.setEmulatedMedia", { media: "print", features });
   const contrasts = await contrastsOf(COLOURS.map((name) => `--${name}`), "#fff");

@@ -128,6 +128,14 @@ export function untilModule(path) {
 }
 
 /**
+ * Waits until the text of the open module is whole: a page adds the lines in several tasks.
+ * @param {string} text
+ */
+export function untilText(text) {
+  return browser.until(`return document.querySelector("pre code")?.textContent === arguments[0]`, text);
+}
+
+/**
  * @param {string} list
  * @returns {Promise<string[]>} the items of a list, each as its text
  */
@@ -159,12 +167,21 @@ export function place() {
 }
 
 /**
+ * Waits until a condition of a drawing's `x`, `y` and `scale`, as `place` returns them, is true.
+ * @param {string} condition
+ * @param {...unknown} args its arguments
+ */
+export function untilPlace(condition, ...args) {
+  return browser.until(`
+    const { a: scale, e: x, f: y } = document.querySelector(".node rect").getScreenCTM();
+    return ${condition};
+  `, ...args);
+}
+
+/**
  * Waits until a drawing has another scale or is at another point.
  * @param {{ x: number, y: number, scale: number }} before
  */
 export function untilMoved({ x, y, scale }) {
-  return browser.until(`
-    const { a, e, f } = document.querySelector(".node rect").getScreenCTM();
-    return String([e, f, a]) !== arguments[0];
-  `, String([x, y, scale]));
+  return untilPlace("String([x, y, scale]) !== arguments[0]", String([x, y, scale]));
 }
