@@ -16,7 +16,7 @@ pub mod write;
 
 pub use error::{Mismatch, ReadError, Step};
 pub use expected::{Expected, Form};
-pub use flat::{Element, Elements, Entries, Members, Node, Tape, TapeFault, View};
+pub use flat::{Element, Elements, Members, Node, Tape, TapeFault, View};
 pub use float::{find_float, has_float};
 pub use json::Writer;
 pub use object::{MemberWriter, ToObject, object_value, write_object};
