@@ -19,7 +19,7 @@ pub use expected::{Expected, Form};
 pub use flat::{Element, Elements, Members, Node, Tape, TapeFault, View};
 pub use float::{find_float, has_float};
 pub use json::Writer;
-pub use object::{MemberWriter, ToObject, object_value, write_object};
+pub use object::{MemberWriter, ToObject};
 pub use object_reader::ObjectReader;
 pub use object_writer::ObjectWriter;
 pub use pointer::{ReferenceToken, push_token};
