@@ -1,13 +1,13 @@
 -- The elements of an array, one after another.
 use Rattle.std.proofs.Common.{◌≡◌, ◌≢◌, ℕ, zero, suc, ◌+◌, ◌-◌, ◌≤◌, Option, Some, None}
-use Rattle.std.proofs.Common.{option_map, arith, refl, sym, ap, ◌∙◌}
+use Rattle.std.proofs.Common.{arith, refl, sym, ap, ◌∙◌}
 use Rattle.serde_json.specs.Data.{Data, Items, no_items, item, depth, items_depth}
 use Rattle.serde_json.specs.Find.{get_item}
-use Rattle.deno_graph_json.specs.Data.{data_of, elements_data, items_data, value_data}
+use Rattle.deno_graph_json.specs.Data.{data_of, elements_data, items_data}
 use Rattle.serde_json.specs.Events.{items_len}
 use Rattle.deno_graph_json.specs.Value.{Value}
 use Rattle.deno_graph_json.specs.Value as flat
-use Rattle.deno_graph_json.specs.View.{count_of, items_left, items_with, value_of}
+use Rattle.deno_graph_json.specs.View.{count_of, items_left, items_with}
 use Rattle.deno_graph_json.specs.declared.flat.Element.{Element}
 use Rattle.deno_graph_json.specs.declared.flat.Elements.{Elements}
 
@@ -40,42 +40,22 @@ pub elements_counted : (elements : Elements) → count_of elements ≡ items_len
 unfolding elements_data items_left
 elements_counted elements = elements.is_counted ∙ same_length (items_left elements)
 
-item_next : (n : ℕ) (v : Value) (vs : flat.Items) → n ≢ 0
-    → flat.nth_item n (flat.item v vs) ≡ flat.nth_item (n - 1) vs
-item_next zero v vs some = absurd (some refl)
-item_next (suc n) v vs some = let fewer : n ≡ suc n - 1 = omega arith in ap (λ k. flat.nth_item k vs) fewer
+item_next : (n : ℕ) (d : Data) (ds : Items) → n ≢ 0 → get_item n (item d ds) ≡ get_item (n - 1) ds
+item_next zero d ds some = absurd (some refl)
+item_next (suc n) d ds some = let fewer : n ≡ suc n - 1 = omega arith in ap (λ k. get_item k ds) fewer
 
 -- the element with an index, after the first of those that are left
 pub nth_next : (n : ℕ) (old new : Elements) (element : Element) → n ≢ 0
     → items_left old ≡ items_with (Some element) (items_left new)
-    → flat.nth_item (n - 1) (items_left new) ≡ flat.nth_item n (items_left old)
+    → get_item (n - 1) (elements_data new) ≡ get_item n (elements_data old)
 nth_next n old new element some is =
-    sym (item_next n (value_of element) (items_left new) some) ∙ ap (flat.nth_item n) (sym is)
+    sym (item_next n (data_of element) (elements_data new) some)
+    ∙ ap (get_item n) (sym (elements_next old new (Some element) is))
 
 pub nth_here : (n : ℕ) (old new : Elements) (element : Element) → n ≡ 0
     → items_left old ≡ items_with (Some element) (items_left new)
-    → Some (value_of element) ≡ flat.nth_item n (items_left old)
-nth_here n old new element none is = rw (none, is) refl
-
-nth_data : (n : ℕ) (vs : flat.Items)
-    → option_map value_data (flat.nth_item n vs) ≡ get_item n (items_data vs)
-unfolding items_data
-nth_data n flat.no_items = refl
-nth_data zero (flat.item v vs) = refl
-nth_data (suc n) (flat.item v vs) = nth_data n vs
-
--- an element that was found, as data
-pub found_data : (r : Option Element) → option_map data_of r ≡ option_map value_data (option_map value_of r)
-unfolding data_of
-found_data None = refl
-found_data (Some e) = refl
-
-pub nth_element : (n : ℕ) (elements : Elements) (r : Option Element)
-    → option_map value_of r ≡ flat.nth_item n (items_left elements)
-    → option_map data_of r ≡ get_item n (elements_data elements)
-unfolding elements_data
-nth_element n elements r is =
-    found_data r ∙ ap (option_map value_data) is ∙ nth_data n (items_left elements)
+    → Some (data_of element) ≡ get_item n (elements_data old)
+nth_here n old new element none is = rw (none, elements_next old new (Some element) is) refl
 
 -- the items from index `number` on
 abbrev pub AreFrom : ℕ → Items → Items → Type 0

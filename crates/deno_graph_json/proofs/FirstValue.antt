@@ -11,10 +11,10 @@ use Rattle.deno_graph_json.specs.Value.{flat_items, flat_members, plain_inside, 
 use Rattle.deno_graph_json.specs.Value.{members_in}
 use Rattle.deno_graph_json.specs.Value.{AreOfValue, AreOfItems, AreOfMembers, value_within}
 use Rattle.deno_graph_json.specs.internal.Nodes.{BeginsValue}
-use Rattle.deno_graph_json.specs.View.{items_left, items_with, members_left, members_with}
+use Rattle.deno_graph_json.specs.View.{items_left, items_with, members_of, members_with}
 use Rattle.deno_graph_json.specs.declared.flat.Element.{Element}
 use Rattle.deno_graph_json.specs.declared.flat.Elements.{Elements}
-use Rattle.deno_graph_json.specs.declared.flat.Entries.{Entries}
+use Rattle.deno_graph_json.specs.declared.flat.Members.{Members as ElementMembers}
 use Rattle.deno_graph_json.specs.declared.flat.Node.{Node}
 use Rattle.deno_graph_json.specs.declared.flat.Node.TheVariants.{
   Null,
@@ -172,8 +172,8 @@ unfolding items_left items_in value_within
 no_element old None is none = ap (λ ns. items_in (map plain ns)) none
 no_element old (Some element) is none = absurd (cc)
 
-pub no_entry : (old : Entries) (r : Option (Bor (List ℕ) × Element)) → r ≡ None → old.nodes.now ≡ []
-    → members_left old ≡ members_with r (members_left old)
-unfolding members_left members_in value_within
+pub no_entry : (old : ElementMembers) (r : Option (Bor (List ℕ) × Element)) → r ≡ None → old.nodes.now ≡ []
+    → members_of old ≡ members_with r (members_of old)
+unfolding members_of members_in value_within
 no_entry old None is none = ap (λ ns. members_in (map plain ns)) none
 no_entry old (Some found) is none = absurd (cc)

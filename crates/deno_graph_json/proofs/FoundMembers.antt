@@ -2,18 +2,16 @@
 use Rattle.std.proofs.Common.{◌≡◌, ℕ, zero, suc, ◌+◌, ◌<◌, ◌≤◌, true}
 use Rattle.std.proofs.Common.{false, List, [], ◌∷◌, ◌++◌, length}
 use Rattle.std.proofs.Common.{take, drop, replicate, get_or, set, Option}
-use Rattle.std.proofs.Common.{Some, None, option_map, Bor, add-one}
+use Rattle.std.proofs.Common.{Some, None, Bor, add-one}
 use Rattle.std.proofs.Common.{drop-cons, take-suc, append_assoc, arith, refl, sym, ap, ◌∙◌}
 use Rattle.std.specs.Str.{bytes_eq}
 use Rattle.std.proofs.lemmas.List.{drop_all, drop-set-lt, take-append-drop, take_more_set}
-use Rattle.deno_graph_json.specs.Data.{members_data}
+use Rattle.serde_json.specs.Data.{Members, no_members, put}
+use Rattle.deno_graph_json.specs.Data.{data_of}
 use Rattle.deno_graph_json.specs.Found.{AreFound}
-use Rattle.deno_graph_json.specs.Value.{Value, Members, no_members, member, last_named, later_or}
-use Rattle.deno_graph_json.specs.View.{value_of, members_of}
 use Rattle.deno_graph_json.specs.internal.Found.{after_member}
 use Rattle.deno_graph_json.specs.declared.flat.Element.{Element}
-use Rattle.deno_graph_json.specs.declared.flat.Members.{Members as ElementMembers}
-use Rattle.deno_graph_json.proofs.LastMembers.{chosen_later, last_member}
+use Rattle.deno_graph_json.proofs.LastMembers.{found_next}
 
 abbrev Name : Type 0
 Name = Bor (List ℕ)
@@ -70,42 +68,21 @@ module _ (names : List Name) (key : List ℕ) (value : Element) where
       ∙ none_after (drop index names) ∙ sym (drop_all index elements past))
       ∙ take-append-drop index elements
 
--- ---- the elements so far, while members are left
+-- ---- the elements of the members that are put
 
-abbrev pub AreSoFar : List Name → Members → Members → List (Option Element) → Type 0
-AreSoFar [] left all elements = Unit {0}
-AreSoFar (name ∷ names) left all [] = Unit {0}
-AreSoFar (name ∷ names) left all (element ∷ elements) =
-    (later_or (last_named name.now left) (option_map value_of element) ≡ last_named name.now all)
-    × AreSoFar names left all elements
-
-later_none : (later : Option Value) → later_or later None ≡ later
-later_none None = refl
-later_none (Some v) = refl
-
--- no element is set, and all members are left
-pub so_far_begin : (names : List Name) (all : Members) (count : ℕ)
-    → AreSoFar names all all (replicate count None)
-so_far_begin [] all count = tt
-so_far_begin (name ∷ names) all zero = tt
-so_far_begin (name ∷ names) all (suc count) =
-    (later_none (last_named name.now all), so_far_begin names all count)
+-- no element is set
+pub none_found : (names : List Name) (count : ℕ) → AreFound names no_members (replicate count None)
+none_found [] count = tt
+none_found (name ∷ names) zero = tt
+none_found (name ∷ names) (suc count) = (refl, none_found names count)
 
 -- after one more member
-pub so_far_next : (names : List Name) (key : List ℕ) (value : Element) (left all : Members)
-    (elements : List (Option Element)) → AreSoFar names (member key (value_of value) left) all elements
-    → AreSoFar names left all (after_member names key value elements)
-so_far_next [] key value left all elements h = tt
-so_far_next (name ∷ names) key value left all [] h = tt
-so_far_next (name ∷ names) key value left all (element ∷ elements) h = (
-  chosen_later (bytes_eq key name.now) (last_named name.now left) value element ∙ h.0,
-  so_far_next names key value left all elements h.1,
+pub found_more : (names : List Name) (key : List ℕ) (e : Element) (passed : Members)
+    (elements : List (Option Element)) → AreFound names passed elements
+    → AreFound names (put key (data_of e) passed) (after_member names key e elements)
+found_more [] key e passed elements h = tt
+found_more (name ∷ names) key e passed [] h = tt
+found_more (name ∷ names) key e passed (element ∷ elements) h = (
+  found_next name.now key e element passed (bytes_eq key name.now) refl h.0,
+  found_more names key e passed elements h.1,
 )
-
--- no member is left
-pub so_far_end : (names : List Name) (members : ElementMembers) (elements : List (Option Element))
-    → AreSoFar names no_members (members_of members) elements → AreFound names (members_data members) elements
-so_far_end [] members elements h = tt
-so_far_end (name ∷ names) members [] h = tt
-so_far_end (name ∷ names) members (element ∷ elements) h =
-    (last_member name.now members element h.0, so_far_end names members elements h.1)

@@ -1,10 +1,9 @@
--- A JSON value (RFC 8259) as a flat list keeps it, and how to look into the value.
-use Rattle.std.specs.Prelude.{◌≡◌, ℕ, zero, suc, ◌+◌, ◌*◌, Bool, true, false, if◌then◌else◌}
-use Rattle.std.specs.Prelude.{List, [], ◌∷◌, ◌++◌, length, take, drop, Option, Some, None, unwrap_or}
-use Rattle.std.specs.Str.{bytes_eq}
+-- A JSON value (RFC 8259) as a flat list keeps it.
+use Rattle.std.specs.Prelude.{◌≡◌, ℕ, zero, suc, ◌+◌, ◌*◌, Bool}
+use Rattle.std.specs.Prelude.{List, [], ◌∷◌, ◌++◌, length, take, drop, unwrap_or}
 use Rattle.json.specs.Json.{Json}
 use Rattle.json.specs.Json as json
-use Rattle.serde_json.specs.Data.{Num, unsigned, negative, float}
+use Rattle.serde_json.specs.Data.{Num, unsigned}
 use Rattle.serde_json.specs.Read.{number_of}
 use Rattle.deno_graph_json.specs.Flat.{PlainNode}
 use Rattle.deno_graph_json.specs.Flat as flat
@@ -136,19 +135,3 @@ AreOfItems nodes = flat_items (items_in nodes) ≡ nodes
 
 abbrev pub AreOfMembers : List PlainNode → Type 0
 AreOfMembers nodes = flat_members (members_in nodes) ≡ nodes
-
--- ---- looking into a value
-
-abbrev pub nth_item : ℕ → Items → Option Value
-nth_item n no_items = None
-nth_item zero (item v vs) = Some v
-nth_item (suc n) (item v vs) = nth_item n vs
-
-abbrev pub later_or : Option Value → Option Value → Option Value
-later_or None earlier = earlier
-later_or (Some v) earlier = Some v
-
--- the value of the last member of this name
-abbrev pub last_named : List ℕ → Members → Option Value
-last_named name no_members = None
-last_named name (member k v ms) = later_or (last_named name ms) (if bytes_eq k name then Some v else None)

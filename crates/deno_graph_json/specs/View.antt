@@ -10,7 +10,6 @@ use Rattle.json.specs.Json.{Json}
 use Rattle.serde_json.specs.Data.{unsigned, negative, float}
 use Rattle.deno_graph_json.specs.declared.flat.Element.{Element}
 use Rattle.deno_graph_json.specs.declared.flat.Elements.{Elements}
-use Rattle.deno_graph_json.specs.declared.flat.Entries.{Entries}
 use Rattle.deno_graph_json.specs.declared.flat.Members.{Members}
 use Rattle.deno_graph_json.specs.declared.flat.Tape.{Tape}
 use Rattle.deno_graph_json.specs.declared.flat.view.View.{View}
@@ -31,16 +30,13 @@ items_left elements = items_in (map plain elements.nodes.now)
 abbrev pub count_of : Elements → ℕ
 count_of elements = elements.count
 
+-- the members that are left
 unfoldable pub members_of : Members → kept.Members
 members_of members = members_in (map plain members.nodes.now)
 
--- the members that are left
-unfoldable pub members_left : Entries → kept.Members
-members_left entries = members_in (map plain entries.nodes.now)
-
 -- an upper bound of the number of the members that are left
-abbrev pub left_of : Entries → ℕ
-left_of entries = length entries.nodes.now
+abbrev pub left_of : Members → ℕ
+left_of members = length members.nodes.now
 
 -- the element that was found, if there was one, followed by those that are left
 abbrev pub items_with : Option Element → Items → Items

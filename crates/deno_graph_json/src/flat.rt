@@ -95,9 +95,7 @@ pub struct Element<'a> {
 }
 
 impl<'a> Element<'a> {
-    ghost use Rattle.std.specs.Prelude.{IfSome, is_some, option_and_then, option_map, false};
-    ghost use Rattle.deno_graph_json.specs.Value.{array, object};
-    ghost use Rattle.deno_graph_json.specs.View.{value_of, items_left, members_of};
+    ghost use Rattle.std.specs.Prelude.{is_some, option_and_then, option_map, false};
     ghost use Rattle.deno_graph_json.specs.Data.{data_of, elements_data, members_data};
     ghost use Rattle.deno_graph_json.specs.Read.Partial.{as_usize, reads_pair};
     ghost use Rattle.serde_json.specs.Find.{as_array, as_null, as_number, as_object, as_str, as_u64};
@@ -156,7 +154,6 @@ impl<'a> Element<'a> {
     /// Returns the elements if the value is an array.
     #[inline(always)]
     pub fn elements(self) -> Option<Elements<'a>>
-        ensures value { IfSome result (λ found. value_of self.entry ≡ array (items_left found)) }
         ensures json { option_map elements_data result ≡ as_array (data_of self.entry) }
     {
         match self.view() {
@@ -168,7 +165,6 @@ impl<'a> Element<'a> {
     /// Returns the members if the value is an object.
     #[inline(always)]
     pub fn members(self) -> Option<Members<'a>>
-        ensures value { IfSome result (λ found. value_of self.entry ≡ object (members_of found)) }
         ensures json { option_map members_data result ≡ as_object (data_of self.entry) }
     {
         match self.view() {
@@ -193,8 +189,6 @@ pub struct Elements<'a> {
 impl<'a> Elements<'a> {
     ghost use Rattle.std.specs.Prelude.{option_map};
     ghost use Rattle.deno_graph_json.specs.Data.{data_of, elements_data};
-    ghost use Rattle.deno_graph_json.specs.Value.{nth_item};
-    ghost use Rattle.deno_graph_json.specs.View.{value_of, items_left};
     ghost use Rattle.serde_json.specs.Events.{items_len};
     ghost use Rattle.serde_json.specs.Find.{get_item};
 
@@ -208,7 +202,6 @@ impl<'a> Elements<'a> {
     /// Returns the element with this index among the elements that are left, counted from zero. Takes
     /// time for each element before it.
     pub fn get(self, number: usize) -> Option<Element<'a>>
-        ensures value { option_map value_of result ≡ nth_item number (items_left self.entry) }
         ensures json { option_map data_of result ≡ get_item number (elements_data self.entry) }
     {
         let mut left = number;
@@ -240,7 +233,8 @@ impl<'a> Iterator for Elements<'a> {
     }
 }
 
-/// The members of an object.
+/// An iterator over the names and values of an object's members, or of those that are left, in the order
+/// of the text. A copy starts where the original is.
 #[derive(Clone, Copy)]
 pub struct Members<'a> {
     /// The nodes of the members.
@@ -251,49 +245,31 @@ pub struct Members<'a> {
 impl<'a> Members<'a> {
     ghost use Rattle.std.specs.Prelude.{option_map};
     ghost use Rattle.deno_graph_json.specs.Data.{data_of, members_data};
-    ghost use Rattle.deno_graph_json.specs.Value.{last_named};
-    ghost use Rattle.deno_graph_json.specs.View.{value_of, members_of, members_left};
     ghost use Rattle.serde_json.specs.Find.{get_member};
 
     /// Returns the value of the last member with this name. Compares the name of each member.
     pub fn get(self, name: &str) -> Option<Element<'a>>
-        ensures value { option_map value_of result ≡ last_named name.now (members_of self.entry) }
         ensures json { option_map data_of result ≡ get_member name.now (members_data self.entry) }
     {
         let mut found = None;
-        for (key, value) in self.entries() {
+        for (key, value) in self {
             if key == name {
                 found = Some(value);
             }
         }
         found
     }
-
-    /// Iterates over the names and values of the members, in the order of the text.
-    pub fn entries(self) -> Entries<'a>
-        ensures { members_left result ≡ members_of self.entry }
-    {
-        Entries { nodes: self.nodes }
-    }
 }
 
-/// An iterator over the members of an object, or over those that are left.
-#[derive(Drop)]
-pub struct Entries<'a> {
-    /// The nodes of the members.
-    nodes: &'a [Node<'a>],
-    ghost of_members: { AreOfMembers (map plain nodes.now) },
-}
-
-impl<'a> Iterator for Entries<'a> {
+impl<'a> Iterator for Members<'a> {
     ghost use Rattle.std.specs.Iterator.{at_most};
-    ghost use Rattle.deno_graph_json.specs.View.{left_of, members_left, members_with};
+    ghost use Rattle.deno_graph_json.specs.View.{left_of, members_of, members_with};
 
     type Item = (&'a str, Element<'a>);
 
-    ghost next_gives = { λ old found new. members_left old ≡ members_with found (members_left new) };
+    ghost next_gives = { λ old found new. members_of old ≡ members_with found (members_of new) };
 
-    ghost remaining = { λ entries. at_most (left_of entries) };
+    ghost remaining = { λ members. at_most (left_of members) };
 
     fn next(&mut self) -> Option<(&'a str, Element<'a>)> {
         let (key, nodes) = self.nodes.split_first()?;
@@ -301,7 +277,7 @@ impl<'a> Iterator for Entries<'a> {
             return None;
         };
         let (value, nodes) = split_value(nodes)?;
-        *self = Entries { nodes };
+        *self = Members { nodes };
         Some((*name, value))
     }
 }

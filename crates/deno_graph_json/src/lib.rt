@@ -16,10 +16,10 @@ pub mod write;
 
 pub use error::{Mismatch, ReadError, Step};
 pub use expected::{Expected, Form};
-pub use flat::{Element, Elements, Entries, Members, Node, Tape, TapeError, View};
+pub use flat::{Element, Elements, Members, Node, Tape, TapeError, View};
 pub use float::{find_float, has_float};
 pub use json::Writer;
-pub use object::{MemberWriter, ToObject, object_value, write_object};
+pub use object::{MemberWriter, ToObject};
 pub use object_reader::ObjectReader;
 pub use object_writer::ObjectWriter;
 pub use pointer::{ReferenceToken, push_token};

@@ -1,13 +1,11 @@
 //! Types that are written as objects, member by member.
 
-ghost use Rattle.std.specs.Prelude.{◌≡◌, false, All, IfOk, IfSome, OnOk, option_map, Some, true};
+ghost use Rattle.std.specs.Prelude.{◌≡◌, false, All, IfSome, OnOk, option_map, Some, true};
 ghost use Rattle.serde_json.specs.Data.{string};
-ghost use Rattle.serde_json.specs.View.{view};
 ghost use Rattle.deno_graph_base.specs.TextMap.{IsAscending};
 ghost use Rattle.deno_graph_json.specs.Ascending.{has_ascending_keys};
 ghost use Rattle.deno_graph_json.specs.internal.MapEntries.{ascending-map};
 ghost use Rattle.deno_graph_json.specs.Object.{Entry, array_of, if_any, if_true, map_entries, object_of, unless, with_entries, with_present};
-ghost use Rattle.deno_graph_json.specs.Text.{text_tokens, with_tokens, text_in};
 
 use crate::object_writer::ObjectWriter;
 use crate::write::ToJson;
@@ -88,7 +86,7 @@ pub trait MemberWriter {
     }
 }
 
-/// A type whose JSON is an object.
+/// A type whose JSON is an object. Each such type has `ToJson`.
 pub trait ToObject {
     ghost use Rattle.std.specs.Prelude.{List};
 
@@ -107,25 +105,22 @@ pub trait ToObject {
     ghost ascends: { (x : Self) → is_held x → has_ascending_keys (entries x) ≡ true };
 }
 
-/// Returns the object as a `Value`. The only error is that an allocation fails.
-pub fn object_value<T: ToObject>(alloc: Global, value: &T) -> Result<Value, AllocError>
-    ensures form { IfOk result (λ object. view object ≡ object_of (T.entries value.now)) }
-    ensures held { OnOk result (T.is_held value.now) }
-{
-    let mut object = ObjectWriter::new(alloc);
-    value.put_members(&mut object)?;
-    Ok(object.into_value())
-}
+impl<T: ToObject> ToJson for T {
+    ghost json = { λ x. object_of (T.entries x) };
 
-/// Appends the object to a text. The only error is that an allocation fails.
-pub fn write_object<T: ToObject>(value: &T, out: &mut Writer) -> Result<(), AllocError>
-    ensures text { OnOk result
-        (text_in out.new ≡ with_tokens (text_tokens (object_of (T.entries value.now))) (text_in out.old)) }
-    ensures held { OnOk result (T.is_held value.now) }
-{
-    out.begin_object()?;
-    value.put_members(out)?;
-    out.end_object()
+    ghost is_held = { T.is_held };
+
+    fn to_value(&self, alloc: Global) -> Result<Value, AllocError> {
+        let mut object = ObjectWriter::new(alloc);
+        self.put_members(&mut object)?;
+        Ok(object.into_value())
+    }
+
+    fn write_text(&self, out: &mut Writer) -> Result<(), AllocError> {
+        out.begin_object()?;
+        self.put_members(out)?;
+        out.end_object()
+    }
 }
 
 impl<T: ToJson> ToObject for TextMap<T> {

@@ -1,6 +1,6 @@
 //! Writing the members of an object, to a value and to text.
 
-ghost use Rattle.std.specs.Prelude.{◌≡◌, OnErr, OnOk};
+ghost use Rattle.std.specs.Prelude.{◌≡◌};
 ghost use Rattle.serde_json.specs.Data.{object, no_members, put as put_at};
 ghost use Rattle.serde_json.specs.View.{view};
 ghost use Rattle.deno_graph_json.specs.ObjectWriter.{written};

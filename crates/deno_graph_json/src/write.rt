@@ -5,12 +5,10 @@ ghost use Rattle.json.specs.Print.{print};
 ghost use Rattle.serde_json.specs.Data.{boolean, string};
 ghost use Rattle.serde_json.specs.View.{view};
 ghost use Rattle.serde_json.specs.Written.{compact_text};
-ghost use Rattle.deno_graph_base.specs.TextMap.{IsAscending};
-ghost use Rattle.deno_graph_json.specs.Object.{array_of, map_object_of};
+ghost use Rattle.deno_graph_json.specs.Object.{array_of};
 ghost use Rattle.deno_graph_json.specs.Text.{text_tokens, with_tokens, text_in};
 
-use crate::object::{object_value, write_object};
-use deno_graph_base::values::{Items, Text, TextMap};
+use deno_graph_base::values::{Items, Text};
 use json::Writer;
 use serde_json::Value;
 use std::alloc::{AllocError, Global};
@@ -106,19 +104,5 @@ impl<T: ToJson> ToJson for Items<T> {
             item.write_text(out)?;
         }
         out.end_array()
-    }
-}
-
-impl<T: ToJson> ToJson for TextMap<T> {
-    ghost json = { map_object_of T.json };
-
-    ghost is_held = { λ entries. IsAscending entries × All (λ e. T.is_held e.1) entries };
-
-    fn to_value(&self, alloc: Global) -> Result<Value, AllocError> {
-        object_value(alloc, self)
-    }
-
-    fn write_text(&self, out: &mut Writer) -> Result<(), AllocError> {
-        write_object(self, out)
     }
 }

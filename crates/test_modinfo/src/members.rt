@@ -142,7 +142,7 @@ fn assert_named(rt: &impl Abort, role: Role<'_>, object: Element<'_>) {
     let Some(members) = object.members() else {
         panic!(rt; "{role:?} is no object");
     };
-    for (name, _) in members.entries() {
+    for (name, _) in members {
         let is_named = member_names(role).iter().any(|member| *member == name);
         assert!(rt; is_named, "{role:?} has {name}");
     }

@@ -3,7 +3,7 @@ ghost use Rattle.serde_json.specs.Data.{string};
 ghost use Rattle.serde_json.specs.Find.{get_member};
 ghost use Rattle.deno_graph_json.specs.Ascending.{has_ascending_keys};
 ghost use Rattle.deno_graph_info.specs.DynamicDependency.{is_expr};
-ghost use Rattle.deno_graph_info.specs.Json.DynamicArgument.{json_of_argument, json_of_part, reads_argument, reads_part, part_entries, part_of_type};
+ghost use Rattle.deno_graph_info.specs.Json.DynamicArgument.{json_of_argument, reads_argument, reads_part, part_entries, part_of_type};
 ghost use Rattle.deno_graph_json.specs.ObjectReader.{readable, value_of};
 ghost use Rattle.deno_graph_json.specs.Read.Result.{IsReadResult};
 
@@ -11,7 +11,7 @@ use deno_graph_base::values::{Items, Text, TryClone};
 use deno_graph_json::read::read_items;
 use deno_graph_json::{
     Element, Expected, Form, FromJson, MemberWriter, ObjectReader, ReadError, ToJson, ToObject,
-    View, Writer, object_value, write_object,
+    View, Writer,
 };
 use serde_json::Value;
 use std::alloc::{AllocError, Global};
@@ -119,18 +119,6 @@ impl TryClone for DynamicTemplatePart {
             }),
             DynamicTemplatePart::Expr => Ok(DynamicTemplatePart::Expr),
         }
-    }
-}
-
-impl ToJson for DynamicTemplatePart {
-    ghost json = { json_of_part };
-
-    fn to_value(&self, alloc: Global) -> Result<Value, AllocError> {
-        object_value(alloc, self)
-    }
-
-    fn write_text(&self, out: &mut Writer) -> Result<(), AllocError> {
-        write_object(self, out)
     }
 }
 

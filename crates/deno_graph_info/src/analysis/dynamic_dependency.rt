@@ -1,7 +1,7 @@
 ghost use Rattle.std.specs.Prelude.{◌≡◌, refl};
 ghost use Rattle.serde_json.specs.Data.{string};
 ghost use Rattle.deno_graph_info.specs.DynamicDependency.{is_plain_import};
-ghost use Rattle.deno_graph_info.specs.Json.DynamicDependency.{dynamic_entries, dynamic_kind_name, dynamic_kind_named, json_of_dynamic, reads_dynamic, reads_dynamic_kind, IsHeldDynamic};
+ghost use Rattle.deno_graph_info.specs.Json.DynamicDependency.{dynamic_entries, dynamic_kind_name, dynamic_kind_named, reads_dynamic, reads_dynamic_kind, IsHeldDynamic};
 ghost use Rattle.deno_graph_json.specs.ObjectReader.{readable, value_of};
 ghost use Rattle.deno_graph_json.specs.Read.Result.{IsReadResult};
 
@@ -13,7 +13,7 @@ use deno_graph_base::values::TryClone;
 use deno_graph_json::read::read_str;
 use deno_graph_json::{
     Element, Expected, Form, FromJson, MemberWriter, ObjectReader, ReadError, ToJson, ToObject,
-    Writer, object_value, write_object,
+    Writer,
 };
 use serde_json::Value;
 use std::alloc::{AllocError, Global};
@@ -133,20 +133,6 @@ impl TryClone for DynamicDependencyDescriptor {
             argument_range: self.argument_range,
             import_attributes: self.import_attributes.try_clone(alloc)?,
         })
-    }
-}
-
-impl ToJson for DynamicDependencyDescriptor {
-    ghost json = { json_of_dynamic };
-
-    ghost is_held = { IsHeldDynamic };
-
-    fn to_value(&self, alloc: Global) -> Result<Value, AllocError> {
-        object_value(alloc, self)
-    }
-
-    fn write_text(&self, out: &mut Writer) -> Result<(), AllocError> {
-        write_object(self, out)
     }
 }
 

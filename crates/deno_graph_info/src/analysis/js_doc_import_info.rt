@@ -1,14 +1,10 @@
 ghost use Rattle.std.specs.Prelude.{refl};
-ghost use Rattle.deno_graph_info.specs.Json.JsDocImportInfo.{js_doc_import_entries, json_of_js_doc_import, reads_js_doc_import, IsHeldJsDocImport};
+ghost use Rattle.deno_graph_info.specs.Json.JsDocImportInfo.{js_doc_import_entries, reads_js_doc_import, IsHeldJsDocImport};
 
 use crate::analysis::SpecifierWithRange;
 use crate::analysis::specifier_with_mode::{put_specifier_with_mode, read_specifier_with_mode};
 use deno_graph_base::values::{TryClone, TypeScriptTypesResolutionMode};
-use deno_graph_json::{
-    Element, FromJson, MemberWriter, ObjectReader, ReadError, ToJson, ToObject, Writer,
-    object_value, write_object,
-};
-use serde_json::Value;
+use deno_graph_json::{Element, FromJson, MemberWriter, ObjectReader, ReadError, ToObject};
 use std::alloc::{AllocError, Global};
 
 /// An import in a JSDoc comment.
@@ -25,20 +21,6 @@ impl TryClone for JsDocImportInfo {
             specifier: self.specifier.try_clone(alloc)?,
             resolution_mode: self.resolution_mode,
         })
-    }
-}
-
-impl ToJson for JsDocImportInfo {
-    ghost json = { json_of_js_doc_import };
-
-    ghost is_held = { IsHeldJsDocImport };
-
-    fn to_value(&self, alloc: Global) -> Result<Value, AllocError> {
-        object_value(alloc, self)
-    }
-
-    fn write_text(&self, out: &mut Writer) -> Result<(), AllocError> {
-        write_object(self, out)
     }
 }
 

@@ -10,8 +10,8 @@ use crate::analysis::type_script_reference::TypeScriptReference;
 use crate::analysis::{DependencyDescriptor, SpecifierWithRange};
 use deno_graph_base::values::{Items, TryClone};
 use deno_graph_json::{
-    Element, FromJson, MemberWriter, ObjectReader, ReadError, Tape, ToJson, ToObject, Writer,
-    find_float, has_float, object_value, text_of, write_object,
+    Element, FromJson, MemberWriter, ObjectReader, ReadError, Tape, ToJson, ToObject, find_float,
+    has_float, text_of,
 };
 use serde_json::Value;
 use std::alloc::{AllocError, Global};
@@ -103,7 +103,7 @@ impl ModuleInfo {
         ensures read_back { IfOk result (λ value. reads_info (view value) ≡ Some self.now) }
         ensures no_float { IfOk result (λ value. holds_float (view value) ≡ false) }
     {
-        object_value(alloc, self)
+        ToJson::to_value(self, alloc)
     }
 
     /// Returns the JSON as compact text, with the keys of each object ascending: the text that
@@ -134,20 +134,6 @@ impl TryClone for ModuleInfo {
             jsdoc_imports: self.jsdoc_imports.try_clone(alloc)?,
             source_map_url: self.source_map_url.try_clone(alloc)?,
         })
-    }
-}
-
-impl ToJson for ModuleInfo {
-    ghost json = { json_of_info };
-
-    ghost is_held = { IsHeldInfo };
-
-    fn to_value(&self, alloc: Global) -> Result<Value, AllocError> {
-        object_value(alloc, self)
-    }
-
-    fn write_text(&self, out: &mut Writer) -> Result<(), AllocError> {
-        write_object(self, out)
     }
 }
 

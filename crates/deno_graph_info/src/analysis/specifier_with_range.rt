@@ -1,15 +1,11 @@
 ghost use Rattle.std.specs.Prelude.{refl};
-ghost use Rattle.deno_graph_info.specs.Json.SpecifierWithRange.{json_of_specifier, reads_specifier, specifier_at, specifier_entries, specifier_of, IsHeldSpecifier};
+ghost use Rattle.deno_graph_info.specs.Json.SpecifierWithRange.{reads_specifier, specifier_at, specifier_entries, specifier_of, IsHeldSpecifier};
 ghost use Rattle.deno_graph_json.specs.ObjectReader.{readable, value_of};
 ghost use Rattle.deno_graph_json.specs.Read.Result.{IsReadResult};
 
 use deno_graph_base::text::PositionRange;
 use deno_graph_base::values::{Text, TryClone};
-use deno_graph_json::{
-    Element, FromJson, MemberWriter, ObjectReader, ReadError, ToJson, ToObject, Writer,
-    object_value, write_object,
-};
-use serde_json::Value;
+use deno_graph_json::{Element, FromJson, MemberWriter, ObjectReader, ReadError, ToObject};
 use std::alloc::{AllocError, Global};
 
 /// A specifier, and its range in the source.
@@ -26,20 +22,6 @@ impl TryClone for SpecifierWithRange {
             text: self.text.try_clone(alloc)?,
             range: self.range,
         })
-    }
-}
-
-impl ToJson for SpecifierWithRange {
-    ghost json = { json_of_specifier };
-
-    ghost is_held = { IsHeldSpecifier };
-
-    fn to_value(&self, alloc: Global) -> Result<Value, AllocError> {
-        object_value(alloc, self)
-    }
-
-    fn write_text(&self, out: &mut Writer) -> Result<(), AllocError> {
-        write_object(self, out)
     }
 }
 

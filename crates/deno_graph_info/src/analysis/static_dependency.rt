@@ -1,6 +1,6 @@
 ghost use Rattle.std.specs.Prelude.{◌≡◌, refl};
 ghost use Rattle.serde_json.specs.Data.{string};
-ghost use Rattle.deno_graph_info.specs.Json.StaticDependency.{static_entries, static_kind_name, static_kind_named, json_of_static, reads_static, reads_static_kind, IsHeldStatic};
+ghost use Rattle.deno_graph_info.specs.Json.StaticDependency.{static_entries, static_kind_name, static_kind_named, reads_static, reads_static_kind, IsHeldStatic};
 ghost use Rattle.deno_graph_json.specs.ObjectReader.{readable, value_of};
 ghost use Rattle.deno_graph_json.specs.Read.Result.{IsReadResult};
 
@@ -11,7 +11,7 @@ use deno_graph_base::values::{Text, TryClone};
 use deno_graph_json::read::read_str;
 use deno_graph_json::{
     Element, Expected, Form, FromJson, MemberWriter, ObjectReader, ReadError, ToJson, ToObject,
-    Writer, object_value, write_object,
+    Writer,
 };
 use serde_json::Value;
 use std::alloc::{AllocError, Global};
@@ -141,20 +141,6 @@ impl TryClone for StaticDependencyDescriptor {
             is_side_effect: self.is_side_effect,
             import_attributes: self.import_attributes.try_clone(alloc)?,
         })
-    }
-}
-
-impl ToJson for StaticDependencyDescriptor {
-    ghost json = { json_of_static };
-
-    ghost is_held = { IsHeldStatic };
-
-    fn to_value(&self, alloc: Global) -> Result<Value, AllocError> {
-        object_value(alloc, self)
-    }
-
-    fn write_text(&self, out: &mut Writer) -> Result<(), AllocError> {
-        write_object(self, out)
     }
 }
 

@@ -4,16 +4,14 @@ ghost use Rattle.serde_json.specs.Find.{get_member};
 ghost use Rattle.deno_graph_json.specs.Ascending.{has_ascending_keys};
 ghost use Rattle.deno_graph_json.specs.ObjectReader.{readable, value_of};
 ghost use Rattle.deno_graph_json.specs.Read.Result.{IsReadResult};
-ghost use Rattle.deno_graph_info.specs.Json.TypeScriptReference.{json_of_reference, reads_reference, reference_entries, reference_of_type, reference_to_types, IsHeldReference};
+ghost use Rattle.deno_graph_info.specs.Json.TypeScriptReference.{reads_reference, reference_entries, reference_of_type, reference_to_types, IsHeldReference};
 
 use crate::analysis::specifier_with_mode::{put_specifier_with_mode, read_specifier_with_mode};
 use crate::analysis::specifier_with_range::{SpecifierWithRange, read_specifier};
 use deno_graph_base::values::{TryClone, TypeScriptTypesResolutionMode};
 use deno_graph_json::{
-    Element, Expected, FromJson, MemberWriter, ObjectReader, ReadError, ToJson, ToObject, Writer,
-    object_value, write_object,
+    Element, Expected, FromJson, MemberWriter, ObjectReader, ReadError, ToObject,
 };
-use serde_json::Value;
 use std::alloc::{AllocError, Global};
 
 /// A triple-slash reference.
@@ -43,20 +41,6 @@ impl TryClone for TypeScriptReference {
                 resolution_mode: *resolution_mode,
             }),
         }
-    }
-}
-
-impl ToJson for TypeScriptReference {
-    ghost json = { json_of_reference };
-
-    ghost is_held = { IsHeldReference };
-
-    fn to_value(&self, alloc: Global) -> Result<Value, AllocError> {
-        object_value(alloc, self)
-    }
-
-    fn write_text(&self, out: &mut Writer) -> Result<(), AllocError> {
-        write_object(self, out)
     }
 }
 

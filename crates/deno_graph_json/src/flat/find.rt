@@ -16,7 +16,7 @@ impl<'a> Members<'a> {
         ensures found { AreFound names.now (members_data self.entry) found.new }
     {
         found.fill(None);
-        for (key, value) in self.entries() {
+        for (key, value) in self {
             set_named(names, key, value, found);
         }
     }

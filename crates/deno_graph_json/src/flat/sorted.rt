@@ -15,7 +15,7 @@ impl<'a> Members<'a> {
         ensures ordered { IfOk result (λ found. IsAscending found) }
     {
         let mut found = TextMap::new(alloc);
-        for (name, value) in self.entries() {
+        for (name, value) in self {
             drop(found.insert(Text::from_str(alloc, name)?, value)?);
         }
         Ok(found)
@@ -26,7 +26,7 @@ impl<'a> Members<'a> {
         ensures { result ≡ (members_len (members_data self.entry) == 1) }
     {
         let mut first = None;
-        for (name, _) in self.entries() {
+        for (name, _) in self {
             match first {
                 None => first = Some(name),
                 Some(first) if first == name => {}

@@ -99,7 +99,7 @@ impl<'a> Survey<'a> {
         let Some(members) = value.members() else {
             return Ok(());
         };
-        for (name, _) in members.entries() {
+        for (name, _) in members {
             if !is_read(role, name) {
                 self.warn_at(name, UNREAD)?;
             }

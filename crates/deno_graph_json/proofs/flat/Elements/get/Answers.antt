@@ -1,7 +1,6 @@
-use Rattle.std.proofs.Common.{◌≡◌, Some, None, sym, ap, ◌∙◌}
-use Rattle.deno_graph_json.specs.Value.{nth_item}
-use Rattle.deno_graph_json.specs.View.{value_of, items_left}
-use Rattle.deno_graph_json.proofs.ArrayElements.{nth_element, nth_here, nth_next}
+use Rattle.std.proofs.Common.{None, sym, ap, ◌∙◌}
+use Rattle.serde_json.specs.Find.{get_item}
+use Rattle.deno_graph_json.proofs.ArrayElements.{elements_next, nth_here, nth_next}
 use Rattle.deno_graph_json.proofs.flat.Elements.get.Goals as goal
 
 pub loop-element-preserved : goal.loop-element-preserved
@@ -17,15 +16,14 @@ loop-element-preserved c =
 pub returns-then-left-eq0 : goal.returns-then-left-eq0
 returns-then-left-eq0 c =
     let left = c.loop-element in
-    let is : Some (value_of c.in-Some.element) ≡ nth_item c.args.number (items_left c.args.self) =
-    nth_here left.left left.element-iterator c.next.new.self c.in-Some.element c.if-left-eq0.true
-    c.in-Some.ensures.steps
-    ∙ left.invariant.2 in
-    record { value = is; json = nth_element c.args.number c.args.self (Some c.in-Some.element) is }
+    record {
+      json = nth_here left.left left.element-iterator c.next.new.self c.in-Some.element c.if-left-eq0.true
+          c.in-Some.ensures.steps
+          ∙ left.invariant.2;
+    }
 
-pub returns-clause-value : goal.returns-clause-value
-returns-clause-value c =
-    ap (nth_item c.loop-element.left) (sym c.in-None.ensures.steps) ∙ c.loop-element.invariant.2
-
-pub returns-clause-json : goal.returns-clause-json
-returns-clause-json c = nth_element c.args.number c.args.self None (returns-clause-value c)
+pub returns : goal.returns
+returns c =
+    let left = c.loop-element in
+    let none = elements_next left.element-iterator c.next.new.self None c.in-None.ensures.steps in
+    record { json = ap (get_item left.left) (sym none) ∙ left.invariant.2 }

@@ -1,9 +1,9 @@
 use Rattle.std.proofs.Common.{sym, ap, ◌∙◌, subst}
 use Rattle.std.specs.List.Sorted.{IsStrictlySortedBy}
 use Rattle.deno_graph_base.specs.TextMap.{IsAscending, insert_entry}
-use Rattle.deno_graph_json.specs.Data.{data_of, members_data, named_data, put_members, value_data}
-use Rattle.deno_graph_json.specs.View.{members_left, members_of, value_of}
-use Rattle.deno_graph_json.proofs.LastMembers.{named_insert, pass}
+use Rattle.deno_graph_json.specs.Data.{members_data, named_data, put_members}
+use Rattle.deno_graph_json.specs.View.{members_of}
+use Rattle.deno_graph_json.proofs.LastMembers.{all_passed, named_insert, pass}
 use Rattle.deno_graph_json.proofs.flat.Members.sorted.Goals as goal
 
 pub loop-name-init : goal.loop-name-init
@@ -12,21 +12,19 @@ loop-name-init c = (
   tt,
   tt,
   subst IsAscending (sym c.new-found.ensures) tt,
-  ap (λ ms. put_members ms (named_data c.new-found.result))
-      (ap members_left c.into_iter-name-iterator.ensures.into_iter_gives
-      ∙ c.entries-name-items.ensures)
+  ap (λ ms. put_members (members_of ms) (named_data c.new-found.result))
+      c.into_iter-name-iterator.ensures.into_iter_gives
       ∙ ap (λ found. put_members (members_of c.args.self) (named_data found)) c.new-found.ensures,
 )
 
 pub loop-name-preserved : goal.loop-name-preserved
-unfolding data_of
 loop-name-preserved c =
     let kept = c.loop-name.invariant in
     let found = c.loop-name.found in
     let key = c.in-Some.name.now in
     let e = c.in-Some.value in
-    let left = members_left c.next.new.self in
-    let rest = pass key (value_of e) (members_left c.loop-name.name-iterator) left (named_data found)
+    let left = members_of c.next.new.self in
+    let rest = pass key e (members_of c.loop-name.name-iterator) left (named_data found)
     (members_data c.args.self) c.in-Some.ensures.steps kept.3 in (
       tt,
       tt,
@@ -37,10 +35,9 @@ loop-name-preserved c =
     )
 
 pub returns-clause-members : goal.returns-clause-members
-unfolding value_data
 returns-clause-members c =
-    sym (ap (λ ms. put_members ms (named_data c.loop-name.found)) c.in-None.ensures.steps)
-    ∙ c.loop-name.invariant.3
+    all_passed (members_of c.loop-name.name-iterator) (named_data c.loop-name.found)
+    (members_data c.args.self) c.in-None.ensures.steps c.loop-name.invariant.3
 
 pub returns-clause-ordered : goal.returns-clause-ordered
 returns-clause-ordered c = c.loop-name.invariant.2

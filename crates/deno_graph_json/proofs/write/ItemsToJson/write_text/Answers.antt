@@ -28,8 +28,8 @@ returns g c =
     let i = c.loop-item.item-index in
     let past : length xs ≤ i =
     subst (λ ys. length ys ≤ i) c.as_slice-item-items.ensures c.loop-item-test.false in
-    let begun = text_written (Ok c.in_ok-begin_array.field-0) c.args.out.now c.begin_array.new.self begin_array
-    c.in_ok-begin_array.ensures in
+    let begun = text_written (Ok c.in_ok-begin_array.field-0) c.args.out.now c.begin_array.new.self
+    begin_array c.in_ok-begin_array.ensures in
     let closed = text_written c.end_array.result c.loop-item.out c.end_array.new.self end_array
     c.end_array.ensures in
     record {

@@ -3,9 +3,9 @@ use Rattle.deno_graph_info.proofs.analysis.module_info.ModuleInfo.to_value.Goals
 
 pub returns-clause-read_back : goal.returns-clause-read_back
 returns-clause-read_back c =
-    written_is_read c.object_value.result c.args.self.now c.object_value.ensures.form
-    c.object_value.ensures.held
+    written_is_read c.to_value.result c.args.self.now c.to_value.ensures.form
+    c.to_value.ensures.held
 
 pub returns-clause-no_float : goal.returns-clause-no_float
 returns-clause-no_float c =
-    written_without_float c.object_value.result c.args.self.now c.object_value.ensures.form
+    written_without_float c.to_value.result c.args.self.now c.to_value.ensures.form

@@ -2,11 +2,11 @@ use Rattle.std.proofs.Common.{◌<◌, ◌∷◌, length, length-append, map, ar
 use Rattle.std.proofs.lemmas.List.{nil_from_length, length-map}
 use Rattle.deno_graph_json.specs.Flat.{plain}
 use Rattle.deno_graph_json.specs.Value.{AreOfMembers, flat_value, members_in}
-use Rattle.deno_graph_json.specs.View.{members_left, value_of}
+use Rattle.deno_graph_json.specs.View.{members_of, value_of}
 use Rattle.deno_graph_json.proofs.FirstValue.{begins_member, first_name, member_first, members_after}
 use Rattle.deno_graph_json.proofs.FirstValue.{no_entry}
 use Rattle.deno_graph_json.proofs.FirstValue.{value_follows}
-use Rattle.deno_graph_json.proofs.flat.EntriesIterator.next.Goals as goal
+use Rattle.deno_graph_json.proofs.flat.MembersIterator.next.Goals as goal
 
 pub returns-in_err-key-clause-steps : goal.returns-in_err-key-clause-steps
 returns-in_err-key-clause-steps c =
@@ -43,7 +43,7 @@ invariant_of-self c =
     }
 
 pub returns-clause-steps : goal.returns-clause-steps
-unfolding members_left
+unfolding members_of
 returns-clause-steps c =
     let ns = map plain c.in_ok-key.nodes.now in
     let is = ap (map plain) c.in_ok-key.ensures.cases.0 ∙ ap (λ n. plain n ∷ ns) c.in-Key.is in
