@@ -145,6 +145,35 @@ test("phases, await using, Babel's imports and methods", () => {
   assert.equal(answerToTree(source, [items[3]]).script, true);
 });
 
+test("Babel's keys that are numbers are no strings", () => {
+  const source = `import("a", { with: { 1n: "b" } }); import("c", { with: { "1": "b" } });`;
+  const node = maker(source);
+  /** @param {string} value */
+  const string = (value) => node("StringLiteral", `"${value}"`, { value });
+  /**
+   * @param {string} name
+   * @param {Node} key
+   */
+  const call = (name, key) => {
+    const text = source.slice(source.indexOf(`import("${name}"`)).split(";")[0];
+    const inner = text.slice(text.lastIndexOf("{"), text.indexOf("}") + 1);
+    const attribute = node("ObjectProperty", inner.slice(2, -2), { key, value: string("b"), computed: false, shorthand: false });
+    const attributes = node("ObjectExpression", inner, { properties: [attribute] });
+    const outer = node("ObjectProperty", `with: ${inner}`, {
+      key: node("Identifier", "with", { name: "with" }), value: attributes, computed: false, shorthand: false,
+    });
+    const options = node("ObjectExpression", `{ with: ${inner} }`, { properties: [outer] });
+    const start = source.indexOf(text);
+    return node("CallExpression", text, {
+      callee: { type: "Import", range: [start, start + "import".length] }, arguments: [string(name), options],
+    });
+  };
+  assert.deepEqual(dependencies(source, [call("a", node("BigIntLiteral", "1n", { value: "1" })), call("c", string("1"))]), [
+    { argument: "a", importAttributes: "unknown" },
+    { argument: "c", importAttributes: { known: { 1: "b" } } },
+  ]);
+});
+
 test("links to parents, tokens and comments are no children", () => {
   const source = `import("a") // b`;
   /** @type {unknown[]} */

@@ -154,6 +154,7 @@ export function property(node) {
 }
 
 /**
+ * A number has a string as its value in some of Babel's nodes.
  * @param {any} key
  * @returns {Key}
  */
@@ -161,7 +162,8 @@ function propertyKey(key) {
   if (key.type === "Identifier") {
     return { ident: key.name };
   }
-  return typeof key.value === "string" ? { str: key.value } : "other";
+  const isString = ["Literal", "StringLiteral"].includes(key.type) && typeof key.value === "string";
+  return isString ? { str: key.value } : "other";
 }
 
 /**
