@@ -103,7 +103,7 @@ is_string (number n) s is = absurd (none-some _ is)
 is_string (array t) s is = absurd (none-some _ is)
 is_string (object t) s is = absurd (none-some _ is)
 
-is_array : (d : Data) (ds : Items) → as_array d ≡ Some ds → d ≡ array ds
+pub is_array : (d : Data) (ds : Items) → as_array d ≡ Some ds → d ≡ array ds
 is_array (array t) ds is = ap (λ o. array (unwrap_or o no_items)) is
 is_array null ds is = absurd (none-some _ is)
 is_array (boolean b) ds is = absurd (none-some _ is)
@@ -111,7 +111,7 @@ is_array (number n) ds is = absurd (none-some _ is)
 is_array (string t) ds is = absurd (none-some _ is)
 is_array (object t) ds is = absurd (none-some _ is)
 
-is_object : (d : Data) (ms : Members) → as_object d ≡ Some ms → d ≡ object ms
+pub is_object : (d : Data) (ms : Members) → as_object d ≡ Some ms → d ≡ object ms
 is_object (object t) ms is = ap (λ o. object (unwrap_or o no_members)) is
 is_object null ms is = absurd (none-some _ is)
 is_object (boolean b) ms is = absurd (none-some _ is)

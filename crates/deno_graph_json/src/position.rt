@@ -23,12 +23,16 @@ impl ToJson for Position {
     }
 }
 
-impl FromJson for Position {
+impl<Whole> FromJson<Whole> for Position {
     ghost reads = { reads_position };
 
     #[tactic(auto, using(crate::proofs::Reading::reading), unfolding(crate::specs::Json::Position::reads_position))]
     fn from_json(alloc: Global, value: Element<'_>) -> Result<Position, ReadError> {
-        let (line, character) = read_pair(alloc, value, "two whole numbers, [line,character]")?;
+        let (line, character) = read_pair::<Whole, _>(
+            alloc,
+            value,
+            "two whole numbers, [line,character]",
+        )?;
         Ok(Position { line, character })
     }
 }
@@ -52,12 +56,12 @@ impl ToJson for PositionRange {
     }
 }
 
-impl FromJson for PositionRange {
+impl<Whole> FromJson<Whole> for PositionRange {
     ghost reads = { reads_range };
 
     #[tactic(auto, using(crate::proofs::Reading::reading), unfolding(crate::specs::Json::Position::reads_range))]
     fn from_json(alloc: Global, value: Element<'_>) -> Result<PositionRange, ReadError> {
-        let (start, end) = read_pair(alloc, value, "two positions, [start,end]")?;
+        let (start, end) = read_pair::<Whole, _>(alloc, value, "two positions, [start,end]")?;
         Ok(PositionRange { start, end })
     }
 }

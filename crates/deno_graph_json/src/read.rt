@@ -13,8 +13,11 @@ use crate::flat::{Element, Elements, Members, View};
 use deno_graph_base::values::{Items, Text, TextMap};
 use std::alloc::Global;
 
-/// A type that can be read from JSON.
-pub trait FromJson {
+/// A type that can be read from JSON, as a part of the JSON of a `Whole`.
+///
+/// `Whole` is a type of the crate that implements the trait. So a crate can implement the trait for
+/// types of other crates.
+pub trait FromJson<Whole> {
     ghost use Rattle.std.specs.Prelude.{Option};
     ghost use Rattle.serde_json.specs.Data.{Data};
 
@@ -27,7 +30,7 @@ pub trait FromJson {
         ensures { IsReadResult (data_of value.entry) (reads (data_of value.entry)) result };
 }
 
-impl FromJson for bool {
+impl<Whole> FromJson<Whole> for bool {
     ghost reads = { as_bool };
 
     fn from_json(alloc: Global, value: Element<'_>) -> Result<bool, ReadError> {
@@ -38,7 +41,7 @@ impl FromJson for bool {
     }
 }
 
-impl FromJson for usize {
+impl<Whole> FromJson<Whole> for usize {
     ghost reads = { as_usize };
 
     #[tactic(auto, unfolding(crate::specs::Read::Partial::as_usize))]
@@ -50,7 +53,7 @@ impl FromJson for usize {
     }
 }
 
-impl FromJson for Text {
+impl<Whole> FromJson<Whole> for Text {
     ghost reads = { as_str };
 
     fn from_json(alloc: Global, value: Element<'_>) -> Result<Text, ReadError> {
@@ -59,7 +62,7 @@ impl FromJson for Text {
     }
 }
 
-impl<T: FromJson> FromJson for Option<T> {
+impl<Whole, T: FromJson<Whole>> FromJson<Whole> for Option<T> {
     ghost reads = { reads_optional T.reads };
 
     #[tactic(auto, unfolding(crate::specs::Read::Partial::reads_optional))]
@@ -74,7 +77,7 @@ impl<T: FromJson> FromJson for Option<T> {
     }
 }
 
-impl<T: FromJson + Drop> FromJson for Items<T> {
+impl<Whole, T: FromJson<Whole> + Drop> FromJson<Whole> for Items<T> {
     ghost reads = { reads_array T.reads };
 
     #[tactic(auto, using(crate::proofs::Reading::reading), unfolding(crate::specs::Read::Partial::reads_array))]
@@ -84,7 +87,7 @@ impl<T: FromJson + Drop> FromJson for Items<T> {
     }
 }
 
-impl<T: FromJson + Drop> FromJson for TextMap<T> {
+impl<Whole, T: FromJson<Whole> + Drop> FromJson<Whole> for TextMap<T> {
     ghost reads = { reads_map T.reads };
 
     #[tactic(auto, using(crate::proofs::Reading::reading), unfolding(crate::specs::Read::Partial::reads_map))]
@@ -95,14 +98,14 @@ impl<T: FromJson + Drop> FromJson for TextMap<T> {
 }
 
 /// Reads each item of an array.
-pub fn read_items<T: FromJson + Drop>(
+pub fn read_items<Whole, T: FromJson<Whole> + Drop>(
     alloc: Global,
     values: Elements<'_>,
 ) -> Result<Items<T>, ReadError>
     ensures { IsReadResult (array (elements_data values.entry))
         (reads_items T.reads (elements_data values.entry)) result }
 {
-    let mut items = Items::new(alloc);
+    let mut items = Items::with_capacity(alloc, values.len())?;
     for value in values {
         let number = items.len();
         let item = read_item(alloc, number, value)?;
@@ -112,7 +115,7 @@ pub fn read_items<T: FromJson + Drop>(
 }
 
 /// Reads each member of an object.
-fn read_map<T: FromJson + Drop>(
+fn read_map<Whole, T: FromJson<Whole> + Drop>(
     alloc: Global,
     members: Members<'_>,
 ) -> Result<TextMap<T>, ReadError>
@@ -129,7 +132,11 @@ fn read_map<T: FromJson + Drop>(
 }
 
 /// Reads the item of an array that has this index, counted from zero.
-fn read_item<T: FromJson>(alloc: Global, number: usize, value: Element<'_>) -> Result<T, ReadError>
+fn read_item<Whole, T: FromJson<Whole>>(
+    alloc: Global,
+    number: usize,
+    value: Element<'_>,
+) -> Result<T, ReadError>
     ensures { (array : Data) → at number array ≡ Some (data_of value.entry)
         → IsReadResult array (T.reads (data_of value.entry)) result }
 {
@@ -140,7 +147,7 @@ fn read_item<T: FromJson>(alloc: Global, number: usize, value: Element<'_>) -> R
 }
 
 /// Reads the member of an object that has this name.
-pub(crate) fn read_member<T: FromJson>(
+pub(crate) fn read_member<Whole, T: FromJson<Whole>>(
     alloc: Global,
     name: &str,
     value: Element<'_>,
@@ -209,7 +216,7 @@ fn read_two<'a>(
 
 /// Reads both items of an array of two. `items` describes them in words, for the error.
 #[tactic(auto, using(crate::proofs::Reading::reading), unfolding(crate::specs::Read::Partial::reads_pair))]
-pub fn read_pair<T: FromJson + Drop>(
+pub fn read_pair<Whole, T: FromJson<Whole> + Drop>(
     alloc: Global,
     value: Element<'_>,
     items: &'static str,

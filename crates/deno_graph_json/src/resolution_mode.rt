@@ -32,7 +32,7 @@ fn name_of(mode: TypeScriptTypesResolutionMode) -> &'static str
     }
 }
 
-impl FromJson for TypeScriptTypesResolutionMode {
+impl<Whole> FromJson<Whole> for TypeScriptTypesResolutionMode {
     ghost reads = { reads_mode };
 
     #[tactic(auto, using(crate::proofs::Reading::reading), unfolding(crate::specs::Json::ResolutionMode::reads_mode))]

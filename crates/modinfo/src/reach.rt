@@ -80,7 +80,7 @@ pub fn read_modules(
 ) -> Result<(TextMap<StoredInfo>, Text), ReadError>
     ensures { IsReadResult (data_of document.entry) (reads_modules (data_of document.entry)) result }
 {
-    let object = ObjectReader::new(alloc, document)?;
+    let object = ObjectReader::<Question>::new(alloc, document)?;
     let root = object.read("root")?;
     let modules = object.read("modules")?;
     Ok((modules, root))
@@ -92,7 +92,7 @@ pub struct StoredInfo {
     info: ModuleInfo,
 }
 
-impl FromJson for StoredInfo {
+impl FromJson<Question> for StoredInfo {
     ghost reads = { reads_stored_info };
 
     #[tactic(auto, using(deno_graph_json::proofs::Reading::reading), unfolding(crate::specs::internal::Reach::reads_stored_info))]

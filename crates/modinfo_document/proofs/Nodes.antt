@@ -26,9 +26,9 @@ use Rattle.serde_json.specs.Data.{
 }
 use Rattle.serde_json.specs.Find.{as_array, as_object, get_member}
 use Rattle.deno_graph_json.specs.Read.Partial.{◌>>=◌, read_or, reads_array, reads_items}
+use Rattle.deno_graph_json.proofs.Reading.{is_array, is_object}
 use Rattle.modinfo_document.specs.Node.{reads_node, reads_nodes, reads_each, children_in, node_with}
 use Rattle.modinfo_document.specs.internal.Lookup.{items_of, member_of}
-use Rattle.modinfo_document.proofs.Results.{is_array, is_object}
 
 each_read : (ds : Items) → reads_each ds ≡ reads_items reads_node ds
 unfolding reads_each reads_items

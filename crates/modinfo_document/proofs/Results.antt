@@ -1,28 +1,14 @@
 -- Results that are related to what is to be read.
 use Rattle.std.proofs.Common.{◌≡◌, Option, Some, None, Result, Ok, Err}
-use Rattle.std.proofs.Common.{IsErrAnd, IsSomeAnd, refl, sym, ap, subst}
-use Rattle.std.proofs.lemmas.Option.{none-some}
+use Rattle.std.proofs.Common.{IsErrAnd, IsSomeAnd, refl, sym, subst}
 use Rattle.std.proofs.lemmas.Result.{err_from_is_err_and}
-use Rattle.std.specs.Option.{unwrap_or}
-use Rattle.serde_json.specs.Data.{
-  Data,
-  null,
-  boolean,
-  number,
-  array,
-  object,
-  string,
-  Items,
-  no_items,
-  Members,
-  no_members,
-}
+use Rattle.serde_json.specs.Data.{Data, object, Items, Members}
 use Rattle.serde_json.specs.Find.{as_array, as_object}
 use Rattle.deno_graph_json.specs.Read.Error.{IsIn, IsMismatch}
 use Rattle.deno_graph_json.specs.Read.Partial.{◌>>=◌, reads_array, reads_items}
 use Rattle.deno_graph_json.specs.Read.Result.{IsReadError}
 use Rattle.deno_graph_json.specs.declared.error.ReadError.{ReadError}
-use Rattle.deno_graph_json.proofs.Reading.{goes_on, read_error, step_error}
+use Rattle.deno_graph_json.proofs.Reading.{goes_on, is_object, read_error, step_error}
 use Rattle.modinfo_document.specs.Result.{IsReadResultBy}
 
 -- a value with a property
@@ -61,23 +47,6 @@ module _ {A B C : Type 0} (Meets : B → C → Type 0) (value : Data) (wanted : 
       → IsReadResultBy Meets value (f x) answer → IsReadResultBy Meets value (wanted >>= f) answer
   result_by_on x answer is h =
       let Goal : Option A → Type 0 = λ o. IsReadResultBy Meets value (o >>= f) answer in subst Goal (sym is) h
-
--- data with an array or an object
-pub is_array : (d : Data) (ds : Items) → as_array d ≡ Some ds → d ≡ array ds
-is_array (array t) ds is = ap (λ o. array (unwrap_or o no_items)) is
-is_array null ds is = absurd (none-some _ is)
-is_array (boolean b) ds is = absurd (none-some _ is)
-is_array (number n) ds is = absurd (none-some _ is)
-is_array (string t) ds is = absurd (none-some _ is)
-is_array (object t) ds is = absurd (none-some _ is)
-
-pub is_object : (d : Data) (ms : Members) → as_object d ≡ Some ms → d ≡ object ms
-is_object (object t) ms is = ap (λ o. object (unwrap_or o no_members)) is
-is_object null ms is = absurd (none-some _ is)
-is_object (boolean b) ms is = absurd (none-some _ is)
-is_object (number n) ms is = absurd (none-some _ is)
-is_object (string t) ms is = absurd (none-some _ is)
-is_object (array t) ms is = absurd (none-some _ is)
 
 -- an array is read item by item
 pub array_items : {A : Type 0} (reads : Data → Option A) (d : Data) (ds : Items) → as_array d ≡ Some ds

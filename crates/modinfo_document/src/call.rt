@@ -1,33 +1,32 @@
 //! Reading calls.
 
-ghost use Rattle.serde_json.specs.Data.{object, string};
-ghost use Rattle.deno_graph_json.specs.Data.{members_data};
+ghost use Rattle.serde_json.specs.Data.{string};
+ghost use Rattle.deno_graph_json.specs.ObjectReader.{readable, value_of};
 ghost use Rattle.deno_graph_json.specs.Read.Result.{IsReadResult};
 ghost use Rattle.modinfo_document.specs.Kind.{callees, named, reads_arg, reads_call, reads_named};
 
-use crate::member::{FromElement, read_member, read_member_or};
-use deno_graph_json::read::{read_object, read_str};
-use deno_graph_json::{Element, Expected, Members, ReadError};
+use crate::document::Document;
+use deno_graph_json::read::read_str;
+use deno_graph_json::{Element, Expected, FromJson, ObjectReader, ReadError};
 use deno_graph_source::tree::{Arg, Callee, ImportPhase, Kind};
 use std::alloc::Global;
 
 /// Reads a call from the members of its node.
 #[tactic(auto, using(deno_graph_json::proofs::Reading::reading), unfolding(crate::specs::Kind::reads_call))]
-pub fn read_call(alloc: Global, members: Members<'_>) -> Result<Kind, ReadError>
-    ensures { IsReadResult (object (members_data members.entry))
-        (reads_call (members_data members.entry)) result }
+pub fn read_call(object: &ObjectReader<Document>) -> Result<Kind, ReadError>
+    ensures { IsReadResult (value_of object.now) (reads_call (readable object.now)) result }
 {
-    let callee = read_member(alloc, members, "callee")?;
-    let args = read_member(alloc, members, "args")?;
+    let callee = object.read("callee")?;
+    let args = object.read("args")?;
     Ok(Kind::Call { callee, args })
 }
 
 /// Reads a callee by its name.
-impl FromElement for Callee {
+impl FromJson<Document> for Callee {
     ghost reads = { reads_named callees };
 
     #[tactic(auto, using(deno_graph_json::proofs::Reading::reading), unfolding(crate::specs::Kind::reads_named))]
-    fn from_element(alloc: Global, value: Element<'_>) -> Result<Callee, ReadError> {
+    fn from_json(alloc: Global, value: Element<'_>) -> Result<Callee, ReadError> {
         let name = read_str(alloc, value)?;
         callee_named(alloc, name)
     }
@@ -51,14 +50,14 @@ fn callee_named(alloc: Global, name: &str) -> Result<Callee, ReadError>
 }
 
 /// Reads an argument, `{"range":[START,END],"spread":BOOL}`.
-impl FromElement for Arg {
+impl FromJson<Document> for Arg {
     ghost reads = { reads_arg };
 
     #[tactic(auto, using(deno_graph_json::proofs::Reading::reading), unfolding(crate::specs::Kind::reads_arg))]
-    fn from_element(alloc: Global, value: Element<'_>) -> Result<Arg, ReadError> {
-        let members = read_object(alloc, value)?;
-        let range = read_member(alloc, members, "range")?;
-        let spread = read_member_or(alloc, members, "spread", false)?;
+    fn from_json(alloc: Global, value: Element<'_>) -> Result<Arg, ReadError> {
+        let object = ObjectReader::<Document>::new(alloc, value)?;
+        let range = object.read("range")?;
+        let spread = object.read_or("spread", false)?;
         Ok(Arg { spread, range })
     }
 }

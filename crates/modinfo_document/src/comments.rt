@@ -1,8 +1,8 @@
 //! Reading comments.
 
 ghost use Rattle.std.specs.Prelude.{◌≡◌, [], ◌∷◌, OnOk};
-ghost use Rattle.serde_json.specs.Data.{object, string};
-ghost use Rattle.deno_graph_json.specs.Data.{members_data};
+ghost use Rattle.serde_json.specs.Data.{string};
+ghost use Rattle.deno_graph_json.specs.ObjectReader.{readable, value_of};
 ghost use Rattle.deno_graph_json.specs.Read.Result.{IsReadResult};
 ghost use Rattle.modinfo_document.specs.Comments.{AreThoseOf, comment_kinds, side_name};
 ghost use Rattle.modinfo_document.specs.Comments.{reads_comment, reads_entry, reads_side, reads_sides};
@@ -10,9 +10,9 @@ ghost use Rattle.modinfo_document.specs.Kind.{named, reads_named};
 ghost use Rattle.modinfo_document.specs.Result.{IsReadResultBy};
 ghost use Rattle.modinfo_document.specs.internal.Comments.{AddsOn, AreAppendedOn};
 
-use crate::member::{FromElement, read_member, read_member_or};
-use deno_graph_json::read::{read_object, read_str};
-use deno_graph_json::{Element, Expected, Members, ReadError};
+use crate::document::Document;
+use deno_graph_json::read::read_str;
+use deno_graph_json::{Element, Expected, FromJson, ObjectReader, ReadError};
 use deno_graph_source::tree::{CommentKind, CommentSide, Comments, DependencyComment};
 use deno_graph_source::values::Items;
 use std::alloc::{AllocError, Global};
@@ -36,26 +36,25 @@ pub struct FiledEntry {
 }
 
 /// Reads an entry, `{"pos":OFFSET,"comments":[COMMENT ..]}`.
-impl FromElement for FiledEntry {
+impl FromJson<Document> for FiledEntry {
     ghost reads = { reads_entry };
 
     #[tactic(auto, using(deno_graph_json::proofs::Reading::reading), unfolding(crate::specs::Comments::reads_entry))]
-    fn from_element(alloc: Global, value: Element<'_>) -> Result<FiledEntry, ReadError> {
-        let members = read_object(alloc, value)?;
-        let position = read_member(alloc, members, "pos")?;
-        let comments = read_member(alloc, members, "comments")?;
+    fn from_json(alloc: Global, value: Element<'_>) -> Result<FiledEntry, ReadError> {
+        let object = ObjectReader::<Document>::new(alloc, value)?;
+        let position = object.read("pos")?;
+        let comments = object.read("comments")?;
         Ok(FiledEntry { position, comments })
     }
 }
 
 /// Reads the comments of a document: its members `leading` and `trailing`, arrays of entries. Keeps
 /// their order.
-pub fn read_comments(alloc: Global, members: Members<'_>) -> Result<Comments, ReadError>
-    ensures { IsReadResultBy AreThoseOf (object (members_data members.entry))
-        (reads_sides (members_data members.entry)) result }
+pub fn read_comments(alloc: Global, object: &ObjectReader<Document>) -> Result<Comments, ReadError>
+    ensures { IsReadResultBy AreThoseOf (value_of object.now) (reads_sides (readable object.now)) result }
 {
-    let leading = read_side(alloc, members, CommentSide::Leading)?;
-    let trailing = read_side(alloc, members, CommentSide::Trailing)?;
+    let leading = read_side(object, CommentSide::Leading)?;
+    let trailing = read_side(object, CommentSide::Trailing)?;
     let mut comments = Comments::new(alloc);
     file_entries(leading, CommentSide::Leading, &mut comments)?;
     file_entries(trailing, CommentSide::Trailing, &mut comments)?;
@@ -65,14 +64,12 @@ pub fn read_comments(alloc: Global, members: Members<'_>) -> Result<Comments, Re
 /// Reads the entries of one side, none if the member is missing.
 #[tactic(auto, unfolding(crate::specs::Comments::reads_side))]
 fn read_side(
-    alloc: Global,
-    members: Members<'_>,
+    object: &ObjectReader<Document>,
     side: CommentSide,
 ) -> Result<Items<FiledEntry>, ReadError>
-    ensures { IsReadResult (object (members_data members.entry))
-        (reads_side side (members_data members.entry)) result }
+    ensures { IsReadResult (value_of object.now) (reads_side side (readable object.now)) result }
 {
-    read_member_or(alloc, members, member_of(side), Items::new(alloc))
+    object.read_list(member_of(side))
 }
 
 /// Files the comments of each entry on one side.
@@ -123,25 +120,25 @@ fn add(
 }
 
 /// Reads a comment, `{"kind":"line","range":[START,END],"text":TEXT}`, or with the kind `block`.
-impl FromElement for DependencyComment {
+impl FromJson<Document> for DependencyComment {
     ghost reads = { reads_comment };
 
     #[tactic(auto, using(deno_graph_json::proofs::Reading::reading), unfolding(crate::specs::Comments::reads_comment))]
-    fn from_element(alloc: Global, value: Element<'_>) -> Result<DependencyComment, ReadError> {
-        let members = read_object(alloc, value)?;
-        let kind = read_member(alloc, members, "kind")?;
-        let range = read_member(alloc, members, "range")?;
-        let text = read_member(alloc, members, "text")?;
+    fn from_json(alloc: Global, value: Element<'_>) -> Result<DependencyComment, ReadError> {
+        let object = ObjectReader::<Document>::new(alloc, value)?;
+        let kind = object.read("kind")?;
+        let range = object.read("range")?;
+        let text = object.read("text")?;
         Ok(DependencyComment { kind, range, text })
     }
 }
 
 /// Reads the kind of a comment by its name.
-impl FromElement for CommentKind {
+impl FromJson<Document> for CommentKind {
     ghost reads = { reads_named comment_kinds };
 
     #[tactic(auto, using(deno_graph_json::proofs::Reading::reading), unfolding(crate::specs::Kind::reads_named))]
-    fn from_element(alloc: Global, value: Element<'_>) -> Result<CommentKind, ReadError> {
+    fn from_json(alloc: Global, value: Element<'_>) -> Result<CommentKind, ReadError> {
         let name = read_str(alloc, value)?;
         comment_kind_named(alloc, name)
     }

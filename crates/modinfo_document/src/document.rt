@@ -2,8 +2,8 @@
 
 ghost use Rattle.std.specs.Prelude.{◌≡◌, MatchResult, None, Ok};
 ghost use Rattle.url.specs.Parser.{parse_url};
-ghost use Rattle.serde_json.specs.Data.{object};
-ghost use Rattle.deno_graph_json.specs.Data.{data_of, members_data};
+ghost use Rattle.deno_graph_json.specs.Data.{data_of};
+ghost use Rattle.deno_graph_json.specs.ObjectReader.{readable, value_of};
 ghost use Rattle.modinfo_document.specs.Document.{Has, IsDocumentOf, IsNoDocument, IsNoSource, IsSourceOf};
 ghost use Rattle.modinfo_document.specs.Document.{reads_document};
 ghost use Rattle.modinfo_document.specs.Result.{IsReadResultBy};
@@ -11,9 +11,7 @@ ghost use Rattle.modinfo_document.specs.internal.Document.{HasTree, reads_tree};
 
 use crate::comments::read_comments;
 use crate::error::DocumentError;
-use crate::member::read_member;
-use deno_graph_json::read::read_object;
-use deno_graph_json::{Element, Members, ObjectReader, ReadError, Tape};
+use deno_graph_json::{Element, ObjectReader, ReadError, Tape};
 use deno_graph_source::tree::{Comments, MediaType, ParsedSource, Program};
 use deno_graph_source::values::Text;
 use json::Scratch;
@@ -37,12 +35,12 @@ pub struct Document {
 pub fn read_document(alloc: Global, value: Element<'_>) -> Result<Document, ReadError>
     ensures { IsReadResultBy Has (data_of value.entry) (reads_document (data_of value.entry)) result }
 {
-    let members = read_object(alloc, value)?;
-    let specifier = read_member(alloc, members, "specifier")?;
-    let media_type = read_member(alloc, members, "mediaType")?;
-    let text = ObjectReader::of_members(alloc, members).read_str("source")?;
+    let object = ObjectReader::<Document>::new(alloc, value)?;
+    let specifier = object.read("specifier")?;
+    let media_type = object.read("mediaType")?;
+    let text = object.read_str("source")?;
     let source = RcStr::from_str(alloc, text)?;
-    let (comments, program) = read_tree(alloc, members)?;
+    let (comments, program) = read_tree(alloc, &object)?;
     Ok(Document {
         specifier,
         media_type,
@@ -53,12 +51,14 @@ pub fn read_document(alloc: Global, value: Element<'_>) -> Result<Document, Read
 }
 
 /// Reads the comments and the program.
-fn read_tree(alloc: Global, members: Members<'_>) -> Result<(Comments, Program), ReadError>
-    ensures { IsReadResultBy HasTree (object (members_data members.entry))
-        (reads_tree (members_data members.entry)) result }
+fn read_tree(
+    alloc: Global,
+    object: &ObjectReader<Document>,
+) -> Result<(Comments, Program), ReadError>
+    ensures { IsReadResultBy HasTree (value_of object.now) (reads_tree (readable object.now)) result }
 {
-    let comments = read_comments(alloc, members)?;
-    let program = read_member(alloc, members, "program")?;
+    let comments = read_comments(alloc, object)?;
+    let program = object.read("program")?;
     Ok((comments, program))
 }
 

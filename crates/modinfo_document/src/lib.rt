@@ -2,7 +2,6 @@
 //! documents. docs/FORMATS.md describes both.
 #![tactic(auto)]
 
-mod array;
 mod call;
 mod check;
 mod comments;
@@ -14,7 +13,6 @@ mod kind;
 mod literal;
 mod lookup;
 mod media_type;
-mod member;
 pub mod names;
 mod node;
 mod property;

@@ -2,18 +2,18 @@ ghost use Rattle.serde_json.specs.Data.{string};
 ghost use Rattle.deno_graph_json.specs.Read.Result.{IsReadResult};
 ghost use Rattle.modinfo_document.specs.Kind.{media_types, named, reads_named};
 
-use crate::member::FromElement;
+use crate::document::Document;
 use deno_graph_json::read::read_str;
-use deno_graph_json::{Element, Expected, ReadError};
+use deno_graph_json::{Element, Expected, FromJson, ReadError};
 use deno_graph_source::tree::MediaType;
 use std::alloc::Global;
 
 /// Reads a media type by its name.
-impl FromElement for MediaType {
+impl FromJson<Document> for MediaType {
     ghost reads = { reads_named media_types };
 
     #[tactic(auto, using(deno_graph_json::proofs::Reading::reading), unfolding(crate::specs::Kind::reads_named))]
-    fn from_element(alloc: Global, value: Element<'_>) -> Result<MediaType, ReadError> {
+    fn from_json(alloc: Global, value: Element<'_>) -> Result<MediaType, ReadError> {
         let name = read_str(alloc, value)?;
         media_type_named(alloc, name)
     }

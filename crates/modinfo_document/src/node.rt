@@ -1,30 +1,30 @@
 //! Reading nodes and programs.
 
 ghost use Rattle.std.specs.Prelude.{◌≡◌, codes, option_map};
-ghost use Rattle.serde_json.specs.Data.{object};
 ghost use Rattle.serde_json.specs.Find.{get_member};
-ghost use Rattle.deno_graph_json.specs.Data.{data_of, members_data};
+ghost use Rattle.deno_graph_json.specs.Data.{data_of};
+ghost use Rattle.deno_graph_json.specs.ObjectReader.{readable, value_of};
 ghost use Rattle.deno_graph_json.specs.Read.Result.{IsReadResult};
 ghost use Rattle.modinfo_document.specs.Node.{children_in, reads_node, reads_nodes, reads_program};
 
+use crate::document::Document;
 use crate::kind::read_kind;
-use crate::member::{FromElement, read_found, read_member, read_member_or};
-use deno_graph_json::read::{read_array, read_object};
-use deno_graph_json::{Element, Members, ReadError};
+use deno_graph_json::read::read_array;
+use deno_graph_json::{Element, FromJson, ObjectReader, ReadError};
 use deno_graph_source::tree::{Node, Program};
 use deno_graph_source::values::Items;
 use std::alloc::Global;
 
 /// Reads a program, `{"range":[START,END],"body":[NODE ..],"shebang":BOOL}`.
-impl FromElement for Program {
+impl FromJson<Document> for Program {
     ghost reads = { reads_program };
 
     #[tactic(auto, using(deno_graph_json::proofs::Reading::reading), unfolding(crate::specs::Node::reads_program))]
-    fn from_element(alloc: Global, value: Element<'_>) -> Result<Program, ReadError> {
-        let members = read_object(alloc, value)?;
-        let range = read_member(alloc, members, "range")?;
-        let has_shebang = read_member_or(alloc, members, "shebang", false)?;
-        let body = read_member(alloc, members, "body")?;
+    fn from_json(alloc: Global, value: Element<'_>) -> Result<Program, ReadError> {
+        let object = ObjectReader::<Document>::new(alloc, value)?;
+        let range = object.read("range")?;
+        let has_shebang = object.read_or("shebang", false)?;
+        let body = object.read("body")?;
         Ok(Program {
             range,
             body,
@@ -34,10 +34,10 @@ impl FromElement for Program {
 }
 
 /// Reads a node, with all nodes below.
-impl FromElement for Node {
+impl FromJson<Document> for Node {
     ghost reads = { reads_node };
 
-    fn from_element(alloc: Global, value: Element<'_>) -> Result<Node, ReadError> {
+    fn from_json(alloc: Global, value: Element<'_>) -> Result<Node, ReadError> {
         read_node(alloc, value)
     }
 }
@@ -47,13 +47,13 @@ impl FromElement for Node {
 fn read_node(alloc: Global, value: Element<'_>) -> Result<Node, ReadError>
     ensures { IsReadResult (data_of value.entry) (reads_node (data_of value.entry)) result }
 {
-    let members = read_object(alloc, value)?;
+    let object = ObjectReader::<Document>::new(alloc, value)?;
     let mut found = [None; 3];
-    members.find(&["range", "kind", "children"], &mut found);
+    object.find(&["range", "kind", "children"], &mut found);
     let [range, kind, children] = found;
-    let range = read_found(alloc, members, "range", range)?;
-    let kind = read_kind(alloc, members, kind)?;
-    let children = read_children(alloc, members, children)?;
+    let range = object.read_found("range", range)?;
+    let kind = read_kind(&object, kind)?;
+    let children = read_children(alloc, &object, children)?;
     Ok(Node {
         range,
         kind,
@@ -65,12 +65,11 @@ fn read_node(alloc: Global, value: Element<'_>) -> Result<Node, ReadError>
 #[cycle(read)]
 fn read_children(
     alloc: Global,
-    members: Members<'_>,
+    object: &ObjectReader<Document>,
     found: Option<Element<'_>>,
 ) -> Result<Items<Node>, ReadError>
-    requires { option_map data_of found ≡ get_member (codes "children") (members_data members) }
-    ensures { IsReadResult (object (members_data members.entry))
-        (children_in (members_data members.entry)) result }
+    requires { option_map data_of found ≡ get_member (codes "children") (readable object.now) }
+    ensures { IsReadResult (value_of object.now) (children_in (readable object.now)) result }
 {
     match found {
         None => Ok(Items::new(alloc)),

@@ -8,6 +8,7 @@ ghost use Rattle.deno_graph_json.specs.Read.Result.{IsReadResult};
 
 use crate::analysis::dynamic_dependency::{DynamicDependencyDescriptor, read_dynamic};
 use crate::analysis::import_attributes::ImportAttributes;
+use crate::analysis::module_info::ModuleInfo;
 use crate::analysis::static_dependency::{StaticDependencyDescriptor, read_static};
 use deno_graph_base::values::TryClone;
 use deno_graph_json::{Element, Expected, FromJson, ObjectReader, ReadError, ToJson, Writer};
@@ -110,7 +111,7 @@ impl ToJson for DependencyDescriptor {
     }
 }
 
-impl FromJson for DependencyDescriptor {
+impl FromJson<ModuleInfo> for DependencyDescriptor {
     ghost reads = { reads_dependency };
 
     #[tactic(auto, using(deno_graph_json::proofs::Reading::reading), unfolding(crate::specs::Json::Dependency::reads_dependency))]
@@ -125,7 +126,7 @@ impl FromJson for DependencyDescriptor {
 #[tactic(auto, unfolding(crate::specs::Json::Dependency::dependency_of_type))]
 fn read_dependency(
     dependency_type: &str,
-    object: &ObjectReader,
+    object: &ObjectReader<ModuleInfo>,
 ) -> Result<DependencyDescriptor, ReadError>
     ensures { get_member (codes "type") (readable object.now) ≡ Some (string dependency_type.now)
         → IsReadResult (value_of object.now)

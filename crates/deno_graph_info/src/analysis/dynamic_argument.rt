@@ -7,6 +7,7 @@ ghost use Rattle.deno_graph_info.specs.Json.DynamicArgument.{json_of_argument, r
 ghost use Rattle.deno_graph_json.specs.ObjectReader.{readable, value_of};
 ghost use Rattle.deno_graph_json.specs.Read.Result.{IsReadResult};
 
+use crate::analysis::module_info::ModuleInfo;
 use deno_graph_base::values::{Items, Text, TryClone};
 use deno_graph_json::read::read_items;
 use deno_graph_json::{
@@ -85,7 +86,7 @@ const EXPECTED_ARGUMENT: Expected = Expected::OneOf(
     &[Form::String, Form::Array, Form::Null],
 );
 
-impl FromJson for DynamicArgument {
+impl FromJson<ModuleInfo> for DynamicArgument {
     ghost reads = { reads_argument };
 
     #[tactic(auto, unfolding(crate::specs::Json::DynamicArgument::reads_argument))]
@@ -141,7 +142,7 @@ impl ToObject for DynamicTemplatePart {
     }
 }
 
-impl FromJson for DynamicTemplatePart {
+impl FromJson<ModuleInfo> for DynamicTemplatePart {
     ghost reads = { reads_part };
 
     #[tactic(auto, using(deno_graph_json::proofs::Reading::reading), unfolding(crate::specs::Json::DynamicArgument::reads_part))]
@@ -154,7 +155,10 @@ impl FromJson for DynamicTemplatePart {
 
 /// Reads a part of the type `part_type`.
 #[tactic(auto, unfolding(crate::specs::Json::DynamicArgument::part_of_type))]
-fn read_part(part_type: &str, object: &ObjectReader) -> Result<DynamicTemplatePart, ReadError>
+fn read_part(
+    part_type: &str,
+    object: &ObjectReader<ModuleInfo>,
+) -> Result<DynamicTemplatePart, ReadError>
     ensures { get_member (codes "type") (readable object.now) ≡ Some (string part_type.now)
         → IsReadResult (value_of object.now) (part_of_type part_type.now (readable object.now)) result }
 {

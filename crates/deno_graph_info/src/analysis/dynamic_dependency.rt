@@ -7,6 +7,7 @@ ghost use Rattle.deno_graph_json.specs.Read.Result.{IsReadResult};
 
 use crate::analysis::dynamic_argument::DynamicArgument;
 use crate::analysis::import_attributes::ImportAttributes;
+use crate::analysis::module_info::ModuleInfo;
 use crate::analysis::specifier_with_range::SpecifierWithRange;
 use deno_graph_base::text::PositionRange;
 use deno_graph_base::values::TryClone;
@@ -75,7 +76,7 @@ impl ToJson for DynamicDependencyKind {
     }
 }
 
-impl FromJson for DynamicDependencyKind {
+impl FromJson<ModuleInfo> for DynamicDependencyKind {
     ghost reads = { reads_dynamic_kind };
 
     #[tactic(auto, using(deno_graph_json::proofs::Reading::reading), unfolding(crate::specs::Json::DynamicDependency::reads_dynamic_kind))]
@@ -159,7 +160,9 @@ impl ToObject for DynamicDependencyDescriptor {
 
 /// Reads the members of a dynamic dependency.
 #[tactic(auto, using(deno_graph_json::proofs::Reading::reading), unfolding(crate::specs::Json::DynamicDependency::reads_dynamic))]
-pub(crate) fn read_dynamic(object: &ObjectReader) -> Result<DynamicDependencyDescriptor, ReadError>
+pub(crate) fn read_dynamic(
+    object: &ObjectReader<ModuleInfo>,
+) -> Result<DynamicDependencyDescriptor, ReadError>
     ensures { IsReadResult (value_of object.now) (reads_dynamic (readable object.now)) result }
 {
     let kind = object.read_or("kind", DynamicDependencyKind::Import)?;

@@ -5,6 +5,7 @@ ghost use Rattle.deno_graph_info.specs.Json.ImportAttributes.{json_of_attribute,
 ghost use Rattle.deno_graph_json.specs.ObjectReader.{readable, value_of};
 ghost use Rattle.deno_graph_json.specs.Read.Result.{IsReadResult};
 
+use crate::analysis::module_info::ModuleInfo;
 use deno_graph_base::values::{Text, TextMap, TryClone};
 use deno_graph_json::{
     Element, Expected, Form, FromJson, MemberWriter, ObjectReader, ObjectWriter, ReadError, ToJson,
@@ -55,7 +56,7 @@ const EXPECTED_ATTRIBUTE: Expected = Expected::OneOf(
     &[Form::String, Form::Null],
 );
 
-impl FromJson for ImportAttribute {
+impl FromJson<ModuleInfo> for ImportAttribute {
     ghost reads = { reads_attribute };
 
     #[tactic(auto, unfolding(crate::specs::Json::ImportAttributes::reads_attribute))]
@@ -169,7 +170,7 @@ const EXPECTED_ATTRIBUTES: Expected = Expected::OneOf(
     &[Form::Name("none"), Form::Name("unknown"), Form::ObjectOfOne],
 );
 
-impl FromJson for ImportAttributes {
+impl FromJson<ModuleInfo> for ImportAttributes {
     ghost reads = { reads_attributes };
 
     #[tactic(auto, unfolding(crate::specs::Json::ImportAttributes::reads_attributes))]
@@ -196,7 +197,10 @@ fn read_name(alloc: Global, name: &str) -> Result<ImportAttributes, ReadError>
 
 /// Reads the attributes of an object with the one member `known`.
 #[tactic(auto, unfolding(crate::specs::Json::ImportAttributes::known_attributes, crate::specs::Json::ImportAttributes::reads_attributes))]
-fn read_known(alloc: Global, object: &ObjectReader) -> Result<ImportAttributes, ReadError>
+fn read_known(
+    alloc: Global,
+    object: &ObjectReader<ModuleInfo>,
+) -> Result<ImportAttributes, ReadError>
     ensures { IsReadResult (value_of object.now) (known_attributes (readable object.now)) result }
 {
     if object.has_one_name() {

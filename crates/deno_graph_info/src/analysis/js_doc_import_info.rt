@@ -1,8 +1,8 @@
 ghost use Rattle.std.specs.Prelude.{refl};
 ghost use Rattle.deno_graph_info.specs.Json.JsDocImportInfo.{js_doc_import_entries, reads_js_doc_import, IsHeldJsDocImport};
 
-use crate::analysis::SpecifierWithRange;
 use crate::analysis::specifier_with_mode::{put_specifier_with_mode, read_specifier_with_mode};
+use crate::analysis::{ModuleInfo, SpecifierWithRange};
 use deno_graph_base::values::{TryClone, TypeScriptTypesResolutionMode};
 use deno_graph_json::{Element, FromJson, MemberWriter, ObjectReader, ReadError, ToObject};
 use std::alloc::{AllocError, Global};
@@ -36,7 +36,7 @@ impl ToObject for JsDocImportInfo {
     }
 }
 
-impl FromJson for JsDocImportInfo {
+impl FromJson<ModuleInfo> for JsDocImportInfo {
     ghost reads = { reads_js_doc_import };
 
     #[tactic(auto, using(deno_graph_json::proofs::Reading::reading), unfolding(crate::specs::Json::JsDocImportInfo::reads_js_doc_import))]

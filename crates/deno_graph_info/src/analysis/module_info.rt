@@ -156,12 +156,12 @@ impl ToObject for ModuleInfo {
     }
 }
 
-impl FromJson for ModuleInfo {
+impl FromJson<ModuleInfo> for ModuleInfo {
     ghost reads = { reads_info };
 
     #[tactic(auto, using(deno_graph_json::proofs::Reading::reading), unfolding(crate::specs::Json::ModuleInfo::reads_info))]
     fn from_json(alloc: Global, value: Element<'_>) -> Result<ModuleInfo, ReadError> {
-        let object = ObjectReader::new(alloc, value)?;
+        let object = ObjectReader::<ModuleInfo>::new(alloc, value)?;
         let is_script = object.read_or("script", false)?;
         let dependencies = object.read_list("dependencies")?;
         let ts_references = object.read_list("tsReferences")?;

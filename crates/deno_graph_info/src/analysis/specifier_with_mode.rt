@@ -7,6 +7,7 @@ ghost use Rattle.deno_graph_json.specs.ObjectReader.{readable, value_of};
 ghost use Rattle.deno_graph_json.specs.Read.Result.{IsReadResult};
 ghost use Rattle.deno_graph_info.specs.Json.SpecifierWithMode.{specifier_with_mode, specifier_with_mode_entries};
 
+use crate::analysis::module_info::ModuleInfo;
 use crate::analysis::specifier_with_range::{SpecifierWithRange, read_specifier};
 use deno_graph_base::values::TypeScriptTypesResolutionMode;
 use deno_graph_json::{MemberWriter, ObjectReader, ReadError};
@@ -30,7 +31,7 @@ pub(crate) fn put_specifier_with_mode<W: MemberWriter>(
 /// Reads the specifier and, if present, `resolutionMode`.
 #[tactic(auto, using(deno_graph_json::proofs::Reading::reading), unfolding(crate::specs::Json::SpecifierWithMode::specifier_with_mode))]
 pub(crate) fn read_specifier_with_mode(
-    object: &ObjectReader,
+    object: &ObjectReader<ModuleInfo>,
 ) -> Result<(SpecifierWithRange, Option<TypeScriptTypesResolutionMode>), ReadError>
     ensures { IsReadResult (value_of object.now) (specifier_with_mode (readable object.now)) result }
 {

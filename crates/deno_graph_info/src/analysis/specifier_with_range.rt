@@ -3,6 +3,7 @@ ghost use Rattle.deno_graph_info.specs.Json.SpecifierWithRange.{reads_specifier,
 ghost use Rattle.deno_graph_json.specs.ObjectReader.{readable, value_of};
 ghost use Rattle.deno_graph_json.specs.Read.Result.{IsReadResult};
 
+use crate::analysis::module_info::ModuleInfo;
 use deno_graph_base::text::PositionRange;
 use deno_graph_base::values::{Text, TryClone};
 use deno_graph_json::{Element, FromJson, MemberWriter, ObjectReader, ReadError, ToObject};
@@ -38,7 +39,7 @@ impl ToObject for SpecifierWithRange {
     }
 }
 
-impl FromJson for SpecifierWithRange {
+impl FromJson<ModuleInfo> for SpecifierWithRange {
     ghost reads = { reads_specifier };
 
     #[tactic(auto, using(deno_graph_json::proofs::Reading::reading), unfolding(crate::specs::Json::SpecifierWithRange::reads_specifier))]
@@ -50,7 +51,7 @@ impl FromJson for SpecifierWithRange {
 
 /// Reads the members of a specifier.
 #[tactic(auto, unfolding(crate::specs::Json::SpecifierWithRange::specifier_of))]
-pub fn read_specifier(object: &ObjectReader) -> Result<SpecifierWithRange, ReadError>
+pub fn read_specifier(object: &ObjectReader<ModuleInfo>) -> Result<SpecifierWithRange, ReadError>
     ensures { IsReadResult (value_of object.now) (specifier_of (readable object.now)) result }
 {
     read_specifier_at(object, "text", "range")
@@ -59,7 +60,7 @@ pub fn read_specifier(object: &ObjectReader) -> Result<SpecifierWithRange, ReadE
 /// Reads a specifier from a member with the text and a member with the range.
 #[tactic(auto, using(deno_graph_json::proofs::Reading::reading), unfolding(crate::specs::Json::SpecifierWithRange::specifier_at))]
 pub(crate) fn read_specifier_at(
-    object: &ObjectReader,
+    object: &ObjectReader<ModuleInfo>,
     text_key: &'static str,
     range_key: &'static str,
 ) -> Result<SpecifierWithRange, ReadError>

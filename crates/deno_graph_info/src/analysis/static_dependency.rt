@@ -5,6 +5,7 @@ ghost use Rattle.deno_graph_json.specs.ObjectReader.{readable, value_of};
 ghost use Rattle.deno_graph_json.specs.Read.Result.{IsReadResult};
 
 use crate::analysis::import_attributes::ImportAttributes;
+use crate::analysis::module_info::ModuleInfo;
 use crate::analysis::specifier_with_range::{SpecifierWithRange, read_specifier_at};
 use deno_graph_base::text::PositionRange;
 use deno_graph_base::values::{Text, TryClone};
@@ -70,7 +71,7 @@ impl ToJson for StaticDependencyKind {
     }
 }
 
-impl FromJson for StaticDependencyKind {
+impl FromJson<ModuleInfo> for StaticDependencyKind {
     ghost reads = { reads_static_kind };
 
     #[tactic(auto, using(deno_graph_json::proofs::Reading::reading), unfolding(crate::specs::Json::StaticDependency::reads_static_kind))]
@@ -168,7 +169,9 @@ impl ToObject for StaticDependencyDescriptor {
 
 /// Reads the members of a static dependency.
 #[tactic(auto, using(deno_graph_json::proofs::Reading::reading), unfolding(crate::specs::Json::StaticDependency::reads_static))]
-pub(crate) fn read_static(object: &ObjectReader) -> Result<StaticDependencyDescriptor, ReadError>
+pub(crate) fn read_static(
+    object: &ObjectReader<ModuleInfo>,
+) -> Result<StaticDependencyDescriptor, ReadError>
     ensures { IsReadResult (value_of object.now) (reads_static (readable object.now)) result }
 {
     let kind = object.read("kind")?;

@@ -6,6 +6,7 @@ ghost use Rattle.deno_graph_json.specs.ObjectReader.{readable, value_of};
 ghost use Rattle.deno_graph_json.specs.Read.Result.{IsReadResult};
 ghost use Rattle.deno_graph_info.specs.Json.TypeScriptReference.{reads_reference, reference_entries, reference_of_type, reference_to_types, IsHeldReference};
 
+use crate::analysis::module_info::ModuleInfo;
 use crate::analysis::specifier_with_mode::{put_specifier_with_mode, read_specifier_with_mode};
 use crate::analysis::specifier_with_range::{SpecifierWithRange, read_specifier};
 use deno_graph_base::values::{TryClone, TypeScriptTypesResolutionMode};
@@ -71,7 +72,7 @@ impl ToObject for TypeScriptReference {
     }
 }
 
-impl FromJson for TypeScriptReference {
+impl FromJson<ModuleInfo> for TypeScriptReference {
     ghost reads = { reads_reference };
 
     #[tactic(auto, using(deno_graph_json::proofs::Reading::reading), unfolding(crate::specs::Json::TypeScriptReference::reads_reference))]
@@ -86,7 +87,7 @@ impl FromJson for TypeScriptReference {
 #[tactic(auto, unfolding(crate::specs::Json::TypeScriptReference::reference_of_type))]
 fn read_reference(
     reference_type: &str,
-    object: &ObjectReader,
+    object: &ObjectReader<ModuleInfo>,
 ) -> Result<TypeScriptReference, ReadError>
     ensures { get_member (codes "type") (readable object.now) ≡ Some (string reference_type.now)
         → IsReadResult (value_of object.now)
@@ -104,7 +105,7 @@ fn read_reference(
 
 /// Reads the members of a reference to types.
 #[tactic(auto, using(deno_graph_json::proofs::Reading::reading), unfolding(crate::specs::Json::TypeScriptReference::reference_to_types))]
-fn read_types(object: &ObjectReader) -> Result<TypeScriptReference, ReadError>
+fn read_types(object: &ObjectReader<ModuleInfo>) -> Result<TypeScriptReference, ReadError>
     ensures { IsReadResult (value_of object.now) (reference_to_types (readable object.now)) result }
 {
     let (specifier, resolution_mode) = read_specifier_with_mode(object)?;

@@ -2,6 +2,7 @@
 
 ghost use Rattle.deno_graph_info.specs.Comment.{reads_stored_comment};
 
+use crate::analysis::ModuleInfo;
 use deno_graph_base::text::PositionRange;
 use deno_graph_base::values::Text;
 use deno_graph_json::{Element, FromJson, ObjectReader, ReadError};
@@ -16,12 +17,12 @@ pub struct Comment {
     pub range: PositionRange,
 }
 
-impl FromJson for Comment {
+impl FromJson<ModuleInfo> for Comment {
     ghost reads = { reads_stored_comment };
 
     #[tactic(auto, unfolding(crate::specs::Comment::reads_stored_comment))]
     fn from_json(alloc: Global, value: Element<'_>) -> Result<Comment, ReadError> {
-        let object = ObjectReader::new(alloc, value)?;
+        let object = ObjectReader::<ModuleInfo>::new(alloc, value)?;
         let text = object.read("text")?;
         let range = object.read("range")?;
         Ok(Comment { text, range })

@@ -3,8 +3,8 @@ use Rattle.serde_json.specs.Data.{array}
 use Rattle.serde_json.specs.Find.{at}
 use Rattle.deno_graph_json.specs.Data.{data_of, elements_data}
 use Rattle.deno_graph_json.proofs.ArrayElements.{AreFrom, elements_next, from_begin, from_next, from_here}
-use Rattle.deno_graph_json.proofs.Reading.{before, before_nil, items_more, items_error, items_done}
-use Rattle.deno_graph_json.proofs.Reading.{whole_error}
+use Rattle.deno_graph_json.proofs.Reading.{before, before_nil, items_more, items_error}
+use Rattle.deno_graph_json.proofs.Reading.{items_done, whole_error}
 use Rattle.deno_graph_json.specs.Read.Partial.{reads_items}
 use Rattle.deno_graph_json.proofs.read.read_items.Goals as goal
 
@@ -14,8 +14,8 @@ loop-value-init g c =
     let same = ap elements_data c.into_iter-value-iterator.ensures.into_iter_gives in (
       tt,
       tt,
-      rw (c.new-items.ensures, same) (sym (before_nil (reads (elements_data c.args.values)))),
-      from_begin (length c.new-items.result) _ _ (ap (λ xs. length xs) c.new-items.ensures) same,
+      rw (c.in_ok-items.ensures, same) (sym (before_nil (reads (elements_data c.args.values)))),
+      from_begin (length c.in_ok-items.items) _ _ (ap (λ xs. length xs) c.in_ok-items.ensures) same,
     )
 
 pub loop-value-preserved : goal.loop-value-preserved
@@ -55,7 +55,7 @@ returns-in_err-item g c =
     c.in-Some.ensures.steps in
     let here = ap (λ n. at n (array all)) c.len-number.ensures
     ∙ from_here (length items) all left rest d kept.3 first in
-    whole_error _ _ _ _ c.from_residual.ensures.1
+    whole_error _ _ _ _ c.from_residual-in_err-item.ensures.1
     (items_error (array all) reads (reads_items reads all) items d rest _
     (kept.2 ∙ ap (λ ds. before items (reads_items reads ds)) first) (c.in_err-item.ensures (array all) here))
 

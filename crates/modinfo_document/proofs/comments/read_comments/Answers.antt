@@ -1,5 +1,5 @@
 use Rattle.std.proofs.Common.{◌≡◌, arith, Some}
-use Rattle.deno_graph_json.specs.Data.{members_data}
+use Rattle.deno_graph_json.specs.ObjectReader.{readable}
 use Rattle.deno_graph_json.proofs.Reading.{goes_on}
 use Rattle.modinfo_document.specs.Comments.{Sides, reads_sides}
 use Rattle.modinfo_document.proofs.Filed.{both_sides}
@@ -17,7 +17,7 @@ returns-in_err-trailing c = grind (arith, reading_by)
 pub returns : goal.returns
 unfolding reads_sides
 returns c =
-    let ms = members_data c.args.members in
+    let ms = readable c.args.object.now in
     let leading_is = c.in_ok-leading.ensures in
     let trailing_is = c.in_ok-trailing.ensures in
     let sides : Sides = record { leading = c.in_ok-leading.leading; trailing = c.in_ok-trailing.trailing } in

@@ -2,7 +2,8 @@ use Rattle.std.proofs.Common.{◌≡◌, [], ◌∷◌, Some, None, arith, lengt
 use Rattle.std.proofs.Common.{option_map, rules, refl, sym, ap, subst, ◌∙◌}
 use Rattle.serde_json.specs.Data.{array, object}
 use Rattle.serde_json.specs.Find.{get_item, get_member}
-use Rattle.deno_graph_json.specs.Data.{data_of, elements_data, members_data}
+use Rattle.deno_graph_json.specs.Data.{data_of, elements_data}
+use Rattle.deno_graph_json.specs.ObjectReader.{readable}
 use Rattle.deno_graph_json.specs.Read.Partial.{reads_array, reads_items, read_or}
 use Rattle.deno_graph_json.specs.Read.Result.{IsReadError}
 use Rattle.deno_graph_json.proofs.ArrayElements.{AreFrom, depth_of_item, elements_next, from_begin}
@@ -12,6 +13,7 @@ use Rattle.deno_graph_json.proofs.Reading.{
   before_nil,
   error_around,
   exits,
+  is_array,
   items_done,
   items_error,
   items_more,
@@ -28,12 +30,12 @@ use Rattle.modinfo_document.proofs.Nodes.{
   node_read,
   nodes_read,
 }
-use Rattle.modinfo_document.proofs.Results.{array_items, is_array}
+use Rattle.modinfo_document.proofs.Results.{array_items}
 use Rattle.modinfo_document.proofs.node.+read.Goals as goal
 
-pub read_node-returns-in_err-members : goal.read_node-returns-in_err-members
+pub read_node-returns-in_err-object : goal.read_node-returns-in_err-object
 unfolding node_with
-read_node-returns-in_err-members t c = rw (node_read (data_of c.args.value)) (grind (arith, reading))
+read_node-returns-in_err-object t c = rw (node_read (data_of c.args.value)) (grind (arith, reading))
 
 pub read_node-returns-in_err-range : goal.read_node-returns-in_err-range
 unfolding node_with
@@ -46,7 +48,7 @@ read_node-returns-in_err-kind t c = rw (node_read (data_of c.args.value)) (grind
 pub read_node-returns-in_err-children : goal.read_node-returns-in_err-children
 unfolding node_with
 read_node-returns-in_err-children t c = rw (node_read (data_of c.args.value))
-    (object_on _ _ (members_data c.in_ok-members.members) _ c.in_ok-members.ensures
+    (object_on _ _ (readable c.in_ok-object.object) _ c.in_ok-object.ensures
     (result_on _ _ _ c.in_ok-range.range _ c.in_ok-range.ensures
     (result_on _ _ _ c.in_ok-kind.kind _ c.in_ok-kind.ensures
     (exits _ _ _ _ _ c.from_residual-in_err-children.ensures.1 c.in_err-children.ensures))))
@@ -57,7 +59,7 @@ read_node-returns t c = rw (node_read (data_of c.args.value)) (grind (arith, rea
 
 pub read_node-read_children-requires : goal.read_node-read_children-requires
 read_node-read_children-requires t c =
-    let here = depth_of_object (data_of c.args.value) _ c.in_ok-members.ensures in
+    let here = depth_of_object (data_of c.args.value) _ c.in_ok-object.ensures in
     (omega (arith, c.decreases, here), search rules)
 
 pub read_children-read_nodes-requires : goal.read_children-read_nodes-requires
@@ -66,25 +68,25 @@ read_children-read_nodes-requires t c =
       omega (
         arith,
         c.decreases,
-        depth_of_named (codes "children") (members_data c.args.members) (data_of c.in-Some.children) here,
+        depth_of_named (codes "children") (readable c.args.object.now) (data_of c.in-Some.children) here,
       ),
       tt,
     )
 
 pub read_children-returns-in-None : goal.read_children-returns-in-None
 read_children-returns-in-None t c =
-    children_read (members_data c.args.members)
+    children_read (readable c.args.object.now)
     ∙ ap (read_or reads_nodes []) (sym c.requires ∙ ap (option_map data_of) c.in-None.is)
     ∙ ap Some (sym c.new.ensures)
 
 pub read_children-returns-in-Ok : goal.read_children-returns-in-Ok
 read_children-returns-in-Ok t c =
-    children_read (members_data c.args.members)
+    children_read (readable c.args.object.now)
     ∙ ap (read_or reads_nodes []) (sym c.requires ∙ ap (option_map data_of) c.in-Some.is) ∙ c.in-Ok.ensures
 
 pub read_children-returns-in-Err : goal.read_children-returns-in-Err
 read_children-returns-in-Err t c =
-    let ms = members_data c.args.members in
+    let ms = readable c.args.object.now in
     let d = data_of c.in-Some.children in
     let here : get_member (codes "children") ms ≡ Some d =
     sym c.requires ∙ ap (option_map data_of) c.in-Some.is in

@@ -1,7 +1,7 @@
 use Rattle.deno_graph_json.proofs.Reading.{member_on, object_on}
 use Rattle.deno_graph_info.specs.Json.DynamicArgument.{reads_part}
 use Rattle.deno_graph_json.specs.ObjectReader.{readable}
-use Rattle.deno_graph_info.proofs.analysis.dynamic_argument.DynamicTemplatePartFromJson.from_json.Goals as goal
+use Rattle.deno_graph_info.proofs.analysis.dynamic_argument.DynamicTemplatePartFromJsonModuleInfo.from_json.Goals as goal
 
 pub returns : goal.returns
 unfolding reads_part

@@ -1,9 +1,9 @@
-use Rattle.std.proofs.Common.{◌≡◌, None, arith, refl, sym}
+use Rattle.std.proofs.Common.{◌≡◌, None, refl, sym}
 use Rattle.deno_graph_json.specs.Read.Partial.{as_usize, reads_pair}
 use Rattle.deno_graph_json.specs.Data.{data_of}
 use Rattle.deno_graph_json.proofs.Reading.{goes_on}
 use Rattle.modinfo_document.specs.Literal.{reads_source_range}
-use Rattle.modinfo_document.proofs.literal.SourceRangeFromElement.from_element.Goals as goal
+use Rattle.modinfo_document.proofs.literal.SourceRangeFromJsonDocument.from_json.Goals as goal
 
 pub returns-in-Some : goal.returns-in-Some
 unfolding reads_source_range

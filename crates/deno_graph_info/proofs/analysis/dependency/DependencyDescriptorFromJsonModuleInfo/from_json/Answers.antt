@@ -1,7 +1,7 @@
 use Rattle.deno_graph_json.proofs.Reading.{member_on, object_on}
 use Rattle.deno_graph_info.specs.Json.Dependency.{reads_dependency}
 use Rattle.deno_graph_json.specs.ObjectReader.{readable}
-use Rattle.deno_graph_info.proofs.analysis.dependency.DependencyDescriptorFromJson.from_json.Goals as goal
+use Rattle.deno_graph_info.proofs.analysis.dependency.DependencyDescriptorFromJsonModuleInfo.from_json.Goals as goal
 
 pub returns : goal.returns
 unfolding reads_dependency

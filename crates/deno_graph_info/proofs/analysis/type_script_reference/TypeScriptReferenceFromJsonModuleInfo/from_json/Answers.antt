@@ -1,7 +1,7 @@
 use Rattle.deno_graph_json.proofs.Reading.{member_on, object_on}
 use Rattle.deno_graph_json.specs.ObjectReader.{readable}
 use Rattle.deno_graph_info.specs.Json.TypeScriptReference.{reads_reference}
-use Rattle.deno_graph_info.proofs.analysis.type_script_reference.TypeScriptReferenceFromJson.from_json.Goals as goal
+use Rattle.deno_graph_info.proofs.analysis.type_script_reference.TypeScriptReferenceFromJsonModuleInfo.from_json.Goals as goal
 
 pub returns : goal.returns
 unfolding reads_reference
