@@ -244,7 +244,8 @@ object-returns-in_default t c =
     λ r is. c.in_default.not-EndObject (is_end_object c.in_ok-name.field-0 (cc (sym token ∙ is))) in
     record {
       put = search rules;
-      none = λ offset e. no_key_object c.args.depth c.args.self.now.reader l.self.reader l.invariant.3 no_key no_end;
+      none = λ offset e. no_key_object c.args.depth c.args.self.now.reader l.self.reader l.invariant.3 no_key
+          no_end;
       shorter = search rules;
     }
 
