@@ -47,7 +47,7 @@ function dependencies(source, body) {
 }
 
 test("acorn's own tree, without nodes for parentheses", () => {
-  const source = `#!/a\n/* b */ import((("c")) + d); require(("f")); (require)("g"); require("h", ({}));`;
+  const source = `#!/a\n/* b */ import((("c")) + d); require(( // e \n"f")); (require)("g"); require("h", ({}));`;
   /** @type {unknown[]} */
   const comments = [];
   const tree = acorn.parse(source, { ecmaVersion: "latest", sourceType: "module", onComment: comments, allowHashBang: true });
