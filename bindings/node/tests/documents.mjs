@@ -1,9 +1,14 @@
 /** What several tests share. */
 
+import { isDeepStrictEqual } from "node:util";
+
+import { Source } from "../src/document/source.mjs";
+import { parseWithAcorn } from "../src/parsers/estree/acorn.mjs";
 import { toDocument as fromEstree } from "../src/parsers/estree/index.mjs";
 import { toDocument as fromTypeScript } from "../src/parsers/typescript/index.mjs";
 import { fault, readSchema } from "./schema.mjs";
 import { analyze } from "./analysis.mjs";
+import { readEstree } from "./estree_reading.mjs";
 import { invalidity } from "./validity.mjs";
 
 /**
@@ -47,7 +52,27 @@ const schemas = { document: readSchema("document"), info: readSchema("module-inf
  */
 export function documentOf(adapter, text, mediaType, options = {}) {
   const toDocument = /** @type {Adapter} */ (adapter);
-  const document = /** @type {AnyDocument} */ (toDocument(text, { specifier: "file:///module", mediaType, ...options }));
+  return checkedDocument(toDocument(text, { specifier: "file:///module", mediaType, ...options }));
+}
+
+/**
+ * The document of a parsed text by the direct reading, from the JSON of the tree, in which a bigint is null.
+ * @param {string} text
+ * @param {string} mediaType
+ * @param {{ tree: unknown, comments?: unknown }} parsed
+ */
+export function directDocumentOf(text, mediaType, { tree, comments }) {
+  const input = { specifier: "file:///module", mediaType, source: text, program: tree, comments };
+  const json = JSON.stringify(input, (_, value) => (typeof value === "bigint" ? null : value));
+  return checkedDocument(readEstree(JSON.parse(json)));
+}
+
+/**
+ * A document that keeps the schema and is a valid source.
+ * @param {object} value
+ */
+function checkedDocument(value) {
+  const document = /** @type {AnyDocument} */ (value);
   const wrong = invalidity(document);
   if (wrong) {
     throw new Error(wrong);
@@ -68,12 +93,27 @@ export function answerTo(document) {
  * @param {string} text
  * @param {string} [mediaType]
  */
-export function answerOf(text, mediaType = "JavaScript") {
+export function adaptersAnswer(text, mediaType = "JavaScript") {
   const documents = ADAPTERS.map(([, adapter]) => JSON.stringify(documentOf(adapter, text, mediaType)));
   if (documents[0] !== documents[1]) {
     throw new Error(`the documents differ: ${documents.join("\n")}`);
   }
   return answerTo(JSON.parse(documents[0]));
+}
+
+/**
+ * Like `adaptersAnswer`, but checks also that the direct reading of acorn's tree has this answer. The tree must have
+ * at most some hundred levels, since the direct reading recurses.
+ * @param {string} text
+ * @param {string} [mediaType]
+ */
+export function answerOf(text, mediaType = "JavaScript") {
+  const answer = adaptersAnswer(text, mediaType);
+  const direct = answerTo(directDocumentOf(text, mediaType, parseWithAcorn(new Source(text), mediaType)));
+  if (!isDeepStrictEqual(direct, answer)) {
+    throw new Error(`the direct reading differs: ${JSON.stringify([answer, direct])}`);
+  }
+  return answer;
 }
 
 /**

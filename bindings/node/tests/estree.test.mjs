@@ -5,7 +5,7 @@ import { test } from "node:test";
 
 import { toDocument } from "../src/parsers/estree/index.mjs";
 import { loadParser } from "../src/parsers/installed_parsers.mjs";
-import { answerTo, documentOf } from "./documents.mjs";
+import { answerTo, directDocumentOf, documentOf } from "./documents.mjs";
 
 const acorn = loadParser("acorn");
 
@@ -29,13 +29,15 @@ function maker(source) {
 }
 
 /**
- * The answer to a tree whose body is these nodes.
+ * The answer to a tree whose body is these nodes, which is the same by the direct reading.
  * @param {string} source
  * @param {Node[]} body
  */
 function answerToTree(source, body, mediaType = "TypeScript") {
   const tree = { type: "Program", range: [0, source.length], body, comments: [] };
-  return answerTo(documentOf(toDocument, source, mediaType, { tree }));
+  const answer = answerTo(documentOf(toDocument, source, mediaType, { tree }));
+  assert.deepEqual(answerTo(directDocumentOf(source, mediaType, { tree })), answer);
+  return answer;
 }
 
 /**
@@ -47,7 +49,7 @@ function dependencies(source, body) {
 }
 
 test("acorn's own tree, without nodes for parentheses", () => {
-  const source = `#!/a\n/* b */ import((("c")) + d); require(("f")); (require)("g"); require("h", ({}));`;
+  const source = `#!/a\n/* b */ import((("c")) + d); require(( // e \n"f")); (require)("g"); require("h", ({}));`;
   /** @type {unknown[]} */
   const comments = [];
   const tree = acorn.parse(source, { ecmaVersion: "latest", sourceType: "module", onComment: comments, allowHashBang: true });
@@ -99,7 +101,8 @@ test("typescript-estree's import types and modules", () => {
   const property = (text, name, value) => node("Property", text, {
     kind: "init", key: node("Identifier", name, { name }), value, computed: false, shorthand: false, method: false,
   });
-  const inner = node("TSImportType", `import("g")`, { source: string("g"), options: null });
+  const inOlderTrees = node("TSLiteralType", `"g"`, { literal: string("g") });
+  const inner = node("TSImportType", `import("g")`, { argument: inOlderTrees, options: null });
   const clause = node("ObjectExpression", `{ d: "e" }`, { properties: [property(`d: "e"`, "d", string("e"))] });
   const type = node("TSImportType", `import("c", { with: { d: "e" } }).F<import("g")>`, {
     source: string("c"),
@@ -135,7 +138,7 @@ test("phases, await using, Babel's imports and methods", () => {
     node("ImportExpression", `import.source("b")`, { phase: "source", source: string("b"), options: null }),
     node("VariableDeclaration", "await using c = d;", { kind: "await using", declarations: [] }),
     node("ObjectMethod", `async g() { await import("h"); }`, {
-      computed: false, key: node("Identifier", "g"), params: [], body: node("BlockStatement", `{ await import("h"); }`, { body: [awaiting] }),
+      computed: false, key: node("Identifier", "g", { name: "g" }), params: [], body: node("BlockStatement", `{ await import("h"); }`, { body: [awaiting] }),
     }),
   ];
   assert.deepEqual(dependencies(source, items), [
@@ -146,18 +149,19 @@ test("phases, await using, Babel's imports and methods", () => {
 });
 
 test("Babel's keys that are numbers are no strings", () => {
-  const source = `import("a", { with: { 1n: "b" } }); import("c", { with: { "1": "b" } });`;
+  const source = `import("a", { with: { 1n: "b" } }); import("c", { with: { "1": "d" } });`;
   const node = maker(source);
   /** @param {string} value */
   const string = (value) => node("StringLiteral", `"${value}"`, { value });
   /**
    * @param {string} name
    * @param {Node} key
+   * @param {Node} value
    */
-  const call = (name, key) => {
+  const call = (name, key, value) => {
     const text = source.slice(source.indexOf(`import("${name}"`)).split(";")[0];
     const inner = text.slice(text.lastIndexOf("{"), text.indexOf("}") + 1);
-    const attribute = node("ObjectProperty", inner.slice(2, -2), { key, value: string("b"), computed: false, shorthand: false });
+    const attribute = node("ObjectProperty", inner.slice(2, -2), { key, value, computed: false, shorthand: false });
     const attributes = node("ObjectExpression", inner, { properties: [attribute] });
     const outer = node("ObjectProperty", `with: ${inner}`, {
       key: node("Identifier", "with", { name: "with" }), value: attributes, computed: false, shorthand: false,
@@ -168,9 +172,10 @@ test("Babel's keys that are numbers are no strings", () => {
       callee: { type: "Import", range: [start, start + "import".length] }, arguments: [string(name), options],
     });
   };
-  assert.deepEqual(dependencies(source, [call("a", node("BigIntLiteral", "1n", { value: "1" })), call("c", string("1"))]), [
+  const number = node("BigIntLiteral", "1n", { value: "1" });
+  assert.deepEqual(dependencies(source, [call("a", number, string("b")), call("c", string("1"), string("d"))]), [
     { argument: "a", importAttributes: "unknown" },
-    { argument: "c", importAttributes: { known: { 1: "b" } } },
+    { argument: "c", importAttributes: { known: { 1: "d" } } },
   ]);
 });
 

@@ -41,17 +41,21 @@ export class Trivia {
   }
 
   /**
-   * The end of the last token that ends at or before an offset; 0 where there is none.
+   * The end of the last token that ends at or before an offset; 0 where there is none. A line comment may end in
+   * white space, which is no space between tokens.
    * @param {number} offset
    * @returns {number}
    */
   tokenEnd(offset) {
     this.#starts ??= new Map(this.comments.map(({ start, end }) => [end, start]));
-    let at = spaceStart(this.text, offset);
-    for (let start = this.#starts.get(at); start !== undefined; start = this.#starts.get(at)) {
-      at = spaceStart(this.text, start);
+    let at = offset;
+    for (;;) {
+      const start = this.#starts.get(at);
+      if (start === undefined && (at === 0 || !isSpace(this.text, at - 1))) {
+        return at;
+      }
+      at = start ?? at - 1;
     }
-    return at;
   }
 
   /**
