@@ -80,8 +80,8 @@ async function requests() {
 }
 
 /**
- * Opens a page from nothing, and waits until its picture or module is there. A list of choices stands below a graph as
- * well, and is there before the graph.
+ * Opens a page in an empty tab and waits for its picture or module. A page with a graph also has a list of choices,
+ * which appears before the graph.
  * @param {string} url
  */
 export async function open(url) {
