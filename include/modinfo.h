@@ -3,10 +3,11 @@
  * `pkg-config --cflags --libs modinfo` prints what to compile and link with. FORMATS.md, in docs/ of the
  * repository and below share/doc where it is installed, describes documents and answers.
  *
- * modinfo_analyze, modinfo_convert and modinfo_reach each read one JSON document from memory, and
- * write one line, the answer, into memory of the caller. modinfo_check, modinfo_check_convert and
- * modinfo_check_reach read a document of these three, and write a report on it. modinfo_lines does one of
- * these for each line of a text. Nothing is kept between calls, and nothing is printed.
+ * modinfo_analyze, modinfo_analyze_estree, modinfo_convert and modinfo_reach each read one JSON document
+ * from memory, and write one line, the answer, into memory of the caller. modinfo_check,
+ * modinfo_check_estree, modinfo_check_convert and modinfo_check_reach read a document of these four, and
+ * write a report on it. modinfo_lines does one of these for each line of a text. Nothing is kept between
+ * calls, and nothing is printed.
  *
  *     document         the document, in UTF-8
  *     document_length  its length in bytes; no zero byte is needed after it
@@ -51,7 +52,8 @@
  *     end of faults
  *     OutOfMemory       An allocation failed.
  *
- * Where several of those from RangeReversed to Shape are in a document of analyze, any one is named.
+ * Where several of those from RangeReversed to Shape are in a document of analyze, any one is named. The
+ * faults of modinfo_analyze_estree are those of `analyze`.
  *
  * A report is one of these JSON objects, which report.schema.json describes beside FORMATS.md:
  *
@@ -65,7 +67,8 @@
  *                       leads to the first of the two comments. With Input and Json there is no
  *                       pointer, but "at":{"line":N,"column":N,"offset":N}: where the document stops
  *                       being UTF-8, or the first token that can't be read goes wrong, in lines and
- *                       characters from zero, and in bytes.
+ *                       characters from zero, and in bytes. In a report of modinfo_check_estree on
+ *                       a fault from RangeReversed to Shape there is no pointer and no "other".
  *
  * A POINTER is a JSON Pointer (RFC 6901) into the document. The pointer to the whole document is empty.
  *
@@ -75,7 +78,7 @@
  * don't overlap, and no other thread writes to them during the call. Calls may run side by side in
  * many threads, but not in a signal handler, nor in the forked child of a process with threads.
  * The document is read where it is, and not copied. Memory comes from the process's `malloc`, `realloc`
- * and `free`, and is given back before the call returns. Trees use the stack: 192 KiB were enough for
+ * and `free`, and is given back before the call returns. Trees use the stack: 288 KiB were enough for
  * the deepest documents, whose JSON nests 127 deep. On x86-64 the processor has to have x86-64-v2
  * (SSE4.2 and POPCNT).
  */
@@ -112,7 +115,9 @@ enum {
     MODINFO_REACH = 2,
     MODINFO_CHECK = 3,
     MODINFO_CHECK_CONVERT = 4,
-    MODINFO_CHECK_REACH = 5
+    MODINFO_CHECK_REACH = 5,
+    MODINFO_ANALYZE_ESTREE = 6,
+    MODINFO_CHECK_ESTREE = 7
 };
 
 /* No pointer is null. */
@@ -130,6 +135,11 @@ uint32_t modinfo_version(void);
 uint8_t modinfo_analyze(const uint8_t *document, size_t document_length,
                         uint8_t *answer, size_t room, size_t *length) MODINFO_NONNULL;
 
+/* Like modinfo_analyze, but reads a document with the tree of a parser, as ESTree describes it. ESTREE.md,
+ * beside FORMATS.md, describes the document. */
+uint8_t modinfo_analyze_estree(const uint8_t *document, size_t document_length,
+                               uint8_t *answer, size_t room, size_t *length) MODINFO_NONNULL;
+
 /* Reads the information of one module in version 1, and writes that in version 2. */
 uint8_t modinfo_convert(const uint8_t *document, size_t document_length,
                         uint8_t *answer, size_t room, size_t *length) MODINFO_NONNULL;
@@ -142,6 +152,10 @@ uint8_t modinfo_reach(const uint8_t *document, size_t document_length,
  * document is valid or not. */
 uint8_t modinfo_check(const uint8_t *document, size_t document_length,
                       uint8_t *answer, size_t room, size_t *length) MODINFO_NONNULL;
+
+/* Like modinfo_check, but reads a document of modinfo_analyze_estree. */
+uint8_t modinfo_check_estree(const uint8_t *document, size_t document_length,
+                             uint8_t *answer, size_t room, size_t *length) MODINFO_NONNULL;
 
 /* Like modinfo_check, but reads a document of modinfo_convert. */
 uint8_t modinfo_check_convert(const uint8_t *document, size_t document_length,

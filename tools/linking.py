@@ -6,8 +6,9 @@ from pathlib import Path
 from building import Kit, Target, run
 from sources import BuildError
 
-FUNCTIONS = ("analyze", "convert", "reach", "check", "check_convert", "check_reach", "lines", "version")
-EXPORTED = [f"modinfo_{function}" for function in FUNCTIONS]
+COMMANDS = ("analyze", "analyze_estree", "convert", "reach")
+CHECKS = ("check", "check_estree", "check_convert", "check_reach")
+EXPORTED = [f"modinfo_{function}" for function in (*COMMANDS, *CHECKS, "lines", "version")]
 
 
 def link_program(target: Target, kit: Kit, main: Path, program: Path) -> None:

@@ -10,7 +10,7 @@ import ctypes
 import sys
 
 ANSWERED, FAULT, TOO_SMALL = 0, 1, 2
-FUNCTIONS = ("analyze", "convert", "reach", "check", "check_convert", "check_reach")
+FUNCTIONS = ("analyze", "analyze_estree", "convert", "reach", "check", "check_estree", "check_convert", "check_reach")
 
 
 class Modinfo:

@@ -13,9 +13,21 @@ from pathlib import Path
 
 from analyze import ANSWERED, FAULT, TOO_SMALL, Modinfo
 
-COMMANDS = ("analyze", "convert", "reach")
+# Each command by its words, and by those that follow `check`.
+COMMANDS = {
+    ("analyze",): "analyze",
+    ("analyze", "--estree"): "analyze_estree",
+    ("convert",): "convert",
+    ("reach",): "reach",
+}
+CHECKED = {**COMMANDS, (): "analyze", ("--estree",): "analyze_estree"}
 # Each command's function that writes reports.
-CHECKS = {"analyze": "check", "convert": "check_convert", "reach": "check_reach"}
+CHECKS = {
+    "analyze": "check",
+    "analyze_estree": "check_estree",
+    "convert": "check_convert",
+    "reach": "check_reach",
+}
 GUARD = b"\xa5" * 64
 
 
@@ -49,15 +61,16 @@ def cases_of_runs(folder):
 def program_cases(folder):
     """The name, command, input, status and answer of each test case that runs the program on one command."""
     for words, fields in cases_of_runs(folder):
-        if len(words) == 1 and words[0] in COMMANDS:
-            yield fields["row"][0], words[0], input_of(folder, fields), *wanted_of(folder, fields)
+        command = COMMANDS.get(tuple(words))
+        if command is not None:
+            yield fields["row"][0], command, input_of(folder, fields), *wanted_of(folder, fields)
 
 
 def check_cases(folder):
     """The name, command, input and report of each test case that checks one document."""
     for words, fields in cases_of_runs(folder):
-        command = words[1] if len(words) == 2 else "analyze"
-        if words[:1] == ["check"] and len(words) < 3 and command in COMMANDS:
+        command = CHECKED.get(tuple(words[1:]))
+        if words[:1] == ["check"] and command is not None:
             yield fields["row"][0], command, input_of(folder, fields), output_of(folder, fields)
 
 

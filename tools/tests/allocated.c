@@ -10,6 +10,7 @@
 enum { SPACES = 1000000, ROOM = 4096 };
 
 #define MODULE "{\"specifier\":\"file:///a.js\",\"mediaType\":\"JavaScript\",\"source\":\"\",\"program\":{\"range\":[0,0],\"body\":[]}}"
+#define ESTREE "{\"specifier\":\"file:///a.js\",\"mediaType\":\"JavaScript\",\"source\":\"\",\"program\":{\"body\":[],\"comments\":[]}}"
 
 static const struct {
     const char *name;
@@ -18,9 +19,11 @@ static const struct {
     const char *document;
 } calls[] = {
     {"analyze", modinfo_analyze, MODINFO_ANALYZE, MODULE},
+    {"analyze_estree", modinfo_analyze_estree, MODINFO_ANALYZE_ESTREE, ESTREE},
     {"convert", modinfo_convert, MODINFO_CONVERT, "{}"},
     {"reach", modinfo_reach, MODINFO_REACH, "{\"root\":\"a\",\"modules\":{\"a\":{}}}"},
     {"check", modinfo_check, MODINFO_CHECK, MODULE},
+    {"check_estree", modinfo_check_estree, MODINFO_CHECK_ESTREE, ESTREE},
     {"check_convert", modinfo_check_convert, MODINFO_CHECK_CONVERT, "{}"},
     {"check_reach", modinfo_check_reach, MODINFO_CHECK_REACH, "{\"root\":\"a\",\"modules\":{\"a\":{}}}"},
 };

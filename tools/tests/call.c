@@ -13,9 +13,14 @@ static const struct {
     const char *name;
     function *function;
 } functions[] = {
-    {"analyze", modinfo_analyze},         {"convert", modinfo_convert},
-    {"reach", modinfo_reach},             {"check", modinfo_check},
-    {"check_convert", modinfo_check_convert}, {"check_reach", modinfo_check_reach},
+    {"analyze", modinfo_analyze},
+    {"analyze_estree", modinfo_analyze_estree},
+    {"convert", modinfo_convert},
+    {"reach", modinfo_reach},
+    {"check", modinfo_check},
+    {"check_estree", modinfo_check_estree},
+    {"check_convert", modinfo_check_convert},
+    {"check_reach", modinfo_check_reach},
 };
 
 static void stop(const char *why)

@@ -2,11 +2,13 @@ import type { DocumentFault, FaultReport, Report } from "./runtime/check_report.
 import type { ModuleInfo } from "./document/module_info.mjs";
 import type { Graph, ResolvedModuleInfo } from "./graph/graph.mjs";
 import type { MediaType, ModuleDocument } from "./document/module_document.mjs";
+import type { EstreeDocument } from "./parsers/estree/index.mjs";
 
 export * from "./runtime/check_report.mjs";
 export * from "./document/module_info.mjs";
 export * from "./document/module_document.mjs";
 export * from "./graph/graph.mjs";
+export type { EstreeDocument } from "./parsers/estree/index.mjs";
 
 export interface ModinfoOptions {
   /**
@@ -42,6 +44,16 @@ export class Modinfo {
    *   has itself or a bigint in it
    */
   analyze(document: ModuleDocument | string | Uint8Array, options?: ReportOptions): Promise<ModuleInfo>;
+
+  /**
+   * Like `analyze`, of a document with the tree of a parser: the program reads the tree. `estreeDocument`
+   * of `modinfo/estree` makes its JSON.
+   * @param document also as JSON, the bytes in UTF-8
+   * @throws {ModinfoFault} as `analyze` does
+   * @throws {ProgramEnd} as `analyze` does
+   * @throws {TypeError} as `analyze` does
+   */
+  analyzeEstree(document: EstreeDocument | string | Uint8Array, options?: ReportOptions): Promise<ModuleInfo>;
 
   /**
    * The information of one module, as version 1 stored it, in version 2. Returns JSON that is no such
@@ -155,7 +167,7 @@ export interface GraphOptions extends CallOptions, ResolverOptions {
 
 export interface CheckOptions extends CallOptions {
   /** The command that would read the document; `"analyze"` where it is missing. */
-  command?: "analyze" | "convert" | "reach";
+  command?: "analyze" | "analyze --estree" | "convert" | "reach";
 }
 
 export interface ModuleInfoOptions extends CallOptions {

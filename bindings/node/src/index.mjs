@@ -26,6 +26,7 @@ export { ModinfoFault, ProgramEnd };
 /**
  * @typedef {import("./index.mjs").CallOptions} CallOptions
  * @typedef {import("./index.mjs").CheckOptions} CheckOptions
+ * @typedef {import("./index.mjs").EstreeDocument} EstreeDocument
  * @typedef {import("./index.mjs").Graph} Graph
  * @typedef {import("./index.mjs").GraphOptions} GraphOptions
  * @typedef {import("./index.mjs").Modinfo} Interface
@@ -75,11 +76,13 @@ export class Modinfo {
     this.#jobs = jobs;
     this.#services = {
       analyze: new Service(program, "analyze"),
+      "analyze --estree": new Service(program, "analyze --estree"),
       convert: new Service(program, "convert"),
       reach: new Service(program, "reach"),
     };
     this.#checks = {
       analyze: new Service(program, "check analyze"),
+      "analyze --estree": new Service(program, "check analyze --estree"),
       convert: new Service(program, "check convert"),
       reach: new Service(program, "check reach"),
     };
@@ -93,6 +96,15 @@ export class Modinfo {
    */
   async analyze(document, options) {
     return this.#ask("analyze", document, options);
+  }
+
+  /**
+   * @param {EstreeDocument | string | Uint8Array} document
+   * @param {ReportOptions} [options]
+   * @returns {Promise<ModuleInfo>}
+   */
+  async analyzeEstree(document, options) {
+    return this.#ask("analyze --estree", document, options);
   }
 
   /**
@@ -123,7 +135,8 @@ export class Modinfo {
     checkKnown(options, ["command", "signal"]);
     const { command = "analyze" } = options;
     if (!Object.hasOwn(this.#checks, command)) {
-      throw new TypeError(`command must be analyze, convert or reach, and is ${String(command)}`);
+      const names = Object.keys(this.#checks).join(", ");
+      throw new TypeError(`command must be one of ${names}, and is ${String(command)}`);
     }
     const handed = checkedForm(jsonOf(document));
     return unlessAborted(readSignal(options), () => this.#report(command, handed));

@@ -16,8 +16,8 @@ import { unchecked } from "./unchecked.mjs";
  * @typedef {import("../src/index.mjs").FaultReport} FaultReport
  */
 
-/** @type {Command[]} */
-const COMMANDS = ["analyze", "convert", "reach"];
+/** @type {(Command | "analyze --estree")[]} */
+const COMMANDS = ["analyze", "analyze --estree", "convert", "reach"];
 const EXAMPLES = new URL("../../../examples/", import.meta.url);
 const skip = !existsSync(MODINFO) && "build/modinfo isn't made";
 
@@ -260,7 +260,7 @@ test("the checks of each command have a process of their own", async () => {
 test("what is no document or no command", async () => {
   const modinfo = new Modinfo({ program: STAND_IN });
   for (const command of ["", "check", "Analyze", "toString", null, 1]) {
-    const message = `command must be analyze, convert or reach, and is ${command}`;
+    const message = `command must be one of analyze, analyze --estree, convert, reach, and is ${command}`;
     await assert.rejects(modinfo.check("{}", unchecked({ command })), { name: "TypeError", message });
   }
   await assert.rejects(modinfo.check(unchecked(undefined)), { name: "TypeError", message: /^a document is an object, or its JSON, and is / });

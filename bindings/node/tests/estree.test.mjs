@@ -3,9 +3,10 @@
 import assert from "node:assert/strict";
 import { test } from "node:test";
 
-import { toDocument } from "../src/parsers/estree/index.mjs";
+import { SourceFault, estreeDocument, toDocument } from "../src/parsers/estree/index.mjs";
 import { loadParser } from "../src/parsers/installed_parsers.mjs";
 import { answerTo, directDocumentOf, documentOf } from "./documents.mjs";
+import { unchecked } from "./unchecked.mjs";
 
 const acorn = loadParser("acorn");
 
@@ -204,4 +205,71 @@ test("a tree or a comment without its place is refused", () => {
   refuse({ end: undefined });
   refuse({ start: null });
   refuse({ comments: [{ type: "Line", value: "a" }] });
+});
+
+/**
+ * The value of the JSON that `estreeDocument` makes.
+ * @param {string} text
+ * @param {object} options
+ */
+function estreeValue(text, options) {
+  return JSON.parse(estreeDocument(text, unchecked({ specifier: "file:///a.js", ...options })));
+}
+
+test("the document with a tree has what JSON can hold and the program reads", () => {
+  const source = `a = [1n, "\\ud800", \`b\`, , /c/] // d`;
+  const options = { ecmaVersion: "latest", locations: true, ranges: true, onComment: [], onToken: [] };
+  const tree = acorn.parse(source, options);
+  const { expression } = tree.body[0];
+  Object.assign(expression, { parent: tree, loc: tree.loc, extra: { parent: tree }, leadingComments: options.onComment });
+  /** @type {(type: string, start: number, end: number, members?: object) => object} */
+  const node = (type, start, end, members) => ({ type, start, end, range: [start, end], ...members });
+  const elements = [
+    node("Literal", 5, 7, { value: null, bigint: "1" }),
+    node("Literal", 9, 17, { value: [0xd800] }),
+    node("TemplateLiteral", 19, 22, {
+      expressions: [], quasis: [node("TemplateElement", 20, 21, { value: { cooked: "b" }, tail: true })],
+    }),
+    null,
+    node("Literal", 26, 29, { value: {} }),
+  ];
+  const [left, right] = [node("Identifier", 0, 1, { name: "a" }), node("ArrayExpression", 4, 30, { elements })];
+  const assignment = node("AssignmentExpression", 0, 30, { operator: "=", left, right });
+  assert.deepEqual(estreeValue(source, { tree, comments: options.onComment }), {
+    specifier: "file:///a.js",
+    mediaType: "JavaScript",
+    source,
+    comments: [{ start: 31, end: 35 }],
+    program: node("Program", 0, 35, {
+      body: [node("ExpressionStatement", 0, 30, { expression: assignment })], sourceType: "script",
+    }),
+  });
+});
+
+test("the document with a tree has the program of a file, and its comments or those that are handed in", () => {
+  const program = { type: "Program", start: 0, end: 4, body: [], comments: [{ type: "Line", range: [0, 2] }] };
+  const file = { type: "File", program, comments: [{ type: "Block", start: 0, end: 4 }] };
+  /** @param {object} options */
+  const commentsIn = (options) => estreeValue("/**/", options).comments;
+  assert.deepEqual(commentsIn({ tree: file }), [{ start: 0, end: 4 }]);
+  assert.deepEqual(commentsIn({ tree: program }), [{ start: 0, end: 2 }]);
+  assert.deepEqual(commentsIn({ tree: file, comments: [] }), []);
+  assert.deepEqual(estreeValue("/**/", { tree: file }).program, { type: "Program", start: 0, end: 4, body: [] });
+});
+
+test("what is no tree, or no text that a document can hold, makes no document", () => {
+  const tree = { type: "Program", start: 0, end: 0, body: [], comments: [] };
+  /** @param {object} options */
+  const refuse = (options, message = /./) => assert.throws(() => estreeValue("", options), { name: "TypeError", message });
+  refuse({}, /^tree must be /);
+  refuse({ tree: { ...tree, comments: undefined } }, /^a tree needs its comments/);
+  refuse({ tree: { ...tree, start: undefined } }, /must have start and end/);
+  refuse({ tree, comments: [{ type: "Line" }] }, /must have start and end/);
+  refuse({ tree, specifier: "./a.js" }, /^specifier must be /);
+  refuse({ tree, mediaType: "js" }, /^mediaType must be /);
+  /** @type {Record<string, unknown>} */
+  const circle = { ...tree };
+  circle.above = circle;
+  refuse({ tree: circle }, /circular/);
+  assert.throws(() => estreeDocument("\ud800", { specifier: "file:///a.js", tree }), SourceFault);
 });

@@ -150,7 +150,7 @@ def test_a_case(name: str, command: modinfo.Command, document: bytes, report: by
 
 @pytest.mark.parametrize("command", ["", "check", "Analyze", "analyze ", None, 1], ids=repr)
 def test_another_command(command: Any) -> None:
-    with pytest.raises(ValueError, match="^a command is analyze, convert or reach, not "):
+    with pytest.raises(ValueError, match="^a command is analyze, analyze_estree, convert or reach, not "):
         modinfo.check({}, command)
 
 

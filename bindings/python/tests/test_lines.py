@@ -26,9 +26,12 @@ Function = Callable[[Iterable[bytes], int], Iterator[bytes]]
 
 FUNCTIONS: dict[str, Function] = {
     "analyze": modinfo.analyze_lines,
+    "analyze --estree": modinfo.analyze_estree_lines,
     "convert": modinfo.convert_lines,
     "check": lambda lines, jobs: modinfo.check_lines(lines, jobs=jobs),
     "check analyze": lambda lines, jobs: modinfo.check_lines(lines, "analyze", jobs),
+    "check --estree": lambda lines, jobs: modinfo.check_lines(lines, "analyze_estree", jobs),
+    "check analyze --estree": lambda lines, jobs: modinfo.check_lines(lines, "analyze_estree", jobs),
     "check convert": lambda lines, jobs: modinfo.check_lines(lines, "convert", jobs),
     "check reach": lambda lines, jobs: modinfo.check_lines(lines, "reach", jobs),
 }
@@ -88,7 +91,7 @@ def test_a_number_of_jobs_that_is_none(jobs: int) -> None:
 
 
 def test_another_command() -> None:
-    with pytest.raises(ValueError, match="^a command is analyze, convert or reach, not 'check'$"):
+    with pytest.raises(ValueError, match="^a command is analyze, analyze_estree, convert or reach, not 'check'$"):
         modinfo.check_lines([], "check")  # type: ignore[arg-type]
 
 

@@ -4,7 +4,7 @@ import json
 from typing import get_args
 
 import pytest
-from repository import CASES, blocks, program_cases
+from repository import CASES, answer, blocks, program_cases
 
 import modinfo
 
@@ -17,14 +17,14 @@ ANSWERS = [case for case in ALL if case[3] == ANSWERED]
 @pytest.mark.parametrize("name, command, document, status, fault", REFUSED, ids=lambda part: str(part)[:60])
 def test_a_case_that_is_refused(name: str, command: str, document: bytes, status: int, fault: bytes) -> None:
     with pytest.raises(modinfo.Fault) as refused:
-        getattr(modinfo, command)(document)
+        answer(command, document)
     assert refused.value.name == fault.decode()
     assert str(refused.value).startswith(f"{fault.decode()} ") and len(str(refused.value).splitlines()) == 1
 
 
-@pytest.mark.parametrize("name, command, document, status, answer", ANSWERS, ids=lambda part: str(part)[:60])
-def test_a_case_that_is_answered(name: str, command: str, document: bytes, status: int, answer: bytes) -> None:
-    assert getattr(modinfo, command)(document) == json.loads(answer)
+@pytest.mark.parametrize("name, command, document, status, wanted", ANSWERS, ids=lambda part: str(part)[:60])
+def test_a_case_that_is_answered(name: str, command: str, document: bytes, status: int, wanted: bytes) -> None:
+    assert answer(command, document) == json.loads(wanted)
 
 
 def test_that_cases_have_each_fault_but_that_of_memory() -> None:

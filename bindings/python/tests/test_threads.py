@@ -5,7 +5,7 @@ import time
 from concurrent.futures import ThreadPoolExecutor
 from typing import Any
 
-from repository import CASES, examples, program_cases
+from repository import CASES, answer, examples, program_cases
 
 import modinfo
 from modinfo import _library
@@ -16,14 +16,14 @@ CALLS = 1000
 
 def outcome(command: str, document: bytes) -> Any:
     try:
-        return getattr(modinfo, command)(document)
+        return answer(command, document)
     except modinfo.Fault as fault:
         return fault.name
 
 
 def test_eight_threads_at_once() -> None:
     calls = [
-        (command, document.read_bytes(), json.loads(answer.read_text())) for command, document, answer in examples()
+        (command, document.read_bytes(), json.loads(wanted.read_text())) for command, document, wanted in examples()
     ]
     for _, command, document, status, wanted in program_cases(CASES):
         calls.append((command, document, json.loads(wanted) if status == 0 else wanted.decode()))

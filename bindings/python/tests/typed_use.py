@@ -24,6 +24,12 @@ def document(specifier: str, source: str, imports: list[tuple[str, int, int]]) -
     }
 
 
+def of_a_tree(source: str, program: dict[str, object], comments: list[dict[str, object]]) -> modinfo.ModuleInfo:
+    if "fault" in modinfo.check_estree("file:///a.js", "JavaScript", source, program, comments):
+        return modinfo.analyze_estree("file:///a.js", "JavaScript", source, program, comments, offsets="utf8")
+    return modinfo.analyze_estree("file:///a.js", "JavaScript", source, program)
+
+
 def specifiers(info: modinfo.ModuleInfo) -> list[str]:
     found = []
     for dependency in info.get("dependencies", []):

@@ -14,4 +14,8 @@ pub enum Command {
     CheckConvert = 4,
     /// [`check_reach`](crate::check_reach)
     CheckReach = 5,
+    /// [`analyze_estree`](crate::analyze_estree)
+    AnalyzeEstree = 6,
+    /// [`check_estree`](crate::check_estree)
+    CheckEstree = 7,
 }

@@ -29,9 +29,11 @@ macro_rules! declare {
 
 declare! {
     modinfo_analyze
+    modinfo_analyze_estree
     modinfo_convert
     modinfo_reach
     modinfo_check
+    modinfo_check_estree
     modinfo_check_convert
     modinfo_check_reach
 }
@@ -46,9 +48,11 @@ pub enum Function {
 }
 
 pub const ANALYZE: Function = Function::Document(modinfo_analyze);
+pub const ANALYZE_ESTREE: Function = Function::Document(modinfo_analyze_estree);
 pub const CONVERT: Function = Function::Document(modinfo_convert);
 pub const REACH: Function = Function::Document(modinfo_reach);
 pub const CHECK: Function = Function::Document(modinfo_check);
+pub const CHECK_ESTREE: Function = Function::Document(modinfo_check_estree);
 pub const CHECK_CONVERT: Function = Function::Document(modinfo_check_convert);
 pub const CHECK_REACH: Function = Function::Document(modinfo_check_reach);
 

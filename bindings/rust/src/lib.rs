@@ -32,6 +32,25 @@ pub fn analyze(document: &[u8]) -> Result<String, Error> {
     answer_or_report(ffi::ANALYZE, ffi::CHECK, document)
 }
 
+/// Returns what a module depends on, from its source and the tree of a parser, as ESTree describes it: the JSON of
+/// its `ModuleInfo`. `docs/ESTREE.md` of the repository describes the document.
+///
+/// ```
+/// let document = r#"{"specifier":"file:///a.mjs","mediaType":"Mjs","source":"import 'a'","offsets":"utf8",
+///     "program":{"type":"Program","body":[{"type":"ImportDeclaration","start":0,"end":10,
+///     "source":{"type":"Literal","start":7,"end":10,"value":"a"}}]}}"#;
+/// let info = modinfo::analyze_estree(document.as_bytes())?;
+/// assert!(info.starts_with(r#"{"dependencies":[{"kind":"import","sideEffect":true,"specifier":"a","#));
+/// # Ok::<(), modinfo::Error>(())
+/// ```
+///
+/// # Errors
+///
+/// The fault for which the document is refused, with the report on it.
+pub fn analyze_estree(document: &[u8]) -> Result<String, Error> {
+    answer_or_report(ffi::ANALYZE_ESTREE, ffi::CHECK_ESTREE, document)
+}
+
 /// Returns the information of one module in version 2, from that which version 1 stored. Any other JSON
 /// stays as it is.
 ///
@@ -69,6 +88,16 @@ pub fn reach(document: &[u8]) -> Result<String, Error> {
 /// [`Fault::OutOfMemory`] alone. A document with a fault has a report too.
 pub fn check(document: &[u8]) -> Result<String, Fault> {
     answer(ffi::CHECK, document)
+}
+
+/// Returns the report on a document of [`analyze_estree`], as [`check`] does. Where the tree doesn't fit the source,
+/// the report has the range in bytes of UTF-8, and no pointer.
+///
+/// # Errors
+///
+/// [`Fault::OutOfMemory`] alone.
+pub fn check_estree(document: &[u8]) -> Result<String, Fault> {
+    answer(ffi::CHECK_ESTREE, document)
 }
 
 /// Returns the report on a document of [`convert`], as [`check`] does.

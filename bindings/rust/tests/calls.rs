@@ -2,7 +2,9 @@
 
 mod repository;
 
-use modinfo::{analyze, check, check_convert, check_reach, convert, reach, Fault};
+use modinfo::{
+    analyze, analyze_estree, check, check_convert, check_estree, check_reach, convert, reach, Fault,
+};
 use repository::{blocks, examples, field, root, test_cases};
 use std::collections::BTreeSet;
 use std::sync::Barrier;
@@ -161,6 +163,7 @@ fn the_report_in_an_error_is_that_of_the_command() {
     for case in test_cases().into_iter().filter(|case| case.wanted.is_err()) {
         let (error, report) = match case.command.as_str() {
             "analyze" => (analyze(&case.document), check(&case.document)),
+            "analyze --estree" => (analyze_estree(&case.document), check_estree(&case.document)),
             "convert" => (convert(&case.document), check_convert(&case.document)),
             "reach" => (reach(&case.document), check_reach(&case.document)),
             _ => continue,

@@ -1,8 +1,13 @@
+pub mod ChosenMembers
 pub mod Conversions
-pub mod Written
+pub mod ConvertedItems
+pub mod ConvertedTexts
 pub mod MembersLemmas
 pub mod NamedMembers
 pub mod OneOutcome
+pub mod OrderedMembers
 pub mod Outcomes
 pub mod Reaching
 pub mod SomeConverted
+pub mod Written
+pub mod WrittenText

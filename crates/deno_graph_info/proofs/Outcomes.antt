@@ -16,6 +16,8 @@ use Rattle.std.proofs.Common.{
   Some,
   None,
   Result,
+  Ok,
+  Err,
   IfErr,
   IsErrAnd,
   inl,
@@ -55,6 +57,12 @@ pub column_fault-on : (P Q : Type 0) (fault : ConvertFault) → (P → Q) → Is
 column_fault-on P Q ColumnOverflow on h = on h
 column_fault-on P Q Float on h = h
 column_fault-on P Q OutOfMemory on h = tt
+
+-- the result of a part
+pub column_error-on : {A : Type 0} (P Q : Type 0) (answer : Result A ConvertFault) → (P → Q)
+    → IfErr answer (IsColumnFault P) → IfErr answer (IsColumnFault Q)
+column_error-on P Q (Ok x) on h = tt
+column_error-on P Q (Err fault) on h = column_fault-on P Q fault on h
 
 -- the exit of a `?`
 pub exits_column : {A : Type 0} (P Q : Type 0) (fault : ConvertFault) (answer : Result A ConvertFault)

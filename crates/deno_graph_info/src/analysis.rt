@@ -12,7 +12,7 @@ pub mod specifier_with_range;
 pub mod static_dependency;
 pub mod type_script_reference;
 
-pub use crate::conversion::{ConvertFault, laws, module_graph_1_to_2, module_graph_1_to_2_owned};
+pub use crate::conversion::{ConvertFault, converted_text, laws, module_graph_1_to_2};
 pub use deno_graph_base::values::TypeScriptTypesResolutionMode;
 pub use deno_graph_pragmas::finders::{
     DenoTypesPragmaMatch, Match, find_deno_types, find_jsx_import_source,

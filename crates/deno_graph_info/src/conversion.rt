@@ -2,9 +2,16 @@
 
 pub mod comment;
 pub mod convert;
+mod dependency;
 pub mod fault;
 pub mod laws;
+mod names;
+mod ordered;
+pub mod text;
 mod types;
+mod write;
 
-pub use convert::{column_overflows, module_graph_1_to_2, module_graph_1_to_2_owned};
+pub use convert::module_graph_1_to_2;
+pub use dependency::column_overflows;
 pub use fault::ConvertFault;
+pub use text::converted_text;

@@ -1,6 +1,6 @@
 -- The faults of a document, by the step that failed.
 use Rattle.std.proofs.Common.{◌≡◌, ◌≢◌, ℕ, List, Some, None, refl}
-use Rattle.std.proofs.Common.{Result, Ok, Err, MatchResult}
+use Rattle.std.proofs.Common.{Result, Ok, Err, MatchResult, String, Global, string_bytes}
 use Rattle.serde_json.specs.Data.{Data, Members}
 use Rattle.serde_json.specs.Read.{read as read_text}
 use Rattle.deno_graph_base.specs.TextMap.{entries_of}
@@ -12,6 +12,7 @@ use Rattle.deno_graph_info.specs.declared.analysis.fault.InfoFault.TheVariants a
 use Rattle.deno_graph_info.specs.declared.conversion.fault.ConvertFault.{ConvertFault}
 use Rattle.deno_graph_info.specs.declared.conversion.fault.ConvertFault.TheVariants as convert
 use Rattle.modinfo.specs.Answer.{
+  IsConvertedText,
   IsDocumentFault,
   IsInputFault,
   IsNoConversion,
@@ -20,6 +21,7 @@ use Rattle.modinfo.specs.Answer.{
   IsRunFault,
 }
 use Rattle.modinfo.specs.internal.Answer.{IsReadFailure}
+use Rattle.modinfo.specs.internal.Convert.{IsConvertedValue, IsNoConvertedValue}
 use Rattle.modinfo.specs.Run.{IsFailure}
 use Rattle.modinfo.specs.Fault.{fault_of_conversion, fault_of_info, fault_of_tape}
 use Rattle.modinfo.specs.Reach.{Asks, IsFirstFault, IsNoQuestion, IsQuestionFault, Question, reads_question}
@@ -38,48 +40,42 @@ use Rattle.modinfo.specs.declared.fault.Fault.TheVariants.{
   OutOfMemory,
 }
 use Rattle.modinfo.specs.declared.subcommand.Subcommand.{Subcommand}
-use Rattle.modinfo.specs.declared.subcommand.Subcommand.TheVariants.{Analyze, Convert, Reach}
+use Rattle.modinfo.specs.declared.subcommand.Subcommand.TheVariants.{Analyze, AnalyzeEstree, Convert, Reach}
 
--- A fault that is neither `OutOfMemory` nor `Json` can't be.
-neither : {A : Type 0} (M : Type 0) → (M → ⊥) → ((M → ⊥) → ⊥) → A
-neither M not_memory not_json = absurd (not_json not_memory)
+-- A text of which no flat list can be made isn't converted.
+pub no_converted_tape : (text : List ℕ) (inner : TapeError)
+    → ((offset : ℕ) → inner ≡ tape.Json offset → read_text text ≡ None)
+    → IsNoConversion text (fault_of_tape inner)
+no_converted_tape text (tape.Json offset) none = none offset refl
+no_converted_tape text tape.OutOfMemory none = tt
 
--- An error in parsing JSON.
-pub no_json : (text : List ℕ) (fault : Fault) (M : Type 0) → (M → fault ≡ OutOfMemory)
-    → ((M → ⊥) → fault ≡ Json) → ((M → ⊥) → read_text text ≡ None) → IsNoJson text fault
-no_json text Json M memory other none = none (λ m. cc (memory m))
-no_json text OutOfMemory M memory other none = tt
-no_json text Input M memory other none = neither M (λ m. cc (memory m)) (λ n. cc (other n))
-no_json text Tree M memory other none = neither M (λ m. cc (memory m)) (λ n. cc (other n))
-no_json text Specifier M memory other none = neither M (λ m. cc (memory m)) (λ n. cc (other n))
-no_json text (Source inner) M memory other none = neither M (λ m. cc (memory m)) (λ n. cc (other n))
-no_json text (Convert inner) M memory other none = neither M (λ m. cc (memory m)) (λ n. cc (other n))
-no_json text (Info inner) M memory other none = neither M (λ m. cc (memory m)) (λ n. cc (other n))
-no_json text Output M memory other none = neither M (λ m. cc (memory m)) (λ n. cc (other n))
+-- The fault of a value that isn't converted.
+pub no_converted_value : (before : Data) (inner : ConvertFault)
+    → (inner ≢ convert.OutOfMemory → IsConvertFault before inner)
+    → IsNoConvertedValue before (fault_of_conversion inner)
+no_converted_value before convert.ColumnOverflow refused =
+    let apart : convert.ColumnOverflow ≢ convert.OutOfMemory = λ same. cc (same) in
+    (apart, refused apart)
+no_converted_value before convert.Float refused =
+    let apart : convert.Float ≢ convert.OutOfMemory = λ same. cc (same) in
+    (apart, refused apart)
+no_converted_value before convert.OutOfMemory refused = tt
 
--- A text that isn't JSON isn't converted.
-pub no_conversion : (text : List ℕ) (fault : Fault) → IsNoJson text fault → IsNoConversion text fault
-no_conversion text Input none = none
-no_conversion text Json none = none
-no_conversion text Tree none = none
-no_conversion text Specifier none = none
-no_conversion text (Source inner) none = none
-no_conversion text (Convert inner) none = absurd none
-no_conversion text (Info inner) none = none
-no_conversion text Output none = none
-no_conversion text OutOfMemory none = none
-
-pub failed_conversion : (text : List ℕ) (before : Data) (inner : ConvertFault)
-    → read_text text ≡ Some before → IsConvertFault before inner
-    → IsNoConversion text (fault_of_conversion inner)
-failed_conversion text before convert.ColumnOverflow read refused = (
-  (λ same. cc (same)),
-  before,
-  read,
-  refused,
-)
-failed_conversion text before convert.Float read refused = ((λ same. cc (same)), before, read, refused)
-failed_conversion text before convert.OutOfMemory read refused = tt
+-- The conversion of a value is that of its text.
+pub converts_text : (text : List ℕ) (before : Data) (answer : Result (String Global) Fault)
+    → read_text text ≡ Some before
+    → MatchResult answer (λ s. IsConvertedValue before (string_bytes s)) (IsNoConvertedValue before)
+    → MatchResult answer (λ s. IsConvertedText text (string_bytes s)) (IsNoConversion text)
+converts_text text before (Ok s) read h = (h.1, (before, read, h.0, h.2), h.3, h.4)
+converts_text text before (Err (Convert inner)) read h = (h.0, before, read, h.1)
+converts_text text before (Err OutOfMemory) read h = tt
+converts_text text before (Err Input) read h = absurd h
+converts_text text before (Err Json) read h = absurd h
+converts_text text before (Err Tree) read h = absurd h
+converts_text text before (Err Specifier) read h = absurd h
+converts_text text before (Err (Source inner)) read h = absurd h
+converts_text text before (Err (Info inner)) read h = absurd h
+converts_text text before (Err Output) read h = absurd h
 
 -- A text that isn't JSON isn't a document of `reach`.
 pub no_reach : (text : List ℕ) (fault : Fault) → IsNoJson text fault → IsNoReach text fault
@@ -191,6 +187,7 @@ run_fault subcommand text OutOfMemory has = has
 -- A failed allocation is a fault of a document, for each subcommand.
 no_memory : (subcommand : Subcommand) (text : List ℕ) → IsDocumentFault subcommand text OutOfMemory
 no_memory Analyze text = tt
+no_memory AnalyzeEstree text = tt
 no_memory Convert text = tt
 no_memory Reach text = tt
 

@@ -3,4 +3,5 @@ mod LinesSplit
 mod LinesTaken
 pub mod Modules
 pub mod StoredModules
+pub mod StoredOverflow
 pub mod Written

@@ -79,7 +79,7 @@ use Rattle.modinfo.specs.Run.{PrintsReport, AppendsFront, IsFailure}
 use Rattle.modinfo.specs.declared.fault.Fault.{Fault}
 use Rattle.modinfo.specs.declared.fault.Fault.TheVariants.{OutOfMemory}
 use Rattle.modinfo.specs.declared.subcommand.Subcommand.{Subcommand}
-use Rattle.modinfo.specs.declared.subcommand.Subcommand.TheVariants.{Analyze, Convert, Reach}
+use Rattle.modinfo.specs.declared.subcommand.Subcommand.TheVariants.{Analyze, AnalyzeEstree, Convert, Reach}
 use Rattle.modinfo.specs.declared.task.Printed.{Printed}
 use Rattle.modinfo.specs.declared.task.Task.{Task}
 use Rattle.modinfo.specs.declared.task.Task.TheVariants.{Answer, Check}
@@ -345,6 +345,7 @@ PrintsLine-faulted (Check subcommand is_strict) line fault has =
 IsDocumentFault-out_of_memory : (subcommand : Subcommand) (line : List ℕ)
     → IsDocumentFault subcommand line OutOfMemory
 IsDocumentFault-out_of_memory Analyze line = tt
+IsDocumentFault-out_of_memory AnalyzeEstree line = tt
 IsDocumentFault-out_of_memory Convert line = tt
 IsDocumentFault-out_of_memory Reach line = tt
 

@@ -1,5 +1,5 @@
 -- The answer of a subcommand to a document, and the faults of a document.
-use Rattle.std.specs.Prelude.{◌≡◌, ◌≢◌, ◌⊎◌, ◌++◌, ℕ, List, Some, None, IsUtf8, codes, false}
+use Rattle.std.specs.Prelude.{◌≡◌, ◌≢◌, ◌⊎◌, ◌++◌, ℕ, List, [], ◌∷◌, Option, Some, None, IsUtf8, codes, false}
 use Rattle.json.specs.Lex.{tokens}
 use Rattle.json.specs.Print.{print}
 use Rattle.serde_json.specs.Data.{Data}
@@ -11,8 +11,9 @@ use Rattle.deno_graph_info.specs.Json.ModuleInfo.{json_of_info}
 use Rattle.deno_graph_info.specs.declared.analysis.module_info.ModuleInfo.{ModuleInfo}
 use Rattle.deno_graph_info.specs.declared.conversion.fault.ConvertFault.TheVariants as convert
 use Rattle.deno_graph_module_info.specs.InfoOfModule.{IsInfoOfModule}
-use Rattle.modinfo_document.specs.Check.{IsNoModuleText, IsModuleText}
-use Rattle.modinfo_document.specs.Document.{HasDocumentError, IsDocumentOf, IsSourceOf}
+use Rattle.modinfo_document.specs.Check.{IsInvalidIn, IsValidIn}
+use Rattle.modinfo_document.specs.Document.{Contents, HasErrorIn, IsDocumentIn, IsSourceOf, reads_document}
+use Rattle.modinfo_estree.specs.Document.{reads_estree}
 use Rattle.modinfo_document.specs.declared.document.Document.{Document}
 use Rattle.modinfo_document.specs.declared.error.DocumentError.{DocumentError}
 use Rattle.modinfo.specs.Check.{
@@ -25,29 +26,30 @@ use Rattle.modinfo.specs.declared.fault.Fault.{Fault}
 use Rattle.modinfo.specs.declared.fault.Fault.TheVariants.{Input, Json, Output, OutOfMemory}
 use Rattle.modinfo.specs.declared.fault.Fault.TheVariants as fault_of
 use Rattle.modinfo.specs.declared.subcommand.Subcommand.{Subcommand}
-use Rattle.modinfo.specs.declared.subcommand.Subcommand.TheVariants.{Analyze, Convert, Reach}
+use Rattle.modinfo.specs.declared.subcommand.Subcommand.TheVariants.{Analyze, AnalyzeEstree, Convert, Reach}
 use Rattle.modinfo.specs.Fault.{fault_of_document}
 use Rattle.modinfo.specs.Reach.{IsNoQuestion, IsReachText}
 
--- The text is a module document, and the module is its source.
-pub record IsModuleOf (text : List ℕ) (module_ : ParsedModule) : Type 0 where
+-- The text is a document of a form, and the module is its source. `reads` reads the contents of a document
+-- from JSON of the form.
+pub record IsModuleOf (reads : Data → Option Contents) (text : List ℕ) (module_ : ParsedModule) : Type 0 where
   pub document : Document
-  pub is_document : IsDocumentOf text document
+  pub is_document : IsDocumentIn reads text document
   pub is_source : IsSourceOf document module_
 
 -- The compact JSON of the information on the module of a document.
-abbrev pub IsInfoText : List ℕ → List ℕ → Type 0
-IsInfoText document text = (module_ : ParsedModule) × IsModuleOf document module_
+abbrev pub IsInfoText : (Data → Option Contents) → List ℕ → List ℕ → Type 0
+IsInfoText reads document text = (module_ : ParsedModule) × IsModuleOf reads document module_
     × (info : ModuleInfo) × IsInfoOfModule module_ info
     × (text ≡ compact_text (json_of_info info))
 
--- Why bytes have no module: they aren't UTF-8, or the text has an error as a module document; or an
+-- Why bytes have no module: they aren't UTF-8, or the text has an error as a document of a form; or an
 -- allocation failed.
-abbrev pub IsNoModule : List ℕ → Fault → Type 0
-IsNoModule text Input = ¬ IsUtf8 text
-IsNoModule text OutOfMemory = Unit {0}
-IsNoModule text fault = (error : DocumentError) × (fault_of_document error ≡ fault)
-    × HasDocumentError text error
+abbrev pub IsNoModule : (Data → Option Contents) → List ℕ → Fault → Type 0
+IsNoModule reads text Input = ¬ IsUtf8 text
+IsNoModule reads text OutOfMemory = Unit {0}
+IsNoModule reads text fault = (error : DocumentError) × (fault_of_document error ≡ fault)
+    × HasErrorIn reads text error
 
 -- Why bytes are no JSON: they aren't UTF-8, or the text isn't JSON; or an allocation failed.
 abbrev pub IsNoJson : List ℕ → Fault → Type 0
@@ -84,13 +86,15 @@ IsNoReach document fault = IsNoJson document fault
 
 -- The answer of a subcommand to a document: compact JSON.
 abbrev pub IsAnswerText : Subcommand → List ℕ → List ℕ → Type 0
-IsAnswerText Analyze document text = IsInfoText document text
+IsAnswerText Analyze document text = IsInfoText reads_document document text
+IsAnswerText AnalyzeEstree document text = IsInfoText reads_estree document text
 IsAnswerText Convert document text = IsConvertedText document text
 IsAnswerText Reach document text = IsReachText document text
 
 -- The document has this fault, or an allocation failed.
 abbrev pub IsDocumentFault : Subcommand → List ℕ → Fault → Type 0
-IsDocumentFault Analyze document fault = IsNoModule document fault
+IsDocumentFault Analyze document fault = IsNoModule reads_document document fault
+IsDocumentFault AnalyzeEstree document fault = IsNoModule reads_estree document fault
 IsDocumentFault Convert document fault = IsNoConversion document fault
 IsDocumentFault Reach document fault = IsNoReach document fault
 
@@ -111,18 +115,21 @@ IsAnswerLine subcommand document line = (text : List ℕ) × IsAnswerText subcom
 
 -- The bytes are a document of the subcommand without a fault.
 abbrev pub IsValidDocument : Subcommand → List ℕ → Type 0
-IsValidDocument Analyze document = IsModuleText document
+IsValidDocument Analyze document = IsValidIn reads_document document
+IsValidDocument AnalyzeEstree document = IsValidIn reads_estree document
 IsValidDocument Convert document = IsConvertibleText document
 IsValidDocument Reach document = IsQuestionText document
 
 -- The bytes aren't UTF-8, or the text has a fault as a document of the subcommand.
 abbrev pub IsFaultyDocument : Subcommand → List ℕ → Type 0
-IsFaultyDocument Analyze document = (¬ IsUtf8 document) ⊎ IsNoModuleText document
+IsFaultyDocument Analyze document = (¬ IsUtf8 document) ⊎ IsInvalidIn reads_document document
+IsFaultyDocument AnalyzeEstree document = (¬ IsUtf8 document) ⊎ IsInvalidIn reads_estree document
 IsFaultyDocument Convert document = (¬ IsUtf8 document) ⊎ IsNoConvertibleText document
 IsFaultyDocument Reach document = (¬ IsUtf8 document) ⊎ IsNoQuestionText document
 
--- The name of a subcommand.
-abbrev pub name_of : Subcommand → List ℕ
-name_of Analyze = codes "analyze"
-name_of Convert = codes "convert"
-name_of Reach = codes "reach"
+-- The words that ask for a subcommand.
+abbrev pub words_of : Subcommand → List (List ℕ)
+words_of Analyze = codes "analyze" ∷ []
+words_of AnalyzeEstree = codes "analyze" ∷ codes "--estree" ∷ []
+words_of Convert = codes "convert" ∷ []
+words_of Reach = codes "reach" ∷ []

@@ -1,5 +1,31 @@
--- The flags of a check.
-use Rattle.std.specs.Prelude.{ℕ, List, [], ◌∷◌, codes, Bool, true, false}
+-- The words of a command line.
+use Rattle.std.specs.Prelude.{ℕ, List, [], ◌∷◌, ◌++◌, codes, Bool, true, false}
+use Rattle.modinfo.specs.Answer.{words_of}
+use Rattle.modinfo.specs.declared.subcommand.Subcommand.{Subcommand}
+use Rattle.modinfo.specs.declared.subcommand.Subcommand.TheVariants.{Analyze, AnalyzeEstree}
+
+-- The words of a subcommand, with or without `--lines`.
+abbrev pub answer_words : Subcommand → Bool → List (List ℕ)
+answer_words subcommand false = words_of subcommand
+answer_words subcommand true = words_of subcommand ++ codes "--lines" ∷ []
+
+-- What is checked: documents of a subcommand that is named, or of `analyze`.
+pub data Checked : Type 0 where
+  named : Subcommand → Checked
+  unnamed : Checked
+  unnamed_estree : Checked
+
+-- The subcommand whose documents are checked.
+abbrev pub subcommand_of_check : Checked → Subcommand
+subcommand_of_check (named subcommand) = subcommand
+subcommand_of_check unnamed = Analyze
+subcommand_of_check unnamed_estree = AnalyzeEstree
+
+-- The words that say what is checked.
+abbrev pub checked_words : Checked → List (List ℕ)
+checked_words (named subcommand) = words_of subcommand
+checked_words unnamed = []
+checked_words unnamed_estree = codes "--estree" ∷ []
 
 -- The flags of a check, in every order.
 pub data Flags : Type 0 where
@@ -32,3 +58,7 @@ have_lines strict = false
 have_lines lines = true
 have_lines strict_lines = true
 have_lines lines_strict = true
+
+-- The words of a check.
+abbrev pub check_words : Checked → Flags → List (List ℕ)
+check_words checked flags = codes "check" ∷ (checked_words checked ++ flag_words flags)

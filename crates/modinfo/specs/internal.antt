@@ -2,6 +2,7 @@
 pub mod Answer
 pub mod Check
 pub mod CommandLine
+pub mod Convert
 pub mod Lines
 pub mod Reach
 pub mod Request

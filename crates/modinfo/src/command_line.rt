@@ -1,8 +1,7 @@
 //! The arguments of the program, and its texts about them.
 
-ghost use Rattle.std.specs.Prelude.{◌≡◌, [], ◌∷◌, Bool, codes, if◌then◌else◌, map, Some};
-ghost use Rattle.modinfo.specs.Answer.{name_of};
-ghost use Rattle.modinfo.specs.CommandLine.{Flags, are_strict, flag_words, have_lines};
+ghost use Rattle.std.specs.Prelude.{◌≡◌, [], ◌∷◌, ◌++◌, Bool, codes, false, map, true, Some};
+ghost use Rattle.modinfo.specs.CommandLine.{Checked, Flags, answer_words, are_strict, check_words, checked_words, flag_words, have_lines, subcommand_of_check};
 ghost use Rattle.modinfo.specs.internal.CommandLine.{command_line_of};
 
 use crate::subcommand::Subcommand;
@@ -17,8 +16,9 @@ pub const VERSION: &str = "modinfo 0.1.0\n";
 /// The output of `--help`.
 pub const HELP: &str = r#"modinfo: what one JavaScript or TypeScript module depends on
 
-usage: modinfo analyze | convert | reach [--lines]
-       modinfo check [analyze | convert | reach] [--lines] [--strict]
+usage: modinfo analyze [--estree] | convert | reach [--lines]
+       modinfo check [analyze] [--estree] [--lines] [--strict]
+       modinfo check convert | reach [--lines] [--strict]
        modinfo -h | --help | --version
 
 Each command reads one JSON document from the standard input, and prints its result as one line of
@@ -32,6 +32,7 @@ JSON.
   check     reads a document of that command, of analyze where none is named; prints {"valid":true}
             with warnings where there are any, or {"fault":NAME,"pointer":..,"expected":..}, where
             the pointer leads to the value with the fault
+  --estree  of analyze: "program" is the tree of a parser, as ESTree describes it, with its "comments"
   --lines   each line of the input is a document, and each line of the output the result of one, in
             the same order: {"answer":RESULT} or {"fault":NAME}, of check the report alone
   --strict  a warning counts as a fault does
@@ -78,44 +79,55 @@ impl CommandLine {
     /// The command line with these arguments, `None` if they are wrong.
     pub fn from_words(words: &[&str]) -> Option<CommandLine>
         ensures subcommand { (subcommand : Subcommand) → (has_lines : Bool)
-            → map (λ word. word.now) words.now
-            ≡ name_of subcommand ∷ (if has_lines then codes "--lines" ∷ [] else [])
+            → map (λ word. word.now) words.now ≡ answer_words subcommand has_lines
             → result ≡ Some (command_line_of has_lines (Task.Answer subcommand)) }
-        ensures check { (subcommand : Subcommand) → (flags : Flags)
-            → map (λ word. word.now) words.now ≡ codes "check" ∷ name_of subcommand ∷ flag_words flags
-            → result ≡ Some (command_line_of (have_lines flags) (Task.Check subcommand (are_strict flags))) }
-        ensures check_analyze { (flags : Flags)
-            → map (λ word. word.now) words.now ≡ codes "check" ∷ flag_words flags
-            → result ≡ Some
-            (command_line_of (have_lines flags) (Task.Check Subcommand.Analyze (are_strict flags))) }
+        ensures check { (checked : Checked) → (flags : Flags)
+            → map (λ word. word.now) words.now ≡ check_words checked flags
+            → result ≡ Some (command_line_of (have_lines flags)
+            (Task.Check (subcommand_of_check checked) (are_strict flags))) }
     {
         match words {
             [word] if *word == "--help" || *word == "-h" => Some(CommandLine::Help),
             [word] if *word == "--version" => Some(CommandLine::Version),
             [word, words @ ..] if *word == "check" => CommandLine::from_check(words),
-            [name] => {
-                let task = Task::Answer(Subcommand::from_name(name)?);
-                Some(CommandLine::Document(task))
+            [name, word, words @ ..] if *name == "analyze" && *word == "--estree" => {
+                CommandLine::of_answer(Subcommand::AnalyzeEstree, words)
             }
-            [name, word] if *word == "--lines" => {
-                let task = Task::Answer(Subcommand::from_name(name)?);
-                Some(CommandLine::Lines(task))
+            [name, words @ ..] => {
+                let subcommand = Subcommand::from_name(name)?;
+                CommandLine::of_answer(subcommand, words)
             }
+            [] => None,
+        }
+    }
+
+    /// The command line of a subcommand with `--lines` or without.
+    fn of_answer(subcommand: Subcommand, flags: &[&str]) -> Option<CommandLine>
+        ensures one { flags.now ≡ [] → result ≡ Some (command_line_of false (Task.Answer subcommand)) }
+        ensures lines { map (λ word. word.now) flags.now ≡ codes "--lines" ∷ []
+            → result ≡ Some (command_line_of true (Task.Answer subcommand)) }
+    {
+        match flags {
+            [] => Some(CommandLine::Document(Task::Answer(subcommand))),
+            [word] if *word == "--lines" => Some(CommandLine::Lines(Task::Answer(subcommand))),
             _ => None,
         }
     }
 
-    /// The check with the arguments after `check`: the name of a subcommand, `analyze` if there is none,
-    /// and then flags.
+    /// The check with the arguments after `check`: what is checked, and then flags.
     fn from_check(words: &[&str]) -> Option<CommandLine>
-        ensures named { (subcommand : Subcommand) → (flags : Flags)
-            → map (λ word. word.now) words.now ≡ name_of subcommand ∷ flag_words flags
-            → result ≡ Some (command_line_of (have_lines flags) (Task.Check subcommand (are_strict flags))) }
-        ensures unnamed { (flags : Flags) → map (λ word. word.now) words.now ≡ flag_words flags
-            → result ≡ Some
-            (command_line_of (have_lines flags) (Task.Check Subcommand.Analyze (are_strict flags))) }
+        ensures { (checked : Checked) → (flags : Flags)
+            → map (λ word. word.now) words.now ≡ checked_words checked ++ flag_words flags
+            → result ≡ Some (command_line_of (have_lines flags)
+            (Task.Check (subcommand_of_check checked) (are_strict flags))) }
     {
         match words {
+            [word, flags @ ..] if *word == "--estree" => {
+                CommandLine::of_check(Subcommand::AnalyzeEstree, flags)
+            }
+            [name, word, flags @ ..] if *name == "analyze" && *word == "--estree" => {
+                CommandLine::of_check(Subcommand::AnalyzeEstree, flags)
+            }
             [name, flags @ ..] if !name.starts_with("--") => {
                 let subcommand = Subcommand::from_name(name)?;
                 CommandLine::of_check(subcommand, flags)
@@ -155,18 +167,30 @@ pub fn unexpected_word<'a>(words: &[&'a str]) -> Option<&'a str> {
         [] => None,
         [command, words @ ..] if *command == "check" => unexpected_in_check(words),
         [command, flags @ ..] if Subcommand::from_name(command).is_some() => match flags {
-            [flag, other, ..] if *flag == "--lines" => Some(*other),
-            [flag, ..] => Some(*flag),
-            [] => None,
+            [flag, words @ ..] if *command == "analyze" && *flag == "--estree" => {
+                unexpected_flag(words)
+            }
+            _ => unexpected_flag(flags),
         },
         [word, other, ..] if ["-h", "--help", "--version"].contains(word) => Some(*other),
         [word, ..] => Some(*word),
     }
 }
 
+/// The first argument after a command that is wrong.
+fn unexpected_flag<'a>(flags: &[&'a str]) -> Option<&'a str> {
+    match flags {
+        [flag, other, ..] if *flag == "--lines" => Some(*other),
+        [flag, ..] => Some(*flag),
+        [] => None,
+    }
+}
+
 /// The first argument after `check` that is wrong.
 fn unexpected_in_check<'a>(words: &[&'a str]) -> Option<&'a str> {
     let flags = match words {
+        [flag, flags @ ..] if *flag == "--estree" => flags,
+        [name, flag, flags @ ..] if *name == "analyze" && *flag == "--estree" => flags,
         [name, flags @ ..] if Subcommand::from_name(name).is_some() => flags,
         _ => words,
     };

@@ -116,23 +116,6 @@ impl<T: Drop> From<AllocFailed<T>> for Fault {
     }
 }
 
-impl From<serde_json::Error> for Fault {
-    ghost use Rattle.std.specs.Prelude.{◌≡◌};
-    ghost use Rattle.serde_json.specs.Errors.{IsMemory};
-    ghost use Rattle.modinfo.specs.declared.fault.Fault.TheVariants.{Json, OutOfMemory};
-
-    ghost from_gives = { λ error fault. (IsMemory error → fault ≡ OutOfMemory)
-        × (¬ IsMemory error → fault ≡ Json) };
-
-    fn from(error: serde_json::Error) -> Fault {
-        if error.is_memory() {
-            Fault::OutOfMemory
-        } else {
-            Fault::Json
-        }
-    }
-}
-
 impl From<DocumentError> for Fault {
     ghost use Rattle.std.specs.Prelude.{◌≡◌};
     ghost use Rattle.modinfo.specs.Fault.{fault_of_document};

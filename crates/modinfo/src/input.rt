@@ -1,17 +1,18 @@
 //! Reading the input.
 
-ghost use Rattle.std.specs.Prelude.{◌≡◌, Some, IfSome, IsUtf8, MatchResult};
-ghost use Rattle.serde_json.specs.View.{view};
-ghost use Rattle.serde_json.specs.Read.{read as read_text};
-ghost use Rattle.modinfo_document.specs.Document.{IsDocumentOf};
-ghost use Rattle.modinfo.specs.Answer.{IsNoJson, IsNoModule, IsNoReach};
+ghost use Rattle.std.specs.Prelude.{◌≡◌, IfSome, IsUtf8, MatchResult};
+ghost use Rattle.std.specs.String.{string_bytes};
+ghost use Rattle.modinfo_document.specs.Document.{IsDocumentIn, reads_document};
+ghost use Rattle.modinfo_estree.specs.Document.{reads_estree};
+ghost use Rattle.modinfo.specs.Answer.{IsConvertedText, IsNoConversion, IsNoModule, IsNoReach};
 ghost use Rattle.modinfo.specs.internal.Answer.{IsReadFailure};
 ghost use Rattle.modinfo.specs.internal.Reach.{IsQuestionOf};
 
+use crate::convert::convert_text;
 use crate::fault::Fault;
 use crate::reach::{Question, parse_question};
 use modinfo_document::{Document, parse_document};
-use serde_json::Value;
+use modinfo_estree::parse_estree;
 use simdutf8::basic;
 use std::alloc::Global;
 use std::io::{ErrorKind, Read};
@@ -20,9 +21,16 @@ const CHUNK: usize = 65536;
 
 /// Reads a module document. `Input` if the bytes aren't UTF-8; else the faults of `parse_document`.
 pub fn document_of(alloc: Global, bytes: &[u8]) -> Result<Document, Fault>
-    ensures { MatchResult result (IsDocumentOf bytes.now) (IsNoModule bytes.now) }
+    ensures { MatchResult result (IsDocumentIn reads_document bytes.now) (IsNoModule reads_document bytes.now) }
 {
     Ok(parse_document(alloc, text_of(bytes)?)?)
+}
+
+/// Reads a document with the tree of a parser. Otherwise like `document_of`.
+pub fn estree_of(alloc: Global, bytes: &[u8]) -> Result<Document, Fault>
+    ensures { MatchResult result (IsDocumentIn reads_estree bytes.now) (IsNoModule reads_estree bytes.now) }
+{
+    Ok(parse_estree(alloc, text_of(bytes)?)?)
 }
 
 /// Reads a document of `reach`. `Input` if the bytes aren't UTF-8; else the faults of `parse_question`.
@@ -32,13 +40,13 @@ pub fn question_of(alloc: Global, bytes: &[u8]) -> Result<Question, Fault>
     parse_question(alloc, text_of(bytes)?)
 }
 
-/// Reads JSON. `Input` if the bytes aren't UTF-8, `Json` if the text isn't JSON, `OutOfMemory` if an
-/// allocation fails.
-pub fn parse_json(alloc: Global, bytes: &[u8]) -> Result<Value, Fault>
-    ensures { MatchResult result (λ value. read_text bytes.now ≡ Some (view value))
-        (IsNoJson bytes.now) }
+/// Reads and converts a document of `convert`. `Input` if the bytes aren't UTF-8; else the faults of
+/// `convert_text`.
+pub fn converted_of(alloc: Global, bytes: &[u8]) -> Result<String, Fault>
+    ensures { MatchResult result (λ text. IsConvertedText bytes.now (string_bytes text))
+        (IsNoConversion bytes.now) }
 {
-    Ok(Value::from_str(alloc, text_of(bytes)?)?)
+    convert_text(alloc, text_of(bytes)?)
 }
 
 fn text_of(bytes: &[u8]) -> Result<&str, Fault>

@@ -3,6 +3,7 @@
 
 pub mod check;
 mod command_line;
+mod convert;
 pub mod fault;
 mod input;
 pub mod laws;

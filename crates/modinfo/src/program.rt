@@ -1,8 +1,8 @@
 ghost use Rattle.std.specs.Prelude.{◌≡◌, [], ◌∷◌, ◌++◌, ℕ, Bool, codes, false, List, IfSome, map, if◌then◌else◌};
 ghost use Rattle.std.specs.Prelude.{MatchResult, OnOk, true};
 ghost use Rattle.std.specs.Io.KnownBytes.{Appends, Keeps};
-ghost use Rattle.modinfo.specs.Answer.{IsRunFault, name_of};
-ghost use Rattle.modinfo.specs.CommandLine.{Flags, are_strict, flag_words, have_lines};
+ghost use Rattle.modinfo.specs.Answer.{IsRunFault};
+ghost use Rattle.modinfo.specs.CommandLine.{Checked, Flags, answer_words, are_strict, check_words, have_lines, subcommand_of_check};
 ghost use Rattle.modinfo.specs.internal.CommandLine.{command_line_of};
 ghost use Rattle.modinfo.specs.Lines.{IsLinesRun, LeavesFirstLines, LeavesLines};
 ghost use Rattle.modinfo.specs.Run.{AppendsFront, IsFailure, IsRun, PrintsAnswer, PrintsReport, error_line};
@@ -40,40 +40,27 @@ pub fn serve<R: Read, W: Write, E: Write>(
     errors: &mut E,
 ) -> u8
     ensures subcommand { (subcommand : Subcommand)
-        → map (λ word. word.now) words.now ≡ name_of subcommand ∷ []
+        → map (λ word. word.now) words.now ≡ answer_words subcommand false
         → (document : List ℕ) × IfSome (R.remaining input.old) (λ left. document ≡ left)
         × IsRun (PrintsAnswer subcommand document) (IsRunFault subcommand document)
         (W.contents output.old) (W.contents output.new) (E.contents errors.old) (E.contents errors.new)
         result }
-    ensures check { (subcommand : Subcommand) → (flags : Flags)
-        → map (λ word. word.now) words.now ≡ codes "check" ∷ name_of subcommand ∷ flag_words flags
+    ensures check { (checked : Checked) → (flags : Flags)
+        → map (λ word. word.now) words.now ≡ check_words checked flags
         → have_lines flags ≡ false
         → (document : List ℕ) × IfSome (R.remaining input.old) (λ left. document ≡ left)
-        × IsRun (PrintsReport subcommand (are_strict flags) document) IsFailure
-        (W.contents output.old) (W.contents output.new) (E.contents errors.old) (E.contents errors.new)
-        result }
-    ensures check_analyze { (flags : Flags)
-        → map (λ word. word.now) words.now ≡ codes "check" ∷ flag_words flags
-        → have_lines flags ≡ false
-        → (document : List ℕ) × IfSome (R.remaining input.old) (λ left. document ≡ left)
-        × IsRun (PrintsReport Subcommand.Analyze (are_strict flags) document) IsFailure
+        × IsRun (PrintsReport (subcommand_of_check checked) (are_strict flags) document) IsFailure
         (W.contents output.old) (W.contents output.new) (E.contents errors.old) (E.contents errors.new)
         result }
     ensures lines { (subcommand : Subcommand)
-        → map (λ word. word.now) words.now ≡ name_of subcommand ∷ codes "--lines" ∷ []
+        → map (λ word. word.now) words.now ≡ answer_words subcommand true
         → IsLinesRun (Task.Answer subcommand) (R.remaining input.old)
         (W.contents output.old) (W.contents output.new) (E.contents errors.old) (E.contents errors.new)
         result }
-    ensures check_lines { (subcommand : Subcommand) → (flags : Flags)
-        → map (λ word. word.now) words.now ≡ codes "check" ∷ name_of subcommand ∷ flag_words flags
+    ensures check_lines { (checked : Checked) → (flags : Flags)
+        → map (λ word. word.now) words.now ≡ check_words checked flags
         → have_lines flags ≡ true
-        → IsLinesRun (Task.Check subcommand (are_strict flags)) (R.remaining input.old)
-        (W.contents output.old) (W.contents output.new) (E.contents errors.old) (E.contents errors.new)
-        result }
-    ensures check_analyze_lines { (flags : Flags)
-        → map (λ word. word.now) words.now ≡ codes "check" ∷ flag_words flags
-        → have_lines flags ≡ true
-        → IsLinesRun (Task.Check Subcommand.Analyze (are_strict flags)) (R.remaining input.old)
+        → IsLinesRun (Task.Check (subcommand_of_check checked) (are_strict flags)) (R.remaining input.old)
         (W.contents output.old) (W.contents output.new) (E.contents errors.old) (E.contents errors.new)
         result }
     ensures usage { result ≡ 2 → Keeps (W.contents output.old) (W.contents output.new) }

@@ -1,12 +1,14 @@
 //! The subcommands of the program.
 
-ghost use Rattle.std.specs.Prelude.{◌≡◌, ◌≢◌, ℕ, IfOk, IfSome, List, MatchResult, None};
+ghost use Rattle.std.specs.Prelude.{◌≡◌, ◌≢◌, [], ◌∷◌, ℕ, IfOk, IfSome, List, MatchResult, None};
 ghost use Rattle.std.specs.String.{string_bytes};
 ghost use Rattle.modinfo_document.specs.Report.{MatchReport};
 ghost use Rattle.modinfo.specs.Answer.{IsAnswerLine, IsAnswerText, IsDocumentFault, IsFaultyDocument};
-ghost use Rattle.modinfo.specs.Answer.{IsInputFault, IsValidDocument, name_of};
+ghost use Rattle.modinfo.specs.Answer.{IsInputFault, IsValidDocument, words_of};
 
-use crate::check::{Report, check_document, check_modules, check_stored, report_invalid_utf8};
+use crate::check::{
+    Report, check_document, check_estree, check_modules, check_stored, report_invalid_utf8,
+};
 use crate::fault::Fault;
 use crate::input::read_to_end;
 use crate::request::Request;
@@ -19,6 +21,8 @@ use std::io::Read;
 pub enum Subcommand {
     /// From a module document to the `ModuleInfo`.
     Analyze,
+    /// Like `Analyze`, from a document with the tree of a parser, as ESTree describes it.
+    AnalyzeEstree,
     /// From the stored information of one module, of version 1, to that of version 2.
     Convert,
     /// From a root and the information on modules to the keys that the root reaches.
@@ -26,10 +30,10 @@ pub enum Subcommand {
 }
 
 impl Subcommand {
-    /// The subcommand of this name, if there is one.
+    /// The subcommand that this name alone asks for, if there is one.
     pub fn from_name(name: &str) -> Option<Subcommand>
-        ensures some { IfSome result (λ subcommand. name.now ≡ name_of subcommand) }
-        ensures none { result ≡ None → (subcommand : Subcommand) → name.now ≢ name_of subcommand }
+        ensures some { IfSome result (λ subcommand. words_of subcommand ≡ name.now ∷ []) }
+        ensures none { result ≡ None → (subcommand : Subcommand) → words_of subcommand ≢ name.now ∷ [] }
     {
         match name {
             "analyze" => Some(Subcommand::Analyze),
@@ -102,6 +106,7 @@ impl Subcommand {
         };
         match self {
             Subcommand::Analyze => check_document(alloc, text),
+            Subcommand::AnalyzeEstree => check_estree(alloc, text),
             Subcommand::Convert => check_stored(alloc, text),
             Subcommand::Reach => check_modules(alloc, text),
         }

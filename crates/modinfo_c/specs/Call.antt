@@ -20,7 +20,7 @@ use Rattle.modinfo.specs.Fault.{name_of_fault}
 use Rattle.modinfo.specs.Lines.{PrintsLines, lines_of}
 use Rattle.modinfo.specs.declared.fault.Fault.{Fault}
 use Rattle.modinfo.specs.declared.fault.Fault.TheVariants.{OutOfMemory}
-use Rattle.modinfo.specs.declared.subcommand.Subcommand.TheVariants.{Analyze, Convert, Reach}
+use Rattle.modinfo.specs.declared.subcommand.Subcommand.TheVariants.{Analyze, AnalyzeEstree, Convert, Reach}
 use Rattle.modinfo.specs.declared.task.Task.{Task}
 use Rattle.modinfo.specs.declared.task.Task.TheVariants.{Answer, Check}
 
@@ -64,6 +64,8 @@ task_of command =
     else if command == 3 then Some (Check Analyze false)
     else if command == 4 then Some (Check Convert false)
     else if command == 5 then Some (Check Reach false)
+    else if command == 6 then Some (Answer AnalyzeEstree)
+    else if command == 7 then Some (Check AnalyzeEstree false)
     else None
 
 -- The text has the printed lines for the lines of the documents, in the same order.

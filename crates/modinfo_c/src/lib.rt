@@ -49,6 +49,20 @@ pub extern "C" fn modinfo_analyze(
     call(alloc, Subcommand::Analyze, document, answer, length)
 }
 
+/// Runs `modinfo analyze --estree`. Otherwise like `modinfo_analyze`.
+#[unsafe(no_mangle)]
+pub extern "C" fn modinfo_analyze_estree(
+    alloc: Global,
+    document: &[u8],
+    answer: &mut [u8],
+    length: &mut usize,
+) -> u8
+    ensures { IsAnswered (IsAnswerLine Subcommand.AnalyzeEstree document.now)
+        (IsDocumentFault Subcommand.AnalyzeEstree document.now) answer.old answer.new length.new result }
+{
+    call(alloc, Subcommand::AnalyzeEstree, document, answer, length)
+}
+
 /// Runs `modinfo convert`. Otherwise like `modinfo_analyze`.
 #[unsafe(no_mangle)]
 pub extern "C" fn modinfo_convert(
@@ -89,6 +103,19 @@ pub extern "C" fn modinfo_check(
     ensures { IsAnswered IsReport IsOutOfMemory answer.old answer.new length.new result }
 {
     check(alloc, Subcommand::Analyze, document, answer, length)
+}
+
+/// Runs `modinfo check --estree`. Otherwise like `modinfo_check`.
+#[unsafe(no_mangle)]
+pub extern "C" fn modinfo_check_estree(
+    alloc: Global,
+    document: &[u8],
+    answer: &mut [u8],
+    length: &mut usize,
+) -> u8
+    ensures { IsAnswered IsReport IsOutOfMemory answer.old answer.new length.new result }
+{
+    check(alloc, Subcommand::AnalyzeEstree, document, answer, length)
 }
 
 /// Runs `modinfo check convert`. Otherwise like `modinfo_check`.
@@ -155,6 +182,8 @@ fn task_of(command: u8) -> Option<Task>
         3 => Some(check_of(Subcommand::Analyze)),
         4 => Some(check_of(Subcommand::Convert)),
         5 => Some(check_of(Subcommand::Reach)),
+        6 => Some(Task::Answer(Subcommand::AnalyzeEstree)),
+        7 => Some(check_of(Subcommand::AnalyzeEstree)),
         _ => None,
     }
 }

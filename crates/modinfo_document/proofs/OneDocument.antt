@@ -1,6 +1,6 @@
 -- A text has at most one document, and the text of a document with a source has no error.
 use Rattle.std.proofs.Common.{◌≡◌, ◌≢◌, ℕ, ◌<◌, ◌≤◌, List, [], ◌∷◌, true, false, cond, inl, inr, Some, None}
-use Rattle.std.proofs.Common.{Ok, refl, sym, ap, subst, ◌∙◌, arith}
+use Rattle.std.proofs.Common.{Option, Ok, refl, sym, ap, subst, ◌∙◌, arith}
 use Rattle.std.specs.BTreeMap.{is_at}
 use Rattle.std.specs.List.{AllByRecursion}
 use Rattle.std.specs.List.Sorted.{IsStrictlySortedBy}
@@ -23,8 +23,8 @@ use Rattle.deno_graph_source.specs.Source.{IsValid}
 use Rattle.deno_graph_source.proofs.SourceFaults.{fault_refutes}
 use Rattle.modinfo_document.specs.declared.comments.FiledEntry.{FiledEntry}
 use Rattle.modinfo_document.specs.Comments.{AreThoseOf, HasCommentsOf, Sides}
-use Rattle.modinfo_document.specs.Document.{Has, HasDocumentError, IsDocumentOf, IsNoDocument, IsNoSource}
-use Rattle.modinfo_document.specs.Document.{IsSourceOf, reads_document}
+use Rattle.modinfo_document.specs.Document.{Contents, Has, HasErrorIn, IsDocumentIn, IsNoDocumentIn}
+use Rattle.modinfo_document.specs.Document.{IsNoSource, IsSourceOf}
 use Rattle.modinfo_document.specs.declared.document.Document.{Document}
 use Rattle.modinfo_document.specs.declared.error.DocumentError.{DocumentError}
 use Rattle.modinfo_document.specs.declared.error.DocumentError.TheVariants.{
@@ -153,11 +153,12 @@ pub record AreSame (d e : Document) : Type 0 where
   pub program : d.program ≡ e.program
   pub comments : d.comments ≡ e.comments
 
-pub one_document : (text : List ℕ) (d e : Document) → IsDocumentOf text d → IsDocumentOf text e → AreSame d e
-one_document text d e a b =
-    let s = some_with (λ contents. Has contents d) (reads_document a.0) a.2 in
-    let t = some_with (λ contents. Has contents e) (reads_document b.0) b.2 in
-    let values = ap reads_document (one_value text a.0 b.0 a.1 b.1) in
+pub one_document : (reads : Data → Option Contents) (text : List ℕ) (d e : Document)
+    → IsDocumentIn reads text d → IsDocumentIn reads text e → AreSame d e
+one_document reads text d e a b =
+    let s = some_with (λ contents. Has contents d) (reads a.0) a.2 in
+    let t = some_with (λ contents. Has contents e) (reads b.0) b.2 in
+    let values = ap reads (one_value text a.0 b.0 a.1 b.1) in
     let same : s.0 ≡ t.0 = same_Some s.0 t.0 (sym s.1 ∙ values ∙ t.1) in
     let mine : Has t.0 d = subst (λ contents. Has contents d) same s.2 in
     record {
@@ -205,21 +206,23 @@ no_source_fault d e url (Source fault) same is valid apart none =
     fault_refutes (rc_str_bytes e.source) e.program e.comments fault none there
 no_source_fault d e url OutOfMemory same is valid apart none = apart refl
 
-no_document_fault : (text : List ℕ) (d : Document) (fault : DocumentError) → IsDocumentOf text d
-    → fault ≢ OutOfMemory → IsNoDocument text fault → ⊥
-no_document_fault text d (Json offset) is apart none = none-some is.0 (sym none ∙ is.1)
-no_document_fault text d (Tree mismatch) is apart none =
-    let s = some_with (λ contents. Has contents d) (reads_document is.0) is.2 in
-    let values = ap reads_document (one_value text none.0 is.0 none.1 is.1) in
+no_document_fault : (reads : Data → Option Contents) (text : List ℕ) (d : Document) (fault : DocumentError)
+    → IsDocumentIn reads text d → fault ≢ OutOfMemory → IsNoDocumentIn reads text fault → ⊥
+no_document_fault reads text d (Json offset) is apart none = none-some is.0 (sym none ∙ is.1)
+no_document_fault reads text d (Tree mismatch) is apart none =
+    let s = some_with (λ contents. Has contents d) (reads is.0) is.2 in
+    let values = ap reads (one_value text none.0 is.0 none.1 is.1) in
     none-some s.0 (sym none.2 ∙ values ∙ s.1)
-no_document_fault text d Specifier is apart none = none
-no_document_fault text d (Source fault) is apart none = none
-no_document_fault text d OutOfMemory is apart none = apart refl
+no_document_fault reads text d Specifier is apart none = none
+no_document_fault reads text d (Source fault) is apart none = none
+no_document_fault reads text d OutOfMemory is apart none = apart refl
 
-pub valid_refutes : (text : List ℕ) (d : Document) (url : Parts) (fault : DocumentError) → IsDocumentOf text d
+pub valid_refutes : (reads : Data → Option Contents) (text : List ℕ) (d : Document) (url : Parts)
+    (fault : DocumentError) → IsDocumentIn reads text d
     → parse_url None d.specifier ≡ Ok url → IsValid (rc_str_bytes d.source) d.program d.comments
-    → fault ≢ OutOfMemory → HasDocumentError text fault → ⊥
-valid_refutes text d url fault is has_url valid apart
-    (inl none) = no_document_fault text d fault is apart none
-valid_refutes text d url fault is has_url valid apart (inr found) =
-    no_source_fault d found.0 url fault (one_document text d found.0 is found.1) has_url valid apart found.2
+    → fault ≢ OutOfMemory → HasErrorIn reads text fault → ⊥
+valid_refutes reads text d url fault is has_url valid apart
+    (inl none) = no_document_fault reads text d fault is apart none
+valid_refutes reads text d url fault is has_url valid apart (inr found) =
+    let same = one_document reads text d found.0 is found.1 in
+    no_source_fault d found.0 url fault same has_url valid apart found.2

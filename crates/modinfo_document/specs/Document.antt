@@ -60,20 +60,30 @@ pub record Has (contents : Contents) (document : Document) : Type 0 where
   pub comments : AreThoseOf contents.comments document.comments
   pub program : document.program ≡ contents.program
 
--- The text is JSON, and the document has the contents of its value.
-abbrev pub IsDocumentOf : List ℕ → Document → Type 0
-IsDocumentOf text document = (value : Data) × (read_text text ≡ Some value)
-    × IsSomeAnd (reads_document value) (λ contents. Has contents document)
+-- Documents of a form: `reads` reads the contents of a document from JSON of this form.
+module _ (reads : Data → Option Contents) where
+  -- The text is JSON, and the document has the contents of its value.
+  abbrev pub IsDocumentIn : List ℕ → Document → Type 0
+  IsDocumentIn text document = (value : Data) × (read_text text ≡ Some value)
+      × IsSomeAnd (reads value) (λ contents. Has contents document)
 
--- Why the text is no document: it isn't JSON, or JSON of another form, with a value that isn't as expected;
--- or an allocation failed.
+  -- Why the text is no document: it isn't JSON, or JSON of another form, with a value that isn't as expected;
+  -- or an allocation failed.
+  abbrev pub IsNoDocumentIn : List ℕ → DocumentError → Type 0
+  IsNoDocumentIn text (Json _) = read_text text ≡ None
+  IsNoDocumentIn text (Tree mismatch) = (value : Data) × (read_text text ≡ Some value)
+      × (reads value ≡ None) × IsIn value (Mismatch mismatch)
+  IsNoDocumentIn text OutOfMemory = Unit {0}
+  IsNoDocumentIn text Specifier = ⊥
+  IsNoDocumentIn text (Source _) = ⊥
+
+-- The text is that of a module document.
+abbrev pub IsDocumentOf : List ℕ → Document → Type 0
+IsDocumentOf = IsDocumentIn reads_document
+
+-- Why the text is no module document.
 abbrev pub IsNoDocument : List ℕ → DocumentError → Type 0
-IsNoDocument text (Json _) = read_text text ≡ None
-IsNoDocument text (Tree mismatch) = (value : Data) × (read_text text ≡ Some value)
-    × (reads_document value ≡ None) × IsIn value (Mismatch mismatch)
-IsNoDocument text OutOfMemory = Unit {0}
-IsNoDocument text Specifier = ⊥
-IsNoDocument text (Source _) = ⊥
+IsNoDocument = IsNoDocumentIn reads_document
 
 -- The source has the URL and the parts of the document, which fit one another.
 pub record IsSourceOf (document : Document) (module_ : ParsedModule) : Type 0 where
@@ -95,7 +105,7 @@ IsNoSource document OutOfMemory = Unit {0}
 IsNoSource document (Json _) = ⊥
 IsNoSource document (Tree _) = ⊥
 
--- The error of a text: the text is no document, or the document has no source.
-abbrev pub HasDocumentError : List ℕ → DocumentError → Type 0
-HasDocumentError text fault = IsNoDocument text fault
-    ⊎ ((document : Document) × IsDocumentOf text document × IsNoSource document fault)
+-- The error of a text in a form: the text is no document, or the document has no source.
+abbrev pub HasErrorIn : (Data → Option Contents) → List ℕ → DocumentError → Type 0
+HasErrorIn reads text fault = IsNoDocumentIn reads text fault
+    ⊎ ((document : Document) × IsDocumentIn reads text document × IsNoSource document fault)

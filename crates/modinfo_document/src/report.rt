@@ -17,10 +17,11 @@ use crate::report::pointer::pointer_of;
 use deno_graph_json::{MemberWriter, Mismatch, Writer, into_text, new_writer};
 use deno_graph_source::text::SourceRange;
 pub(crate) use source::source_report;
+pub use source::source_report_without_pointers;
 use std::alloc::{AllocError, Global};
 pub use syntax::{json_report, json_report_at, report_invalid_utf8};
 pub use text_place::TextPlace;
-pub(crate) use tree::{specifier_report, tree_report};
+pub use tree::{specifier_report, tree_report};
 pub use warning::{Warning, Warnings};
 pub(crate) use warnings::find_warnings;
 

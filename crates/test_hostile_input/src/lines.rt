@@ -1,6 +1,7 @@
 //! One run over all documents, one per line.
 
 use crate::breaking::broken_by;
+use crate::form::Form;
 use std::alloc::Global;
 use std::io::{Read, Result};
 
@@ -62,10 +63,10 @@ impl Read for Documents<'_> {
 }
 
 /// The output of one run over all documents, if its status is 0 and its error output is empty.
-pub fn printed(alloc: Global, mut documents: Documents<'_>) -> Option<Vec<u8>> {
+pub fn printed(alloc: Global, form: Form, mut documents: Documents<'_>) -> Option<Vec<u8>> {
     let mut output = Vec::new(alloc);
     let mut errors = Vec::new(alloc);
-    let words = ["analyze", "--lines"];
-    let status = modinfo::serve(alloc, &words, &mut documents, &mut output, &mut errors);
+    let words = form.lines();
+    let status = modinfo::serve(alloc, words, &mut documents, &mut output, &mut errors);
     (status == 0 && errors.is_empty()).then_some(output)
 }

@@ -3,6 +3,7 @@
 //!
 //!     test_hostile_input                      all tests
 //!     test_hostile_input broken COUNT         COUNT changed documents
+//!     test_hostile_input broken_estree COUNT  COUNT changed documents with the tree of a parser
 //!     test_hostile_input NAME COUNT           one of nested, calls, operands, sum, types, braces, filings
 //!     test_hostile_input NAME COUNT build     only builds the module
 //!
@@ -13,6 +14,7 @@
 mod breaking;
 mod broken;
 mod comments;
+mod form;
 mod lines;
 mod modules;
 mod outcome;
@@ -20,13 +22,15 @@ mod summary;
 mod trees;
 
 use crate::broken::print_outcomes;
+use crate::form::Form;
 use crate::modules::{print_summary, source};
 use anyhow::{Context, Result};
 use std::env;
 use std::fs::Files;
 
-const CASES: [(&str, usize); 8] = [
+const CASES: [(&str, usize); 9] = [
     ("broken", 100_000),
+    ("broken_estree", 5000),
     ("nested", 2000),
     ("calls", 2000),
     ("operands", 2000),
@@ -53,8 +57,9 @@ fn main(rt: HostRuntime) -> Result<()> {
 }
 
 fn run<R: Files + AllocGlobal + Print>(rt: &R, name: &str, count: usize) -> Result<()> {
-    if name == "broken" {
-        return print_outcomes(rt, count);
+    match name {
+        "broken" => print_outcomes(rt, Form::Module, name, count),
+        "broken_estree" => print_outcomes(rt, Form::Estree, name, count),
+        _ => print_summary(rt, name, count),
     }
-    print_summary(rt, name, count)
 }

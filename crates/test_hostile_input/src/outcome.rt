@@ -1,5 +1,6 @@
 //! Outcomes of runs of the program.
 
+use crate::form::Form;
 use std::alloc::{AllocError, Global};
 
 /// The expected outcomes of a run: a result, or a fault of this name.
@@ -27,17 +28,17 @@ pub struct Outcome {
 impl Outcome {
     /// The outcome of the analysis of a document. None if it is unexpected, or if the report on the
     /// document has another.
-    pub fn of(alloc: Global, document: &[u8]) -> Result<Option<Outcome>, AllocError> {
+    pub fn of(alloc: Global, form: Form, document: &[u8]) -> Result<Option<Outcome>, AllocError> {
         let mut output = Vec::new(alloc);
         let mut errors = Vec::new(alloc);
         let mut left = document;
-        let status = modinfo::serve(alloc, &["analyze"], &mut left, &mut output, &mut errors);
+        let status = modinfo::serve(alloc, form.analyze(), &mut left, &mut output, &mut errors);
         let is_result = status == 0 && errors.is_empty() && is_line(output.as_slice());
         let is_fault = status == 1 && output.is_empty();
         for (at, name) in OUTCOMES.iter().enumerate() {
             let line = format!(in alloc; "modinfo: {name}\n")?;
             if at == 0 && is_result || is_fault && errors.as_slice() == line.as_bytes() {
-                let is_reported = reports(alloc, document, at, name)?;
+                let is_reported = reports(alloc, form, document, at, name)?;
                 return Ok(is_reported.then_some(Outcome { at, output }));
             }
         }
@@ -64,11 +65,17 @@ impl Outcome {
 }
 
 /// Whether the report on a document has the outcome with this index and name.
-fn reports(alloc: Global, document: &[u8], at: usize, name: &str) -> Result<bool, AllocError> {
+fn reports(
+    alloc: Global,
+    form: Form,
+    document: &[u8],
+    at: usize,
+    name: &str,
+) -> Result<bool, AllocError> {
     let mut output = Vec::new(alloc);
     let mut errors = Vec::new(alloc);
     let mut left = document;
-    let status = modinfo::serve(alloc, &["check"], &mut left, &mut output, &mut errors);
+    let status = modinfo::serve(alloc, form.check(), &mut left, &mut output, &mut errors);
     let expected = if at == 0 {
         String::from_str(alloc, "{\"valid\":true")?
     } else {

@@ -1,12 +1,11 @@
 //! The name of each fault of the program, from each error of a library.
 
 use deno_graph_info::analysis::{ConvertFault, InfoFault};
-use deno_graph_json::{Expected, Mismatch};
+use deno_graph_json::{Expected, Mismatch, TapeError};
 use deno_graph_source::tree::SourceFault;
 use deno_graph_source::values::Items;
 use modinfo::Fault;
 use modinfo::document::DocumentError;
-use serde_json::{Error, Value};
 use std::alloc::{AllocError, AllocFailed};
 use std::process::Abort;
 
@@ -67,15 +66,11 @@ fn faults_of_stored_information(rt: HostRuntime) {
 
 #[test]
 fn faults_of_json_and_of_memory(rt: HostRuntime) {
-    let Err(error) = Value::from_str(rt.alloc(), "{") else {
-        assert!(rt; false);
-        return;
-    };
     assert_names(
         &rt,
         &[
-            (Fault::from(error), "Json"),
-            (Fault::from(Error::from(AllocError)), "OutOfMemory"),
+            (Fault::from(TapeError::Json { offset: 0 }), "Json"),
+            (Fault::from(TapeError::OutOfMemory), "OutOfMemory"),
             (Fault::from(AllocError), "OutOfMemory"),
             (Fault::from(AllocFailed { value: 1u8 }), "OutOfMemory"),
         ],

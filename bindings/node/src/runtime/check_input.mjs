@@ -53,7 +53,20 @@ function placeAt(document, offset) {
  * @param {import("./check_report.mjs").FaultReport} report
  * @returns {string} one line, as `Tree at /program: expected a member `body``
  */
-export function describeReport({ fault, pointer, at, expected }) {
-  const position = at ? `line ${at.line + 1}, column ${at.column + 1}` : pointer || "the whole document";
-  return `${fault} at ${position}: expected ${expected}`;
+export function describeReport(report) {
+  return `${report.fault} at ${positionOf(report)}: expected ${report.expected}`;
+}
+
+/**
+ * Where a fault is; of `analyze --estree` a fault of the source has a range without a pointer.
+ * @param {import("./check_report.mjs").FaultReport} report
+ */
+function positionOf({ pointer, range, at }) {
+  if (at) {
+    return `line ${at.line + 1}, column ${at.column + 1}`;
+  }
+  if (range && pointer === undefined) {
+    return `bytes ${range.join(" to ")} of the source`;
+  }
+  return pointer || "the whole document";
 }

@@ -55,7 +55,8 @@ export interface FaultReport {
   /** The fault's name. */
   fault: DocumentFault;
   /** The value that is at fault; the object where a member is missing, the node where its children
-   * don't fit its kind. Missing for `Json` and `Input`. */
+   * don't fit its kind. Missing for `Json` and `Input`, and with `--estree` from `RangeReversed` to
+   * `Shape`. */
   pointer?: JsonPointer;
   /** For `CommentsOverlap`: the comment that shares a byte with the one at `pointer`. */
   other?: JsonPointer;

@@ -59,7 +59,7 @@ export class ProgramEnd extends Error {
 /**
  * @typedef {import("node:child_process").ChildProcessWithoutNullStreams} ChildProcess
  *
- * @typedef {"analyze" | "convert" | "reach"} Command
+ * @typedef {"analyze" | "analyze --estree" | "convert" | "reach"} Command
  * @typedef {Command | `check ${Command}`} Words after the program's name
  *
  * @typedef {{ json: Buffer, fault?: undefined } | { fault: string }} Answer

@@ -4,7 +4,7 @@ import * as acorn from "acorn";
 import ts from "typescript";
 import { Modinfo, ModinfoFault, ProgramEnd } from "modinfo";
 import type {
-  CheckOptions, DependencyDescriptor, DocumentFault, DocumentNode, FaultName, FaultReport, Graph, GraphOptions,
+  CheckOptions, DependencyDescriptor, DocumentFault, DocumentNode, EstreeDocument, FaultName, FaultReport, Graph, GraphOptions,
   MediaType, ModuleDocument, ModuleGraph, ModuleInfo, PositionRange, ReferenceKind, Report, Resolution,
   ResolvedModuleInfo, ValidReport,
 } from "modinfo";
@@ -131,6 +131,16 @@ const documents: ModuleDocument[] = [
   }),
 ];
 await Promise.all(documents.map((each) => modinfo.analyze(each)));
+
+const json: string = estree.estreeDocument(text, { specifier, mediaType: "TypeScript", tree, comments });
+const estreeDocuments: EstreeDocument[] = [
+  { specifier, mediaType, source: text, program: tree, comments },
+  { specifier, mediaType: "Mjs", source: text, offsets: "utf8", program: { type: "Program", range: [0, 16] } },
+];
+for (const each of [json, new TextEncoder().encode(json), ...estreeDocuments]) {
+  infos.push(await modinfo.analyzeEstree(each, { report: true }));
+  reports.push(await modinfo.check(each, { command: "analyze --estree" }));
+}
 
 try {
   await modinfo[Symbol.asyncDispose]();

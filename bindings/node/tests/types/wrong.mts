@@ -59,6 +59,12 @@ estree.toDocument("", { specifier, mediaType: "TypeScript" });
 estree.toDocument("", { specifier, comments: [] });
 // @ts-expect-error a node has a type
 estree.toDocument("", { specifier, tree: { start: 0, end: 0 } });
+// @ts-expect-error a tree is needed
+estree.estreeDocument("", { specifier });
+// @ts-expect-error nothing is left out that a warning could be about
+estree.estreeDocument("", { specifier, tree: { type: "Program" }, warn: () => {} });
+// @ts-expect-error a document of another command
+modinfo.analyzeEstree({ specifier, mediaType: "TypeScript", source: "", program: { range: [0, 0], body: [] } });
 // @ts-expect-error a tree of ESTree is none of TypeScript's
 typescript.toDocument("", { specifier, tree: { type: "Program", start: 0, end: 0 } });
 // @ts-expect-error a warning is a record

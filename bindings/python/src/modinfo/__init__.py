@@ -1,7 +1,8 @@
 """What one JavaScript or TypeScript module depends on, found in its syntax tree.
 
 A document is a dict, or its JSON as a str or as bytes in UTF-8. docs/FORMATS.md of the repository has all
-formats. Nothing is kept between calls, and calls may run in many threads at once.
+formats, docs/ESTREE.md that of trees of parsers. Nothing is kept between calls, and calls may run in many
+threads at once.
 """
 
 import json
@@ -10,9 +11,10 @@ from typing import Any, Literal, cast
 
 from . import _library
 from ._buffers import Buffer, is_buffer
+from ._estree import Comments, Offsets, estree_json
 from ._fault import Fault, FaultName
 from ._lines import answer_lines
-from .document import ModuleDocument
+from .document import MediaType, ModuleDocument
 from .information import ModuleInfo
 from .parser import Parser, ParserError
 from .report import DocumentFault, FaultReport, Report, ValidReport
@@ -26,15 +28,20 @@ __all__ = [
     "Fault",
     "FaultName",
     "FaultReport",
+    "MediaType",
     "ModuleDocument",
     "ModuleInfo",
+    "Offsets",
     "Parser",
     "ParserError",
     "Report",
     "ValidReport",
     "analyze",
+    "analyze_estree",
+    "analyze_estree_lines",
     "analyze_lines",
     "check",
+    "check_estree",
     "check_lines",
     "convert",
     "convert_lines",
@@ -43,7 +50,7 @@ __all__ = [
 ]
 
 Document = Mapping[str, object] | str | Buffer
-Command = Literal["analyze", "convert", "reach"]
+Command = Literal["analyze", "analyze_estree", "convert", "reach"]
 
 
 def analyze(document: Document) -> ModuleInfo:
@@ -53,6 +60,29 @@ def analyze(document: Document) -> ModuleInfo:
     type. A dict that json.dumps can't write raises what that raises: TypeError, ValueError or RecursionError.
     """
     information: ModuleInfo = _answer("analyze", document)
+    return information
+
+
+def analyze_estree(
+    specifier: str,
+    media_type: MediaType,
+    source: str,
+    program: Mapping[str, object],
+    comments: Comments | None = None,
+    offsets: Offsets = "utf16",
+) -> ModuleInfo:
+    """Returns what a module depends on, from its source and the tree of a parser, as ESTree describes it.
+
+    `comments` are all comments of the source, each with "start" and "end" or with "range"; by default those of the
+    program. `offsets` is what tree and comments count, UTF-16 units or bytes of UTF-8. docs/ESTREE.md of the
+    repository describes which trees are read. Leave out what JSON can't hold, as links to parents, compiled regular
+    expressions and infinite numbers. A string with a lone surrogate is handed on as the list of its UTF-16 units.
+
+    Raises Fault as analyze does. A tree that json.dumps can't write raises what that raises: TypeError, ValueError or
+    RecursionError.
+    """
+    document = estree_json(specifier, media_type, source, program, comments, offsets)
+    information: ModuleInfo = _answer("analyze_estree", document)
     return information
 
 
@@ -84,6 +114,23 @@ def check(document: Document, command: Command = "analyze") -> Report:
     return cast(Report, json.loads(_call(call, _bytes_of(document))))
 
 
+def check_estree(
+    specifier: str,
+    media_type: MediaType,
+    source: str,
+    program: Mapping[str, object],
+    comments: Comments | None = None,
+    offsets: Offsets = "utf16",
+) -> Report:
+    """Returns a report on what analyze_estree reads: what is wrong with it and where, or that it is valid.
+
+    A pointer leads into the document of docs/ESTREE.md. Where tree and source don't fit, the report has the range in
+    bytes of UTF-8, whatever `offsets` is, and no pointer. Raises Fault only where an allocation fails, and others as
+    analyze_estree does.
+    """
+    return check(estree_json(specifier, media_type, source, program, comments, offsets), "analyze_estree")
+
+
 def analyze_lines(lines: Iterable[Buffer], jobs: int = 1) -> Iterator[bytes]:
     """Returns for each line what `modinfo analyze --lines` prints for it, with a line feed.
 
@@ -92,6 +139,13 @@ def analyze_lines(lines: Iterable[Buffer], jobs: int = 1) -> Iterator[bytes]:
     more than one, lines are read ahead. Raises TypeError where a line isn't bytes.
     """
     return answer_lines(_library.COMMANDS["analyze"].answer, _in_answer, lines, jobs)
+
+
+def analyze_estree_lines(lines: Iterable[Buffer], jobs: int = 1) -> Iterator[bytes]:
+    """Returns for each line what `modinfo analyze --estree --lines` prints for it, as analyze_lines does. A line is the
+    JSON of one document of docs/ESTREE.md.
+    """
+    return answer_lines(_library.COMMANDS["analyze_estree"].answer, _in_answer, lines, jobs)
 
 
 def convert_lines(lines: Iterable[Buffer], jobs: int = 1) -> Iterator[bytes]:
@@ -119,7 +173,7 @@ def _as_it_is(line: bytes) -> bytes:
 
 def _command(name: str) -> _library.Command:
     if name not in _library.COMMANDS:
-        raise ValueError(f"a command is analyze, convert or reach, not {name!r}")
+        raise ValueError(f"a command is analyze, analyze_estree, convert or reach, not {name!r}")
     return _library.COMMANDS[name]
 
 

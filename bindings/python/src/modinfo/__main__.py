@@ -10,6 +10,8 @@ import modinfo
 
 from . import _library
 
+ESTREE = "the document has the tree of a parser, as ESTree describes it"
+
 DESCRIPTION = """\
 Reads one JSON document from the standard input, and prints one line of JSON."""
 
@@ -24,6 +26,12 @@ COMMANDS = {
     "check": "a report on a document of analyze, or of the command that OF names",
 }
 
+LINES = {
+    "analyze": modinfo.analyze_lines,
+    "analyze_estree": modinfo.analyze_estree_lines,
+    "convert": modinfo.convert_lines,
+}
+
 
 def parser() -> argparse.ArgumentParser:
     words = argparse.ArgumentParser(prog="python -m modinfo", description=DESCRIPTION, epilog=EPILOG)
@@ -31,8 +39,10 @@ def parser() -> argparse.ArgumentParser:
     commands = words.add_subparsers(dest="command", metavar="COMMAND", required=True)
     for name, meaning in COMMANDS.items():
         command = commands.add_parser(name, help=meaning, description=f"Prints {meaning}.")
+        if name in ("analyze", "check"):
+            command.add_argument("--estree", action="store_true", help=ESTREE)
         if name == "check":
-            command.add_argument("of", metavar="OF", nargs="?", default="analyze", choices=list(_library.COMMANDS))
+            command.add_argument("of", metavar="OF", nargs="?", default="analyze", choices=list(COMMANDS)[:-1])
             command.add_argument("--strict", action="store_true", help="a warning counts as a fault does")
         if name != "reach":
             command.add_argument("--lines", action="store_true", help="each line of the input is a document")
@@ -49,21 +59,28 @@ def positive(word: str) -> int:
     return number
 
 
+def command_of(words: argparse.Namespace) -> modinfo.Command:
+    """The command whose documents are read."""
+    command: modinfo.Command = words.of if words.command == "check" else words.command
+    return "analyze_estree" if getattr(words, "estree", False) else command
+
+
 def print_one(words: argparse.Namespace) -> int:
     document = sys.stdin.buffer.read()
+    command = command_of(words)
     if words.command == "check":
-        function = _library.COMMANDS[words.of].check
+        function = _library.COMMANDS[command].check
         return print_reports([modinfo._call(function, document)], words.strict)
-    sys.stdout.buffer.write(modinfo._answer_line(words.command, document))
+    sys.stdout.buffer.write(modinfo._answer_line(command, document))
     return 0
 
 
 def print_lines(words: argparse.Namespace) -> int:
     lines = sys.stdin.buffer
+    command = command_of(words)
     if words.command == "check":
-        return print_reports(modinfo.check_lines(lines, words.of, words.jobs), words.strict)
-    function = modinfo.analyze_lines if words.command == "analyze" else modinfo.convert_lines
-    sys.stdout.buffer.writelines(function(lines, words.jobs))
+        return print_reports(modinfo.check_lines(lines, command, words.jobs), words.strict)
+    sys.stdout.buffer.writelines(LINES[command](lines, words.jobs))
     return 0
 
 
@@ -85,7 +102,10 @@ def passes(report: modinfo.Report, is_strict: bool) -> bool:
 
 
 def main(arguments: Sequence[str] | None = None) -> int:
-    words = parser().parse_args(arguments)
+    usage = parser()
+    words = usage.parse_args(arguments)
+    if command_of(words) == "analyze_estree" and getattr(words, "of", "analyze") != "analyze":
+        usage.error("--estree is for documents of analyze")
     try:
         status = print_lines(words) if getattr(words, "lines", False) else print_one(words)
         sys.stdout.buffer.flush()

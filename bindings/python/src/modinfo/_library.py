@@ -70,6 +70,10 @@ COMMANDS = {
         Call(_function("modinfo_analyze"), _lines_of(0)),
         Call(_function("modinfo_check"), _lines_of(3)),
     ),
+    "analyze_estree": Command(
+        Call(_function("modinfo_analyze_estree"), _lines_of(6)),
+        Call(_function("modinfo_check_estree"), _lines_of(7)),
+    ),
     "convert": Command(
         Call(_function("modinfo_convert"), _lines_of(1)),
         Call(_function("modinfo_check_convert"), _lines_of(4)),

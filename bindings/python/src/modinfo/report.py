@@ -71,7 +71,7 @@ class FaultReport(TypedDict):
     fault: DocumentFault
 
     # The value that is at fault; the object where a member is missing, the node where its children don't fit its kind.
-    # Missing for `Json` and `Input`.
+    # Missing for `Json` and `Input`, and with `--estree` from `RangeReversed` to `Shape`.
     pointer: NotRequired[Pointer]
 
     # For `CommentsOverlap`: the comment that shares a byte with the one at `pointer`.

@@ -20,9 +20,11 @@ impl Call {
     pub fn answer(&self) -> Result<String, Fault> {
         match self.command.as_str() {
             "analyze" => modinfo::analyze(&self.document).map_err(Fault::from),
+            "analyze --estree" => modinfo::analyze_estree(&self.document).map_err(Fault::from),
             "convert" => modinfo::convert(&self.document).map_err(Fault::from),
             "reach" => modinfo::reach(&self.document).map_err(Fault::from),
             "check" | "check analyze" => modinfo::check(&self.document),
+            "check --estree" | "check analyze --estree" => modinfo::check_estree(&self.document),
             "check convert" => modinfo::check_convert(&self.document),
             "check reach" => modinfo::check_reach(&self.document),
             other => panic!("{}: there is no command {other}", self.name),
@@ -123,7 +125,8 @@ pub fn field(case: &TestCase, word: &str) -> Option<String> {
 /// Whether the words after the program's name are those of one document.
 fn is_call(words: &str) -> bool {
     let command = words.strip_prefix("check ").unwrap_or(words);
-    ["analyze", "convert", "reach"].contains(&command) || words == "check"
+    ["analyze", "analyze --estree", "convert", "reach"].contains(&command)
+        || ["check", "check --estree"].contains(&words)
 }
 
 fn call(folder: &Path, case: &TestCase) -> Option<Call> {

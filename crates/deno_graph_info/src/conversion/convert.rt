@@ -8,12 +8,11 @@ ghost use Rattle.deno_graph_info.specs.Conversion.{AnyOverflows, AreConverted, D
 ghost use Rattle.deno_graph_info.specs.internal.ConvertFault.{IsColumnFault};
 
 use crate::analysis::SpecifierWithRange;
-use crate::conversion::comment::Comment;
+use crate::conversion::comment::{Comment, read_comments};
 use crate::conversion::fault::ConvertFault;
 use crate::conversion::types::types_named;
 use deno_graph_base::values::Items;
-use deno_graph_json::{FromJson, ReadError, Tape, ToJson, has_float};
-use deno_graph_pragmas::finders::laws::captures_are_unique;
+use deno_graph_json::{Tape, ToJson, has_float};
 use serde_json::{Map, Value, put};
 use std::alloc::{AllocError, Global};
 
@@ -40,18 +39,6 @@ pub fn module_graph_1_to_2(alloc: Global, value: &mut Value) -> Result<(), Conve
     let copy = value.clone()?;
     *value = convert_value(alloc, copy)?;
     Ok(())
-}
-
-/// Like `module_graph_1_to_2`, but takes the value and copies nothing.
-pub fn module_graph_1_to_2_owned(alloc: Global, value: Value) -> Result<Value, ConvertFault>
-    ensures no_float { IfOk result (λ _. holds_float (view value) ≡ false) }
-    ensures ok { IfOk result (λ after. IsConverted (view value) (view after)) }
-    ensures err { IfErr result (IsConvertFault (view value)) }
-{
-    if has_float(&value) {
-        return Err(ConvertFault::Float);
-    }
-    convert_value(alloc, value)
 }
 
 /// Converts the dependencies of a value, if there are any.
@@ -155,7 +142,7 @@ fn convert_dependency(alloc: Global, dependency: Value) -> Result<Value, Convert
         (λ converted. IsConvertedDependency (view dependency) (view converted)) }
     ensures err { IfErr result (IsColumnFault (DependencyOverflows (view dependency))) }
 {
-    match read_comments(alloc, &dependency)? {
+    match comments_of(alloc, &dependency)? {
         Some(comments) => {
             let types = types_named(alloc, &comments)?;
             Ok(replace_comments(alloc, dependency, types)?)
@@ -164,39 +151,13 @@ fn convert_dependency(alloc: Global, dependency: Value) -> Result<Value, Convert
     }
 }
 
-/// Returns whether the types that the comments of a dependency name would end beyond the largest
-/// column, so that a value with this dependency can't be converted. Copies only the comments. The only
-/// error is that an allocation fails.
-pub fn column_overflows(alloc: Global, dependency: &Value) -> Result<bool, AllocError>
-    ensures { IfOk result
-        (λ overflows. IsTrue overflows ↔ DependencyOverflows (view dependency.now)) }
-{
-    captures_are_unique();
-    let Some(comments) = read_comments(alloc, dependency)? else {
-        return Ok(false);
-    };
-    match types_named(alloc, &comments) {
-        Ok(_types) => Ok(false),
-        Err(ConvertFault::ColumnOverflow) => Ok(true),
-        Err(_fault) => Err(AllocError),
-    }
-}
-
 /// Reads the leading comments of a dependency. Returns None if they aren't an array of readable
 /// comments.
-#[tactic(auto, using(crate::proofs::NamedMembers::comments_named))]
-fn read_comments(alloc: Global, dependency: &Value) -> Result<Option<Items<Comment>>, AllocError>
+fn comments_of(alloc: Global, dependency: &Value) -> Result<Option<Items<Comment>>, AllocError>
     ensures { IfOk result (λ comments. comments ≡ comments_in (view dependency.now)) }
 {
-    let Some(comments) = dependency.get("leadingComments") else {
-        return Ok(None);
-    };
-    let tape = Tape::from_value(alloc, comments)?;
-    match FromJson::from_json(alloc, tape.root()) {
-        Ok(comments) => Ok(Some(comments)),
-        Err(ReadError::Mismatch(_)) => Ok(None),
-        Err(ReadError::OutOfMemory) => Err(AllocError),
-    }
+    let tape = Tape::from_value(alloc, dependency)?;
+    read_comments(alloc, tape.root())
 }
 
 /// Adds the types, if there are any, to a dependency, and removes its comments.

@@ -3,17 +3,16 @@
 ghost use Rattle.std.specs.Prelude.{◌≡◌, IfOk, Some, true};
 ghost use Rattle.serde_json.specs.Data.{Data};
 ghost use Rattle.serde_json.specs.Read.{read as read_text};
-ghost use Rattle.serde_json.specs.View.{view};
 ghost use Rattle.serde_json.specs.Written.{has_float};
+ghost use Rattle.deno_graph_json.specs.Data.{data_of};
 ghost use Rattle.modinfo_document.specs.Report.{HasPointerInto};
 ghost use Rattle.modinfo.specs.Check.{ReportsOnStored};
 ghost use Rattle.modinfo.specs.internal.Check.{ReportsOnValue};
 
-use crate::check::conversion::{conversion_report, convert_in_place};
-use crate::check::text::read_json;
-use deno_graph_info::analysis::ConvertFault;
-use modinfo_document::report::{Report, Warnings, json_report};
-use serde_json::Value;
+use crate::check::conversion::{float_report, report_columns};
+use deno_graph_json::{Element, ReadError, Tape, TapeError, find_float};
+use json::Scratch;
+use modinfo_document::report::{Report, json_report_at};
 use std::alloc::{AllocError, Global};
 
 /// Checks a text as a document of `convert`: the stored information of one module. The only error is a
@@ -23,20 +22,25 @@ pub fn check_stored(alloc: Global, text: &str) -> Result<Report, AllocError>
     ensures place { (value : Data) → read_text text.now ≡ Some value → has_float value ≡ true
         → IfOk result (HasPointerInto value) }
 {
-    match read_json(alloc, text)? {
-        Some(mut value) => report_stored(alloc, &mut value),
-        None => Ok(Report::Invalid(json_report(alloc, text)?)),
+    let mut scratch = Scratch::new(alloc);
+    match Tape::read(alloc, text, &mut scratch) {
+        Ok(tape) => report_stored(alloc, tape.root()),
+        Err(TapeError::Json { offset }) => Ok(Report::Invalid(json_report_at(
+            alloc, text, offset,
+        )?)),
+        Err(TapeError::OutOfMemory) => Err(AllocError),
     }
 }
 
-/// Checks stored information, and converts it in place.
-fn report_stored(alloc: Global, value: &mut Value) -> Result<Report, AllocError>
-    ensures verdict { IfOk result (ReportsOnValue (view value.old)) }
-    ensures place { has_float (view value.old) ≡ true → IfOk result (HasPointerInto (view value.old)) }
+/// Checks the JSON of stored information.
+fn report_stored(alloc: Global, value: Element<'_>) -> Result<Report, AllocError>
+    ensures verdict { IfOk result (ReportsOnValue (data_of value.entry)) }
+    ensures place { has_float (data_of value.entry) ≡ true
+        → IfOk result (HasPointerInto (data_of value.entry)) }
 {
-    match convert_in_place(alloc, value) {
-        None => Ok(Report::Valid(Warnings::new(alloc))),
-        Some(ConvertFault::OutOfMemory) => Err(AllocError),
-        Some(fault) => Ok(Report::Invalid(conversion_report(alloc, value, fault)?)),
+    match find_float(alloc, value) {
+        Ok(()) => report_columns(alloc, value),
+        Err(ReadError::Mismatch(mismatch)) => Ok(Report::Invalid(float_report(alloc, &mismatch)?)),
+        Err(ReadError::OutOfMemory) => Err(AllocError),
     }
 }

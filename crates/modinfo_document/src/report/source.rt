@@ -37,6 +37,25 @@ pub fn source_report(
     })
 }
 
+/// The report on a fault of the source, whose length is given in bytes, of a document whose values aren't
+/// those of a module document. It has the range of the fault and no pointer. The only error is a failed
+/// allocation.
+pub fn source_report_without_pointers(
+    alloc: Global,
+    length: usize,
+    range: Option<SourceRange>,
+    found: &SourceFaultPlace,
+) -> Result<FaultReport, AllocError> {
+    Ok(FaultReport {
+        fault: format!(in alloc; "{}", found.fault)?,
+        range,
+        pointer: None,
+        other: None,
+        at: None,
+        expected: expected(alloc, found, length)?,
+    })
+}
+
 /// Finds the other of two comments that share a byte.
 fn other_comment<'a>(
     alloc: Global,

@@ -6,9 +6,9 @@ pub use deno_graph_info::analysis::{
     DynamicDependencyDescriptor, DynamicDependencyKind, DynamicTemplatePart, ImportAttribute,
     ImportAttributes, InfoFault, JsDocImportInfo, Match, ModuleInfo, SpecifierWithRange,
     StaticDependencyDescriptor, StaticDependencyKind, TypeScriptReference,
-    TypeScriptTypesResolutionMode, find_deno_types, find_jsx_import_source,
+    TypeScriptTypesResolutionMode, converted_text, find_deno_types, find_jsx_import_source,
     find_jsx_import_source_types, find_path_reference, find_resolution_mode,
     find_source_mapping_url, find_ts_self_types, find_ts_types, find_types_reference,
-    is_comment_triple_slash_reference, module_graph_1_to_2, module_graph_1_to_2_owned,
+    is_comment_triple_slash_reference, module_graph_1_to_2,
 };
 pub use deno_graph_info::reach::reach;

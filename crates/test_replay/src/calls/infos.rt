@@ -3,9 +3,10 @@
 use crate::answer::{named, valued};
 use crate::case_error::CaseError;
 use deno_graph_info::analysis::{
-    ConvertFault, InfoFault, ModuleInfo, module_graph_1_to_2, module_graph_1_to_2_owned,
+    ConvertFault, InfoFault, ModuleInfo, converted_text, module_graph_1_to_2,
 };
 use deno_graph_info::reach::reach;
+use deno_graph_json::Tape;
 use serde_json::{Map, Value};
 use std::alloc::{AllocError, Global};
 use std::collections::BTreeMap;
@@ -24,8 +25,9 @@ fn convert(alloc: Global, value: &mut Value) -> Result<(), ConvertFault> {
     module_graph_1_to_2(alloc, value)
 }
 
-fn convert_by_value(alloc: Global, value: Value) -> Result<Value, ConvertFault> {
-    module_graph_1_to_2_owned(alloc, value)
+fn convert_to_text(alloc: Global, value: &Value) -> Result<String, ConvertFault> {
+    let tape = Tape::from_value(alloc, value)?;
+    converted_text(alloc, tape.root())
 }
 
 /// The JSON of the result of `from_value`.
@@ -42,29 +44,30 @@ fn written(alloc: Global, info: &ModuleInfo) -> Result<String, CaseError> {
 }
 
 /// The result of `module_graph_1_to_2`. Checks that the value is unchanged after an error, and that
-/// `module_graph_1_to_2_owned` has the same result.
+/// `converted_text` has the same result.
 pub fn converted(alloc: Global, value: &Value) -> Result<String, CaseError> {
-    let by_value = match convert_by_value(alloc, value.clone()?) {
-        Ok(after) => Some(after),
+    let text = match convert_to_text(alloc, value) {
+        Ok(text) => Some(text),
         Err(ConvertFault::OutOfMemory) => return Err(CaseError::OutOfMemory),
         Err(_) => None,
     };
     let mut again = value.clone()?;
-    converted_in_place(alloc, value, &mut again, by_value.as_ref())
+    converted_in_place(alloc, value, &mut again, text)
 }
 
 fn converted_in_place(
     alloc: Global,
     value: &Value,
     again: &mut Value,
-    by_value: Option<&Value>,
+    text: Option<String>,
 ) -> Result<String, CaseError> {
     match convert(alloc, again) {
-        Ok(()) => match by_value {
-            Some(after) if *after == *again => valued(alloc, after),
-            _ => named(alloc, "another by value"),
+        Ok(()) => match text {
+            Some(text) if text == again.to_string(alloc)? => valued(alloc, again),
+            _ => named(alloc, "another as text"),
         },
         Err(_) if *again != *value => named(alloc, "refused, and changed"),
+        Err(_) if text.is_some() => named(alloc, "refused, but not as text"),
         Err(ConvertFault::OutOfMemory) => Err(CaseError::OutOfMemory),
         Err(fault) => named(alloc, format!(in alloc; "{fault}")?.as_str()),
     }

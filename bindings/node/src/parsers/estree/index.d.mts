@@ -29,6 +29,24 @@ export interface TreeOptions extends ModuleOptions<MediaType> {
   comments?: readonly EstreeNode[];
 }
 
+/** A tree and what its document needs besides. */
+export type EstreeOptions = Omit<TreeOptions, "warn">;
+
+/** A module with the tree of a parser, as `modinfo analyze --estree` reads it. */
+export interface EstreeDocument {
+  /** An absolute URL. */
+  specifier: string;
+  mediaType: MediaType;
+  /** The text of the module. */
+  source: string;
+  /** What the offsets of the nodes and comments count; `"utf16"` where it is missing. */
+  offsets?: "utf16" | "utf8";
+  /** Each with `start` and `end` or with `range`; else those that `program` holds. */
+  comments?: readonly object[];
+  /** The `Program` of ESTree or typescript-estree, or the `File` or `Program` of Babel. */
+  program: EstreeNode;
+}
+
 /**
  * The document of a module.
  * @param text as it was handed to the parser
@@ -36,3 +54,13 @@ export interface TreeOptions extends ModuleOptions<MediaType> {
  * @throws {TypeError} a text or an option isn't what it has to be
  */
 export function toDocument(text: string, options: TextOptions | TreeOptions): ModuleDocument;
+
+/**
+ * The JSON of the `EstreeDocument` of a module, without what JSON can't hold, as bigints and links to
+ * parents, and without members that the program doesn't read, as `loc`, `tokens` and `extra`.
+ * @param text as it was handed to the parser
+ * @throws {SourceFault} a lone surrogate
+ * @throws {TypeError} a text or an option isn't what it has to be, or a node has itself in it
+ * @throws {RangeError} the tree nests thousands of levels deep; `analyzeEstree` refuses more than 127
+ */
+export function estreeDocument(text: string, options: EstreeOptions): string;

@@ -10,9 +10,10 @@ import { MEDIA_TYPES, readOptions } from "../../document/media_types.mjs";
 import { Source, SourceFault } from "../../document/source.mjs";
 import { writeDocument } from "../../document/write_document.mjs";
 import { ACORN_MEDIA_TYPES, parseWithAcorn } from "./acorn.mjs";
-import { operandEnds, rangeOf } from "./nodes.mjs";
+import { commentsOf, operandEnds, programOf, rangeOf } from "./nodes.mjs";
 import { EstreeView } from "./view.mjs";
 
+export { estreeDocument } from "./document.mjs";
 export { SourceFault };
 
 /**
@@ -33,13 +34,9 @@ export function toDocument(text, options) {
   const mediaTypes = tree ? MEDIA_TYPES : ACORN_MEDIA_TYPES;
   const { specifier, mediaType } = readOptions(text, options, mediaTypes);
   const source = new Source(text);
-  const given = tree && { tree, comments: comments ?? tree.comments };
-  const parsed = given ?? parseWithAcorn(source, mediaType);
-  if (!parsed.comments) {
-    throw new TypeError("a tree needs its comments: pass the option comments");
-  }
-  const program = parsed.tree.type === "File" ? parsed.tree.program : parsed.tree;
-  const [, ...ranges] = [program, ...parsed.comments].map(rangeOf);
+  const parsed = tree ? { tree, comments } : parseWithAcorn(source, mediaType);
+  const program = programOf(parsed.tree);
+  const [, ...ranges] = [program, ...commentsOf(parsed)].map(rangeOf);
   const trivia = new Trivia(text, readComments(text, ranges, source.shebangEnd));
   /** @type {Set<number> | undefined} */
   let ends;

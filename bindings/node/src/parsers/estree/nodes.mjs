@@ -11,7 +11,7 @@
  */
 
 /** Members of nodes that hold no child. */
-const NO_CHILDREN = new Set([
+export const NO_CHILDREN = new Set([
   "parent", "loc", "range", "tokens", "comments", "errors", "extra", "regex",
   "leadingComments", "trailingComments", "innerComments",
 ]);
@@ -47,6 +47,28 @@ export function rangeOf(node) {
     throw new TypeError("a tree and its comments must have start and end, or range");
   }
   return range;
+}
+
+/**
+ * The program of a tree, also of one that is Babel's `File`.
+ * @param {Node} tree
+ * @returns {Node}
+ */
+export function programOf(tree) {
+  return tree.type === "File" ? tree.program : tree;
+}
+
+/**
+ * The comments of a tree.
+ * @param {{ tree: Node, comments?: readonly Node[] }} parsed
+ * @returns {readonly Node[]}
+ * @throws {TypeError} there are none, neither beside the tree nor in it
+ */
+export function commentsOf({ tree, comments = tree.comments }) {
+  if (!comments) {
+    throw new TypeError("a tree needs its comments: pass the option comments");
+  }
+  return comments;
 }
 
 /**

@@ -1,11 +1,10 @@
 use Rattle.std.proofs.Common.{◌∙◌, Some, false, true, ap, refl, sym}
 use Rattle.std.proofs.KnownBytes.{Keeps-refl}
 use Rattle.std.proofs.lemmas.Option.{none-some, same_Some}
-use Rattle.modinfo.specs.CommandLine.{are_strict}
+use Rattle.modinfo.specs.CommandLine.{are_strict, subcommand_of_check}
 use Rattle.modinfo.specs.internal.CommandLine.{command_line_of}
 use Rattle.modinfo.specs.Lines.IsLinesRun.{printed as lines_printed, failed as lines_failed}
 use Rattle.modinfo.specs.Run.{printed, failed}
-use Rattle.modinfo.specs.declared.subcommand.Subcommand.TheVariants.{Analyze}
 use Rattle.modinfo.specs.declared.task.Task.TheVariants.{Answer, Check}
 use Rattle.modinfo.proofs.program.serve.Goals as goal
 
@@ -16,24 +15,16 @@ returns-in_default-clause-subcommand g c subcommand words =
     absurd (none-some _ (sym c.in_default.is ∙ c.from_words.ensures.subcommand subcommand false words))
 
 pub returns-in_default-clause-check : goal.returns-in_default-clause-check
-returns-in_default-clause-check g c subcommand flags words one =
-    absurd (none-some _ (sym c.in_default.is ∙ c.from_words.ensures.check subcommand flags words))
-
-pub returns-in_default-clause-check_analyze : goal.returns-in_default-clause-check_analyze
-returns-in_default-clause-check_analyze g c flags words one =
-    absurd (none-some _ (sym c.in_default.is ∙ c.from_words.ensures.check_analyze flags words))
+returns-in_default-clause-check g c checked flags words one =
+    absurd (none-some _ (sym c.in_default.is ∙ c.from_words.ensures.check checked flags words))
 
 pub returns-in_default-clause-lines : goal.returns-in_default-clause-lines
 returns-in_default-clause-lines g c subcommand words =
     absurd (none-some _ (sym c.in_default.is ∙ c.from_words.ensures.subcommand subcommand true words))
 
 pub returns-in_default-clause-check_lines : goal.returns-in_default-clause-check_lines
-returns-in_default-clause-check_lines g c subcommand flags words many =
-    absurd (none-some _ (sym c.in_default.is ∙ c.from_words.ensures.check subcommand flags words))
-
-pub returns-in_default-clause-check_analyze_lines : goal.returns-in_default-clause-check_analyze_lines
-returns-in_default-clause-check_analyze_lines g c flags words many =
-    absurd (none-some _ (sym c.in_default.is ∙ c.from_words.ensures.check_analyze flags words))
+returns-in_default-clause-check_lines g c checked flags words many =
+    absurd (none-some _ (sym c.in_default.is ∙ c.from_words.ensures.check checked flags words))
 
 -- A line was printed.
 
@@ -44,19 +35,11 @@ returns-in-Ok-clause-subcommand g c subcommand words =
     (ran.0, ran.1, printed c.in-Ok.passes ran.2.0 ran.2.1 c.status_of.ensures ran.2.2 (Keeps-refl _))
 
 pub returns-in-Ok-clause-check : goal.returns-in-Ok-clause-check
-returns-in-Ok-clause-check g c subcommand flags words one =
-    let task = Check subcommand (are_strict flags) in
-    let is = same_Some _ _ (sym c.in-Some.is ∙ c.from_words.ensures.check subcommand flags words
+returns-in-Ok-clause-check g c checked flags words one =
+    let task = Check (subcommand_of_check checked) (are_strict flags) in
+    let is = same_Some _ _ (sym c.in-Some.is ∙ c.from_words.ensures.check checked flags words
     ∙ ap (λ b. Some (command_line_of b task)) one) in
-    let ran = c.in-Ok.ensures.check subcommand (are_strict flags) is in
-    (ran.0, ran.1, printed c.in-Ok.passes ran.2.0 ran.2.1 c.status_of.ensures ran.2.2 (Keeps-refl _))
-
-pub returns-in-Ok-clause-check_analyze : goal.returns-in-Ok-clause-check_analyze
-returns-in-Ok-clause-check_analyze g c flags words one =
-    let task = Check Analyze (are_strict flags) in
-    let is = same_Some _ _ (sym c.in-Some.is ∙ c.from_words.ensures.check_analyze flags words
-    ∙ ap (λ b. Some (command_line_of b task)) one) in
-    let ran = c.in-Ok.ensures.check Analyze (are_strict flags) is in
+    let ran = c.in-Ok.ensures.check (subcommand_of_check checked) (are_strict flags) is in
     (ran.0, ran.1, printed c.in-Ok.passes ran.2.0 ran.2.1 c.status_of.ensures ran.2.2 (Keeps-refl _))
 
 -- There was a fault.
@@ -68,19 +51,11 @@ returns-in-Err-clause-subcommand g c subcommand words =
     (ran.0, ran.1, failed c.in-Err.fault ran.2.0 refl ran.2.1 c.print_fault.ensures)
 
 pub returns-in-Err-clause-check : goal.returns-in-Err-clause-check
-returns-in-Err-clause-check g c subcommand flags words one =
-    let task = Check subcommand (are_strict flags) in
-    let is = same_Some _ _ (sym c.in-Some.is ∙ c.from_words.ensures.check subcommand flags words
+returns-in-Err-clause-check g c checked flags words one =
+    let task = Check (subcommand_of_check checked) (are_strict flags) in
+    let is = same_Some _ _ (sym c.in-Some.is ∙ c.from_words.ensures.check checked flags words
     ∙ ap (λ b. Some (command_line_of b task)) one) in
-    let ran = c.in-Err.ensures.check subcommand (are_strict flags) is in
-    (ran.0, ran.1, failed c.in-Err.fault ran.2.0 refl ran.2.1 c.print_fault.ensures)
-
-pub returns-in-Err-clause-check_analyze : goal.returns-in-Err-clause-check_analyze
-returns-in-Err-clause-check_analyze g c flags words one =
-    let task = Check Analyze (are_strict flags) in
-    let is = same_Some _ _ (sym c.in-Some.is ∙ c.from_words.ensures.check_analyze flags words
-    ∙ ap (λ b. Some (command_line_of b task)) one) in
-    let ran = c.in-Err.ensures.check Analyze (are_strict flags) is in
+    let ran = c.in-Err.ensures.check (subcommand_of_check checked) (are_strict flags) is in
     (ran.0, ran.1, failed c.in-Err.fault ran.2.0 refl ran.2.1 c.print_fault.ensures)
 
 -- All lines, or the first lines, were printed.
@@ -92,16 +67,9 @@ returns-in-Ok-clause-lines g c subcommand words =
     (Keeps-refl _)
 
 pub returns-in-Ok-clause-check_lines : goal.returns-in-Ok-clause-check_lines
-returns-in-Ok-clause-check_lines g c subcommand flags words many =
-    let task = Check subcommand (are_strict flags) in
-    let is = same_Some _ _ (sym c.in-Some.is ∙ c.from_words.ensures.check subcommand flags words
-    ∙ ap (λ b. Some (command_line_of b task)) many) in
-    lines_printed c.in-Ok.passes (c.in-Ok.ensures.lines task is) c.status_of.ensures (Keeps-refl _)
-
-pub returns-in-Ok-clause-check_analyze_lines : goal.returns-in-Ok-clause-check_analyze_lines
-returns-in-Ok-clause-check_analyze_lines g c flags words many =
-    let task = Check Analyze (are_strict flags) in
-    let is = same_Some _ _ (sym c.in-Some.is ∙ c.from_words.ensures.check_analyze flags words
+returns-in-Ok-clause-check_lines g c checked flags words many =
+    let task = Check (subcommand_of_check checked) (are_strict flags) in
+    let is = same_Some _ _ (sym c.in-Some.is ∙ c.from_words.ensures.check checked flags words
     ∙ ap (λ b. Some (command_line_of b task)) many) in
     lines_printed c.in-Ok.passes (c.in-Ok.ensures.lines task is) c.status_of.ensures (Keeps-refl _)
 
@@ -111,15 +79,8 @@ returns-in-Err-clause-lines g c subcommand words =
     lines_failed c.in-Err.fault (c.in-Err.ensures.lines (Answer subcommand) is) refl c.print_fault.ensures
 
 pub returns-in-Err-clause-check_lines : goal.returns-in-Err-clause-check_lines
-returns-in-Err-clause-check_lines g c subcommand flags words many =
-    let task = Check subcommand (are_strict flags) in
-    let is = same_Some _ _ (sym c.in-Some.is ∙ c.from_words.ensures.check subcommand flags words
-    ∙ ap (λ b. Some (command_line_of b task)) many) in
-    lines_failed c.in-Err.fault (c.in-Err.ensures.lines task is) refl c.print_fault.ensures
-
-pub returns-in-Err-clause-check_analyze_lines : goal.returns-in-Err-clause-check_analyze_lines
-returns-in-Err-clause-check_analyze_lines g c flags words many =
-    let task = Check Analyze (are_strict flags) in
-    let is = same_Some _ _ (sym c.in-Some.is ∙ c.from_words.ensures.check_analyze flags words
+returns-in-Err-clause-check_lines g c checked flags words many =
+    let task = Check (subcommand_of_check checked) (are_strict flags) in
+    let is = same_Some _ _ (sym c.in-Some.is ∙ c.from_words.ensures.check checked flags words
     ∙ ap (λ b. Some (command_line_of b task)) many) in
     lines_failed c.in-Err.fault (c.in-Err.ensures.lines task is) refl c.print_fault.ensures

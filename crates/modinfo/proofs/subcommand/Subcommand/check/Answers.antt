@@ -1,20 +1,26 @@
-use Rattle.std.proofs.Common.{ℕ, List, Result, Ok, Err, IfOk, inr}
+use Rattle.std.proofs.Common.{ℕ, List, Option, Result, Ok, Err, IfOk, IsUtf8, inr, ◌⊎◌}
+use Rattle.serde_json.specs.Data.{Data}
 use Rattle.std.specs.declared.alloc.AllocError.{AllocError}
 use Rattle.modinfo_document.specs.Report.{MatchReport}
 use Rattle.modinfo_document.specs.declared.report.Report.{Report}
 use Rattle.modinfo_document.specs.declared.report.Report.TheVariants.{Valid, Invalid}
-use Rattle.modinfo.specs.Answer.{IsFaultyDocument, IsValidDocument}
-use Rattle.modinfo_document.specs.Check.{ReportsOn}
-use Rattle.modinfo.specs.declared.subcommand.Subcommand.TheVariants.{Analyze}
+use Rattle.modinfo_document.specs.Check.{IsInvalidIn, IsValidIn, ReportsIn}
+use Rattle.modinfo_document.specs.Document.{Contents, reads_document}
+use Rattle.modinfo_estree.specs.Document.{reads_estree}
 use Rattle.modinfo.proofs.subcommand.Subcommand.check.Goals as goal
 
--- A text with an error as a module document is faulty.
-of_text : (text : List ℕ) (answer : Result Report AllocError) → IfOk answer (ReportsOn text)
-    → IfOk answer (MatchReport (IsValidDocument Analyze text) (IsFaultyDocument Analyze text))
-of_text text (Ok (Valid warnings)) h = h
-of_text text (Ok (Invalid fault)) h = inr h
-of_text text (Err refused) h = tt
+-- A text with an error as a document of a form is faulty.
+of_text : (reads : Data → Option Contents) (text : List ℕ) (answer : Result Report AllocError)
+    → IfOk answer (ReportsIn reads text)
+    → IfOk answer (MatchReport (IsValidIn reads text) ((¬ IsUtf8 text) ⊎ IsInvalidIn reads text))
+of_text reads text (Ok (Valid warnings)) h = h
+of_text reads text (Ok (Invalid fault)) h = inr h
+of_text reads text (Err refused) h = tt
 
 pub returns-in-Analyze : goal.returns-in-Analyze
-returns-in-Analyze c = rw c.in-Analyze.is (of_text c.args.document.now c.check_document.result
+returns-in-Analyze c = rw c.in-Analyze.is (of_text reads_document c.args.document.now c.check_document.result
     (rw c.in-Ok.ensures.cases.0 at c.check_document.ensures.verdict))
+
+pub returns-in-AnalyzeEstree : goal.returns-in-AnalyzeEstree
+returns-in-AnalyzeEstree c = rw c.in-AnalyzeEstree.is (of_text reads_estree c.args.document.now
+    c.check_estree.result (rw c.in-Ok.ensures.cases.0 at c.check_estree.ensures.verdict))

@@ -1,0 +1,196 @@
+/**
+ * `modinfo analyze --estree` against the direct reading of the same trees, whose documents `modinfo analyze` reads;
+ * and documents that no one should send.
+ */
+
+import assert from "node:assert/strict";
+import { existsSync, readFileSync, readdirSync } from "node:fs";
+import { join } from "node:path";
+import { test } from "node:test";
+import { fileURLToPath } from "node:url";
+
+import { mediaTypeOf } from "../src/document/media_types.mjs";
+import { Modinfo } from "../src/index.mjs";
+import { estreeDocument } from "../src/parsers/estree/index.mjs";
+import { Service } from "../src/runtime/service.mjs";
+import { directDocumentOf } from "./documents.mjs";
+import { PARSERS, parsed } from "./estree_parsers.mjs";
+import { DIFFERENCES, TEXTS } from "./estree_texts.mjs";
+import { settled } from "./promises.mjs";
+import { MODINFO } from "./run_commands.mjs";
+import { unchecked } from "./unchecked.mjs";
+
+/**
+ * @typedef {[mediaType: string, texts: string[]]} Texts
+ * @typedef {import("../src/index.mjs").Report} Report
+ * @typedef {import("../src/runtime/service.mjs").Words} Words
+ */
+
+const notBuilt = !existsSync(MODINFO) && "build/modinfo isn't made";
+const ADAPTER = fileURLToPath(new URL("../src/parsers/estree", import.meta.url));
+
+/** Texts of the tests of the adapter, which differs from the direct reading at some of them, and its own sources. */
+const ALL_TEXTS = [
+  ...Object.entries(TEXTS),
+  ...DIFFERENCES.map(({ mediaType, texts }) => /** @type {Texts} */ ([mediaType, texts])),
+  ...readdirSync(ADAPTER).map((name) => /** @type {Texts} */ (
+    [mediaTypeOf(name), [readFileSync(join(ADAPTER, name), "utf8")]])),
+];
+
+/**
+ * What the program answers to some documents: JSON, or the name of a fault.
+ * @param {Words} words
+ * @param {string[]} documents
+ * @returns {Promise<string[]>}
+ */
+async function answers(words, documents) {
+  const service = new Service(MODINFO, words);
+  const found = await settled(documents.map((each) => service.answer(each)));
+  await service.close();
+  return found.map(({ value, reason }) => (reason ? reason.fault ?? String(reason) : String(value)));
+}
+
+for (const parser of PARSERS) {
+  test(`${parser.name}: the answers are those of the direct reading`, { skip: notBuilt || parser.skip }, async () => {
+    const read = ALL_TEXTS.flatMap(([mediaType, texts]) => texts.flatMap((text) => {
+      const input = parsed(parser, text, mediaType);
+      return input ? [{ text, mediaType, input }] : [];
+    }));
+    const documents = read.map(({ text, mediaType, input }) =>
+      estreeDocument(text, { specifier: "file:///module", mediaType: unchecked(mediaType), ...input }));
+    const direct = read.map(({ text, mediaType, input }) => JSON.stringify(directDocumentOf(text, mediaType, input)));
+    const found = await answers("analyze --estree", documents);
+    const expected = await answers("analyze", direct);
+    assert.ok(found.length > 0);
+    const differing = read.map(({ text }, at) => [text, found[at], expected[at]]).filter(([, one, other]) => one !== other);
+    assert.deepEqual(differing, []);
+  });
+}
+
+/** `'😀';b // c` */
+const DOCUMENT = {
+  specifier: "file:///a.js",
+  mediaType: "JavaScript",
+  source: "'😀';b // c",
+  comments: [{ start: 7, end: 11 }],
+  program: {
+    type: "Program",
+    body: [
+      { type: "ExpressionStatement", start: 0, end: 5, expression: { type: "Literal", start: 0, end: 4, value: "😀" } },
+      { type: "ExpressionStatement", start: 5, end: 6, expression: { type: "Identifier", start: 5, end: 6, name: "b" } },
+    ],
+  },
+};
+
+/**
+ * @param {Record<string, unknown>} members of the document
+ * @returns {string} JSON
+ */
+const withMembers = (members) => JSON.stringify({ ...DOCUMENT, ...members });
+
+/**
+ * @param {Record<string, unknown>} members of the first statement
+ */
+function withStatement(members) {
+  const [first, ...others] = DOCUMENT.program.body;
+  return withMembers({ program: { ...DOCUMENT.program, body: [{ ...first, ...members }, ...others] } });
+}
+
+/**
+ * @param {...[start: number, end: number]} ranges
+ */
+const withComments = (...ranges) => withMembers({ comments: ranges.map((range) => ({ range })) });
+
+/**
+ * A statement with an expression of some levels.
+ * @param {number} levels
+ */
+function nested(levels) {
+  /** @type {object} */
+  let node = { type: "Identifier", start: 1, end: 1, name: "a" };
+  for (let level = 1; level < levels; level++) {
+    node = { type: "UnaryExpression", start: 1, end: 1, argument: node };
+  }
+  return withStatement({ expression: node });
+}
+
+/**
+ * Documents with a fault, and members of their reports.
+ * @type {[name: string, document: string, report: Partial<Report>][]}
+ */
+const FAULTS = [
+  ["no source", withMembers({ source: undefined }), { fault: "Tree", pointer: "" }],
+  ["a source that is no string", withMembers({ source: null }), { fault: "Tree", pointer: "/source" }],
+  ["no program", withMembers({ program: undefined }), { fault: "Tree", pointer: "" }],
+  ["a program without a body", withMembers({ program: { type: "Program" } }), { fault: "Tree", pointer: "/program" }],
+  ["a file without a program", withMembers({ program: { type: "File" } }), { fault: "Tree", pointer: "/program" }],
+  ["a statement that is no object", withMembers({ program: { body: [null] } }), { fault: "Tree", pointer: "/program/body/0" }],
+  ["another unit", withMembers({ offsets: "bytes" }), { fault: "Tree", pointer: "/offsets" }],
+  ["the wrong unit", withMembers({ offsets: "utf8" }), { fault: "RangeOffBoundary", range: [0, 4] }],
+  ["a path", withMembers({ specifier: "./a.js" }), { fault: "Specifier", pointer: "/specifier" }],
+  ["comments that are no array", withMembers({ comments: { start: 7, end: 11 } }), { fault: "Tree", pointer: "/comments" }],
+  ["a comment without a range", withMembers({ comments: [{ type: "Line" }] }), { fault: "Tree", pointer: "/comments/0" }],
+  ["a comment that ends in a pair", withComments([0, 2]), { fault: "RangeOffBoundary" }],
+  ["a comment after the end", withComments([7, 12]), { fault: "RangeOutside" }],
+  ["a comment far after the end", withComments([2 ** 40, 2 ** 41]), { fault: "RangeOutside" }],
+  ["a comment backwards", withComments([11, 7]), { fault: "RangeReversed" }],
+  ["comments that overlap", withMembers({ source: "//a/**/", comments: [{ range: [0, 7] }, { range: [3, 7] }], program: { body: [] } }),
+    { fault: "CommentsOverlap" }],
+  ["a comment that doesn't end", withMembers({ source: "/* a", comments: [{ range: [0, 4] }], program: { body: [] } }),
+    { fault: "CommentText" }],
+  ["a node without a start", withStatement({ start: undefined }), { fault: "Tree", pointer: "/program/body/0" }],
+  ["a negative start", withStatement({ start: -1 }), { fault: "Tree", pointer: "/program/body/0/start" }],
+  ["half a unit", withStatement({ start: 0.5 }), { fault: "Tree", pointer: "/program/body/0/start" }],
+  ["half a range", withStatement({ range: [0] }), { fault: "Tree", pointer: "/program/body/0/range" }],
+  ["a node that ends in a pair", withStatement({ end: 2 }), { fault: "RangeOffBoundary", range: [0, 3] }],
+  ["a node after the end", withStatement({ end: 12 }), { fault: "RangeOutside", range: [0, 14] }],
+  ["a node backwards", withStatement({ start: 5, end: 4 }), { fault: "RangeReversed", range: [7, 6] }],
+  ["an import without a source", withStatement({ type: "ImportDeclaration" }), { fault: "Tree", pointer: "/program/body/0" }],
+  ["an import of a number", withStatement({ type: "ImportDeclaration", source: { start: 0, end: 4, value: 1 } }),
+    { fault: "Tree", pointer: "/program/body/0/source/value" }],
+  ["a sum of one operand", withStatement({ type: "BinaryExpression", left: { type: "Identifier", range: [0, 4] } }),
+    { fault: "Shape", range: [0, 7] }],
+  ["a tree of 130 levels", nested(130), { fault: "Json" }],
+  ["a lone surrogate", withMembers({}).replace('"name":"b"', '"name":"\\ud800"'), { fault: "Json" }],
+];
+
+/**
+ * Documents without a fault.
+ * @type {[name: string, document: string][]}
+ */
+const ACCEPTED = [
+  ["the document that the others are made of", withMembers({})],
+  ["levels that JSON can just have", nested(123)],
+  ["comments that are null", withMembers({ comments: null })],
+  ["no comments", withMembers({ comments: undefined })],
+  ["a comment twice", withComments([7, 11], [7, 11])],
+  ["a comment that the text doesn't have", withComments([5, 6])],
+  ["a number as the type of a statement", withStatement({ type: 1 })],
+  ["a number as the type of an expression", withStatement({ expression: { type: 1 } })],
+];
+
+test("documents with a fault", { skip: notBuilt }, async () => {
+  const modinfo = new Modinfo({ program: MODINFO });
+  for (const [name, document, expected] of FAULTS) {
+    const report = await modinfo.check(document, { command: "analyze --estree" });
+    assert.deepEqual({ ...report, ...expected }, report, name);
+    await assert.rejects(modinfo.analyzeEstree(document), { name: "ModinfoFault", fault: expected.fault }, name);
+  }
+  await modinfo.close();
+});
+
+test("a fault of the source has its bytes in the message", { skip: notBuilt }, async () => {
+  const modinfo = new Modinfo({ program: MODINFO });
+  const message = "RangeReversed at bytes 7 to 6 of the source: expected a start of at most the end";
+  await assert.rejects(modinfo.analyzeEstree(withStatement({ start: 5, end: 4 }), { report: true }), { message });
+  await modinfo.close();
+});
+
+test("documents without a fault", { skip: notBuilt }, async () => {
+  const modinfo = new Modinfo({ program: MODINFO });
+  for (const [name, document] of ACCEPTED) {
+    assert.deepEqual(await modinfo.check(document, { command: "analyze --estree" }), { valid: true }, name);
+    assert.deepEqual(await modinfo.analyzeEstree(document), { script: true }, name);
+  }
+  await modinfo.close();
+});

@@ -1,0 +1,148 @@
+//! Writing converted dependencies as text.
+
+ghost use Rattle.std.specs.Prelude.{◌↔◌, codes, IfOk, IfErr, IsTrue, OnOk};
+ghost use Rattle.serde_json.specs.Data.{Data, Items, array, object, put};
+ghost use Rattle.deno_graph_json.specs.Data.{data_of, elements_data, members_data};
+ghost use Rattle.deno_graph_json.specs.Text.{text_in};
+ghost use Rattle.deno_graph_info.specs.Conversion.{AnyOverflows, AreConverted, DependencyOverflows, IsConvertedDependency, with_types, without, without_value_at};
+ghost use Rattle.deno_graph_info.specs.Json.SpecifierWithRange.{json_of_specifier};
+ghost use Rattle.deno_graph_info.specs.internal.ConvertFault.{IsColumnFault};
+ghost use Rattle.deno_graph_info.specs.internal.Written.{IsWritten};
+
+use crate::analysis::SpecifierWithRange;
+use crate::conversion::comment::read_comments;
+use crate::conversion::fault::ConvertFault;
+use crate::conversion::names::Names;
+use crate::conversion::ordered::in_order;
+use crate::conversion::types::types_named;
+use crate::conversion::write::{write_chosen, write_value};
+use deno_graph_json::{Element, Elements, MemberWriter, Members, Writer};
+use deno_graph_pragmas::finders::laws::captures_are_unique;
+use std::alloc::{AllocError, Global};
+
+/// The members except the comments.
+const KEPT: Names<'static> = Names {
+    above: None,
+    below: None,
+    except: Some("leadingComments"),
+};
+
+/// The members before the types, except the comments.
+const BEFORE_TYPES: Names<'static> = Names {
+    above: None,
+    below: Some("typesSpecifier"),
+    except: Some("leadingComments"),
+};
+
+/// The members after the types, except the comments.
+const AFTER_TYPES: Names<'static> = Names {
+    above: Some("typesSpecifier"),
+    below: None,
+    except: Some("leadingComments"),
+};
+
+/// Appends the array of the converted dependencies. Returns `ColumnOverflow` if types would end beyond
+/// the largest column.
+pub fn write_dependencies(
+    alloc: Global,
+    dependencies: Elements<'_>,
+    out: &mut Writer,
+) -> Result<(), ConvertFault>
+    ensures ok { OnOk result ((new : Items) × AreConverted (elements_data dependencies.entry) new
+        × IsWritten (array new) (text_in out.old) (text_in out.new)) }
+    ensures err { IfErr result (IsColumnFault (AnyOverflows (elements_data dependencies.entry))) }
+{
+    out.begin_array()?;
+    for dependency in dependencies {
+        write_dependency(alloc, dependency, out)?;
+    }
+    Ok(out.end_array()?)
+}
+
+/// Appends a converted dependency.
+fn write_dependency(
+    alloc: Global,
+    dependency: Element<'_>,
+    out: &mut Writer,
+) -> Result<(), ConvertFault>
+    ensures ok { OnOk result ((after : Data) × IsConvertedDependency (data_of dependency.entry) after
+        × IsWritten after (text_in out.old) (text_in out.new)) }
+    ensures err { IfErr result (IsColumnFault (DependencyOverflows (data_of dependency.entry))) }
+{
+    match read_comments(alloc, dependency)? {
+        Some(comments) => {
+            let types = types_named(alloc, &comments)?;
+            Ok(write_replaced(alloc, dependency, types, out)?)
+        }
+        None => Ok(write_value(alloc, dependency, out)?),
+    }
+}
+
+/// Appends a dependency with the types, if there are any, and without its comments.
+fn write_replaced(
+    alloc: Global,
+    dependency: Element<'_>,
+    types: Option<SpecifierWithRange>,
+    out: &mut Writer,
+) -> Result<(), AllocError>
+    ensures { OnOk result (IsWritten
+        (without_value_at (codes "leadingComments") (with_types types (data_of dependency.entry)))
+        (text_in out.old) (text_in out.new)) }
+{
+    let Some(members) = dependency.members() else {
+        return write_value(alloc, dependency, out);
+    };
+    match types {
+        Some(types) => write_typed(alloc, members, &types, out),
+        None => write_untyped(alloc, members, out),
+    }
+}
+
+/// Appends an object with these members, with the types, and without the comments.
+fn write_typed(
+    alloc: Global,
+    members: Members<'_>,
+    types: &SpecifierWithRange,
+    out: &mut Writer,
+) -> Result<(), AllocError>
+    ensures { OnOk result (IsWritten (object (without (codes "leadingComments")
+        (put (codes "typesSpecifier") (json_of_specifier types.now) (members_data members.entry))))
+        (text_in out.old) (text_in out.new)) }
+{
+    let ordered = in_order(alloc, members)?;
+    out.begin_object()?;
+    write_chosen(alloc, &ordered, BEFORE_TYPES, out)?;
+    out.put("typesSpecifier", types)?;
+    write_chosen(alloc, &ordered, AFTER_TYPES, out)?;
+    out.end_object()
+}
+
+/// Appends an object with these members, without the comments.
+fn write_untyped(alloc: Global, members: Members<'_>, out: &mut Writer) -> Result<(), AllocError>
+    ensures { OnOk result
+        (IsWritten (object (without (codes "leadingComments") (members_data members.entry)))
+        (text_in out.old) (text_in out.new)) }
+{
+    let ordered = in_order(alloc, members)?;
+    out.begin_object()?;
+    write_chosen(alloc, &ordered, KEPT, out)?;
+    out.end_object()
+}
+
+/// Returns whether the types that the comments of a dependency name would end beyond the largest
+/// column, so that a value with this dependency can't be converted. The only error is that an
+/// allocation fails.
+pub fn column_overflows(alloc: Global, dependency: Element<'_>) -> Result<bool, AllocError>
+    ensures { IfOk result
+        (λ overflows. IsTrue overflows ↔ DependencyOverflows (data_of dependency.entry)) }
+{
+    captures_are_unique();
+    let Some(comments) = read_comments(alloc, dependency)? else {
+        return Ok(false);
+    };
+    match types_named(alloc, &comments) {
+        Ok(_types) => Ok(false),
+        Err(ConvertFault::ColumnOverflow) => Ok(true),
+        Err(_fault) => Err(AllocError),
+    }
+}

@@ -1,0 +1,50 @@
+-- Dependencies of stored information whose types end beyond the largest column.
+use Rattle.std.proofs.Common.{◌≡◌, ◌↔◌, Option, Some, None, Result, Ok, Err, IfOk, false, IsSome, inl, inr}
+use Rattle.std.proofs.Common.{⊎_elim}
+use Rattle.serde_json.specs.Data.{Data, Items, no_items, item}
+use Rattle.serde_json.specs.Written.{has_float}
+use Rattle.deno_graph_info.specs.Conversion.{AnyOverflows, DependencyOverflows, Overflows, dependencies_in}
+use Rattle.deno_graph_info.specs.declared.conversion.fault.ConvertFault.TheVariants as convert
+use Rattle.modinfo.specs.Check.{CannotBeConverted}
+
+-- All items have an overflow exactly where those that are left have one.
+abbrev pub IsLeft : Items → Items → Type 0
+IsLeft all left = AnyOverflows all ↔ AnyOverflows left
+
+-- The next item doesn't overflow.
+pub left_next : (all left rest : Items) (d : Data) → IsLeft all left → left ≡ item d rest
+    → (DependencyOverflows d → ⊥) → IsLeft all rest
+left_next all left rest d is first fits = (
+  λ h. let among : AnyOverflows (item d rest) = rw first at (is.0 h) in
+      ⊎_elim (λ over. absurd (fits over)) (λ over. over) among,
+  λ h. is.1 (rw first (inr h)),
+)
+
+-- The next item overflows.
+pub left_here : (all left rest : Items) (d : Data) → IsLeft all left → left ≡ item d rest
+    → DependencyOverflows d → AnyOverflows all
+left_here all left rest d is first over = is.1 (rw first (inl over))
+
+-- The dependencies of a value.
+pub overflows_of : (d : Data) (old : Items) → dependencies_in d ≡ Some old → Overflows d ↔ AnyOverflows old
+overflows_of d old is = rw is ((λ h. h), (λ h. h))
+
+pub overflows_none : (d : Data) → dependencies_in d ≡ None → Overflows d → ⊥
+overflows_none d is h = rw is at h
+
+pub column_fault : (d : Data) → has_float d ≡ false → Overflows d → CannotBeConverted d
+column_fault d none over = (convert.ColumnOverflow, (λ same. cc (same)), (none, over))
+
+-- Before the first item all are left.
+pub left_all : (all left : Items) → left ≡ all → IsLeft all left
+left_all all left is = rw is ((λ h. h), (λ h. h))
+
+-- No item is left.
+pub left_none : (all left : Items) → IsLeft all left → left ≡ no_items → AnyOverflows all → ⊥
+left_none all left is none over = rw none at (is.0 over)
+
+-- A report on the dependencies is one on the value.
+pub same_report : {A E : Type 0} {P Q : Type 0} (answer : Result (Option A) E) → P ↔ Q
+    → IfOk answer (λ report. IsSome report ↔ Q) → IfOk answer (λ report. IsSome report ↔ P)
+same_report (Ok report) same h = ((λ some. same.1 (h.0 some)), (λ p. h.1 (same.0 p)))
+same_report (Err refused) same h = tt

@@ -1,0 +1,95 @@
+-- Comments that a text has are read from it.
+use Rattle.std.proofs.Common.{
+  ◌≡◌,
+  ℕ,
+  ◌-◌,
+  ◌≤◌,
+  ◌&&◌,
+  true,
+  inl,
+  inr,
+  eqb,
+  codes,
+  if◌then◌else◌,
+  List,
+  [],
+  ◌++◌,
+  length,
+  take,
+  drop,
+  get_or,
+  Some,
+  refl,
+  ap,
+  ◌∙◌,
+  arith,
+  length-append,
+}
+use Rattle.std.proofs.lemmas.Bool.{cases_lt, le-leb}
+use Rattle.std.proofs.lemmas.Bool.Decides.{nat_tests}
+use Rattle.std.proofs.lemmas.List.{drop_at, get_or_past, take_at}
+use Rattle.std.specs.Fmt.{is_char_start}
+use Rattle.std.specs.Cmp.Lexicographic.{pointwise}
+use Rattle.std.specs.Str.{IsCharBoundary}
+use Rattle.deno_graph_base.specs.SourceRange.{IsTextRange, slice_of}
+use Rattle.deno_graph_base.specs.declared.text.position.SourceRange.{SourceRange}
+use Rattle.deno_graph_source.specs.Source.{IsSpelled, spelling}
+use Rattle.deno_graph_source.specs.declared.tree.comments.CommentKind.{CommentKind}
+use Rattle.deno_graph_source.specs.declared.tree.comments.CommentKind.TheVariants.{Line, Block}
+use Rattle.deno_graph_source.specs.declared.tree.comments.DependencyComment.{DependencyComment}
+use Rattle.modinfo_estree.specs.Comments.{
+  block_text,
+  comment_at,
+  comment_of,
+  comment_with,
+  is_boundary,
+  is_text_range,
+}
+
+start_of_char : (b : ℕ) → (128 ≤ b → 192 ≤ b) → is_char_start b ≡ true
+start_of_char b lead = elim (cases_lt b 128) [
+  | inl low ↦ grind (arith, nat_tests)
+  | inr high ↦ let at : 192 ≤ b = lead high in grind (arith, nat_tests)
+]
+
+boundary_test : (text : List ℕ) (at : ℕ) → IsCharBoundary text at → is_boundary text at ≡ true
+boundary_test text at boundary =
+    ap (λ t. t && is_char_start (get_or text at 0)) (le-leb at (length text) boundary.0)
+    ∙ elim (cases_lt at (length text)) [
+      | inl within ↦ start_of_char (get_or text at 0) (boundary.1 within)
+      | inr after ↦ ap is_char_start (get_or_past text at 0 after)
+    ]
+
+range_test : (text : List ℕ) (range : SourceRange) → IsTextRange text range → is_text_range text range ≡ true
+range_test text range is =
+    ap (λ t. (t && is_boundary text range.start) && is_boundary text range.end)
+    (le-leb range.start range.end is.ordered)
+    ∙ ap (λ t. t && is_boundary text range.end) (boundary_test text range.start is.start)
+    ∙ boundary_test text range.end is.end
+
+inside_block : (text : List ℕ) → block_text (text ++ codes "*/") ≡ text
+inside_block text =
+    let size : length (text ++ codes "*/") - 2 ≡ length text =
+    omega (arith, length-append text (codes "*/")) in
+    ap (λ n. if pointwise eqb (codes "*/") (drop n (text ++ codes "*/")) then
+    take n (text ++ codes "*/") else [])
+    size
+    ∙ ap (λ end. if pointwise eqb (codes "*/") end then take (length text) (text ++ codes "*/") else [])
+    (drop_at text (codes "*/") (length text) refl)
+    ∙ take_at text (codes "*/") (length text) refl
+
+spelled_read : (kind : CommentKind) (range : SourceRange) (text : List ℕ)
+    → comment_of range (spelling kind text) ≡ Some (comment_with kind range text)
+unfolding comment_of
+spelled_read Line range text = refl
+spelled_read Block range text = ap (λ inside. Some (comment_with Block range inside)) (inside_block text)
+
+pub comment_read : (text : List ℕ) (comment : DependencyComment) → IsSpelled text comment
+    → comment_at text comment.range ≡ Some comment
+unfolding comment_at
+comment_read text comment spelled =
+    let range = comment.range in
+    let bytes = slice_of text range in
+    ap (λ t. if t then comment_of range bytes else Some (comment_with Line range []))
+    (range_test text range spelled.range)
+    ∙ ap (comment_of range) spelled.slice ∙ spelled_read comment.kind range comment.text

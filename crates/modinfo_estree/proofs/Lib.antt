@@ -1,0 +1,10 @@
+pub mod ByteMarks
+pub mod CommentReading
+pub mod CommentTexts
+pub mod Estrees
+pub mod Filings
+pub mod JsonMembers
+pub mod Nodes
+pub mod SortedChildren
+pub mod TokenTables
+pub mod UnitSizes

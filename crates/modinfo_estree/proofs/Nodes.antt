@@ -1,0 +1,210 @@
+-- Reading nodes and the nodes below them, one child after another.
+use Rattle.std.proofs.Common.{◌≡◌, ℕ, List, [], ◌∷◌, ◌++◌, Option, Some, None, refl, sym, ap, ◌∙◌}
+use Rattle.std.proofs.Common.{append_assoc, append-nil, codes, Bool, Bor, bytes_eq, option_map, unwrap_or}
+use Rattle.std.proofs.Common.{Result, IsErrAnd, IsSomeAnd}
+use Rattle.serde_json.specs.Data.{
+  Data,
+  null,
+  boolean,
+  number,
+  string,
+  array,
+  object,
+  Items,
+  no_items,
+  item,
+  Members,
+}
+use Rattle.serde_json.specs.Find.{as_object}
+use Rattle.deno_graph_base.specs.declared.text.position.SourceRange.{SourceRange}
+use Rattle.deno_graph_json.specs.Data.{data_of, named_data, view_data}
+use Rattle.deno_graph_json.specs.Read.Partial.{◌>>=◌}
+use Rattle.deno_graph_json.specs.Read.Result.{IsReadError}
+use Rattle.deno_graph_json.specs.declared.error.ReadError.{ReadError}
+use Rattle.deno_graph_json.specs.declared.flat.Elements.{Elements}
+use Rattle.deno_graph_json.specs.declared.flat.Members.{Members as ElementMembers}
+use Rattle.deno_graph_json.specs.declared.flat.view.View.{View}
+use Rattle.deno_graph_json.specs.declared.flat.view.View.TheVariants as view
+use Rattle.deno_graph_json.proofs.ObjectMembers.{Entry}
+use Rattle.deno_graph_json.proofs.Reading.{before, step_error}
+use Rattle.deno_graph_source.specs.declared.tree.node.Node.{Node}
+use Rattle.modinfo_document.proofs.Results.{exits_by, some_and, some_with}
+use Rattle.modinfo_estree.specs.Child.{role_of, sorted_by_start}
+use Rattle.modinfo_estree.specs.Kind.{reads_type}
+use Rattle.modinfo_estree.specs.Member.{reads_range, text_at, type_of}
+use Rattle.modinfo_estree.specs.Node.{
+  and_then,
+  as_child,
+  children_at,
+  children_among,
+  children_in,
+  item_child,
+  node_with,
+  reads_node,
+}
+use Rattle.modinfo_estree.specs.Source.{EstreeSource, byte_of}
+use Rattle.modinfo_estree.specs.declared.child.Child.{Child}
+use Rattle.modinfo_estree.specs.declared.role.Role.{Role}
+use Rattle.modinfo_estree.specs.internal.Node.{AreAppended}
+
+module _ (source : EstreeSource) where
+  -- a node is read from the members of its object
+  pub node_read : (value : Data) → reads_node source value
+      ≡ (as_object value >>= (λ members. node_with source members (children_in source members)))
+  unfolding reads_node
+  node_read null = refl
+  node_read (boolean b) = refl
+  node_read (number x) = refl
+  node_read (string s) = refl
+  node_read (array items) = refl
+  node_read (object ms) = refl
+
+  -- an item with a type is read as a node
+  pub item_read : (role : Role) (value : Data)
+      → item_child source role value ≡ as_child role (type_of value) (reads_node source value)
+  unfolding item_child reads_node
+  item_read role null = refl
+  item_read role (boolean b) = refl
+  item_read role (number x) = refl
+  item_read role (string s) = refl
+  item_read role (array items) = refl
+  item_read role (object ms) = refl
+
+  -- the value of a member is read like an item, if it is an object
+  pub object_read : (role : Role) (value : Data) (members : Members) → value ≡ object members
+      → children_at source role value ≡ item_child source role value
+  unfolding children_at item_child
+  object_read role value ms is = rw is refl
+
+  -- any other value has no child
+  pub no_child : (role : Role) (value : Data) (old : List Child) (found : View) → value ≡ view_data found
+      → ((items : Elements) → found ≡ view.Array items → ⊥)
+      → ((ms : ElementMembers) → found ≡ view.Object ms → ⊥)
+      → IsSomeAnd (children_at source role value) (λ children. old ≡ old ++ children)
+  unfolding children_at
+  no_child role value old view.Null is no_array no_object = rw is (sym (append-nil old))
+  no_child role value old (view.Bool b) is no_array no_object = rw is (sym (append-nil old))
+  no_child role value old (view.Whole n) is no_array no_object = rw is (sym (append-nil old))
+  no_child role value old (view.Negative z) is no_array no_object = rw is (sym (append-nil old))
+  no_child role value old (view.Float x) is no_array no_object = rw is (sym (append-nil old))
+  no_child role value old (view.String s) is no_array no_object = rw is (sym (append-nil old))
+  no_child role value old (view.Array items) is no_array no_object = absurd (no_array items refl)
+  no_child role value old (view.Object ms) is no_array no_object = absurd (no_object ms refl)
+
+  -- a value with a type is a child, if it can be read
+  pub one_child : (role : Role) (value : Data) (type : List ℕ) (node : Node) (is_spread : Bool)
+      (old new : List Child) → Some type ≡ type_of value → reads_node source value ≡ Some node
+      → is_spread ≡ bytes_eq type (codes "SpreadElement")
+      → new ≡ old ++ record { role = role; is_spread = is_spread; node = node } ∷ []
+      → IsSomeAnd (item_child source role value) (λ children. new ≡ old ++ children)
+  one_child role value type node is_spread old new typed read spread appended =
+      rw (item_read role value, ← typed, read, ← spread) appended
+
+  -- a value without a type is none
+  pub no_type : (role : Role) (value : Data) (old new : List Child) → None ≡ type_of value → new ≡ old
+      → IsSomeAnd (item_child source role value) (λ children. new ≡ old ++ children)
+  no_type role value old new none same = rw (item_read role value, ← none) (same ∙ sym (append-nil old))
+
+  -- a value with a type that can't be read
+  pub child_error : (role : Role) (value : Data) (type : List ℕ) (old new : List Child) (error : ReadError)
+      (result : Result (Unit {0}) ReadError) → Some type ≡ type_of value
+      → IsErrAnd result (λ other. other ≡ error) → IsReadError value (reads_node source value) error
+      → AreAppended value (item_child source role value) old new result
+  child_error role value type old new error result typed is h = rw (item_read role value, ← typed)
+      (exits_by (λ children done. new ≡ old ++ children) value (reads_node source value) _ error result is h)
+
+-- a text that may be missing, and the empty text in its place
+pub text_or : (found : Option (Bor (List ℕ))) (other : Bor (List ℕ)) → other.now ≡ []
+    → (unwrap_or found other).now ≡ unwrap_or (option_map (λ text. text.now) found) []
+text_or None other empty = empty
+text_or (Some text) other empty = refl
+
+-- ---- children so far
+
+-- The children that were appended are the first of all, and the others are left.
+pub record AreSoFar (old new : List Child) (all left : Option (List Child)) : Type 0 where
+  pub done : List Child
+  pub appended : new ≡ old ++ done
+  pub followed : all ≡ before done left
+
+before_nil : (o : Option (List Child)) → o ≡ before [] o
+before_nil None = refl
+before_nil (Some children) = refl
+
+pub none_yet : (old new : List Child) (all left : Option (List Child)) → new ≡ old → left ≡ all
+    → AreSoFar old new all left
+none_yet old new all left same is = record {
+  done = [];
+  appended = same ∙ sym (append-nil old);
+  followed = before_nil all ∙ ap (before []) (sym is);
+}
+
+before_more : (xs ys : List Child) (rest : Option (List Child))
+    → before xs (and_then (Some ys) rest) ≡ before (xs ++ ys) rest
+before_more xs ys None = refl
+before_more xs ys (Some zs) = ap Some (sym (append_assoc xs ys zs))
+
+module _ (old new : List Child) (all left first rest : Option (List Child))
+    (so_far : AreSoFar old new all left) (next : left ≡ and_then first rest) where
+  followed_now : all ≡ before so_far.done (and_then first rest)
+  followed_now = so_far.followed ∙ ap (before so_far.done) next
+
+  -- after the next ones
+  pub some_more : (newer : List Child) → IsSomeAnd first (λ children. newer ≡ new ++ children)
+      → AreSoFar old newer all rest
+  some_more newer more = let (ys, is, same) = some_with _ first more in record {
+    done = so_far.done ++ ys;
+    appended = same ∙ ap (λ xs. xs ++ ys) so_far.appended ∙ append_assoc old so_far.done ys;
+    followed = followed_now ∙ ap (λ o. before so_far.done (and_then o rest)) is
+        ∙ before_more so_far.done ys rest;
+  }
+
+  -- if the next ones can't be read, all can't
+  pub next_error : (value : Data) (error : ReadError) → IsReadError value first error
+      → IsReadError value all error
+  next_error value error is =
+      rw followed_now (step_error value _ _ error (step_error value first _ error is))
+
+-- none is left
+pub all_done : (old new : List Child) (all left : Option (List Child)) → AreSoFar old new all left
+    → left ≡ Some [] → IsSomeAnd all (λ children. new ≡ old ++ children)
+all_done old new all left so_far none = some_and (λ children. new ≡ old ++ children) all so_far.done
+    (so_far.followed ∙ ap (before so_far.done) none ∙ ap Some (append-nil so_far.done)) so_far.appended
+
+-- no child was before
+pub all_new : (new : List Child) (all : Option (List Child))
+    → IsSomeAnd all (λ children. new ≡ [] ++ children) → all ≡ Some new
+all_new new all is = let (ys, found, same) = some_with _ all is in found ∙ ap Some (sym same)
+
+module _ (source : EstreeSource) where
+  -- the first item of those that are left
+  pub item_next : (role : Role) (left rest : Items) (value : Data) → left ≡ item value rest
+      → children_among source role left
+      ≡ and_then (item_child source role value) (children_among source role rest)
+  unfolding children_among
+  item_next role left rest value first = rw first refl
+
+  pub no_item_next : (role : Role) (left : Items) → left ≡ no_items
+      → children_among source role left ≡ Some []
+  unfolding children_among
+  no_item_next role left none = rw none refl
+
+  -- the first member of those that are left
+  pub member_next : (role : Role) (left rest : List Entry) (e : Entry) → left ≡ e ∷ rest → role ≡ role_of e.0
+      → children_in source (named_data left)
+      ≡ and_then (children_at source role (data_of e.1)) (children_in source (named_data rest))
+  unfolding children_in
+  member_next role left rest e first is = rw (first, is) refl
+
+  pub no_member_next : (left : List Entry) → left ≡ [] → children_in source (named_data left) ≡ Some []
+  unfolding children_in
+  no_member_next left none = rw none refl
+
+  -- the node with the children that were read
+  pub type_read : (members : Members) (range : SourceRange) (children : List Child)
+      → reads_range (byte_of source) members ≡ Some range → children_in source members ≡ Some children
+      → node_with source members (children_in source members)
+      ≡ reads_type source members range (sorted_by_start children)
+      (unwrap_or (text_at (codes "type") members) [])
+  unfolding node_with
+  type_read ms range children first second = rw (first, second) refl

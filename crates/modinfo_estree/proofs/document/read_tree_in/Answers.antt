@@ -1,0 +1,25 @@
+use Rattle.std.proofs.Common.{arith, refl, ap, subst, ◌∙◌}
+use Rattle.deno_graph_json.proofs.Reading.{goes_on}
+use Rattle.modinfo_document.specs.Comments.{AreThoseOf}
+use Rattle.modinfo_document.proofs.Results.{reading_by, some_and}
+use Rattle.modinfo_estree.specs.Comments.{sides_of}
+use Rattle.modinfo_estree.specs.Document.{is_empty, tree_of}
+use Rattle.modinfo_estree.specs.internal.Document.{reads_tree_in}
+use Rattle.modinfo_estree.proofs.document.read_tree_in.Goals as goal
+
+pub returns-in_err-body : goal.returns-in_err-body
+unfolding reads_tree_in
+returns-in_err-body c = grind (arith, reading_by)
+
+pub returns : goal.returns
+unfolding reads_tree_in
+returns c =
+    let source = c.args.source.now in
+    let text = source.text.now in
+    let body = c.in_ok-body.body in
+    let ranges = c.args.ranges.now in
+    let empty = c.is_empty-is_empty.ensures ∙ ap (is_empty text) c.as_slice.ensures in
+    let comments = subst (λ e. AreThoseOf (sides_of text source.tokens e ranges) c.in_ok-comments.comments)
+    empty c.in_ok-comments.ensures in
+    some_and _ _ (tree_of text source.tokens ranges body) (goes_on _ _ body _ c.in_ok-body.ensures refl)
+    (comments, λ i. record { range = c.new.ensures i; body = body; has_shebang = c.has_shebang.ensures i })

@@ -1,0 +1,236 @@
+use Rattle.std.proofs.Common.{◌≡◌, [], Some, None, arith, codes, sym, ap, refl, subst, unwrap_or, ◌∙◌}
+use Rattle.serde_json.specs.Data.{array, object}
+use Rattle.serde_json.specs.Find.{get_item}
+use Rattle.deno_graph_json.specs.Data.{data_of, elements_data, members_data, named_data, view_data}
+use Rattle.deno_graph_json.specs.ObjectReader.{readable, value_of}
+use Rattle.deno_graph_json.specs.Read.Result.{IsReadResult}
+use Rattle.deno_graph_json.proofs.ArrayElements.{AreFrom, depth_of_item, elements_next, from_begin}
+use Rattle.deno_graph_json.proofs.ArrayElements.{from_next, from_here}
+use Rattle.deno_graph_json.proofs.ObjectMembers.{Entry, depth_of_member, rest_begin, rest_here, rest_next}
+use Rattle.deno_graph_json.proofs.Reading.{error_around, object_on, reading}
+use Rattle.modinfo_estree.specs.Child.{sorted_by_start}
+use Rattle.modinfo_estree.specs.Member.{text_at}
+use Rattle.modinfo_estree.specs.Node.{
+  children_among,
+  children_at,
+  children_in,
+  item_child,
+  node_with,
+}
+use Rattle.modinfo_estree.specs.Source.{source_of}
+use Rattle.modinfo_estree.specs.internal.Node.{AreAppended}
+use Rattle.modinfo_estree.proofs.Nodes.{
+  all_done,
+  all_new,
+  child_error,
+  item_next,
+  member_next,
+  next_error,
+  no_child,
+  no_item_next,
+  no_member_next,
+  no_type,
+  node_read,
+  none_yet,
+  object_read,
+  one_child,
+  some_more,
+  text_or,
+  type_read,
+}
+use Rattle.modinfo_estree.proofs.node.+read.Goals as goal
+use Rattle.modinfo_estree.proofs.node.+read.Goals.{push_node-in-Some+in_ok-node+in_ok-push}
+use Rattle.modinfo_estree.proofs.node.+read.Goals.{push_node-in_default}
+
+pub push_children-returns-in-Object : goal.push_children-returns-in-Object
+push_children-returns-in-Object t c =
+    let source = source_of c.args.source.now in
+    let value = data_of c.args.value in
+    let is = c.view.ensures.json ∙ ap view_data c.in-Object.is in
+    subst (λ wanted. AreAppended value wanted c.args.children.now c.push_node.new.children c.push_node.result)
+    (sym (object_read source c.args.role value (members_data c.in-Object.field-0) is)) c.push_node.ensures
+
+pub push_children-returns-in-Array : goal.push_children-returns-in-Array
+unfolding children_at
+push_children-returns-in-Array t c =
+    let source = source_of c.args.source.now in
+    let is = c.view.ensures.json ∙ ap view_data c.in-Array.is in
+    subst (λ v. AreAppended v (children_at source c.args.role v) c.args.children.now c.push_items.new.children
+    c.push_items.result) (sym is) c.push_items.ensures
+
+pub push_children-returns-in_default : goal.push_children-returns-in_default
+push_children-returns-in_default t c =
+    no_child (source_of c.args.source.now) c.args.role (data_of c.args.value) c.args.children.now
+    c.view.result c.view.ensures.json c.in_default.not-Array c.in_default.not-Object
+
+pub push_items-loop-index-init : goal.push_items-loop-index-init
+push_items-loop-index-init t c =
+    let begun = c.into_iter-index-iterator.ensures.into_iter_gives in
+    let same = ap (λ it. elements_data it.iter) begun
+    ∙ ap elements_data c.enumerate-index-items.ensures.source in
+    let none = ap (λ it. it.count) begun ∙ c.enumerate-index-items.ensures.count in (
+      from_begin _ _ _ none same,
+      none_yet _ _ _ _ refl (ap (children_among (source_of c.args.source.now) c.args.role) same),
+    )
+
+pub push_items-push_node-requires : goal.push_items-push_node-requires
+push_items-push_node-requires t c =
+    let it = c.loop-index.index-iterator in
+    let all = elements_data c.args.items in
+    let d = data_of c.in-Some.item in
+    let first = elements_next it.iter c.next.new.self.iter (Some c.in-Some.item)
+    c.in-Some.ensures.steps.0 in
+    let here = from_here it.count all _ _ d c.loop-index.invariant.0 first in
+    (omega (arith, c.decreases, depth_of_item it.count all d here), tt)
+
+pub push_items-loop-index-preserved : goal.push_items-loop-index-preserved
+push_items-loop-index-preserved t c =
+    let source = source_of c.args.source.now in
+    let role = c.args.role in
+    let kept = c.loop-index.invariant in
+    let it = c.loop-index.index-iterator in
+    let all = elements_data c.args.items in
+    let left = elements_data it.iter in
+    let rest = elements_data c.next.new.self.iter in
+    let d = data_of c.in-Some.item in
+    let first = elements_next it.iter c.next.new.self.iter (Some c.in-Some.item)
+    c.in-Some.ensures.steps.0 in (
+      subst (λ n. AreFrom n all rest) (sym c.in-Some.ensures.steps.2)
+          (from_next it.count all left rest d kept.0 first),
+      some_more _ _ _ _ _ _ kept.1 (item_next source role left rest d first) _ c.in-Ok.ensures,
+    )
+
+pub push_items-returns-in-Err : goal.push_items-returns-in-Err
+push_items-returns-in-Err t c =
+    let source = source_of c.args.source.now in
+    let role = c.args.role in
+    let kept = c.loop-index.invariant in
+    let it = c.loop-index.index-iterator in
+    let all = elements_data c.args.items in
+    let left = elements_data it.iter in
+    let rest = elements_data c.next.new.self.iter in
+    let d = data_of c.in-Some.item in
+    let first = elements_next it.iter c.next.new.self.iter (Some c.in-Some.item)
+    c.in-Some.ensures.steps.0 in
+    let here = from_here it.count all left rest d kept.0 first in
+    next_error _ _ _ _ _ _ kept.1 (item_next source role left rest d first) (array all) c.in_item.result
+    (error_around (array all) d (item_child source role d) c.in-Err.error c.in_item.result
+    (c.in_item.ensures.place (array all) d (ap (λ n. get_item n all) c.in-Some.ensures.steps.1 ∙ here))
+    c.in_item.ensures.mismatch c.in-Err.ensures)
+
+pub push_items-returns : goal.push_items-returns
+push_items-returns t c =
+    let source = source_of c.args.source.now in
+    let it = c.loop-index.index-iterator in
+    let none = elements_next it.iter c.next.new.self.iter None c.in-None.ensures.steps.0 in
+    all_done _ _ _ _ c.loop-index.invariant.1 (no_item_next source c.args.role (elements_data it.iter) none)
+
+pub push_node-returns-in_err-node : goal.push_node-returns-in_err-node
+push_node-returns-in_err-node t c =
+    child_error (source_of c.args.source.now) c.args.role (data_of c.args.value) c.in-Some.name.now _ _
+    c.in_err-node.field-0.0 c.from_residual.result c.in-Some.ensures c.from_residual.ensures.1
+    c.in_err-node.ensures
+
+pub push_node-returns : goal.push_node-returns
+push_node-returns t c = elim c.match-type_of.branch [
+  | push_node-in-Some+in_ok-node+in_ok-push w ↦
+      one_child (source_of c.args.source.now) c.args.role (data_of c.args.value) w.in-Some.name.now
+      w.in_ok-node.node w.eq-is_spread.result c.args.children.now c.match-type_of.children w.in-Some.ensures
+      w.in_ok-node.ensures w.eq-is_spread.ensures (w.children-is ∙ w.in_ok-push.ensures.ok)
+  | push_node-in_default w ↦
+      no_type (source_of c.args.source.now) c.args.role (data_of c.args.value) c.args.children.now
+      c.match-type_of.children w.in_default.ensures w.children-is
+]
+
+pub read_children-loop-name-init : goal.read_children-loop-name-init
+read_children-loop-name-init t c =
+    let all = members_data c.args.members in
+    let found = c.in_ok-found.found in
+    let members = c.in_ok-found.ensures.members in
+    let begun = c.into_iter-name-iterator.ensures.into_iter_gives.0 in (
+      rest_begin all found c.into_iter-name-iterator.result members c.in_ok-found.ensures.ordered begun,
+      none_yet _ _ _ _ c.new-children.ensures
+          (ap (λ es. children_in (source_of c.args.source.now) (named_data es)) begun
+          ∙ ap (children_in (source_of c.args.source.now)) members),
+    )
+
+pub read_children-push_children-requires : goal.read_children-push_children-requires
+read_children-push_children-requires t c =
+    let e : Entry = (c.in-Some.name.now, c.in-Some.value.now) in
+    let all = members_data c.args.members in
+    let left = c.loop-name.name-iterator in
+    let rest = c.next.new.self in
+    let below = depth_of_member all left rest e c.loop-name.invariant.0 c.in-Some.ensures.steps in
+    (omega (arith, c.decreases, below), tt)
+
+pub read_children-loop-name-preserved : goal.read_children-loop-name-preserved
+read_children-loop-name-preserved t c =
+    let source = source_of c.args.source.now in
+    let e : Entry = (c.in-Some.name.now, c.in-Some.value.now) in
+    let all = members_data c.args.members in
+    let left = c.loop-name.name-iterator in
+    let rest = c.next.new.self in
+    let first = c.in-Some.ensures.steps in
+    let kept = c.loop-name.invariant in
+    let next = member_next source c.of_member.result left rest e first c.of_member.ensures in (
+      rest_next all left rest e kept.0 first,
+      some_more _ _ _ _ _ _ kept.1 next _ c.in-Ok.ensures,
+    )
+
+pub read_children-returns-in-Err : goal.read_children-returns-in-Err
+read_children-returns-in-Err t c =
+    let source = source_of c.args.source.now in
+    let role = c.of_member.result in
+    let e : Entry = (c.in-Some.name.now, c.in-Some.value.now) in
+    let all = members_data c.args.members in
+    let left = c.loop-name.name-iterator in
+    let rest = c.next.new.self in
+    let first = c.in-Some.ensures.steps in
+    let kept = c.loop-name.invariant in
+    let d = data_of c.in-Some.value.now in
+    next_error _ _ _ _ _ _ kept.1 (member_next source role left rest e first c.of_member.ensures)
+    (object all) c.in_member.result
+    (error_around (object all) d (children_at source role d) c.in-Err.error c.in_member.result
+    (c.in_member.ensures.place (object all) d (rest_here all left rest e kept.0 first))
+    c.in_member.ensures.mismatch c.in-Err.ensures)
+
+pub read_children-returns : goal.read_children-returns
+read_children-returns t c =
+    let source = source_of c.args.source.now in
+    let none = no_member_next source c.loop-name.name-iterator c.in-None.ensures.steps.0 in
+    all_new _ _ (all_done _ _ _ _ c.loop-name.invariant.1 none)
+
+pub read_node-returns-in_err-members : goal.read_node-returns-in_err-members
+unfolding node_with
+read_node-returns-in_err-members t c =
+    rw (node_read (source_of c.args.source.now) (data_of c.args.value)) (grind (arith, reading))
+
+pub read_node-returns-in_err-range : goal.read_node-returns-in_err-range
+unfolding node_with
+read_node-returns-in_err-range t c =
+    rw (node_read (source_of c.args.source.now) (data_of c.args.value)) (grind (arith, reading))
+
+pub read_node-returns-in_err-read_children : goal.read_node-returns-in_err-read_children
+unfolding node_with
+read_node-returns-in_err-read_children t c =
+    rw (node_read (source_of c.args.source.now) (data_of c.args.value)) (grind (arith, reading))
+
+pub read_node-returns : goal.read_node-returns
+read_node-returns t c =
+    let source = source_of c.args.source.now in
+    let d = data_of c.args.value in
+    let ms = readable c.of_members-object.result in
+    let object = c.in_ok-members.ensures ∙ ap Some (sym c.of_members-object.ensures) in
+    let children = c.in_ok-read_children.field-0 in
+    let below : children_in source ms ≡ Some children =
+    ap (children_in source) c.of_members-object.ensures ∙ c.in_ok-read_children.ensures in
+    let sorted : c.sort_by_start.new.children.items ≡ sorted_by_start children =
+    c.in_ok-sort_by_start.ensures ∙ ap sorted_by_start c.into_vec-children.ensures in
+    let named : c.unwrap_or-name.result.now ≡ unwrap_or (text_at (codes "type") ms) [] =
+    ap (λ name. name.now) c.unwrap_or-name.ensures ∙ text_or c.text_at.result _ refl
+    ∙ ap (λ found. unwrap_or found []) c.text_at.ensures in
+    subst (λ wanted. IsReadResult d wanted c.node_of_type.result) (sym (node_read source d))
+    (object_on d _ ms c.node_of_type.result object
+    (subst (λ wanted. IsReadResult (value_of c.of_members-object.result) wanted c.node_of_type.result)
+    (sym (type_read source ms c.in_ok-range.range children c.in_ok-range.ensures below))
+    (rw (← sorted, ← named) c.node_of_type.ensures)))

@@ -1,0 +1,128 @@
+-- The comments of a text by their ranges, and where each is filed.
+use Rattle.std.specs.Prelude.{
+  ℕ,
+  ◌-◌,
+  ◌==◌,
+  Bool,
+  true,
+  false,
+  ◌&&◌,
+  ◌||◌,
+  List,
+  [],
+  ◌∷◌,
+  codes,
+  drop,
+  length,
+  nat_eq,
+  nat_le,
+  nat_lt,
+  slice_index,
+  take,
+  if◌then◌else◌,
+  Option,
+  Some,
+  None,
+}
+use Rattle.std.specs.Fmt.{is_char_start}
+use Rattle.std.specs.List.{ends_with, filter_map, flat_map, starts_with}
+use Rattle.deno_graph_base.specs.SourceRange.{slice_of}
+use Rattle.deno_graph_base.specs.declared.text.position.SourceRange.{SourceRange}
+use Rattle.deno_graph_source.specs.declared.tree.comments.CommentKind.{CommentKind}
+use Rattle.deno_graph_source.specs.declared.tree.comments.CommentKind.TheVariants.{Line, Block}
+use Rattle.deno_graph_source.specs.declared.tree.comments.CommentSide.{CommentSide}
+use Rattle.deno_graph_source.specs.declared.tree.comments.CommentSide.TheVariants.{Leading, Trailing}
+use Rattle.deno_graph_source.specs.declared.tree.comments.DependencyComment.{DependencyComment}
+use Rattle.modinfo_document.specs.Comments.{Sides, entry_with}
+use Rattle.modinfo_document.specs.declared.comments.FiledEntry.{FiledEntry}
+use Rattle.modinfo_estree.specs.Tokens.{Layout, is_on_line, token_end, token_start}
+use Rattle.modinfo_estree.specs.declared.comments.Place.{Place}
+
+-- The offset is the start of a character of the text, or the end of the text.
+abbrev pub is_boundary : List ℕ → ℕ → Bool
+is_boundary text at = nat_le at (length text) && is_char_start (slice_index text at)
+
+-- The range is inside the text, not reversed, and starts and ends at boundaries.
+abbrev pub is_text_range : List ℕ → SourceRange → Bool
+is_text_range text range =
+    (nat_le range.start range.end && is_boundary text range.start) && is_boundary text range.end
+
+-- The comment of this kind with this range and text.
+abbrev pub comment_with : CommentKind → SourceRange → List ℕ → DependencyComment
+comment_with kind range text = record { kind = kind; range = range; text = text }
+
+-- The text of a block comment by the bytes after its `/*`: what is before the `*/` at the end. Without
+-- this `*/` the text is empty, and the check of the source reports the comment.
+abbrev pub block_text : List ℕ → List ℕ
+block_text rest = if ends_with nat_eq rest (codes "*/") then take (length rest - 2) rest else []
+
+-- The comment with these bytes. A `#!` line and the HTML-like comments of scripts are none.
+unfoldable pub comment_of : SourceRange → List ℕ → Option DependencyComment
+comment_of range bytes =
+    if starts_with nat_eq bytes (codes "//") then Some (comment_with Line range (drop 2 bytes)) else
+    (if starts_with nat_eq bytes (codes "/*") then Some (comment_with Block range (block_text (drop 2 bytes)))
+    else None)
+
+-- The comment of a text at a range. For a range that is none of the text it is an empty line comment, and
+-- the check of the source reports the range.
+unfoldable pub comment_at : List ℕ → SourceRange → Option DependencyComment
+comment_at text range =
+    if is_text_range text range then comment_of range (slice_of text range) else
+    Some (comment_with Line range [])
+
+-- A line comment.
+abbrev pub is_line : CommentKind → Bool
+is_line Line = true
+is_line Block = false
+
+-- A byte `;`, `{` or `}`: the end of a statement, or the start or the end of a block.
+abbrev pub is_closing : ℕ → Bool
+is_closing byte = ((byte == 59) || (byte == 123)) || (byte == 125)
+
+-- Whether a comment trails the token before it, which ends at `last`: the comment starts on the token's
+-- line, and a block comment also follows `;`, `{` or `}`.
+unfoldable pub trails : List ℕ → Layout → DependencyComment → Bool
+trails text layout comment =
+    let last = token_end layout.is_gap comment.range.start in
+    (nat_lt 0 last && is_on_line layout.is_break layout.is_gap comment.range.start)
+    && (is_line comment.kind || is_closing (slice_index text (last - 1)))
+
+-- The place with this side and position.
+abbrev pub place_at : CommentSide → ℕ → Place
+place_at side position = record { side = side; position = position }
+
+-- Where a comment is filed: as trailing at the end of the token before it, if the comment trails this
+-- token; otherwise as leading at the start of the token after it. If no token is after it, as trailing at
+-- the end of the text. In a text without tokens, as leading at the start of the text.
+unfoldable pub place_of : List ℕ → Layout → Bool → DependencyComment → Place
+place_of text layout is_empty comment =
+    let next = token_start layout.is_gap comment.range.end in
+    if next == length text then (if is_empty then place_at Leading 0 else place_at Trailing next) else
+    (if trails text layout comment then place_at Trailing (token_end layout.is_gap comment.range.start) else
+    place_at Leading next)
+
+-- The two sides are the same.
+abbrev pub same_side : CommentSide → CommentSide → Bool
+same_side Leading Leading = true
+same_side Leading Trailing = false
+same_side Trailing Leading = false
+same_side Trailing Trailing = true
+
+-- The entry of a comment that is filed at a place, if the place is on this side.
+abbrev pub entry_on : CommentSide → Place → DependencyComment → List FiledEntry
+entry_on side place comment =
+    if same_side place.side side then entry_with place.position (comment ∷ []) ∷ [] else []
+
+-- The entries of the comments on one side, each with one comment.
+abbrev pub entries_on : CommentSide → List ℕ → Layout → Bool → List DependencyComment → List FiledEntry
+entries_on side text layout is_empty comments =
+    flat_map (λ comment. entry_on side (place_of text layout is_empty comment) comment) comments
+
+-- The entries of both sides for the comments at some ranges, in the order of the ranges.
+unfoldable pub sides_of : List ℕ → Layout → Bool → List SourceRange → Sides
+sides_of text layout is_empty ranges =
+    let comments = filter_map (comment_at text) ranges in
+    record {
+      leading = entries_on Leading text layout is_empty comments;
+      trailing = entries_on Trailing text layout is_empty comments;
+    }

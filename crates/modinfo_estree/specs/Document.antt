@@ -1,0 +1,144 @@
+-- Documents with the tree of a parser, as ESTree describes it, and the module documents that they are.
+use Rattle.std.specs.Prelude.{
+  ◌&&◌,
+  ◌||◌,
+  ℕ,
+  List,
+  [],
+  ◌∷◌,
+  ◌++◌,
+  codes,
+  Bool,
+  true,
+  false,
+  not,
+  length,
+  nat_eq,
+  Option,
+  Some,
+  None,
+  if◌then◌else◌,
+}
+use Rattle.std.specs.List.{starts_with}
+use Rattle.serde_json.specs.Data.{Data, Members}
+use Rattle.serde_json.specs.Find.{as_object, as_str}
+use Rattle.deno_graph_base.specs.declared.text.position.SourceRange.{SourceRange}
+use Rattle.deno_graph_json.specs.Read.Partial.{◌>>=◌, member_at, member_or, reads_array}
+use Rattle.deno_graph_source.specs.declared.tree.node.Node.{Node}
+use Rattle.deno_graph_source.specs.declared.tree.node.Program.{Program}
+use Rattle.modinfo_document.specs.Comments.{Sides}
+use Rattle.modinfo_document.specs.Document.{Contents}
+use Rattle.modinfo_document.specs.Kind.{media_types, reads_named}
+use Rattle.modinfo_estree.specs.Comments.{sides_of}
+use Rattle.modinfo_estree.specs.Member.{has_text, is_present, reads_range}
+use Rattle.modinfo_estree.specs.Node.{reads_node}
+use Rattle.modinfo_estree.specs.Offsets.{Counted}
+use Rattle.modinfo_estree.specs.Source.{EstreeSource, byte_in}
+use Rattle.modinfo_estree.specs.Tokens.{Layout, layout}
+use Rattle.modinfo_estree.specs.declared.offsets.OffsetUnit.{OffsetUnit}
+use Rattle.modinfo_estree.specs.declared.offsets.OffsetUnit.TheVariants.{Utf16, Utf8}
+
+-- The units of offsets, by name.
+abbrev pub units : List (List ℕ × OffsetUnit)
+units = (codes "utf16", Utf16) ∷ (codes "utf8", Utf8) ∷ []
+
+-- Ranges of comments, in the tree of a text.
+module _ (counted : Counted) where
+  unfoldable pub reads_comment : Data → Option SourceRange
+  reads_comment value = do
+    members ← as_object value
+    reads_range (byte_in counted) members
+
+  -- The member `comments`, none if it isn't there.
+  abbrev pub comments_in : Members → Option (List SourceRange)
+  comments_in members = if is_present (codes "comments") members
+      then member_at (reads_array reads_comment) (codes "comments") members else Some []
+
+  unfoldable pub comments_of_program : Data → Option (List SourceRange)
+  comments_of_program program = do
+    members ← as_object program
+    comments_in members
+
+  -- The comments of a document: its own, or those of its program.
+  unfoldable pub reads_comments : Members → Option (List SourceRange)
+  reads_comments members = if is_present (codes "comments") members
+      then member_at (reads_array reads_comment) (codes "comments") members
+      else member_at comments_of_program (codes "program") members
+
+-- The statements of a program, in the tree of a source.
+module _ (source : EstreeSource) where
+  unfoldable pub reads_body : Members → Option (List Node)
+  reads_body members = do
+    directives ← member_or (reads_array (reads_node source)) (codes "directives") [] members
+    body ← member_at (reads_array (reads_node source)) (codes "body") members
+    Some (directives ++ body)
+
+  unfoldable pub reads_program : Data → Option (List Node)
+  reads_program value = do
+    members ← as_object value
+    reads_body members
+
+  -- A program, or the `File` around one, as Babel has it.
+  unfoldable pub reads_file : Data → Option (List Node)
+  reads_file value = do
+    members ← as_object value
+    if has_text (codes "type") (codes "File") members then member_at reads_program (codes "program") members
+        else reads_body members
+
+-- Whether a text begins with `#!`, after a byte order mark if there is one.
+abbrev pub has_shebang : List ℕ → Bool
+has_shebang text =
+    starts_with nat_eq text (codes "#!") || starts_with nat_eq text (0xEF ∷ 0xBB ∷ 0xBF ∷ codes "#!")
+
+-- Whether there is no statement.
+abbrev pub has_none : List Node → Bool
+has_none [] = true
+has_none (_ ∷ _) = false
+
+-- Whether a text with these statements has no token.
+abbrev pub is_empty : List ℕ → List Node → Bool
+is_empty text body = has_none body && not (has_shebang text)
+
+-- The comments and the program of a text.
+abbrev pub tree_of : List ℕ → Layout → List SourceRange → List Node → Sides × Program
+tree_of text layout comments body = (
+  sides_of text layout (is_empty text body) comments,
+  record {
+    range = record { start = 0; end = length text };
+    body = body;
+    has_shebang = has_shebang text;
+  },
+)
+
+-- The source of a text with these comments.
+abbrev pub source_with : Counted → List SourceRange → EstreeSource
+source_with counted comments = record {
+  text = counted.text;
+  counted = counted;
+  gaps = (layout counted.text comments).is_gap;
+}
+
+unfoldable pub reads_tree : Counted → Members → Option (Sides × Program)
+reads_tree counted members = do
+  comments ← reads_comments counted members
+  body ← member_at (reads_file (source_with counted comments)) (codes "program") members
+  Some (tree_of counted.text (layout counted.text comments) comments body)
+
+-- `{"specifier":TEXT,"mediaType":NAME,"source":TEXT,"offsets":UNIT,"comments":[COMMENT ..],"program":NODE}`.
+-- The program is the whole text, whatever the range of its node is, which some parsers begin at the first
+-- token.
+unfoldable pub reads_estree : Data → Option Contents
+reads_estree value = do
+  members ← as_object value
+  specifier ← member_at as_str (codes "specifier") members
+  media_type ← member_at (reads_named media_types) (codes "mediaType") members
+  text ← member_at as_str (codes "source") members
+  unit ← member_or (reads_named units) (codes "offsets") Utf16 members
+  tree ← reads_tree (record { unit = unit; text = text }) members
+  Some (record {
+    specifier = specifier;
+    media_type = media_type;
+    source = text;
+    comments = tree.0;
+    program = tree.1;
+  })

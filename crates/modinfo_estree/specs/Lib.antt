@@ -1,0 +1,11 @@
+pub mod Child
+pub mod Comments
+pub mod Document
+pub mod Kind
+pub mod Member
+pub mod Node
+pub mod Offsets
+pub mod Parentheses
+pub mod Source
+pub mod Tokens
+pub mod internal

@@ -1,0 +1,5 @@
+pub mod Comments
+pub mod Document
+pub mod Node
+pub mod Offsets
+pub mod Tokens

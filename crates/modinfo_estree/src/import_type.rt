@@ -1,0 +1,67 @@
+//! TypeScript's type `import("..")`.
+
+ghost use Rattle.deno_graph_json.specs.Data.{data_of};
+ghost use Rattle.deno_graph_json.specs.ObjectReader.{readable, value_of};
+ghost use Rattle.deno_graph_json.specs.Read.Result.{IsReadResult};
+ghost use Rattle.modinfo_estree.specs.Kind as spec;
+ghost use Rattle.modinfo_estree.specs.Source.{byte_of, source_of};
+
+use crate::child::{Child, nodes_of, push_nodes, split};
+use crate::clause::clause_of;
+use crate::member::{is_present, read_literal, read_literal_at};
+use crate::reading::Reading;
+use crate::role::Group;
+use crate::source::Members;
+use deno_graph_json::{Element, Expected, ReadError};
+use deno_graph_source::tree::{Kind, Node, StrLit};
+
+impl<'a, 't, 'v> Reading<'a, 't, 'v> {
+    /// Reads an import type.
+    #[tactic(auto, using(deno_graph_json::proofs::Reading::reading), unfolding(crate::specs::Kind::reads_import_type))]
+    pub fn import_type(&self, children: Vec<Child>) -> Result<Node, ReadError>
+        ensures { IsReadResult (value_of self.now.members)
+            (spec.reads_import_type (source_of self.now.source.now) (readable self.now.members) self.now.range
+            children.items) result }
+    {
+        let arg = self.import_type_literal()?;
+        let (options, others) = split(self.alloc, children, Group::Options)?;
+        let mut nodes = clause_of(self.alloc, nodes_of(self.alloc, options)?)?;
+        let has_with = !nodes.is_empty();
+        push_nodes(others, &mut nodes)?;
+        Ok(self.node(Kind::ImportType { arg, has_with }, nodes))
+    }
+
+    /// Reads the literal of an import type: `source`, or `argument` in older trees, a literal or a node
+    /// with a `literal`.
+    #[tactic(auto, using(deno_graph_json::proofs::Reading::reading), unfolding(crate::specs::Kind::reads_argument, deno_graph_json::specs::Read::Partial::member_at))]
+    fn import_type_literal(&self) -> Result<StrLit, ReadError>
+        ensures { IsReadResult (value_of self.now.members)
+            (spec.reads_argument (byte_of (source_of self.now.source.now)) (readable self.now.members))
+            result }
+    {
+        if is_present(&self.members, "source") {
+            return read_literal_at(self.alloc, &self.source.offsets, &self.members, "source");
+        }
+        match self.members.get("argument") {
+            Some(argument) => match self.literal_in(argument) {
+                Ok(literal) => Ok(literal),
+                Err(error) => Err(error.in_member(self.alloc, "argument")),
+            },
+            None => Err(ReadError::expected(self.alloc, Expected::Member("argument"))),
+        }
+    }
+
+    /// Reads the literal in a node with a `literal`, or the node as a literal.
+    #[tactic(auto, using(deno_graph_json::proofs::Reading::reading), unfolding(crate::specs::Kind::reads_literal_in, deno_graph_json::specs::Read::Partial::member_at))]
+    fn literal_in(&self, argument: Element<'_>) -> Result<StrLit, ReadError>
+        ensures { IsReadResult (data_of argument.entry)
+            (spec.reads_literal_in (byte_of (source_of self.now.source.now)) (data_of argument.entry))
+            result }
+    {
+        let members = Members::new(self.alloc, argument)?;
+        match members.get("literal") {
+            Some(_) => read_literal_at(self.alloc, &self.source.offsets, &members, "literal"),
+            None => read_literal(self.alloc, &self.source.offsets, argument),
+        }
+    }
+}

@@ -1,0 +1,31 @@
+//! Trees of JavaScript parsers, as ESTree describes them (https://github.com/estree/estree), read as module
+//! documents. docs/ESTREE.md describes the trees, docs/FORMATS.md the documents.
+#![tactic(auto)]
+
+mod call;
+mod check;
+mod child;
+mod clause;
+mod comment_ranges;
+mod comments;
+mod declaration;
+mod document;
+mod export;
+mod expression;
+mod import_type;
+mod kind;
+pub mod laws;
+mod member;
+mod node;
+mod offsets;
+mod parentheses;
+mod program;
+mod property;
+mod reading;
+mod required;
+mod role;
+mod source;
+mod tokens;
+
+pub use check::check_estree;
+pub use document::{parse_estree, read_estree};

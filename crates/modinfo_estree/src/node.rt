@@ -1,0 +1,148 @@
+//! Nodes, with all nodes below.
+
+ghost use Rattle.serde_json.specs.Data.{array, object};
+ghost use Rattle.deno_graph_json.specs.Data.{data_of, elements_data, members_data};
+ghost use Rattle.deno_graph_json.specs.Read.Partial.{reads_array};
+ghost use Rattle.deno_graph_json.specs.Read.Result.{IsReadResult};
+ghost use Rattle.modinfo_estree.specs.Node.{children_among, children_at, children_in, item_child, reads_node};
+ghost use Rattle.modinfo_estree.specs.Source.{source_of};
+ghost use Rattle.modinfo_estree.specs.internal.Node.{AreAppended};
+
+use crate::child::{Child, sort_by_start};
+use crate::member::{read_range, text_at, type_of};
+use crate::reading::Reading;
+use crate::role::Role;
+use crate::source::{Members, Source};
+use deno_graph_json::read::{read_array, read_object};
+use deno_graph_json::{Element, Elements, ReadError, View};
+use deno_graph_source::tree::Node;
+use deno_graph_source::values::Items;
+use std::alloc::Global;
+
+/// Reads a node, with all nodes below.
+#[cycle(read)]
+pub fn read_node(alloc: Global, source: &Source<'_>, value: Element<'_>) -> Result<Node, ReadError>
+    ensures { IsReadResult (data_of value.entry)
+        (reads_node (source_of source.now) (data_of value.entry)) result }
+{
+    let members = read_object(alloc, value)?;
+    let object = Members::of_members(alloc, members);
+    let range = read_range(&source.offsets, &object)?;
+    let mut children = read_children(alloc, source, members)?.into_vec();
+    sort_by_start(&mut children)?;
+    let name = text_at(&object, "type").unwrap_or("");
+    let reading = Reading {
+        alloc,
+        source,
+        members: object,
+        range,
+    };
+    reading.node_of_type(name, children)
+}
+
+/// Reads the nodes below a node, in the order of the names of their members.
+#[cycle(read)]
+fn read_children(
+    alloc: Global,
+    source: &Source<'_>,
+    members: deno_graph_json::Members<'_>,
+) -> Result<Items<Child>, ReadError>
+    ensures { IsReadResult (object (members_data members.entry))
+        (children_in (source_of source.now) (members_data members.entry)) result }
+{
+    let found = members.sorted(alloc)?;
+    let mut children = Items::new(alloc);
+    for (name, value) in &found {
+        match push_children(alloc, source, Role::of_member(name), *value, &mut children) {
+            Ok(()) => {}
+            Err(error) => return Err(error.in_member(alloc, name)),
+        }
+    }
+    Ok(children)
+}
+
+/// Appends the nodes of a member: its value, if that is a node, or the items of an array that are nodes.
+#[cycle(read)]
+fn push_children(
+    alloc: Global,
+    source: &Source<'_>,
+    role: Role,
+    value: Element<'_>,
+    children: &mut Items<Child>,
+) -> Result<(), ReadError>
+    ensures { AreAppended (data_of value.entry)
+        (children_at (source_of source.now) role (data_of value.entry)) children.old children.new result }
+{
+    match value.view() {
+        View::Object(_) => push_node(alloc, source, role, value, children),
+        View::Array(items) => push_items(alloc, source, role, items, children),
+        _ => Ok(()),
+    }
+}
+
+/// Appends the items of an array that are nodes.
+#[cycle(read)]
+fn push_items(
+    alloc: Global,
+    source: &Source<'_>,
+    role: Role,
+    items: Elements<'_>,
+    children: &mut Items<Child>,
+) -> Result<(), ReadError>
+    ensures { AreAppended (array (elements_data items.entry))
+        (children_among (source_of source.now) role (elements_data items.entry))
+        children.old children.new result }
+{
+    for (index, item) in items.enumerate() {
+        match push_node(alloc, source, role, item, children) {
+            Ok(()) => {}
+            Err(error) => return Err(error.in_item(index)),
+        }
+    }
+    Ok(())
+}
+
+/// Appends a value if it is a node.
+#[cycle(read)]
+fn push_node(
+    alloc: Global,
+    source: &Source<'_>,
+    role: Role,
+    value: Element<'_>,
+    children: &mut Items<Child>,
+) -> Result<(), ReadError>
+    ensures { AreAppended (data_of value.entry)
+        (item_child (source_of source.now) role (data_of value.entry)) children.old children.new result }
+{
+    if let Some(name) = type_of(value) {
+        let is_spread = name == "SpreadElement";
+        let node = read_node(alloc, source, value)?;
+        children.push(Child {
+            role,
+            is_spread,
+            node,
+        })?;
+    }
+    Ok(())
+}
+
+/// Reads an array of nodes, each with all nodes below.
+pub fn read_nodes(
+    alloc: Global,
+    source: &Source<'_>,
+    value: Element<'_>,
+) -> Result<Items<Node>, ReadError>
+    ensures { IsReadResult (data_of value.entry)
+        (reads_array (reads_node (source_of source.now)) (data_of value.entry)) result }
+{
+    let values = read_array(alloc, value)?;
+    let mut nodes = Items::with_capacity(alloc, values.len())?;
+    for item in values {
+        let number = nodes.len();
+        match read_node(alloc, source, item) {
+            Ok(node) => nodes.push(node)?,
+            Err(error) => return Err(error.in_item(number)),
+        }
+    }
+    Ok(nodes)
+}

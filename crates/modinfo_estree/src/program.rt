@@ -1,0 +1,129 @@
+//! Programs.
+#![tactic(auto, using(deno_graph_json::proofs::Reading::reading), unfolding(deno_graph_json::specs::Read::Partial::member_at))]
+
+ghost use Rattle.std.specs.Prelude.{◌≡◌, [], codes};
+ghost use Rattle.deno_graph_json.specs.Data.{data_of};
+ghost use Rattle.deno_graph_json.specs.ObjectReader.{readable, value_of};
+ghost use Rattle.deno_graph_json.specs.Read.Partial.{member_at, member_or, reads_array};
+ghost use Rattle.deno_graph_json.specs.Read.Result.{IsReadResult};
+ghost use Rattle.modinfo_estree.specs.Document.{reads_body, reads_file, reads_program};
+ghost use Rattle.modinfo_estree.specs.Node.{reads_node};
+ghost use Rattle.modinfo_estree.specs.Source.{source_of};
+
+use crate::member::has_text;
+use crate::node::read_nodes;
+use crate::required::{in_member, required};
+use crate::source::{Members, Source};
+use deno_graph_json::{Element, ReadError};
+use deno_graph_source::tree::Node;
+use deno_graph_source::values::Items;
+use std::alloc::Global;
+
+/// Reads the statements of the program that is the member `program` of a document.
+pub fn read_file_at(
+    alloc: Global,
+    source: &Source<'_>,
+    members: &Members<'_>,
+) -> Result<Items<Node>, ReadError>
+    ensures { IsReadResult (value_of members.now)
+        (member_at (reads_file (source_of source.now)) (codes "program") (readable members.now)) result }
+{
+    let value = required(alloc, members, "program")?;
+    in_member(alloc, members, "program", read_file(alloc, source, value))
+}
+
+/// Reads the statements of a program, or of the `File` around one, as Babel has it.
+#[tactic(auto, using(deno_graph_json::proofs::Reading::reading), unfolding(crate::specs::Document::reads_file))]
+fn read_file(
+    alloc: Global,
+    source: &Source<'_>,
+    value: Element<'_>,
+) -> Result<Items<Node>, ReadError>
+    ensures { IsReadResult (data_of value.entry)
+        (reads_file (source_of source.now) (data_of value.entry)) result }
+{
+    let members = Members::new(alloc, value)?;
+    if has_text(&members, "type", "File") {
+        read_program_at(alloc, source, &members)
+    } else {
+        read_body(alloc, source, &members)
+    }
+}
+
+/// Reads the statements of the program of a file.
+fn read_program_at(
+    alloc: Global,
+    source: &Source<'_>,
+    members: &Members<'_>,
+) -> Result<Items<Node>, ReadError>
+    ensures { IsReadResult (value_of members.now)
+        (member_at (reads_program (source_of source.now)) (codes "program") (readable members.now)) result }
+{
+    let value = required(alloc, members, "program")?;
+    in_member(
+        alloc,
+        members,
+        "program",
+        read_program(alloc, source, value),
+    )
+}
+
+/// Reads the statements of a program.
+#[tactic(auto, using(deno_graph_json::proofs::Reading::reading), unfolding(crate::specs::Document::reads_program))]
+fn read_program(
+    alloc: Global,
+    source: &Source<'_>,
+    value: Element<'_>,
+) -> Result<Items<Node>, ReadError>
+    ensures { IsReadResult (data_of value.entry)
+        (reads_program (source_of source.now) (data_of value.entry)) result }
+{
+    let members = Members::new(alloc, value)?;
+    read_body(alloc, source, &members)
+}
+
+/// Reads the directives and the statements of a program.
+#[tactic(auto, using(deno_graph_json::proofs::Reading::reading), unfolding(crate::specs::Document::reads_body))]
+fn read_body(
+    alloc: Global,
+    source: &Source<'_>,
+    members: &Members<'_>,
+) -> Result<Items<Node>, ReadError>
+    ensures { IsReadResult (value_of members.now)
+        (reads_body (source_of source.now) (readable members.now)) result }
+{
+    let mut nodes = read_directives(alloc, source, members)?.into_vec();
+    let mut body = read_nodes_at(alloc, source, members, "body")?.into_vec();
+    nodes.append(&mut body)?;
+    Ok(Items::from_vec(nodes))
+}
+
+/// Reads the directives of a program, none if it has no such member.
+#[tactic(auto, using(deno_graph_json::proofs::Reading::reading), unfolding(deno_graph_json::specs::Read::Partial::member_at, deno_graph_json::specs::Read::Partial::member_or))]
+fn read_directives(
+    alloc: Global,
+    source: &Source<'_>,
+    members: &Members<'_>,
+) -> Result<Items<Node>, ReadError>
+    ensures { IsReadResult (value_of members.now) (member_or (reads_array (reads_node (source_of source.now)))
+        (codes "directives") [] (readable members.now)) result }
+{
+    match members.get("directives") {
+        Some(_) => read_nodes_at(alloc, source, members, "directives"),
+        None => Ok(Items::new(alloc)),
+    }
+}
+
+/// Reads the nodes of a member that is an array.
+fn read_nodes_at(
+    alloc: Global,
+    source: &Source<'_>,
+    members: &Members<'_>,
+    name: &'static str,
+) -> Result<Items<Node>, ReadError>
+    ensures { IsReadResult (value_of members.now)
+        (member_at (reads_array (reads_node (source_of source.now))) name.now (readable members.now)) result }
+{
+    let value = required(alloc, members, name)?;
+    in_member(alloc, members, name, read_nodes(alloc, source, value))
+}

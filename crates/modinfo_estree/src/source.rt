@@ -1,0 +1,18 @@
+use crate::offsets::Offsets;
+use crate::tokens::Tokens;
+use deno_graph_json::ObjectReader;
+
+/// The tree of a parser, as the whole that its parts are read in.
+#[derive(Debug)]
+pub struct Estree;
+
+/// The members of a node.
+pub type Members<'v> = ObjectReader<'v, Estree>;
+
+/// A text, and where its tokens are.
+#[derive(Drop)]
+pub struct Source<'t> {
+    pub text: &'t str,
+    pub offsets: Offsets<'t>,
+    pub tokens: Tokens,
+}
