@@ -67,8 +67,8 @@ fn converted_in_place(
             _ => named(alloc, "another as text"),
         },
         Err(_) if *again != *value => named(alloc, "refused, and changed"),
-        Err(_) if text.is_some() => named(alloc, "refused, but not as text"),
         Err(ConvertFault::OutOfMemory) => Err(CaseError::OutOfMemory),
+        Err(_) if text.is_some() => named(alloc, "refused, but not as text"),
         Err(fault) => named(alloc, format!(in alloc; "{fault}")?.as_str()),
     }
 }
