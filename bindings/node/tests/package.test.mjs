@@ -350,6 +350,31 @@ describe("the package and that of its program", { skip: noNpm && "npm isn't ther
     assert.deepEqual(linesOf(String(files.stdout)).map(({ info }) => info), [INFO]);
   });
 
+  const noTree = notBuilt || (!parserFolder("acorn") && "there is no acorn");
+
+  test("in an empty folder the program reads a parser's tree as the page shows", { skip: noTree }, () => {
+    const folder = folderOf();
+    npm(["install", ...pack(MODINFO, folder)], folder);
+    const [, shown] = read("ADAPTERS.md").match(/^## Trees of ESTree\n.*?\n((?: {4}.*\n)+)/ms) ?? [];
+    const script = `
+      import { createRequire } from "node:module";
+      import { Modinfo } from "modinfo";
+      import { estreeDocument } from "modinfo/estree";
+      const acorn = createRequire(import.meta.url)(${JSON.stringify(parserFolder("acorn"))});
+      const [text, specifier] = [${JSON.stringify(TEXT)}, "file:///a.js"];
+      const comments = [];
+      const tree = acorn.parse(text, { ecmaVersion: "latest", sourceType: "module", onComment: comments });
+      const modinfo = new Modinfo();
+      ${shown}
+      console.log(JSON.stringify([info, report]));
+      await modinfo.close();`;
+    const { MODINFO: _, ...env } = process.env;
+    const words = ["--input-type=module"];
+    const { stdout, stderr } = spawnSync(process.execPath, words, { cwd: folder, env, input: script });
+    assert.equal(String(stderr), "");
+    assert.deepEqual(JSON.parse(String(stdout)), [INFO, { valid: true }]);
+  });
+
   test("a program of another version, and none, are refused", () => {
     const folder = folderOf();
     /** @type {[words: string[], message: RegExp][]} */
