@@ -21,7 +21,7 @@ use Rattle.std.proofs.Common.{
   ◌∙◌,
 }
 use Rattle.std.proofs.lemmas.List.{map-append, take_all, take_more, at_drop_more, at_drop_all}
-use Rattle.std.proofs.lemmas.List.Elements.{All-more}
+use Rattle.std.proofs.lemmas.List.Elements.{All-head, All-more, All-tail}
 use Rattle.json.specs.Token.{Token, begin_array, end_array}
 use Rattle.json.specs.Tree.{items_tokens}
 use Rattle.serde_json.specs.Data.{Data, array}
@@ -98,3 +98,7 @@ module _ {A S : Type 0} (with_member : List ℕ → Data → S → S) (json : A 
   -- at the end no entry is left
   pub map_all : (es : List (List ℕ × A)) (s whole : S) → es ≡ [] → with_map es s ≡ whole → s ≡ whole
   map_all es s whole none so_far = ap (λ all. with_map all s) (sym none) ∙ so_far
+
+-- a property of two items
+pub two_held : {A : Type 0} (P : A → Type 0) (x y : A) → All P (x ∷ y ∷ []) → P x × P y
+two_held P x y h = (All-head P x (y ∷ []) h, All-head P y [] (All-tail P x (y ∷ []) h))
