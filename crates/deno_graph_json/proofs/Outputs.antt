@@ -1,32 +1,15 @@
 -- What a `JsonWriter` has after an array or an object, as text and as a value.
-use Rattle.std.proofs.Common.{
-  ◌≡◌,
-  ℕ,
-  ◌≤◌,
-  List,
-  [],
-  ◌∷◌,
-  length,
-  drop,
-  map,
-  true,
-  Option,
-  Some,
-  None,
-  refl,
-  sym,
-  ap,
-  ◌∙◌,
-}
-use Rattle.json.specs.Token.{begin_array, begin_object, end_array, end_object}
-use Rattle.serde_json.specs.Data.{Data, Members, no_members, null, put}
+use Rattle.std.proofs.Common.{◌≡◌, ℕ, List, [], ◌∷◌, ◌++◌, true, Option, Some, None, refl, sym, ap, ◌∙◌}
+use Rattle.json.specs.Token.{Token, begin_array, begin_object, end_array, end_object}
+use Rattle.json.specs.Tree.{items_tokens}
+use Rattle.serde_json.specs.Data.{Data, Items, array, no_members, null, put}
+use Rattle.serde_json.specs.Written.{items_outline}
 use Rattle.deno_graph_json.specs.Ascending.{has_ascending_keys}
-use Rattle.deno_graph_json.specs.JsonWriter.{Output, text, value, object_part, text_part}
+use Rattle.deno_graph_json.specs.JsonWriter.{Output, text, value, object_part}
 use Rattle.deno_graph_json.specs.JsonWriter.{with_member, with_token, with_value}
-use Rattle.deno_graph_json.specs.Object.{Entry, array_of, object_of, with_entries, with_present}
+use Rattle.deno_graph_json.specs.Object.{Entry, object_of, with_entries, with_present}
 use Rattle.deno_graph_json.specs.Text.{Text, text_tokens, with_member_text, with_tokens}
-use Rattle.deno_graph_json.proofs.Texts.{object_text}
-use Rattle.deno_graph_json.proofs.WritingItems.{items_text, text_all}
+use Rattle.deno_graph_json.proofs.Texts.{object_text, with_tokens-twice}
 
 module _ {S Z : Type 0} (m : List ℕ → Data → S → S) (n : List ℕ → Data → Z → Z) (f : S → Z)
     (same : (k : List ℕ) (d : Data) (s : S) → n k d (f s) ≡ f (m k d s)) where
@@ -54,10 +37,6 @@ entries_text : (es : List Entry) (t : Text)
 unfolding with_member
 entries_text = entries_under with_member_text with_member text (λ k d s. refl)
 
--- the output is a text
-abbrev pub IsText : Output → Type 0
-IsText o = o ≡ text (text_part o)
-
 module _ (es : List Entry) (t : Text) (old begun all new : Output) where
   -- the members in braces are the object
   pub object_written : old ≡ text t → begun ≡ with_token begin_object old
@@ -71,29 +50,30 @@ module _ (es : List Entry) (t : Text) (old begun all new : Output) where
       ∙ entries_text es (with_tokens (begin_object ∷ []) t))
       ∙ ap text (object_text es t ascends) ∙ sym (ap (with_value (object_of es)) is)
 
--- the text with a value
-module _ (d : Data) (old new : Output) (is : IsText old) (writes : new ≡ with_value d old) where
-  whole : new ≡ text (with_tokens (text_tokens d) (text_part old))
-  unfolding with_value
-  whole = writes ∙ ap (with_value d) is
+-- the output with more tokens; of a value only the members count
+abbrev pub with_more : List Token → Output → Output
+with_more ts (text t) = text (with_tokens ts t)
+with_more ts (value _ ms) = value null ms
 
-  pub stays_text : IsText new
-  stays_text = whole ∙ sym (ap (λ o. text (text_part o)) whole)
+pub more_after : (d : Data) (ts : List Token) (o : Output)
+    → with_more ts (with_value d o) ≡ with_more (text_tokens d ++ ts) o
+unfolding with_value
+more_after d ts (text t) = ap text (with_tokens-twice (text_tokens d) ts t)
+more_after d ts (value e ms) = refl
 
-  pub text_with_value : text_part new ≡ with_tokens (text_tokens d) (text_part old)
-  text_with_value = ap text_part whole
+closed : (o : Output) (t : Text) → with_more (end_array ∷ []) o ≡ text t → with_token end_array o ≡ text t
+closed (text u) t is = is
+closed (value d ms) t is = absurd (cc)
 
-module _ {A : Type 0} (json : A → Data) (xs : List A) (i : ℕ) (old begun all new : Output) where
-  -- the items in brackets are the array
-  pub array_written : length xs ≤ i → IsText old → begun ≡ with_token begin_array old
-      → IsText all
-      → with_tokens (items_text json (drop i xs)) (text_part all)
-      ≡ with_tokens (items_text json xs) (text_part begun)
-      → new ≡ with_token end_array all → new ≡ with_value (array_of json xs) old
-  unfolding with_value
-  array_written past is begins all_is so_far closes =
-      closes ∙ ap (with_token end_array) all_is
-      ∙ ap text
-      (text_all json xs i (text_part old) (text_part all) (with_tokens (end_array ∷ []) (text_part all))
-      (text_part begun) past (ap text_part (begins ∙ ap (with_token begin_array) is)) so_far refl)
-      ∙ sym (ap (with_value (array_of json xs)) is)
+-- the items in brackets are the array
+pub array_written : (ds : Items) (t : Text) (old begun all new : Output) → old ≡ text t
+    → begun ≡ with_token begin_array old
+    → with_more (end_array ∷ []) all ≡ with_more (items_tokens (items_outline ds)) begun
+    → new ≡ with_token end_array all → new ≡ with_value (array ds) old
+unfolding with_value
+array_written ds t old begun all new is begins so_far closes =
+    let tokens = items_tokens (items_outline ds) in
+    closes
+    ∙ closed all (with_tokens tokens (with_tokens (begin_array ∷ []) t))
+    (so_far ∙ ap (with_more tokens) (begins ∙ ap (with_token begin_array) is))
+    ∙ ap text (with_tokens-twice (begin_array ∷ []) tokens t) ∙ sym (ap (with_value (array ds)) is)

@@ -1,13 +1,13 @@
-use Rattle.std.proofs.Common.{◌≡◌, ◌<◌, length, get_or, sym, ap, ◌∙◌}
+use Rattle.std.proofs.Common.{◌≡◌, ◌<◌, length, get_or, map, sym, ap, ◌∙◌}
 use Rattle.std.proofs.lemmas.Result.{on_ok_weaker}
 use Rattle.serde_json.proofs.Views.{view-Array}
-use Rattle.serde_json.specs.View.{members_view, view}
-use Rattle.deno_graph_json.specs.JsonWriter.{output, text, text_part, value, with_value}
+use Rattle.serde_json.specs.View.{items_of, members_view, view}
+use Rattle.deno_graph_json.specs.JsonWriter.{output, value, with_value}
 use Rattle.deno_graph_json.specs.Object.{array_of}
-use Rattle.deno_graph_json.specs.Text.{with_tokens}
-use Rattle.deno_graph_json.proofs.Outputs.{array_written, stays_text, text_with_value}
+use Rattle.deno_graph_json.specs.Text.{text_in}
+use Rattle.deno_graph_json.proofs.Outputs.{array_written, with_more}
 use Rattle.deno_graph_json.proofs.WritingItems.{held_more, held_all, forms_more, forms_all}
-use Rattle.deno_graph_json.proofs.WritingItems.{items_text, text_more}
+use Rattle.deno_graph_json.proofs.WritingItems.{items_text, output_all, output_more}
 use Rattle.deno_graph_json.proofs.json_writer.JsonWriter.items.Goals as goal
 
 pub text-preserved : goal.text-preserved
@@ -18,24 +18,23 @@ text-preserved g c =
     let x = c.item-item.result in
     let below : i < length xs = c.text-test.true in
     let here : x ≡ get_or xs i x = c.item-item.is in
-    let old = output c.text.self in
-    let new = output c.write.new.out in
     let wrote = c.in_ok-write-in-Text.ensures in
     record {
-      is_text = stays_text (json x) old new c.text.invariant.is_text wrote.ok;
-      text = text_more json xs i x (text_part old) (text_part new)
-          (with_tokens (items_text json xs) (text_part (output c.token.new.self))) below here
-          c.text.invariant.text (text_with_value (json x) old new c.text.invariant.is_text wrote.ok);
+      text = output_more json xs i x (output c.text.self) (output c.write.new.out)
+          (with_more (items_text json xs) (output c.token.new.self)) below here c.text.invariant.text wrote.ok;
       held = held_more g.T.ToJson.is_held xs i x below here c.text.invariant.held wrote.held;
     }
 
 pub returns-after-text-clause-ok : goal.returns-after-text-clause-ok
 returns-after-text-clause-ok g c =
+    let json = g.T.ToJson.json in
+    let xs = c.args.items.now in
+    let whole = with_more (items_text json xs) (output c.token.new.self) in
     on_ok_weaker c.token-in-Text.result
-    (array_written g.T.ToJson.json c.args.items.now c.text.item-index (output c.args.self.now)
-    (output c.token.new.self) (output c.text.self) (output c.token-in-Text.new.self) c.text-test.false
-    (ap output c.in-Text.is ∙ sym (ap (λ w. text (text_part (output w))) c.in-Text.is))
-    c.in_ok-token-in-Text.ensures c.text.invariant.is_text c.text.invariant.text)
+    (array_written (items_of (map json xs)) (text_in c.in-Text.field-0) (output c.args.self.now)
+    (output c.token.new.self) (output c.text.self) (output c.token-in-Text.new.self) (ap output c.in-Text.is)
+    c.in_ok-token-in-Text.ensures
+    (output_all json xs c.text.item-index (output c.text.self) whole c.text-test.false c.text.invariant.text))
     c.token-in-Text.ensures
 
 pub returns-after-text-clause-held : goal.returns-after-text-clause-held

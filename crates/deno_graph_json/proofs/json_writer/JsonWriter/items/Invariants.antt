@@ -2,17 +2,15 @@
 -- far are the JSON of the items so far.
 use Rattle.std.proofs.Common.{◌≡◌, All, map, take, drop}
 use Rattle.serde_json.specs.View.{view}
-use Rattle.deno_graph_json.specs.JsonWriter.{output, text_part}
-use Rattle.deno_graph_json.specs.Text.{with_tokens}
-use Rattle.deno_graph_json.proofs.Outputs.{IsText}
+use Rattle.deno_graph_json.specs.JsonWriter.{output}
+use Rattle.deno_graph_json.proofs.Outputs.{with_more}
 use Rattle.deno_graph_json.proofs.WritingItems.{items_text}
 use Rattle.deno_graph_json.proofs.json_writer.JsonWriter.items.Given as goal
 
 abbrev pub invariant-text : goal.invariant-text
 invariant-text g l = record {
-  is_text : IsText (output l.self);
-  text : with_tokens (items_text g.T.ToJson.json (drop l.item-index l.items)) (text_part (output l.self))
-      ≡ with_tokens (items_text g.T.ToJson.json l.items) (text_part (output l.initial.self));
+  text : with_more (items_text g.T.ToJson.json (drop l.item-index l.items)) (output l.self)
+      ≡ with_more (items_text g.T.ToJson.json l.items) (output l.initial.self);
   held : All g.T.ToJson.is_held (take l.item-index l.items);
 }
 
