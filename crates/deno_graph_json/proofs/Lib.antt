@@ -13,6 +13,7 @@ pub mod Numbers
 pub mod ObjectMembers
 pub mod Objects
 pub mod OneName
+pub mod Outputs
 pub mod Pairs
 pub mod PushedValues
 pub mod ReadBack

@@ -21,16 +21,17 @@ use Rattle.std.proofs.Common.{
   ◌∙◌,
 }
 use Rattle.std.proofs.lemmas.List.{map-append, take_all, take_more, at_drop_more, at_drop_all}
-use Rattle.std.proofs.lemmas.List.Elements.{All-more}
-use Rattle.json.specs.Token.{Token, begin_array, end_array}
+use Rattle.std.proofs.lemmas.List.Elements.{All-head, All-more, All-tail}
+use Rattle.json.specs.Token.{Token, end_array}
 use Rattle.json.specs.Tree.{items_tokens}
 use Rattle.serde_json.specs.Data.{Data, array}
 use Rattle.serde_json.specs.View.{view, items_of}
 use Rattle.serde_json.specs.Written.{items_outline}
 use Rattle.serde_json.specs.declared.value.Value.{Value}
+use Rattle.deno_graph_json.specs.JsonWriter.{Output, with_value}
 use Rattle.deno_graph_json.specs.Object.{with_entries, map_entries}
-use Rattle.deno_graph_json.specs.Text.{Text, text_tokens, with_tokens}
-use Rattle.deno_graph_json.proofs.Texts.{with_tokens-twice}
+use Rattle.deno_graph_json.specs.Text.{text_tokens}
+use Rattle.deno_graph_json.proofs.Outputs.{more_after, with_more}
 
 module _ {A : Type 0} (P : A → Type 0) (xs : List A) (i : ℕ) where
   -- a property of the items so far holds with one more item
@@ -64,25 +65,22 @@ module _ {A : Type 0} (json : A → Data) (xs : List A) (i : ℕ) where
   forms_all ds past so_far =
       ap (λ es. array (items_of es)) (so_far ∙ ap (map json) (take_all i xs past))
 
-  -- the text so far, with the tokens of the items that are left, is the same after an item is written
-  pub text_more : (x : A) (out new whole : Text) → i < length xs → x ≡ get_or xs i x
-      → with_tokens (items_text json (drop i xs)) out ≡ whole → new ≡ with_tokens (text_tokens (json x)) out
-      → with_tokens (items_text json (drop (i + 1) xs)) new ≡ whole
-  text_more x out new whole below is so_far written =
-      ap (with_tokens (items_text json (drop (i + 1) xs))) written
-      ∙ with_tokens-twice (text_tokens (json x)) (items_text json (drop (i + 1) xs)) out
-      ∙ ap (λ y. with_tokens (text_tokens (json y) ++ items_text json (drop (i + 1) xs)) out) is
-      ∙ ap (λ ts. with_tokens ts out) (sym (at_drop_more (items_text json) xs i x below))
+  -- the output so far, with the tokens of the items that are left, is the same after an item is written
+  pub output_more : (x : A) (out new whole : Output) → i < length xs → x ≡ get_or xs i x
+      → with_more (items_text json (drop i xs)) out ≡ whole → new ≡ with_value (json x) out
+      → with_more (items_text json (drop (i + 1) xs)) new ≡ whole
+  output_more x out new whole below is so_far written =
+      ap (with_more (items_text json (drop (i + 1) xs))) written
+      ∙ more_after (json x) (items_text json (drop (i + 1) xs)) out
+      ∙ ap (λ y. with_more (text_tokens (json y) ++ items_text json (drop (i + 1) xs)) out) is
+      ∙ ap (λ ts. with_more ts out) (sym (at_drop_more (items_text json) xs i x below))
       ∙ so_far
 
   -- at the end no item is left
-  pub text_all : (before out new begun : Text) → length xs ≤ i → begun ≡ with_tokens (begin_array ∷ []) before
-      → with_tokens (items_text json (drop i xs)) out ≡ with_tokens (items_text json xs) begun
-      → new ≡ with_tokens (end_array ∷ []) out → new ≡ with_tokens (begin_array ∷ items_text json xs) before
-  text_all before out new begun past begins so_far closes =
-      closes ∙ ap (λ ts. with_tokens ts out) (sym (at_drop_all (items_text json) xs i past)) ∙ so_far
-      ∙ ap (with_tokens (items_text json xs)) begins
-      ∙ with_tokens-twice (begin_array ∷ []) (items_text json xs) before
+  pub output_all : (out whole : Output) → length xs ≤ i → with_more (items_text json (drop i xs)) out ≡ whole
+      → with_more (end_array ∷ []) out ≡ whole
+  output_all out whole past so_far =
+      ap (λ ts. with_more ts out) (sym (at_drop_all (items_text json) xs i past)) ∙ so_far
 
 module _ {A S : Type 0} (with_member : List ℕ → Data → S → S) (json : A → Data) where
   -- the state with a member for each entry of a map
@@ -98,3 +96,7 @@ module _ {A S : Type 0} (with_member : List ℕ → Data → S → S) (json : A 
   -- at the end no entry is left
   pub map_all : (es : List (List ℕ × A)) (s whole : S) → es ≡ [] → with_map es s ≡ whole → s ≡ whole
   map_all es s whole none so_far = ap (λ all. with_map all s) (sym none) ∙ so_far
+
+-- a property of two items
+pub two_held : {A : Type 0} (P : A → Type 0) (x y : A) → All P (x ∷ y ∷ []) → P x × P y
+two_held P x y h = (All-head P x (y ∷ []) h, All-head P y [] (All-tail P x (y ∷ []) h))

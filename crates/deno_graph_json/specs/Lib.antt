@@ -3,9 +3,9 @@ pub mod Data
 pub mod Flat
 pub mod Found
 pub mod Json
+pub mod JsonWriter
 pub mod Object
 pub mod ObjectReader
-pub mod ObjectWriter
 pub mod Pointer
 pub mod Read
 pub mod Text

@@ -1,9 +1,8 @@
 ghost use Rattle.deno_graph_json.specs.Json.Position.{json_of_position, json_of_range, reads_position, reads_range, IsHeldPosition, IsHeldRange};
 
 use crate::read::read_pair;
-use crate::{Element, FromJson, ReadError, ToJson, Writer};
+use crate::{Element, FromJson, JsonWriter, ReadError, ToJson};
 use deno_graph_base::text::{Position, PositionRange};
-use serde_json::{Value, json};
 use std::alloc::{AllocError, Global};
 
 impl ToJson for Position {
@@ -11,15 +10,9 @@ impl ToJson for Position {
 
     ghost is_held = { IsHeldPosition };
 
-    fn to_value(&self, alloc: Global) -> Result<Value, AllocError> {
-        json!(in alloc; [self.line, self.character])
-    }
-
-    fn write_text(&self, out: &mut Writer) -> Result<(), AllocError> {
-        out.begin_array()?;
-        out.u64(self.line as u64)?;
-        out.u64(self.character as u64)?;
-        out.end_array()
+    #[tactic(auto, using(crate::proofs::WritingItems::two_held))]
+    fn write(&self, out: &mut JsonWriter) -> Result<(), AllocError> {
+        out.items(&[self.line, self.character])
     }
 }
 
@@ -42,17 +35,9 @@ impl ToJson for PositionRange {
 
     ghost is_held = { IsHeldRange };
 
-    fn to_value(&self, alloc: Global) -> Result<Value, AllocError> {
-        let start = self.start.to_value(alloc)?;
-        let end = self.end.to_value(alloc)?;
-        json!(in alloc; [start, end])
-    }
-
-    fn write_text(&self, out: &mut Writer) -> Result<(), AllocError> {
-        out.begin_array()?;
-        self.start.write_text(out)?;
-        self.end.write_text(out)?;
-        out.end_array()
+    #[tactic(auto, using(crate::proofs::WritingItems::two_held))]
+    fn write(&self, out: &mut JsonWriter) -> Result<(), AllocError> {
+        out.items(&[self.start, self.end])
     }
 }
 

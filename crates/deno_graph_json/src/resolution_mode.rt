@@ -5,19 +5,14 @@ ghost use Rattle.deno_graph_json.specs.Read.Result.{IsReadResult};
 ghost use Rattle.deno_graph_json.specs.Json.ResolutionMode.{json_of_mode, mode_name, reads_mode};
 
 use crate::read::read_str;
-use crate::{Element, Expected, FromJson, ReadError, ToJson, Writer};
+use crate::{Element, Expected, FromJson, JsonWriter, ReadError, ToJson};
 use deno_graph_base::values::TypeScriptTypesResolutionMode;
-use serde_json::Value;
 use std::alloc::{AllocError, Global};
 
 impl ToJson for TypeScriptTypesResolutionMode {
     ghost json = { json_of_mode };
 
-    fn to_value(&self, alloc: Global) -> Result<Value, AllocError> {
-        Value::try_from_str(alloc, name_of(*self))
-    }
-
-    fn write_text(&self, out: &mut Writer) -> Result<(), AllocError> {
+    fn write(&self, out: &mut JsonWriter) -> Result<(), AllocError> {
         out.string(name_of(*self))
     }
 }

@@ -14,7 +14,7 @@ mod warning;
 mod warnings;
 
 use crate::report::pointer::pointer_of;
-use deno_graph_json::{MemberWriter, Mismatch, Writer, into_text, new_writer};
+use deno_graph_json::{Mismatch, Writer, into_text, new_writer};
 use deno_graph_source::text::SourceRange;
 pub(crate) use source::source_report;
 pub use source::source_report_without_pointers;
@@ -131,9 +131,9 @@ fn write_fault(line: &mut Writer, report: &FaultReport) -> Result<(), AllocError
     ensures { OnOk result (line.new.before ≡ line.old.before) }
 {
     line.begin_object()?;
-    line.put_str("fault", report.fault.as_str())?;
+    write_member(line, "fault", report.fault.as_str())?;
     write_location(line, report)?;
-    line.put_str("expected", report.expected.as_str())?;
+    write_member(line, "expected", report.expected.as_str())?;
     line.end_object()
 }
 
@@ -142,10 +142,10 @@ fn write_location(line: &mut Writer, report: &FaultReport) -> Result<(), AllocEr
     ensures { OnOk result (line.new.before ≡ line.old.before) }
 {
     if let Some(pointer) = &report.pointer {
-        line.put_str("pointer", pointer.as_str())?;
+        write_member(line, "pointer", pointer.as_str())?;
     }
     if let Some(other) = &report.other {
-        line.put_str("other", other.as_str())?;
+        write_member(line, "other", other.as_str())?;
     }
     if let Some(range) = report.range {
         write_range(line, range)?;
@@ -199,8 +199,8 @@ fn write_kept(line: &mut Writer, kept: &[Warning]) -> Result<(), AllocError>
     line.begin_array()?;
     for warning in kept {
         line.begin_object()?;
-        line.put_str("pointer", warning.pointer.as_str())?;
-        line.put_str("says", warning.says)?;
+        write_member(line, "pointer", warning.pointer.as_str())?;
+        write_member(line, "says", warning.says)?;
         line.end_object()?;
     }
     line.end_array()
@@ -211,4 +211,11 @@ fn write_count(line: &mut Writer, name: &str, count: usize) -> Result<(), AllocE
 {
     line.key(name)?;
     line.u64(count as u64)
+}
+
+fn write_member(line: &mut Writer, name: &str, text: &str) -> Result<(), AllocError>
+    ensures { OnOk result (line.new.before ≡ line.old.before) }
+{
+    line.key(name)?;
+    line.string(text)
 }

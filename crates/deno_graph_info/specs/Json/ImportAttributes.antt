@@ -14,7 +14,7 @@ use Rattle.deno_graph_info.specs.declared.analysis.import_attributes.ImportAttri
   Unknown,
   Known,
 }
-use Rattle.deno_graph_json.specs.Object.{object_of, map_object_of}
+use Rattle.deno_graph_json.specs.Object.{Entry, object_of, map_object_of}
 use Rattle.deno_graph_json.specs.Read.Partial.{◌>>=◌, member_at, reads_map}
 
 -- a known value as a string, an unknown value as null
@@ -22,12 +22,15 @@ abbrev pub json_of_attribute : ImportAttribute → Data
 json_of_attribute UnknownValue = null
 json_of_attribute (KnownValue value) = string value
 
--- `"none"`, `"unknown"`, or `{"known":{..}}` with a member for each attribute
+-- known attributes: the member `known`, an object with a member for each
+abbrev pub known_entries : List (List ℕ × ImportAttribute) → List Entry
+known_entries entries = (codes "known", Some (map_object_of json_of_attribute entries)) ∷ []
+
+-- `"none"`, `"unknown"`, or `{"known":{..}}`
 abbrev pub json_of_attributes : ImportAttributes → Data
 json_of_attributes NoAttributes = string (codes "none")
 json_of_attributes Unknown = string (codes "unknown")
-json_of_attributes (Known entries) =
-    object_of ((codes "known", Some (map_object_of json_of_attribute entries)) ∷ [])
+json_of_attributes (Known entries) = object_of (known_entries entries)
 
 -- what holds of all attributes that exist at run time: the keys of known attributes ascend
 abbrev pub AreHeldAttributes : ImportAttributes → Type 0

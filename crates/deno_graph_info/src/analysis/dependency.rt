@@ -11,8 +11,7 @@ use crate::analysis::import_attributes::ImportAttributes;
 use crate::analysis::module_info::ModuleInfo;
 use crate::analysis::static_dependency::{StaticDependencyDescriptor, read_static};
 use deno_graph_base::values::TryClone;
-use deno_graph_json::{Element, Expected, FromJson, ObjectReader, ReadError, ToJson, Writer};
-use serde_json::Value;
+use deno_graph_json::{Element, Expected, FromJson, JsonWriter, ObjectReader, ReadError, ToJson};
 use std::alloc::{AllocError, Global};
 
 /// One dependency of a module.
@@ -96,17 +95,10 @@ impl ToJson for DependencyDescriptor {
 
     ghost is_held = { IsHeldDependency };
 
-    fn to_value(&self, alloc: Global) -> Result<Value, AllocError> {
+    fn write(&self, out: &mut JsonWriter) -> Result<(), AllocError> {
         match self {
-            DependencyDescriptor::Static(descriptor) => descriptor.to_value(alloc),
-            DependencyDescriptor::Dynamic(descriptor) => descriptor.to_value(alloc),
-        }
-    }
-
-    fn write_text(&self, out: &mut Writer) -> Result<(), AllocError> {
-        match self {
-            DependencyDescriptor::Static(descriptor) => descriptor.write_text(out),
-            DependencyDescriptor::Dynamic(descriptor) => descriptor.write_text(out),
+            DependencyDescriptor::Static(descriptor) => descriptor.write(out),
+            DependencyDescriptor::Dynamic(descriptor) => descriptor.write(out),
         }
     }
 }

@@ -11,10 +11,8 @@ use crate::analysis::module_info::ModuleInfo;
 use deno_graph_base::values::{Items, Text, TryClone};
 use deno_graph_json::read::read_items;
 use deno_graph_json::{
-    Element, Expected, Form, FromJson, MemberWriter, ObjectReader, ReadError, ToJson, ToObject,
-    View, Writer,
+    Element, Expected, Form, FromJson, JsonWriter, ObjectReader, ReadError, ToJson, ToObject, View,
 };
-use serde_json::Value;
 use std::alloc::{AllocError, Global};
 
 /// The first argument of a dynamic dependency, as far as it is known.
@@ -63,18 +61,10 @@ impl TryClone for DynamicArgument {
 impl ToJson for DynamicArgument {
     ghost json = { json_of_argument };
 
-    fn to_value(&self, alloc: Global) -> Result<Value, AllocError> {
+    fn write(&self, out: &mut JsonWriter) -> Result<(), AllocError> {
         match self {
-            DynamicArgument::String(text) => text.to_value(alloc),
-            DynamicArgument::Template(parts) => parts.to_value(alloc),
-            DynamicArgument::Expr => Ok(Value::Null),
-        }
-    }
-
-    fn write_text(&self, out: &mut Writer) -> Result<(), AllocError> {
-        match self {
-            DynamicArgument::String(text) => text.write_text(out),
-            DynamicArgument::Template(parts) => parts.write_text(out),
+            DynamicArgument::String(text) => text.write(out),
+            DynamicArgument::Template(parts) => parts.write(out),
             DynamicArgument::Expr => out.null(),
         }
     }
@@ -131,7 +121,7 @@ impl ToObject for DynamicTemplatePart {
     ghost ascends = { λ part _. elim part as (λ p. has_ascending_keys (part_entries p) ≡ true)
         [ String v ↦ refl | Expr ↦ refl ] };
 
-    fn put_members<W: MemberWriter>(&self, out: &mut W) -> Result<(), AllocError> {
+    fn put_members(&self, out: &mut JsonWriter) -> Result<(), AllocError> {
         match self {
             DynamicTemplatePart::String { value } => {
                 out.put_str("type", "string")?;

@@ -13,10 +13,8 @@ use deno_graph_base::text::PositionRange;
 use deno_graph_base::values::TryClone;
 use deno_graph_json::read::read_str;
 use deno_graph_json::{
-    Element, Expected, Form, FromJson, MemberWriter, ObjectReader, ReadError, ToJson, ToObject,
-    Writer,
+    Element, Expected, Form, FromJson, JsonWriter, ObjectReader, ReadError, ToJson, ToObject,
 };
-use serde_json::Value;
 use std::alloc::{AllocError, Global};
 
 /// The kind of a call that is a dynamic dependency.
@@ -67,11 +65,7 @@ impl Default for DynamicDependencyKind {
 impl ToJson for DynamicDependencyKind {
     ghost json = { λ kind. string (dynamic_kind_name kind) };
 
-    fn to_value(&self, alloc: Global) -> Result<Value, AllocError> {
-        Value::try_from_str(alloc, self.name())
-    }
-
-    fn write_text(&self, out: &mut Writer) -> Result<(), AllocError> {
+    fn write(&self, out: &mut JsonWriter) -> Result<(), AllocError> {
         out.string(self.name())
     }
 }
@@ -144,7 +138,7 @@ impl ToObject for DynamicDependencyDescriptor {
 
     ghost ascends = { λ _ _. refl };
 
-    fn put_members<W: MemberWriter>(&self, out: &mut W) -> Result<(), AllocError> {
+    fn put_members(&self, out: &mut JsonWriter) -> Result<(), AllocError> {
         out.put_unless(self.argument.is_expr(), "argument", &self.argument)?;
         out.put("argumentRange", &self.argument_range)?;
         out.put_unless(

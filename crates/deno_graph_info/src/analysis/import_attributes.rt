@@ -1,17 +1,16 @@
-ghost use Rattle.std.specs.Prelude.{◌≡◌, ◌↔◌, IsTrue, codes, option_map};
+ghost use Rattle.std.specs.Prelude.{◌≡◌, ◌↔◌, IsTrue, codes, option_map, refl};
 ghost use Rattle.serde_json.specs.Data.{string};
+ghost use Rattle.deno_graph_base.specs.TextMap.{IsAscending};
 ghost use Rattle.deno_graph_info.specs.ImportAttributes.{is_none, attribute_at, IsAssetType};
-ghost use Rattle.deno_graph_info.specs.Json.ImportAttributes.{json_of_attribute, json_of_attributes, reads_attribute, reads_attributes, attributes_named, known_attributes, AreHeldAttributes};
+ghost use Rattle.deno_graph_info.specs.Json.ImportAttributes.{json_of_attribute, json_of_attributes, reads_attribute, reads_attributes, attributes_named, known_attributes, known_entries, AreHeldAttributes};
 ghost use Rattle.deno_graph_json.specs.ObjectReader.{readable, value_of};
 ghost use Rattle.deno_graph_json.specs.Read.Result.{IsReadResult};
 
 use crate::analysis::module_info::ModuleInfo;
 use deno_graph_base::values::{Text, TextMap, TryClone};
 use deno_graph_json::{
-    Element, Expected, Form, FromJson, MemberWriter, ObjectReader, ObjectWriter, ReadError, ToJson,
-    View, Writer,
+    Element, Expected, Form, FromJson, JsonWriter, ObjectReader, ReadError, ToJson, ToObject, View,
 };
-use serde_json::Value;
 use std::alloc::{AllocError, Global};
 
 /// The value of an import attribute.
@@ -35,14 +34,7 @@ impl TryClone for ImportAttribute {
 impl ToJson for ImportAttribute {
     ghost json = { json_of_attribute };
 
-    fn to_value(&self, alloc: Global) -> Result<Value, AllocError> {
-        match self {
-            ImportAttribute::Unknown => Ok(Value::Null),
-            ImportAttribute::Known(value) => value.to_value(alloc),
-        }
-    }
-
-    fn write_text(&self, out: &mut Writer) -> Result<(), AllocError> {
+    fn write(&self, out: &mut JsonWriter) -> Result<(), AllocError> {
         match self {
             ImportAttribute::Unknown => out.null(),
             ImportAttribute::Known(value) => out.string(value.as_str()),
@@ -139,28 +131,28 @@ impl ToJson for ImportAttributes {
 
     ghost is_held = { AreHeldAttributes };
 
-    fn to_value(&self, alloc: Global) -> Result<Value, AllocError> {
-        match self {
-            ImportAttributes::None => Value::try_from_str(alloc, "none"),
-            ImportAttributes::Unknown => Value::try_from_str(alloc, "unknown"),
-            ImportAttributes::Known(map) => {
-                let mut object = ObjectWriter::new(alloc);
-                object.put("known", map)?;
-                Ok(object.into_value())
-            }
-        }
-    }
-
-    fn write_text(&self, out: &mut Writer) -> Result<(), AllocError> {
+    fn write(&self, out: &mut JsonWriter) -> Result<(), AllocError> {
         match self {
             ImportAttributes::None => out.string("none"),
             ImportAttributes::Unknown => out.string("unknown"),
-            ImportAttributes::Known(map) => {
-                out.begin_object()?;
-                out.put("known", map)?;
-                out.end_object()
-            }
+            ImportAttributes::Known(map) => out.object(&KnownAttributes(map)),
         }
+    }
+}
+
+/// The object of attributes that are known.
+#[derive(Drop)]
+struct KnownAttributes<'a>(&'a TextMap<ImportAttribute>);
+
+impl ToObject for KnownAttributes<'_> {
+    ghost entries = { λ known. known_entries known.0.now };
+
+    ghost is_held = { λ known. IsAscending known.0.now };
+
+    ghost ascends = { λ _ _. refl };
+
+    fn put_members(&self, out: &mut JsonWriter) -> Result<(), AllocError> {
+        out.put("known", self.0)
     }
 }
 

@@ -4,7 +4,7 @@ ghost use Rattle.deno_graph_info.specs.Json.JsDocImportInfo.{js_doc_import_entri
 use crate::analysis::specifier_with_mode::{put_specifier_with_mode, read_specifier_with_mode};
 use crate::analysis::{ModuleInfo, SpecifierWithRange};
 use deno_graph_base::values::{TryClone, TypeScriptTypesResolutionMode};
-use deno_graph_json::{Element, FromJson, MemberWriter, ObjectReader, ReadError, ToObject};
+use deno_graph_json::{Element, FromJson, JsonWriter, ObjectReader, ReadError, ToObject};
 use std::alloc::{AllocError, Global};
 
 /// An import in a JSDoc comment.
@@ -31,7 +31,7 @@ impl ToObject for JsDocImportInfo {
 
     ghost ascends = { λ _ _. refl };
 
-    fn put_members<W: MemberWriter>(&self, out: &mut W) -> Result<(), AllocError> {
+    fn put_members(&self, out: &mut JsonWriter) -> Result<(), AllocError> {
         put_specifier_with_mode(&self.specifier, &self.resolution_mode, out)
     }
 }

@@ -10,8 +10,8 @@ use crate::analysis::type_script_reference::TypeScriptReference;
 use crate::analysis::{DependencyDescriptor, SpecifierWithRange};
 use deno_graph_base::values::{Items, TryClone};
 use deno_graph_json::{
-    Element, FromJson, MemberWriter, ObjectReader, ReadError, Tape, ToJson, ToObject, find_float,
-    has_float, text_of,
+    Element, FromJson, JsonWriter, ObjectReader, ReadError, Tape, ToObject, find_float, has_float,
+    text_of, to_value,
 };
 use serde_json::Value;
 use std::alloc::{AllocError, Global};
@@ -103,7 +103,7 @@ impl ModuleInfo {
         ensures read_back { IfOk result (λ value. reads_info (view value) ≡ Some self.now) }
         ensures no_float { IfOk result (λ value. holds_float (view value) ≡ false) }
     {
-        ToJson::to_value(self, alloc)
+        to_value(alloc, self)
     }
 
     /// Returns the JSON as compact text, with the keys of each object ascending: the text that
@@ -144,7 +144,7 @@ impl ToObject for ModuleInfo {
 
     ghost ascends = { λ _ _. refl };
 
-    fn put_members<W: MemberWriter>(&self, out: &mut W) -> Result<(), AllocError> {
+    fn put_members(&self, out: &mut JsonWriter) -> Result<(), AllocError> {
         out.put_list("dependencies", &self.dependencies)?;
         out.put_list("jsdocImports", &self.jsdoc_imports)?;
         out.put_some("jsxImportSource", &self.jsx_import_source)?;

@@ -2,6 +2,7 @@
 
 ghost use Rattle.std.specs.Prelude.{◌≡◌, OnOk};
 ghost use Rattle.deno_graph_info.specs.Json.SpecifierWithRange.{IsHeldSpecifier};
+ghost use Rattle.deno_graph_json.specs.JsonWriter.{output, with_member};
 ghost use Rattle.deno_graph_json.specs.Object.{with_entries};
 ghost use Rattle.deno_graph_json.specs.ObjectReader.{readable, value_of};
 ghost use Rattle.deno_graph_json.specs.Read.Result.{IsReadResult};
@@ -10,17 +11,17 @@ ghost use Rattle.deno_graph_info.specs.Json.SpecifierWithMode.{specifier_with_mo
 use crate::analysis::module_info::ModuleInfo;
 use crate::analysis::specifier_with_range::{SpecifierWithRange, read_specifier};
 use deno_graph_base::values::TypeScriptTypesResolutionMode;
-use deno_graph_json::{MemberWriter, ObjectReader, ReadError};
+use deno_graph_json::{JsonWriter, ObjectReader, ReadError};
 use std::alloc::AllocError;
 
 /// Writes the specifier and, if present, `resolutionMode`.
-pub(crate) fn put_specifier_with_mode<W: MemberWriter>(
+pub(crate) fn put_specifier_with_mode(
     specifier: &SpecifierWithRange,
     resolution_mode: &Option<TypeScriptTypesResolutionMode>,
-    out: &mut W,
+    out: &mut JsonWriter,
 ) -> Result<(), AllocError>
-    ensures ok { OnOk result (W.state out.new ≡ with_entries W.with_member
-        (specifier_with_mode_entries specifier.now resolution_mode.now) (W.state out.old)) }
+    ensures ok { OnOk result (output out.new ≡ with_entries with_member
+        (specifier_with_mode_entries specifier.now resolution_mode.now) (output out.old)) }
     ensures held { OnOk result (IsHeldSpecifier specifier.now) }
 {
     out.put("range", &specifier.range)?;

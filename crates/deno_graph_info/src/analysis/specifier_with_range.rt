@@ -6,7 +6,7 @@ ghost use Rattle.deno_graph_json.specs.Read.Result.{IsReadResult};
 use crate::analysis::module_info::ModuleInfo;
 use deno_graph_base::text::PositionRange;
 use deno_graph_base::values::{Text, TryClone};
-use deno_graph_json::{Element, FromJson, MemberWriter, ObjectReader, ReadError, ToObject};
+use deno_graph_json::{Element, FromJson, JsonWriter, ObjectReader, ReadError, ToObject};
 use std::alloc::{AllocError, Global};
 
 /// A specifier, and its range in the source.
@@ -33,7 +33,7 @@ impl ToObject for SpecifierWithRange {
 
     ghost ascends = { λ _ _. refl };
 
-    fn put_members<W: MemberWriter>(&self, out: &mut W) -> Result<(), AllocError> {
+    fn put_members(&self, out: &mut JsonWriter) -> Result<(), AllocError> {
         out.put("range", &self.range)?;
         out.put("text", &self.text)
     }

@@ -11,10 +11,8 @@ use deno_graph_base::text::PositionRange;
 use deno_graph_base::values::{Text, TryClone};
 use deno_graph_json::read::read_str;
 use deno_graph_json::{
-    Element, Expected, Form, FromJson, MemberWriter, ObjectReader, ReadError, ToJson, ToObject,
-    Writer,
+    Element, Expected, Form, FromJson, JsonWriter, ObjectReader, ReadError, ToJson, ToObject,
 };
-use serde_json::Value;
 use std::alloc::{AllocError, Global};
 
 /// The syntax of a static dependency.
@@ -62,11 +60,7 @@ impl StaticDependencyKind {
 impl ToJson for StaticDependencyKind {
     ghost json = { λ kind. string (static_kind_name kind) };
 
-    fn to_value(&self, alloc: Global) -> Result<Value, AllocError> {
-        Value::try_from_str(alloc, self.name())
-    }
-
-    fn write_text(&self, out: &mut Writer) -> Result<(), AllocError> {
+    fn write(&self, out: &mut JsonWriter) -> Result<(), AllocError> {
         out.string(self.name())
     }
 }
@@ -152,7 +146,7 @@ impl ToObject for StaticDependencyDescriptor {
 
     ghost ascends = { λ _ _. refl };
 
-    fn put_members<W: MemberWriter>(&self, out: &mut W) -> Result<(), AllocError> {
+    fn put_members(&self, out: &mut JsonWriter) -> Result<(), AllocError> {
         out.put_unless(
             self.import_attributes.is_none(),
             "importAttributes",

@@ -10,9 +10,7 @@ use crate::analysis::module_info::ModuleInfo;
 use crate::analysis::specifier_with_mode::{put_specifier_with_mode, read_specifier_with_mode};
 use crate::analysis::specifier_with_range::{SpecifierWithRange, read_specifier};
 use deno_graph_base::values::{TryClone, TypeScriptTypesResolutionMode};
-use deno_graph_json::{
-    Element, Expected, FromJson, MemberWriter, ObjectReader, ReadError, ToObject,
-};
+use deno_graph_json::{Element, Expected, FromJson, JsonWriter, ObjectReader, ReadError, ToObject};
 use std::alloc::{AllocError, Global};
 
 /// A triple-slash reference.
@@ -55,7 +53,7 @@ impl ToObject for TypeScriptReference {
     ghost ascends = { λ r _. elim r as (λ r. has_ascending_keys (reference_entries r) ≡ true)
         [ Path s ↦ refl | Types s m ↦ refl ] };
 
-    fn put_members<W: MemberWriter>(&self, out: &mut W) -> Result<(), AllocError> {
+    fn put_members(&self, out: &mut JsonWriter) -> Result<(), AllocError> {
         match self {
             TypeScriptReference::Path(specifier) => {
                 specifier.put_members(out)?;

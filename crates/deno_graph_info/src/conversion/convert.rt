@@ -12,7 +12,7 @@ use crate::conversion::comment::{Comment, read_comments};
 use crate::conversion::fault::ConvertFault;
 use crate::conversion::types::types_named;
 use deno_graph_base::values::Items;
-use deno_graph_json::{Tape, ToJson, has_float};
+use deno_graph_json::{Tape, has_float, to_value};
 use serde_json::{Map, Value, put};
 use std::alloc::{AllocError, Global};
 
@@ -204,7 +204,7 @@ fn put_types(
 {
     let mut typed = members;
     if let Some(types) = types {
-        let json = types.to_value(alloc)?;
+        let json = to_value(alloc, &types)?;
         put(&mut typed, alloc, "typesSpecifier", json)?;
     }
     Ok(typed)

@@ -16,7 +16,7 @@ use crate::conversion::names::Names;
 use crate::conversion::ordered::in_order;
 use crate::conversion::types::types_named;
 use crate::conversion::write::{write_chosen, write_value};
-use deno_graph_json::{Element, Elements, MemberWriter, Members, Writer};
+use deno_graph_json::{Element, Elements, Members, Writer, append};
 use deno_graph_pragmas::finders::laws::captures_are_unique;
 use std::alloc::{AllocError, Global};
 
@@ -112,7 +112,8 @@ fn write_typed(
     let ordered = in_order(alloc, members)?;
     out.begin_object()?;
     write_chosen(alloc, &ordered, BEFORE_TYPES, out)?;
-    out.put("typesSpecifier", types)?;
+    out.key("typesSpecifier")?;
+    append(alloc, out, types)?;
     write_chosen(alloc, &ordered, AFTER_TYPES, out)?;
     out.end_object()
 }

@@ -7,5 +7,5 @@ pub returns : goal.returns
 returns g c =
     let d = g.T.ToJson.json c.args.value.now in
     c.into_text.ensures
-    ∙ value_text d c.write_text.new.out
-    (c.in_ok-write_text.ensures.text ∙ ap (with_tokens (text_tokens d)) c.in_ok-out.ensures)
+    ∙ value_text d c.append.new.out
+    (c.in_ok-append.ensures.ok ∙ ap (with_tokens (text_tokens d)) c.in_ok-out.ensures)

@@ -1,10 +1,10 @@
-use Rattle.std.proofs.Common.{Ok, None, Some, ap, codes, refl, sym, subst, ◌∙◌}
+use Rattle.std.proofs.Common.{[], ◌∷◌, Ok, None, Some, ap, codes, refl, sym, subst, ◌∙◌}
 use Rattle.std.proofs.lemmas.Result.{on_ok_weaker}
-use Rattle.json.specs.Token.{begin_object, end_object}
+use Rattle.json.specs.Token.{begin_object, end_object, key}
 use Rattle.serde_json.specs.Data.{put}
-use Rattle.deno_graph_json.proofs.Texts.{text_written}
+use Rattle.deno_graph_json.proofs.Texts.{text_written, with_tokens-twice}
 use Rattle.deno_graph_json.specs.Data.{members_data}
-use Rattle.deno_graph_json.specs.Text.{text_in}
+use Rattle.deno_graph_json.specs.Text.{text_in, text_tokens, with_tokens}
 use Rattle.deno_graph_info.specs.Conversion.{without}
 use Rattle.deno_graph_info.specs.Json.SpecifierWithRange.{json_of_specifier}
 use Rattle.deno_graph_info.specs.internal.Chosen.{chosen}
@@ -25,14 +25,18 @@ returns c =
     let inside = text_in c.write_chosen-2.new.out in
     let opens = text_written (Ok c.in_ok-begin_object.field-0) c.args.out.now c.begin_object.new.self
     begin_object c.in_ok-begin_object.ensures in
+    let keyed = text_written (Ok c.in_ok-key.field-0) c.write_chosen.new.out c.key.new.self (key types)
+    c.in_ok-key.ensures in
+    let typed = c.in_ok-append.ensures.ok ∙ ap (with_tokens (text_tokens json)) keyed
+    ∙ with_tokens-twice (key types ∷ []) (text_tokens json) (text_in c.write_chosen.new.out) in
     let is = around types (Some comments) json refl ms
     (subst Ascend (sym ordered) (Ascend-members_data c.args.members))
     ∙ kept_without comments (put types json ms) ∙ ap (λ l. without comments (put types json l)) ordered in
     let written = joined_written types json
     (chosen (record { above = None; below = Some types; except = Some comments }) ms)
     (chosen (record { above = Some types; below = None; except = Some comments }) ms) all begun
-    (text_in c.write_chosen.new.out) (text_in c.put.new.self) inside c.in_ok-write_chosen.ensures
-    c.in_ok-put.ensures.ok (readable_specifier c.args.types.now c.in_ok-put.ensures.held)
+    (text_in c.write_chosen.new.out) (text_in c.append.new.out) inside c.in_ok-write_chosen.ensures
+    typed (readable_specifier c.args.types.now c.in_ok-append.ensures.held)
     c.in_ok-write_chosen-2.ensures is in
     on_ok_weaker c.end_object.result
     (λ closes. members_object all (text_in c.args.out.now) begun inside
