@@ -3,6 +3,7 @@ pub mod CommentReading
 pub mod CommentTexts
 pub mod Estrees
 pub mod Filings
+pub mod InnerMembers
 pub mod JsonMembers
 pub mod Nodes
 pub mod SortedChildren

@@ -1,3 +1,4 @@
+pub mod Candidates
 pub mod Comments
 pub mod Document
 pub mod Node

@@ -3,6 +3,7 @@
 #![tactic(auto)]
 
 mod call;
+mod candidates;
 mod check;
 mod child;
 mod clause;

@@ -6,8 +6,10 @@ ghost use Rattle.deno_graph_json.specs.Read.Partial.{reads_array};
 ghost use Rattle.deno_graph_json.specs.Read.Result.{IsReadResult};
 ghost use Rattle.modinfo_estree.specs.Node.{children_among, children_at, children_in, item_child, reads_node};
 ghost use Rattle.modinfo_estree.specs.Source.{source_of};
+ghost use Rattle.modinfo_estree.specs.internal.Candidates.{AreCandidates};
 ghost use Rattle.modinfo_estree.specs.internal.Node.{AreAppended};
 
+use crate::candidates::{Candidate, candidates};
 use crate::child::{Child, sort_by_start};
 use crate::member::{read_range, text_at, type_of};
 use crate::reading::Reading;
@@ -43,6 +45,51 @@ pub fn read_node(alloc: Global, source: &Source<'_>, value: Element<'_>) -> Resu
 /// Reads the nodes below a node, in the order of the names of their members.
 #[cycle(read)]
 fn read_children(
+    alloc: Global,
+    source: &Source<'_>,
+    members: deno_graph_json::Members<'_>,
+) -> Result<Items<Child>, ReadError>
+    ensures { IsReadResult (object (members_data members.entry))
+        (children_in (source_of source.now) (members_data members.entry)) result }
+{
+    match candidates(alloc, members)? {
+        Some(found) => read_candidates(alloc, source, members, &found),
+        None => read_sorted(alloc, source, members),
+    }
+}
+
+/// Reads the nodes below a node, from the members that may have some.
+#[cycle(read)]
+fn read_candidates(
+    alloc: Global,
+    source: &Source<'_>,
+    members: deno_graph_json::Members<'_>,
+    found: &[Candidate<'_>],
+) -> Result<Items<Child>, ReadError>
+    requires { AreCandidates (members_data members) found.now }
+    ensures { IsReadResult (object (members_data members.entry))
+        (children_in (source_of source.now) (members_data members.entry)) result }
+{
+    let mut children = Items::new(alloc);
+    for candidate in found {
+        let name = candidate.name;
+        match push_children(
+            alloc,
+            source,
+            Role::of_member(name),
+            candidate.value,
+            &mut children,
+        ) {
+            Ok(()) => {}
+            Err(error) => return Err(error.in_member(alloc, name)),
+        }
+    }
+    Ok(children)
+}
+
+/// Reads the nodes below a node, from all its members in the order of their names.
+#[cycle(read)]
+fn read_sorted(
     alloc: Global,
     source: &Source<'_>,
     members: deno_graph_json::Members<'_>,

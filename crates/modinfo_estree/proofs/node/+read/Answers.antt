@@ -1,4 +1,4 @@
-use Rattle.std.proofs.Common.{◌≡◌, [], Some, None, arith, codes, sym, ap, refl, subst, unwrap_or, ◌∙◌}
+use Rattle.std.proofs.Common.{◌≡◌, ◌≤◌, [], ◌∷◌, length, map, Some, None, arith, codes, sym, ap, refl, subst, unwrap_or, ◌∙◌}
 use Rattle.serde_json.specs.Data.{array, object}
 use Rattle.serde_json.specs.Find.{get_item}
 use Rattle.deno_graph_json.specs.Data.{data_of, elements_data, members_data, named_data, view_data}
@@ -38,6 +38,9 @@ use Rattle.modinfo_estree.proofs.Nodes.{
   text_or,
   type_read,
 }
+use Rattle.std.proofs.lemmas.List.{drop_all}
+use Rattle.modinfo_estree.specs.internal.Candidates.{entry_of}
+use Rattle.modinfo_estree.proofs.InnerMembers.{next_left, no_candidate}
 use Rattle.modinfo_estree.proofs.node.+read.Goals as goal
 use Rattle.modinfo_estree.proofs.node.+read.Goals.{push_node-in-Some+in_ok-node+in_ok-push}
 use Rattle.modinfo_estree.proofs.node.+read.Goals.{push_node-in_default}
@@ -142,8 +145,63 @@ push_node-returns t c = elim c.match-type_of.branch [
       c.match-type_of.children w.in_default.ensures w.children-is
 ]
 
-pub read_children-loop-name-init : goal.read_children-loop-name-init
-read_children-loop-name-init t c =
+pub read_candidates-push_children-requires : goal.read_candidates-push_children-requires
+read_candidates-push_children-requires t c =
+    let source = source_of c.args.source.now in
+    let all = members_data c.args.members in
+    let item = c.candidate-item.result in
+    let next = next_left source all c.args.found.now c.loop-candidate.candidate-index item _ _
+    c.loop-candidate.invariant (omega (arith, c.loop-candidate-test.true, c.loop-candidate.auto.candidate-index-end))
+    c.candidate-item.is in
+    let e : Entry = entry_of item in
+    (omega (arith, c.decreases, depth_of_member all (e ∷ next.after) next.after e next.here refl), tt)
+
+pub read_candidates-loop-candidate-preserved : goal.read_candidates-loop-candidate-preserved
+read_candidates-loop-candidate-preserved t c =
+    let source = source_of c.args.source.now in
+    let all = members_data c.args.members in
+    let item = c.candidate-item.result in
+    let next = next_left source all c.args.found.now c.loop-candidate.candidate-index item _ _
+    c.loop-candidate.invariant (omega (arith, c.loop-candidate-test.true, c.loop-candidate.auto.candidate-index-end))
+    c.candidate-item.is in
+    let e : Entry = entry_of item in
+    let first = next.same ∙ member_next source c.of_member.result (e ∷ next.after) next.after e refl
+    c.of_member.ensures in record {
+      left = next.after;
+      rest = rest_next all (e ∷ next.after) next.after e next.here refl;
+      kept = next.kept;
+      so_far = some_more _ _ _ _ _ _ c.loop-candidate.invariant.so_far first _ c.in-Ok.ensures;
+    }
+
+pub read_candidates-returns-in-Err : goal.read_candidates-returns-in-Err
+read_candidates-returns-in-Err t c =
+    let source = source_of c.args.source.now in
+    let all = members_data c.args.members in
+    let item = c.candidate-item.result in
+    let next = next_left source all c.args.found.now c.loop-candidate.candidate-index item _ _
+    c.loop-candidate.invariant (omega (arith, c.loop-candidate-test.true, c.loop-candidate.auto.candidate-index-end))
+    c.candidate-item.is in
+    let e : Entry = entry_of item in
+    let first = next.same ∙ member_next source c.of_member.result (e ∷ next.after) next.after e refl
+    c.of_member.ensures in
+    let d = data_of item.value in
+    next_error _ _ _ _ _ _ c.loop-candidate.invariant.so_far first (object all) c.in_member.result
+    (error_around (object all) d (children_at source c.of_member.result d) c.in-Err.error c.in_member.result
+    (c.in_member.ensures.place (object all) d (rest_here all (e ∷ next.after) next.after e next.here refl))
+    c.in_member.ensures.mismatch c.in-Err.ensures)
+
+pub read_candidates-returns : goal.read_candidates-returns
+read_candidates-returns t c =
+    let source = source_of c.args.source.now in
+    let kept = c.loop-candidate.invariant in
+    let past : length c.args.found.now ≤ c.loop-candidate.candidate-index =
+    omega (arith, c.loop-candidate-test.false, c.loop-candidate.auto.candidate-index-end) in
+    let none = sym (ap (map entry_of) (drop_all c.loop-candidate.candidate-index c.args.found.now past))
+    ∙ kept.kept in
+    all_new _ _ (all_done _ _ _ _ kept.so_far (no_candidate source kept.left none))
+
+pub read_sorted-loop-name-init : goal.read_sorted-loop-name-init
+read_sorted-loop-name-init t c =
     let all = members_data c.args.members in
     let found = c.in_ok-found.found in
     let members = c.in_ok-found.ensures.members in
@@ -154,8 +212,8 @@ read_children-loop-name-init t c =
           ∙ ap (children_in (source_of c.args.source.now)) members),
     )
 
-pub read_children-push_children-requires : goal.read_children-push_children-requires
-read_children-push_children-requires t c =
+pub read_sorted-push_children-requires : goal.read_sorted-push_children-requires
+read_sorted-push_children-requires t c =
     let e : Entry = (c.in-Some.name.now, c.in-Some.value.now) in
     let all = members_data c.args.members in
     let left = c.loop-name.name-iterator in
@@ -163,8 +221,8 @@ read_children-push_children-requires t c =
     let below = depth_of_member all left rest e c.loop-name.invariant.0 c.in-Some.ensures.steps in
     (omega (arith, c.decreases, below), tt)
 
-pub read_children-loop-name-preserved : goal.read_children-loop-name-preserved
-read_children-loop-name-preserved t c =
+pub read_sorted-loop-name-preserved : goal.read_sorted-loop-name-preserved
+read_sorted-loop-name-preserved t c =
     let source = source_of c.args.source.now in
     let e : Entry = (c.in-Some.name.now, c.in-Some.value.now) in
     let all = members_data c.args.members in
@@ -177,8 +235,8 @@ read_children-loop-name-preserved t c =
       some_more _ _ _ _ _ _ kept.1 next _ c.in-Ok.ensures,
     )
 
-pub read_children-returns-in-Err : goal.read_children-returns-in-Err
-read_children-returns-in-Err t c =
+pub read_sorted-returns-in-Err : goal.read_sorted-returns-in-Err
+read_sorted-returns-in-Err t c =
     let source = source_of c.args.source.now in
     let role = c.of_member.result in
     let e : Entry = (c.in-Some.name.now, c.in-Some.value.now) in
@@ -194,8 +252,8 @@ read_children-returns-in-Err t c =
     (c.in_member.ensures.place (object all) d (rest_here all left rest e kept.0 first))
     c.in_member.ensures.mismatch c.in-Err.ensures)
 
-pub read_children-returns : goal.read_children-returns
-read_children-returns t c =
+pub read_sorted-returns : goal.read_sorted-returns
+read_sorted-returns t c =
     let source = source_of c.args.source.now in
     let none = no_member_next source c.loop-name.name-iterator c.in-None.ensures.steps.0 in
     all_new _ _ (all_done _ _ _ _ c.loop-name.invariant.1 none)
