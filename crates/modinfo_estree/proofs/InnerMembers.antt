@@ -1,7 +1,9 @@
 -- Candidates among members that are put, one after another.
-use Rattle.std.proofs.Common.{◌≡◌, ℕ, zero, suc, ◌+◌, ◌<◌, Bool, true, false, ◌||◌, true≢false, cond, List, [], ◌∷◌, ◌++◌, map}
+use Rattle.std.proofs.Common.{◌≡◌, ℕ, zero, suc, ◌+◌, ◌<◌, Bool, true, false, ◌||◌, true≢false}
+use Rattle.std.proofs.Common.{cond, List, [], ◌∷◌, ◌++◌, map}
 use Rattle.std.proofs.Common.{add-one, drop-cons, filter, length, take, drop, get_or, set}
-use Rattle.std.proofs.Common.{Option, Some, None, arith, inl, inr, refl, sym, ap, subst, ◌∙◌, Ordering, Less, Equal, Greater}
+use Rattle.std.proofs.Common.{Option, Some, None, arith, inl, inr, refl, sym, ap, subst, ◌∙◌}
+use Rattle.std.proofs.Common.{Ordering, Less, Equal, Greater}
 use Rattle.std.proofs.lemmas.Bool.{cases_Bool, cond-true, cond-false}
 use Rattle.std.proofs.lemmas.Cmp.{nat_list_cmp_total}
 use Rattle.std.proofs.lemmas.Map.Text.{is_eq-slice_cmp}
@@ -155,7 +157,8 @@ other_inserted k e (x ∷ es) outer none =
         ≡ cond b (x ∷ filter is_inner es) (filter is_inner es)
     by Less less b is none rest = filter-dropped (k, e) (x ∷ es) outer
         ∙ ap (λ b. cond b (x ∷ filter is_inner es) (filter is_inner es)) is
-    by Equal same true is none rest = absurd (any_first (is_named k x) (list_any (is_named k) (filter is_inner es))
+    by Equal same true is none rest = absurd (any_first (is_named k x)
+        (list_any (is_named k) (filter is_inner es))
         ((bytes_eq-Decides x.0 k).1 (sym ((bytes_eq-Decides k x.0).0 (same_key k x.0 same)))) none)
     by Equal same false is none rest = filter-dropped (x.0, e) es outer
     by Greater more true is none rest = filter-kept x (insert_entry es k e) is
@@ -178,7 +181,8 @@ replaced_at (x ∷ xs) zero k v old other new lt here there same named is =
     ∙ sym (inserted_as Equal (entry_of x) (map entry_of xs) k v
     (ap (λ c. slice_cmp nat_cmp k c.name.now) (sym here) ∙ same))
 replaced_at (x ∷ xs) (suc at) k v old other new lt here there same named is =
-    ap (λ l. entry_of x ∷ l) (replaced_at xs at k v old other new (omega (arith, lt)) here there same named is)
+    ap (λ l. entry_of x ∷ l)
+    (replaced_at xs at k v old other new (omega (arith, lt)) here there same named is)
 
 -- ---- the children in the candidates that are left
 
@@ -246,12 +250,12 @@ module _ (source : EstreeSource) where
       ]
 
 -- The children of the candidates so far were read, and these candidates are left.
-pub record AreLeft (all : Members) (found : List Entry) (old new : List Child) (source : EstreeSource) : Type 0
-  where
-    pub left : List Entry
-    pub rest : IsRest all left
-    pub kept : found ≡ filter is_inner left
-    pub so_far : AreSoFar old new (children_in source all) (children_in source (named_data left))
+pub record AreLeft (all : Members) (found : List Entry) (old new : List Child) (source : EstreeSource)
+    : Type 0 where
+  pub left : List Entry
+  pub rest : IsRest all left
+  pub kept : found ≡ filter is_inner left
+  pub so_far : AreSoFar old new (children_in source all) (children_in source (named_data left))
 
 item_first : (found : List Candidate) (at : ℕ) (item : Candidate) → at < length found
     → item ≡ get_or found at item

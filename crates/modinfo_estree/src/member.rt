@@ -1,6 +1,7 @@
 //! The members of a node that aren't nodes.
 
-ghost use Rattle.std.specs.Prelude.{◌≡◌, option_map};
+ghost use Rattle.std.specs.Prelude.{◌≡◌, codes, option_map};
+ghost use Rattle.serde_json.specs.Find.{get_member};
 ghost use Rattle.deno_graph_json.specs.Data.{data_of};
 ghost use Rattle.deno_graph_json.specs.ObjectReader.{readable, value_of};
 ghost use Rattle.deno_graph_json.specs.Read.Result.{IsReadResult};
@@ -29,6 +30,18 @@ pub fn text_at<'v>(members: &Members<'v>, name: &str) -> Option<&'v str>
     ensures { option_map (λ text. text.now) result ≡ spec.text_at name.now (readable members.now) }
 {
     members.get(name)?.as_str()
+}
+
+/// Like `text_at`, for a member that `find` found.
+pub fn text_found<'v>(
+    members: &Members<'_>,
+    name: &str,
+    found: Option<Element<'v>>,
+) -> Option<&'v str>
+    requires { option_map data_of found ≡ get_member name.now (readable members.now) }
+    ensures { option_map (λ text. text.now) result ≡ spec.text_at name.now (readable members.now) }
+{
+    found?.as_str()
 }
 
 /// Returns whether a member is this string.
@@ -109,12 +122,32 @@ pub fn read_range(offsets: &Offsets<'_>, members: &Members<'_>) -> Result<Source
     ensures { IsReadResult (value_of members.now)
         (spec.reads_range (byte_in offsets.now) (readable members.now)) result }
 {
-    match members.get("range") {
+    let mut found = [None; 3];
+    members.find(&["range", "start", "end"], &mut found);
+    let [range, start, end] = found;
+    read_found_range(offsets, members, range, start, end)
+}
+
+/// Like `read_range`, for members that `find` found.
+pub fn read_found_range(
+    offsets: &Offsets<'_>,
+    members: &Members<'_>,
+    range: Option<Element<'_>>,
+    start: Option<Element<'_>>,
+    end: Option<Element<'_>>,
+) -> Result<SourceRange, ReadError>
+    requires range { option_map data_of range ≡ get_member (codes "range") (readable members.now) }
+    requires start { option_map data_of start ≡ get_member (codes "start") (readable members.now) }
+    requires end { option_map data_of end ≡ get_member (codes "end") (readable members.now) }
+    ensures { IsReadResult (value_of members.now)
+        (spec.reads_range (byte_in offsets.now) (readable members.now)) result }
+{
+    match range {
         Some(value) => match value.as_pair() {
             Some((start, end)) => Ok(range_between(offsets, start as usize, end as usize)),
             None => Err(members.member_error("range", EXPECTED_RANGE)),
         },
-        None => read_start_and_end(offsets, members),
+        None => read_start_and_end(offsets, members, start, end),
     }
 }
 
@@ -123,12 +156,16 @@ pub fn read_range(offsets: &Offsets<'_>, members: &Members<'_>) -> Result<Source
 fn read_start_and_end(
     offsets: &Offsets<'_>,
     members: &Members<'_>,
+    start: Option<Element<'_>>,
+    end: Option<Element<'_>>,
 ) -> Result<SourceRange, ReadError>
+    requires start { option_map data_of start ≡ get_member (codes "start") (readable members.now) }
+    requires end { option_map data_of end ≡ get_member (codes "end") (readable members.now) }
     ensures { IsReadResult (value_of members.now)
         (spec.reads_start_and_end (byte_in offsets.now) (readable members.now)) result }
 {
-    let start = members.read("start")?;
-    let end = members.read("end")?;
+    let start = members.read_found("start", start)?;
+    let end = members.read_found("end", end)?;
     Ok(range_between(offsets, start, end))
 }
 

@@ -11,7 +11,7 @@ ghost use Rattle.modinfo_estree.specs.internal.Node.{AreAppended};
 
 use crate::candidates::{Candidate, candidates};
 use crate::child::{Child, sort_by_start};
-use crate::member::{read_range, text_at, type_of};
+use crate::member::{read_found_range, text_found, type_of};
 use crate::reading::Reading;
 use crate::role::Role;
 use crate::source::{Members, Source};
@@ -29,10 +29,13 @@ pub fn read_node(alloc: Global, source: &Source<'_>, value: Element<'_>) -> Resu
 {
     let members = read_object(alloc, value)?;
     let object = Members::of_members(alloc, members);
-    let range = read_range(&source.offsets, &object)?;
+    let mut found = [None; 4];
+    object.find(&["type", "range", "start", "end"], &mut found);
+    let [type_name, range, start, end] = found;
+    let range = read_found_range(&source.offsets, &object, range, start, end)?;
     let mut children = read_children(alloc, source, members)?.into_vec();
     sort_by_start(&mut children)?;
-    let name = text_at(&object, "type").unwrap_or("");
+    let name = text_found(&object, "type", type_name).unwrap_or("");
     let reading = Reading {
         alloc,
         source,

@@ -46,7 +46,8 @@ loop-name-preserved c =
     let e = c.in-Some.value in
     let left = members_of c.next.new.self in
     let none = ap (list_any (is_named k)) (sym kept.4)
-    ∙ ap (λ xs. list_any (is_named k) (map entry_of xs)) (sym c.deref.ensures.value) ∙ sym c.has_name.ensures ∙ c.if-has_name.false in (
+    ∙ ap (λ xs. list_any (is_named k) (map entry_of xs)) (sym c.deref.ensures.value)
+    ∙ sym c.has_name.ensures ∙ c.if-has_name.false in (
       tt,
       tt,
       insert_entry entries k e,

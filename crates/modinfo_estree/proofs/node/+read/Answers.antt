@@ -1,4 +1,5 @@
-use Rattle.std.proofs.Common.{◌≡◌, ◌≤◌, [], ◌∷◌, length, map, Some, None, arith, codes, sym, ap, refl, subst, unwrap_or, ◌∙◌}
+use Rattle.std.proofs.Common.{◌≡◌, ◌≤◌, [], ◌∷◌, length, map, Some, None}
+use Rattle.std.proofs.Common.{arith, codes, sym, ap, refl, subst, unwrap_or, ◌∙◌}
 use Rattle.serde_json.specs.Data.{array, object}
 use Rattle.serde_json.specs.Find.{get_item}
 use Rattle.deno_graph_json.specs.Data.{data_of, elements_data, members_data, named_data, view_data}
@@ -151,7 +152,8 @@ read_candidates-push_children-requires t c =
     let all = members_data c.args.members in
     let item = c.candidate-item.result in
     let next = next_left source all c.args.found.now c.loop-candidate.candidate-index item _ _
-    c.loop-candidate.invariant (omega (arith, c.loop-candidate-test.true, c.loop-candidate.auto.candidate-index-end))
+    c.loop-candidate.invariant
+    (omega (arith, c.loop-candidate-test.true, c.loop-candidate.auto.candidate-index-end))
     c.candidate-item.is in
     let e : Entry = entry_of item in
     (omega (arith, c.decreases, depth_of_member all (e ∷ next.after) next.after e next.here refl), tt)
@@ -162,7 +164,8 @@ read_candidates-loop-candidate-preserved t c =
     let all = members_data c.args.members in
     let item = c.candidate-item.result in
     let next = next_left source all c.args.found.now c.loop-candidate.candidate-index item _ _
-    c.loop-candidate.invariant (omega (arith, c.loop-candidate-test.true, c.loop-candidate.auto.candidate-index-end))
+    c.loop-candidate.invariant
+    (omega (arith, c.loop-candidate-test.true, c.loop-candidate.auto.candidate-index-end))
     c.candidate-item.is in
     let e : Entry = entry_of item in
     let first = next.same ∙ member_next source c.of_member.result (e ∷ next.after) next.after e refl
@@ -179,7 +182,8 @@ read_candidates-returns-in-Err t c =
     let all = members_data c.args.members in
     let item = c.candidate-item.result in
     let next = next_left source all c.args.found.now c.loop-candidate.candidate-index item _ _
-    c.loop-candidate.invariant (omega (arith, c.loop-candidate-test.true, c.loop-candidate.auto.candidate-index-end))
+    c.loop-candidate.invariant
+    (omega (arith, c.loop-candidate-test.true, c.loop-candidate.auto.candidate-index-end))
     c.candidate-item.is in
     let e : Entry = entry_of item in
     let first = next.same ∙ member_next source c.of_member.result (e ∷ next.after) next.after e refl
@@ -285,8 +289,8 @@ read_node-returns t c =
     let sorted : c.sort_by_start.new.children.items ≡ sorted_by_start children =
     c.in_ok-sort_by_start.ensures ∙ ap sorted_by_start c.into_vec-children.ensures in
     let named : c.unwrap_or-name.result.now ≡ unwrap_or (text_at (codes "type") ms) [] =
-    ap (λ name. name.now) c.unwrap_or-name.ensures ∙ text_or c.text_at.result _ refl
-    ∙ ap (λ found. unwrap_or found []) c.text_at.ensures in
+    ap (λ name. name.now) c.unwrap_or-name.ensures ∙ text_or c.text_found.result _ refl
+    ∙ ap (λ found. unwrap_or found []) c.text_found.ensures in
     subst (λ wanted. IsReadResult d wanted c.node_of_type.result) (sym (node_read source d))
     (object_on d _ ms c.node_of_type.result object
     (subst (λ wanted. IsReadResult (value_of c.of_members-object.result) wanted c.node_of_type.result)
