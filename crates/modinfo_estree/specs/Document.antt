@@ -1,5 +1,23 @@
 -- Documents with the tree of a parser, as ESTree describes it, and the module documents that they are.
-use Rattle.std.specs.Prelude.{◌&&◌, ◌||◌, ℕ, List, [], ◌∷◌, ◌++◌, codes, Bool, true, false, not, length, nat_eq, Option, Some, if◌then◌else◌}
+use Rattle.std.specs.Prelude.{
+  ◌&&◌,
+  ◌||◌,
+  ℕ,
+  List,
+  [],
+  ◌∷◌,
+  ◌++◌,
+  codes,
+  Bool,
+  true,
+  false,
+  not,
+  length,
+  nat_eq,
+  Option,
+  Some,
+  if◌then◌else◌,
+}
 use Rattle.std.specs.List.{starts_with}
 use Rattle.serde_json.specs.Data.{Data, Members}
 use Rattle.serde_json.specs.Find.{as_object, as_str}

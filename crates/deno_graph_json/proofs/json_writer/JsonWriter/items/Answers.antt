@@ -21,7 +21,8 @@ text-preserved g c =
     let wrote = c.in_ok-write-in-Text.ensures in
     record {
       text = output_more json xs i x (output c.text.self) (output c.write.new.out)
-          (with_more (items_text json xs) (output c.token.new.self)) below here c.text.invariant.text wrote.ok;
+          (with_more (items_text json xs) (output c.token.new.self)) below here
+          c.text.invariant.text wrote.ok;
       held = held_more g.T.ToJson.is_held xs i x below here c.text.invariant.held wrote.held;
     }
 

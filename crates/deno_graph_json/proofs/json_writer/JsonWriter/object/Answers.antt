@@ -23,7 +23,8 @@ unfolding with_value
 returns-in_ok-put_members-in-Value-clause-ok g c =
     let es = g.T.ToObject.entries c.args.value.now in
     let object = output c.put_members-in-Value.new.out in
-    let put = c.in_ok-put_members-in-Value.ensures.ok ∙ ap (with_entries with_member es) c.value-object.ensures in
+    let put = c.in_ok-put_members-in-Value.ensures.ok
+    ∙ ap (with_entries with_member es) c.value-object.ensures in
     on_ok_weaker c.set.result
     (λ same. ap (λ d. value d (members_view c.in-Value.out.members.entries))
     (ap view same ∙ c.into_object.ensures ∙ object_built es object put)
