@@ -355,7 +355,7 @@ describe("the package and that of its program", { skip: noNpm && "npm isn't ther
   test("in an empty folder the program reads a parser's tree as the page shows", { skip: noTree }, () => {
     const folder = folderOf();
     npm(["install", ...pack(MODINFO, folder)], folder);
-    const [, shown] = read("ADAPTERS.md").match(/^## Trees of ESTree\n.*?\n((?: {4}.*\n)+)/ms) ?? [];
+    const [, shown] = read("ADAPTERS.md").match(/^## Trees of ESTree\n.*?\n((?: {4}[^\n]*\n)+)/ms) ?? [];
     const script = `
       import { createRequire } from "node:module";
       import { Modinfo } from "modinfo";
