@@ -30,7 +30,7 @@ use std::fs::Files;
 
 const CASES: [(&str, usize); 9] = [
     ("broken", 100_000),
-    ("broken_estree", 5000),
+    ("broken_estree", 100_000),
     ("nested", 2000),
     ("calls", 2000),
     ("operands", 2000),
