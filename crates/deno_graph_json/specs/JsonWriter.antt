@@ -1,20 +1,24 @@
 -- What a `JsonWriter` has written.
-use Rattle.std.specs.Prelude.{◌≡◌, ℕ, List, [], ◌∷◌}
+use Rattle.std.specs.Prelude.{ℕ, List, [], ◌∷◌}
 use Rattle.json.specs.Token.{Token}
 use Rattle.serde_json.specs.Data.{Data, null, object, Members, put}
 use Rattle.serde_json.specs.View.{view, members_view}
 use Rattle.deno_graph_json.specs.Text.{Text, text_in, text_tokens, with_member_text, with_tokens}
+use Rattle.deno_graph_json.specs.declared.built_value.BuiltValue.{BuiltValue}
 use Rattle.deno_graph_json.specs.declared.json_writer.JsonWriter.{JsonWriter}
 use Rattle.deno_graph_json.specs.declared.json_writer.JsonWriter.TheVariants as writer
 
--- text, or the last value beside the members so far
+-- text, or the last value beside the members of an object
 pub data Output : Type 0 where
   text : Text → Output
   value : Data → Members → Output
 
+abbrev pub built : BuiltValue → Output
+built out = value (view out.last) (members_view out.members.entries)
+
 abbrev pub output : JsonWriter → Output
 output (writer.Text out) = text (text_in out)
-output (writer.Value out) = value (view out.last) (members_view out.members.entries)
+output (writer.Value out) = built out
 
 -- the output after a value
 unfoldable pub with_value : Data → Output → Output

@@ -10,11 +10,12 @@ ghost use Rattle.deno_graph_json.specs.JsonWriter.{object_part, output, text_par
 ghost use Rattle.deno_graph_json.specs.Object.{array_of, if_any, if_true, object_of, unless, with_present};
 ghost use Rattle.deno_graph_json.specs.Text.{text_in};
 
+use crate::built_value::BuiltValue;
 use crate::object::ToObject;
-use crate::write::{ToJson, to_value};
+use crate::write::ToJson;
 use deno_graph_base::values::Items;
 use json::{Token, Writer};
-use serde_json::{Map, Value, put};
+use serde_json::Value;
 use std::alloc::{AllocError, Global};
 
 /// Writes JSON, as text or as a value.
@@ -24,24 +25,12 @@ pub enum JsonWriter {
     Value(BuiltValue),
 }
 
-/// The last value that was written, beside the members of an object.
-#[derive(Drop)]
-pub struct BuiltValue {
-    alloc: Global,
-    last: Value,
-    members: Map<String, Value>,
-}
-
 impl JsonWriter {
     /// Begins a value: null, and an object with no members. Allocates nothing.
     pub fn value(alloc: Global) -> JsonWriter
         ensures { output result ≡ value null no_members }
     {
-        JsonWriter::Value(BuiltValue {
-            alloc,
-            last: Value::Null,
-            members: Map::new(alloc),
-        })
+        JsonWriter::Value(BuiltValue::new(alloc))
     }
 
     /// Returns the text, or an empty one for a value. Allocates nothing.
@@ -65,7 +54,7 @@ impl JsonWriter {
     }
 
     /// Returns the object of the members, or null for a text. Allocates nothing.
-    fn into_object(self) -> Value
+    pub(crate) fn into_object(self) -> Value
         ensures { view result ≡ object_part (output self) }
     {
         match self {
@@ -75,43 +64,47 @@ impl JsonWriter {
     }
 
     /// Writes null. The only error is that an allocation fails, as in all functions below.
+    #[inline(always)]
     pub fn null(&mut self) -> Result<(), AllocError>
         ensures { OnOk result (output self.new ≡ with_value null (output self.old)) }
     {
         match self {
             JsonWriter::Text(out) => out.null(),
-            JsonWriter::Value(out) => set(&mut out.last, Value::Null),
+            JsonWriter::Value(out) => out.set(Value::Null),
         }
     }
 
     /// Writes a boolean.
+    #[inline(always)]
     pub fn boolean(&mut self, flag: bool) -> Result<(), AllocError>
         ensures { OnOk result (output self.new ≡ with_value (boolean flag) (output self.old)) }
     {
         match self {
             JsonWriter::Text(out) => out.boolean(flag),
-            JsonWriter::Value(out) => set(&mut out.last, Value::Bool(flag)),
+            JsonWriter::Value(out) => out.set(Value::Bool(flag)),
         }
     }
 
     /// Writes a whole number.
+    #[inline(always)]
     pub fn whole(&mut self, n: usize) -> Result<(), AllocError>
         ensures { OnOk result
             (output self.new ≡ with_value (number (unsigned n)) (output self.old)) }
     {
         match self {
             JsonWriter::Text(out) => out.u64(n as u64),
-            JsonWriter::Value(out) => set(&mut out.last, Value::from(n)),
+            JsonWriter::Value(out) => out.set(Value::from(n)),
         }
     }
 
     /// Writes a string.
+    #[inline(always)]
     pub fn string(&mut self, text: &str) -> Result<(), AllocError>
         ensures { OnOk result (output self.new ≡ with_value (string text.now) (output self.old)) }
     {
         match self {
             JsonWriter::Text(out) => out.string(text),
-            JsonWriter::Value(out) => { set(&mut out.last, Value::try_from_str(out.alloc, text)?) }
+            JsonWriter::Value(out) => out.string(text),
         }
     }
 
@@ -124,22 +117,17 @@ impl JsonWriter {
         match self {
             JsonWriter::Text(_) => {
                 self.token(Token::BeginArray)?;
-                'text: for item in items {
+                for item in items {
                     item.write(self)?;
                 }
                 self.token(Token::EndArray)
             }
-            JsonWriter::Value(out) => {
-                let mut values = Vec::with_capacity(out.alloc, items.len())?;
-                'value: for item in items {
-                    values.push(to_value(out.alloc, item)?)?;
-                }
-                set(&mut out.last, Value::Array(values))
-            }
+            JsonWriter::Value(out) => out.items(items),
         }
     }
 
     /// Writes the members of `value` as an object.
+    #[inline(always)]
     pub fn object<T: ToObject>(&mut self, value: &T) -> Result<(), AllocError>
         ensures ok { OnOk result
             (output self.new ≡ with_value (object_of (T.entries value.now)) (output self.old)) }
@@ -151,15 +139,12 @@ impl JsonWriter {
                 value.put_members(self)?;
                 self.token(Token::EndObject)
             }
-            JsonWriter::Value(out) => {
-                let mut object = JsonWriter::value(out.alloc);
-                value.put_members(&mut object)?;
-                set(&mut out.last, object.into_object())
-            }
+            JsonWriter::Value(out) => out.object(value),
         }
     }
 
     /// Writes a token of a text that a value doesn't have.
+    #[inline(always)]
     fn token(&mut self, token: Token<'_>) -> Result<(), AllocError>
         requires { IsPrintable (token_of token) }
         ensures { OnOk result (output self.new ≡ with_token (token_of token.entry) (output self.old)) }
@@ -171,6 +156,7 @@ impl JsonWriter {
     }
 
     /// Writes `value` as the member `key`.
+    #[inline(always)]
     pub fn put<T: ToJson>(&mut self, key: &str, value: &T) -> Result<(), AllocError>
         ensures ok { OnOk result
             (output self.new ≡ with_member key.now (T.json value.now) (output self.old)) }
@@ -181,14 +167,12 @@ impl JsonWriter {
                 out.key(key)?;
                 value.write(self)
             }
-            JsonWriter::Value(out) => {
-                let json = to_value(out.alloc, value)?;
-                put(&mut out.members, out.alloc, key, json)
-            }
+            JsonWriter::Value(out) => out.put(key, value),
         }
     }
 
     /// Writes a string as the member `key`.
+    #[inline(always)]
     pub fn put_str(&mut self, key: &str, text: &str) -> Result<(), AllocError>
         ensures { OnOk result
             (output self.new ≡ with_member key.now (string text.now) (output self.old)) }
@@ -198,14 +182,12 @@ impl JsonWriter {
                 out.key(key)?;
                 out.string(text)
             }
-            JsonWriter::Value(out) => {
-                let json = Value::try_from_str(out.alloc, text)?;
-                put(&mut out.members, out.alloc, key, json)
-            }
+            JsonWriter::Value(out) => out.put_str(key, text),
         }
     }
 
     /// Writes the member `key` if there is a value.
+    #[inline(always)]
     pub fn put_some<T: ToJson>(&mut self, key: &str, value: &Option<T>) -> Result<(), AllocError>
         ensures ok { OnOk result (output self.new
             ≡ with_present with_member key.now (option_map T.json value.now) (output self.old)) }
@@ -218,6 +200,7 @@ impl JsonWriter {
     }
 
     /// Writes `value` as the member `key`, unless `is_default` holds.
+    #[inline(always)]
     pub fn put_unless<T: ToJson>(
         &mut self,
         is_default: bool,
@@ -236,6 +219,7 @@ impl JsonWriter {
     }
 
     /// Writes `true` as the member `key` if the flag is set.
+    #[inline(always)]
     pub fn put_flag(&mut self, key: &str, flag: bool) -> Result<(), AllocError>
         ensures ok { OnOk result (output self.new
             ≡ with_present with_member key.now (if_true flag) (output self.old)) }
@@ -244,6 +228,7 @@ impl JsonWriter {
     }
 
     /// Writes the items as the member `key`, an array, if there are any.
+    #[inline(always)]
     pub fn put_list<T: ToJson>(&mut self, key: &str, items: &Items<T>) -> Result<(), AllocError>
         ensures ok { OnOk result (output self.new ≡ with_present with_member key.now
             (option_map (array_of T.json) (if_any items.now)) (output self.old)) }
@@ -251,11 +236,4 @@ impl JsonWriter {
     {
         self.put_unless(items.is_empty(), key, items)
     }
-}
-
-fn set(place: &mut Value, value: Value) -> Result<(), AllocError>
-    ensures { OnOk result (place.new ≡ value) }
-{
-    *place = value;
-    Ok(())
 }

@@ -1,6 +1,7 @@
 //! JSON: texts read into flat lists, JSON Pointers, and traits to read and write typed values.
 #![tactic(auto)]
 
+pub mod built_value;
 pub mod error;
 pub mod expected;
 pub mod flat;
