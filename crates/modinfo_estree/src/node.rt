@@ -9,7 +9,7 @@ ghost use Rattle.modinfo_estree.specs.Source.{source_of};
 ghost use Rattle.modinfo_estree.specs.internal.Candidates.{AreCandidates};
 ghost use Rattle.modinfo_estree.specs.internal.Node.{AreAppended};
 
-use crate::candidates::{Candidate, candidates};
+use crate::candidates::{Candidate, candidates, candidates_of};
 use crate::child::{Child, sort_by_start};
 use crate::member::{read_found_range, text_found, type_of};
 use crate::reading::Reading;
@@ -57,7 +57,11 @@ fn read_children(
 {
     match candidates(alloc, members)? {
         Some(found) => read_candidates(alloc, source, members, &found),
-        None => read_sorted(alloc, source, members),
+        None => {
+            let sorted = members.sorted(alloc)?;
+            let found = candidates_of(alloc, &sorted)?;
+            read_candidates(alloc, source, members, &found)
+        }
     }
 }
 
@@ -67,7 +71,7 @@ fn read_candidates(
     alloc: Global,
     source: &Source<'_>,
     members: deno_graph_json::Members<'_>,
-    found: &[Candidate<'_>],
+    found: &[Candidate<'_, '_>],
 ) -> Result<Items<Child>, ReadError>
     requires { AreCandidates (members_data members) found.now }
     ensures { IsReadResult (object (members_data members.entry))
@@ -83,27 +87,6 @@ fn read_candidates(
             candidate.value,
             &mut children,
         ) {
-            Ok(()) => {}
-            Err(error) => return Err(error.in_member(alloc, name)),
-        }
-    }
-    Ok(children)
-}
-
-/// Reads the nodes below a node, from all its members in the order of their names.
-#[cycle(read)]
-fn read_sorted(
-    alloc: Global,
-    source: &Source<'_>,
-    members: deno_graph_json::Members<'_>,
-) -> Result<Items<Child>, ReadError>
-    ensures { IsReadResult (object (members_data members.entry))
-        (children_in (source_of source.now) (members_data members.entry)) result }
-{
-    let found = members.sorted(alloc)?;
-    let mut children = Items::new(alloc);
-    for (name, value) in &found {
-        match push_children(alloc, source, Role::of_member(name), *value, &mut children) {
             Ok(()) => {}
             Err(error) => return Err(error.in_member(alloc, name)),
         }

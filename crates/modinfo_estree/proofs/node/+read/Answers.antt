@@ -2,12 +2,12 @@ use Rattle.std.proofs.Common.{◌≡◌, ◌≤◌, [], ◌∷◌, length, map, 
 use Rattle.std.proofs.Common.{arith, codes, sym, ap, refl, subst, unwrap_or, ◌∙◌}
 use Rattle.serde_json.specs.Data.{array, object}
 use Rattle.serde_json.specs.Find.{get_item}
-use Rattle.deno_graph_json.specs.Data.{data_of, elements_data, members_data, named_data, view_data}
+use Rattle.deno_graph_json.specs.Data.{data_of, elements_data, members_data, view_data}
 use Rattle.deno_graph_json.specs.ObjectReader.{readable, value_of}
 use Rattle.deno_graph_json.specs.Read.Result.{IsReadResult}
 use Rattle.deno_graph_json.proofs.ArrayElements.{AreFrom, depth_of_item, elements_next, from_begin}
 use Rattle.deno_graph_json.proofs.ArrayElements.{from_next, from_here}
-use Rattle.deno_graph_json.proofs.ObjectMembers.{Entry, depth_of_member, rest_begin, rest_here, rest_next}
+use Rattle.deno_graph_json.proofs.ObjectMembers.{Entry, depth_of_member, rest_here, rest_next}
 use Rattle.deno_graph_json.proofs.Reading.{error_around, object_on, reading}
 use Rattle.modinfo_estree.specs.Child.{sorted_by_start}
 use Rattle.modinfo_estree.specs.Member.{text_at}
@@ -29,7 +29,6 @@ use Rattle.modinfo_estree.proofs.Nodes.{
   next_error,
   no_child,
   no_item_next,
-  no_member_next,
   no_type,
   node_read,
   none_yet,
@@ -203,64 +202,6 @@ read_candidates-returns t c =
     let none = sym (ap (map entry_of) (drop_all c.loop-candidate.candidate-index c.args.found.now past))
     ∙ kept.kept in
     all_new _ _ (all_done _ _ _ _ kept.so_far (no_candidate source kept.left none))
-
-pub read_sorted-loop-name-init : goal.read_sorted-loop-name-init
-read_sorted-loop-name-init t c =
-    let all = members_data c.args.members in
-    let found = c.in_ok-found.found in
-    let members = c.in_ok-found.ensures.members in
-    let begun = c.into_iter-name-iterator.ensures.into_iter_gives.0 in (
-      rest_begin all found c.into_iter-name-iterator.result members c.in_ok-found.ensures.ordered begun,
-      none_yet _ _ _ _ c.new-children.ensures
-          (ap (λ es. children_in (source_of c.args.source.now) (named_data es)) begun
-          ∙ ap (children_in (source_of c.args.source.now)) members),
-    )
-
-pub read_sorted-push_children-requires : goal.read_sorted-push_children-requires
-read_sorted-push_children-requires t c =
-    let e : Entry = (c.in-Some.name.now, c.in-Some.value.now) in
-    let all = members_data c.args.members in
-    let left = c.loop-name.name-iterator in
-    let rest = c.next.new.self in
-    let below = depth_of_member all left rest e c.loop-name.invariant.0 c.in-Some.ensures.steps in
-    (omega (arith, c.decreases, below), tt)
-
-pub read_sorted-loop-name-preserved : goal.read_sorted-loop-name-preserved
-read_sorted-loop-name-preserved t c =
-    let source = source_of c.args.source.now in
-    let e : Entry = (c.in-Some.name.now, c.in-Some.value.now) in
-    let all = members_data c.args.members in
-    let left = c.loop-name.name-iterator in
-    let rest = c.next.new.self in
-    let first = c.in-Some.ensures.steps in
-    let kept = c.loop-name.invariant in
-    let next = member_next source c.of_member.result left rest e first c.of_member.ensures in (
-      rest_next all left rest e kept.0 first,
-      some_more _ _ _ _ _ _ kept.1 next _ c.in-Ok.ensures,
-    )
-
-pub read_sorted-returns-in-Err : goal.read_sorted-returns-in-Err
-read_sorted-returns-in-Err t c =
-    let source = source_of c.args.source.now in
-    let role = c.of_member.result in
-    let e : Entry = (c.in-Some.name.now, c.in-Some.value.now) in
-    let all = members_data c.args.members in
-    let left = c.loop-name.name-iterator in
-    let rest = c.next.new.self in
-    let first = c.in-Some.ensures.steps in
-    let kept = c.loop-name.invariant in
-    let d = data_of c.in-Some.value.now in
-    next_error _ _ _ _ _ _ kept.1 (member_next source role left rest e first c.of_member.ensures)
-    (object all) c.in_member.result
-    (error_around (object all) d (children_at source role d) c.in-Err.error c.in_member.result
-    (c.in_member.ensures.place (object all) d (rest_here all left rest e kept.0 first))
-    c.in_member.ensures.mismatch c.in-Err.ensures)
-
-pub read_sorted-returns : goal.read_sorted-returns
-read_sorted-returns t c =
-    let source = source_of c.args.source.now in
-    let none = no_member_next source c.loop-name.name-iterator c.in-None.ensures.steps.0 in
-    all_new _ _ (all_done _ _ _ _ c.loop-name.invariant.1 none)
 
 pub read_node-returns-in_err-members : goal.read_node-returns-in_err-members
 unfolding node_with

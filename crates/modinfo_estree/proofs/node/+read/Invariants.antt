@@ -1,10 +1,9 @@
 -- The children so far were appended, and the other items or members are left.
 use Rattle.std.proofs.Common.{◌+◌, ◌*◌, [], drop, map}
 use Rattle.serde_json.specs.Data.{depth, items_depth, members_depth}
-use Rattle.deno_graph_json.specs.Data.{data_of, elements_data, members_data, named_data}
+use Rattle.deno_graph_json.specs.Data.{data_of, elements_data, members_data}
 use Rattle.deno_graph_json.proofs.ArrayElements.{AreFrom}
-use Rattle.deno_graph_json.proofs.ObjectMembers.{IsRest}
-use Rattle.modinfo_estree.specs.Node.{children_among, children_in}
+use Rattle.modinfo_estree.specs.Node.{children_among}
 use Rattle.modinfo_estree.specs.Source.{source_of}
 use Rattle.modinfo_estree.specs.internal.Candidates.{entry_of}
 use Rattle.modinfo_estree.proofs.InnerMembers.{AreLeft}
@@ -29,9 +28,6 @@ decreases-read_children l = 5 * members_depth (members_data l.members) + 4
 abbrev pub decreases-read_candidates : goal.decreases-read_candidates
 decreases-read_candidates l = 5 * members_depth (members_data l.members) + 3
 
-abbrev pub decreases-read_sorted : goal.decreases-read_sorted
-decreases-read_sorted l = 5 * members_depth (members_data l.members) + 3
-
 abbrev pub invariant-push_items-loop-index : goal.invariant-push_items-loop-index
 invariant-push_items-loop-index l =
     AreFrom l.index-iterator.count (elements_data l.fn.items) (elements_data l.index-iterator.iter)
@@ -43,8 +39,3 @@ abbrev pub invariant-read_candidates-loop-candidate : goal.invariant-read_candid
 invariant-read_candidates-loop-candidate l =
     AreLeft (members_data l.members) (map entry_of (drop l.candidate-index l.found)) [] l.children
     (source_of l.source)
-
-abbrev pub invariant-read_sorted-loop-name : goal.invariant-read_sorted-loop-name
-invariant-read_sorted-loop-name l = IsRest (members_data l.members) l.name-iterator
-    × AreSoFar [] l.children (children_in (source_of l.source) (members_data l.members))
-    (children_in (source_of l.source) (named_data l.name-iterator))
