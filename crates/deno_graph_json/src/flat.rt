@@ -142,6 +142,7 @@ impl<'a> Element<'a> {
     }
 
     /// Returns the text if the value is a string.
+    #[inline(always)]
     pub fn as_str(self) -> Option<&'a str>
         ensures { option_map (λ text. text.now) result ≡ as_str (data_of self.entry) }
     {
@@ -248,6 +249,7 @@ impl<'a> Members<'a> {
     ghost use Rattle.serde_json.specs.Find.{get_member};
 
     /// Returns the value of the last member with this name. Compares the name of each member.
+    #[inline(always)]
     pub fn get(self, name: &str) -> Option<Element<'a>>
         ensures json { option_map data_of result ≡ get_member name.now (members_data self.entry) }
     {
@@ -271,6 +273,7 @@ impl<'a> Iterator for Members<'a> {
 
     ghost remaining = { λ members. at_most (left_of members) };
 
+    #[inline(always)]
     fn next(&mut self) -> Option<(&'a str, Element<'a>)> {
         let (key, nodes) = self.nodes.split_first()?;
         let Node::Key(name) = key else {

@@ -56,6 +56,7 @@ impl<'v, Whole> ObjectReader<'v, Whole> {
     }
 
     /// Finds the value of the last member with this name.
+    #[inline(always)]
     pub fn get(&self, key: &str) -> Option<Element<'v>>
         ensures { option_map data_of result ≡ get_member key.now (readable self.now) }
     {

@@ -19,6 +19,7 @@ use std::alloc::Global;
 
 /// Returns the type of a node, or None if the value is no node: nodes are the objects whose member `type`
 /// is a string.
+#[inline(always)]
 pub fn type_of(value: Element<'_>) -> Option<&str>
     ensures { option_map (λ text. text.now) result ≡ spec.type_of (data_of value.entry) }
 {
@@ -26,6 +27,7 @@ pub fn type_of(value: Element<'_>) -> Option<&str>
 }
 
 /// Returns the text of a member that is a string.
+#[inline(always)]
 pub fn text_at<'v>(members: &Members<'v>, name: &str) -> Option<&'v str>
     ensures { option_map (λ text. text.now) result ≡ spec.text_at name.now (readable members.now) }
 {
@@ -33,6 +35,7 @@ pub fn text_at<'v>(members: &Members<'v>, name: &str) -> Option<&'v str>
 }
 
 /// Like `text_at`, for a member that `find` found.
+#[inline(always)]
 pub fn text_found<'v>(
     members: &Members<'_>,
     name: &str,
@@ -45,6 +48,7 @@ pub fn text_found<'v>(
 }
 
 /// Returns whether a member is this string.
+#[inline(always)]
 pub fn has_text(members: &Members<'_>, name: &str, text: &str) -> bool
     ensures { result ≡ spec.has_text name.now text.now (readable members.now) }
 {
@@ -85,6 +89,7 @@ fn name_at<'v>(members: &Members<'v>, name: &str) -> Option<&'v str>
 }
 
 /// Returns whether a member is true.
+#[inline(always)]
 pub fn is_true(members: &Members<'_>, name: &str) -> bool
     ensures { result ≡ spec.is_true name.now (readable members.now) }
 {
