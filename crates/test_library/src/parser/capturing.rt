@@ -1,4 +1,4 @@
-use crate::sources::{U, assert_module, counter, parse, parsed, parsed_with, parser, url};
+use crate::parser::sources::{U, assert_module, counter, parse, parsed, parsed_with, parser, url};
 use deno_graph_analysis::ast::{
     CapturingEsParser, CapturingModuleAnalyzer, DefaultParsedSourceStore, ParseError,
     ParsedSourceStore, ParserModuleAnalyzer,

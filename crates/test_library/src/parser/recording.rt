@@ -1,6 +1,6 @@
 //! Tests of which scope option boxed parsers and analyzers pass to their parser.
 
-use crate::sources::{assert_module, assert_parsed, counter, parser};
+use crate::parser::sources::{assert_module, assert_parsed, counter, parser};
 use deno_graph_analysis::ast::{
     CapturingModuleAnalyzer, DefaultParsedSourceStore, EsParser, ModuleAnalyzer, ParseError,
     ParseOptions, ParserModuleAnalyzer,

@@ -1,4 +1,4 @@
-use crate::copied::is_copied;
+use crate::source::copied::is_copied;
 use deno_graph_source::text::{JsString, Position, SourceTextInfo};
 use deno_graph_source::values::TryClone;
 use std::process::Abort;

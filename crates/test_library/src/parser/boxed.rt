@@ -1,4 +1,4 @@
-use crate::sources::{U, assert_parsed, counter, parsed, parsed_with, parser, url};
+use crate::parser::sources::{U, assert_parsed, counter, parsed, parsed_with, parser, url};
 use deno_graph_analysis::ast::{
     CapturingModuleAnalyzer, DefaultParsedSourceStore, EsParser, ParsedSourceStore,
 };

@@ -1,7 +1,9 @@
 //! Tests of calls in which the parser or the store is out of memory once.
 
-use crate::failing::{FailingParser, FailingStore};
-use crate::sources::{Plan, U, V, analyze, commands, counter, parse, parsed, parser, shared, url};
+use crate::parser::failing::{FailingParser, FailingStore};
+use crate::parser::sources::{
+    Plan, U, V, analyze, commands, counter, parse, parsed, parser, shared, url,
+};
 use deno_graph_analysis::ast::{
     AnalyzeError, CapturingModuleAnalyzer, DefaultParsedSourceStore, EsParser, ModuleAnalyzer,
     ParseError, ParsedSourceStore, run,

@@ -1,6 +1,6 @@
 //! Each call of lists, texts and maps once.
 
-use crate::copied::is_copied;
+use crate::source::copied::is_copied;
 use deno_graph_source::values::{Items, Text, TextMap};
 use std::process::Abort;
 

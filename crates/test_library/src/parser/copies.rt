@@ -1,6 +1,6 @@
 //! Tests of `try_clone` of commands, options, scans, answers and errors.
 
-use crate::sources::{Plan, U, analyze, commands, parsed, shared, url};
+use crate::parser::sources::{Plan, U, analyze, commands, parsed, shared, url};
 use deno_graph_analysis::ast::{
     AnalyzeError, Answer, Command, ParseDiagnostic, ParseError, ParseOptions,
 };

@@ -1,6 +1,6 @@
 //! Trees that are made in code.
 
-use crate::copied::is_copied;
+use crate::source::copied::is_copied;
 use deno_graph_source::text::{JsString, SourceRange};
 use deno_graph_source::tree::{
     CommentKind, Comments, DependencyComment, ImportPhase, Kind, MediaType, Node, ParsedSource,

@@ -1,6 +1,6 @@
 //! Descriptors of dependencies, field by field.
 
-use crate::documents::source_of;
+use crate::program::documents::source_of;
 use deno_graph_analysis::ast::module_info;
 use deno_graph_analysis::dep::{self, analyze_program_dependencies};
 use deno_graph_info::analysis::{

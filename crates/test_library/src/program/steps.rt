@@ -1,6 +1,6 @@
 //! A walk, step by step.
 
-use crate::documents::source_of;
+use crate::program::documents::source_of;
 use deno_graph_analysis::dep::Walk;
 use std::process::Abort;
 

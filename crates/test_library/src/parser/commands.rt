@@ -1,4 +1,6 @@
-use crate::sources::{Plan, U, V, analyze, commands, counter, parsed, parser, source_with, url};
+use crate::parser::sources::{
+    Plan, U, V, analyze, commands, counter, parsed, parser, source_with, url,
+};
 use deno_graph_analysis::ast::{
     Answer, CapturingModuleAnalyzer, DefaultParsedSourceStore, ParsedSourceStore, run,
 };
