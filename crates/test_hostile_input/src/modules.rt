@@ -79,8 +79,15 @@ pub fn source(alloc: Global, name: &str, count: usize) -> Result<ParsedSource> {
         }
         "filings" => commented(alloc, "* {import('a')} ", count),
         name => {
+            let names = names(alloc, "")?;
             let body = body(alloc, name, count)?;
-            parsed(alloc, "", MediaType::TypeScript, body, Comments::new(alloc))
+            parsed(
+                alloc,
+                names,
+                MediaType::TypeScript,
+                body,
+                Comments::new(alloc),
+            )
         }
     }
 }
@@ -88,33 +95,35 @@ pub fn source(alloc: Global, name: &str, count: usize) -> Result<ParsedSource> {
 /// A module of one comment, filed this number of times before and after the module.
 fn commented(alloc: Global, text: &str, count: usize) -> Result<ParsedSource> {
     let source = format!(in alloc; "/*{text}*/")?;
+    let names = names(alloc, source.as_str())?;
     let comments = filed(alloc, text, source.len(), count)?;
     parsed(
         alloc,
-        source.as_str(),
+        names,
         MediaType::JavaScript,
         Items::new(alloc),
         comments,
     )
 }
 
+/// A specifier, and a text to be shared.
+fn names(alloc: Global, text: &str) -> Result<(Url, RcStr)> {
+    let specifier = Url::parse(alloc, "file:///a.ts")?;
+    Ok((specifier, RcStr::from_str(alloc, text)?))
+}
+
 fn parsed(
     alloc: Global,
-    text: &str,
+    (specifier, text): (Url, RcStr),
     media_type: MediaType,
     body: Items<Node>,
     comments: Comments,
 ) -> Result<ParsedSource> {
     let program = Program {
-        range: SourceRange {
-            start: 0,
-            end: text.len(),
-        },
+        range: SourceRange::new(0, text.len()),
         body,
         has_shebang: false,
     };
-    let specifier = Url::parse(alloc, "file:///a.ts")?;
-    let text = RcStr::from_str(alloc, text)?;
     Ok(ParsedSource::new(alloc, specifier, text, media_type, program, comments, false)?)
 }
 

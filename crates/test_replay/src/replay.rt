@@ -67,14 +67,14 @@ where
 {
     let case = Case::read(rt, block)?;
     let answer = answer_of(rt.alloc(), case.words.as_slice(), case.input.as_slice());
-    is_expected(rt, block.name, case.expected.as_str(), answer)
+    is_expected(rt, block.name, case.expected.as_str(), &answer)
 }
 
 fn is_expected<R: Print>(
     rt: &R,
     name: &str,
     expected: &str,
-    answer: Result<String, CaseError>,
+    answer: &Result<String, CaseError>,
 ) -> Result<bool, CaseError> {
     match answer {
         Ok(answer) => {
