@@ -1,3 +1,4 @@
+use deno_graph_analysis::ast::ParseError;
 use deno_graph_info::analysis::InfoFault;
 use deno_graph_json::{ReadError, TapeError};
 use deno_graph_source::tree::SourceFault;
@@ -6,7 +7,7 @@ use std::alloc::{AllocError, AllocFailed};
 use std::io::{self, ErrorKind};
 use thiserror::Error;
 
-/// Why a test case wasn't run.
+/// Why a test case wasn't run, or what is wrong after a call.
 #[derive(Debug, Drop, Error)]
 pub enum CaseError {
     /// An allocation failed.
@@ -18,6 +19,20 @@ pub enum CaseError {
     /// The test case is invalid: the reason, in words.
     #[error("{0}")]
     Invalid(&'static str),
+    /// A result or a state is wrong. The message says how.
+    #[error("{0}")]
+    Unexpected(&'static str),
+}
+
+impl CaseError {
+    /// The exit status of the program.
+    pub fn status(&self) -> u8 {
+        match self {
+            CaseError::Unexpected(_) => 1,
+            CaseError::File | CaseError::Invalid(_) => 2,
+            CaseError::OutOfMemory => 3,
+        }
+    }
 }
 
 impl From<AllocError> for CaseError {
@@ -93,6 +108,24 @@ impl From<InfoFault> for CaseError {
         match fault {
             InfoFault::OutOfMemory => CaseError::OutOfMemory,
             _ => CaseError::Invalid("an information of it can't be read"),
+        }
+    }
+}
+
+impl From<url::ParseError> for CaseError {
+    fn from(error: url::ParseError) -> CaseError {
+        match error {
+            url::ParseError::OutOfMemory => CaseError::OutOfMemory,
+            _ => CaseError::Unexpected("a specifier is no URL"),
+        }
+    }
+}
+
+impl From<ParseError> for CaseError {
+    fn from(error: ParseError) -> CaseError {
+        match error {
+            ParseError::OutOfMemory => CaseError::OutOfMemory,
+            ParseError::Diagnostic(_) => CaseError::Unexpected("a text is not parsed"),
         }
     }
 }

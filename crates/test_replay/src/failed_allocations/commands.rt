@@ -1,8 +1,8 @@
 //! Runs of commands.
 
-use crate::failure::Failure;
-use crate::outcome::{Outcome, check};
-use crate::sources::{U, V, options, parser, source, url};
+use crate::case_error::CaseError;
+use crate::failed_allocations::outcome::{Outcome, check};
+use crate::failed_allocations::sources::{U, V, options, parser, source, url};
 use deno_graph_analysis::ast::{
     Answer, CapturingModuleAnalyzer, Command, DefaultParsedSourceStore, EsParser,
     ParsedSourceStore, run,
@@ -76,7 +76,7 @@ struct Tested {
 }
 
 impl Tested {
-    fn new(alloc: Global) -> Result<Tested, Failure> {
+    fn new(alloc: Global) -> Result<Tested, CaseError> {
         let calls = Rc::new(alloc, Cell::new(0))?;
         let u = url(alloc, U)?;
         let v = url(alloc, V)?;
@@ -91,7 +91,7 @@ impl Tested {
     }
 
     /// Stores a source under `U` whose text the parser doesn't know.
-    fn store_another(&mut self, alloc: Global) -> Result<(), Failure> {
+    fn store_another(&mut self, alloc: Global) -> Result<(), CaseError> {
         let specifier = self.u.clone()?;
         let source = source(alloc, U, "c")?;
         drop(self.analyzer.set_parsed_source(alloc, specifier, source)?);
@@ -99,7 +99,7 @@ impl Tested {
     }
 
     /// Parses `b` under `V` by the capturing parser of the analyzer, and then runs the commands.
-    fn carry_out(&mut self, alloc: Global, commands: &[Command]) -> Result<Vec<Answer>, Failure> {
+    fn carry_out(&mut self, alloc: Global, commands: &[Command]) -> Result<Vec<Answer>, CaseError> {
         let options = options(alloc, &self.v, "b", false)?;
         drop(
             self.analyzer
@@ -144,7 +144,7 @@ impl Tested {
 }
 
 /// Returns the answers of a run in which no allocation fails.
-fn expected_answers(alloc: Global, commands: &[Command]) -> Result<Vec<Answer>, Failure> {
+fn expected_answers(alloc: Global, commands: &[Command]) -> Result<Vec<Answer>, CaseError> {
     let mut fresh = Tested::new(alloc)?;
     carry_out_all(alloc, &mut fresh, commands)
 }
@@ -153,7 +153,7 @@ fn carry_out_all(
     alloc: Global,
     fresh: &mut Tested,
     commands: &[Command],
-) -> Result<Vec<Answer>, Failure> {
+) -> Result<Vec<Answer>, CaseError> {
     fresh.store_another(alloc)?;
     let answers = fresh.carry_out(alloc, commands)?;
     check(fresh.is_in(alloc, &[END])?, "a command didn't run")?;
@@ -166,7 +166,7 @@ fn run_once(
     tested: &mut Tested,
     commands: &[Command],
     expected: &[Answer],
-) -> Result<Outcome, Failure> {
+) -> Result<Outcome, CaseError> {
     let outcome = outcome_of(tested.carry_out(alloc, commands), expected)?;
     outcome.provided(
         tested.is_in(alloc, &STATES)?,
@@ -175,31 +175,35 @@ fn run_once(
 }
 
 fn outcome_of(
-    answers: Result<Vec<Answer>, Failure>,
+    answers: Result<Vec<Answer>, CaseError>,
     expected: &[Answer],
-) -> Result<Outcome, Failure> {
+) -> Result<Outcome, CaseError> {
     match answers {
         Ok(answers) => {
             Outcome::Returned.provided(answers.as_slice() == expected, "the answers differ")
         }
-        Err(Failure::OutOfMemory) => Ok(Outcome::OutOfMemory),
+        Err(CaseError::OutOfMemory) => Ok(Outcome::OutOfMemory),
         Err(failure) => Err(failure),
     }
 }
 
 /// The commands before the failed command have run, the failed command in part, and none after it.
 /// A second run returns the same answers as the first run of a new analyzer.
-pub fn run_all(alloc: Global) -> Result<Outcome, Failure> {
+pub fn run_all(alloc: Global) -> Result<Outcome, CaseError> {
     let commands = commands(alloc, &COMMANDS)?;
     run_each(alloc, &commands)
 }
 
-fn run_each(alloc: Global, commands: &[Command]) -> Result<Outcome, Failure> {
+fn run_each(alloc: Global, commands: &[Command]) -> Result<Outcome, CaseError> {
     let expected = expected_answers(alloc, commands)?;
     run_first(alloc, commands, &expected)
 }
 
-fn run_first(alloc: Global, commands: &[Command], expected: &[Answer]) -> Result<Outcome, Failure> {
+fn run_first(
+    alloc: Global,
+    commands: &[Command],
+    expected: &[Answer],
+) -> Result<Outcome, CaseError> {
     let mut tested = Tested::new(alloc)?;
     run_twice(alloc, &mut tested, commands, expected)
 }
@@ -209,7 +213,7 @@ fn run_twice(
     tested: &mut Tested,
     commands: &[Command],
     expected: &[Answer],
-) -> Result<Outcome, Failure> {
+) -> Result<Outcome, CaseError> {
     tested.store_another(alloc)?;
     let outcome = run_once(alloc, tested, commands, expected)?;
     tested.store_another(alloc)?;
@@ -221,13 +225,13 @@ fn run_twice(
 }
 
 /// A run that allocates only the capacity for its answer: if that fails, no command has run.
-pub fn run_without_room(alloc: Global) -> Result<Outcome, Failure> {
+pub fn run_without_room(alloc: Global) -> Result<Outcome, CaseError> {
     let commands = commands(alloc, &[(Action::Remove, U, "")])?;
     let mut tested = Tested::new(alloc)?;
     run_one(alloc, &mut tested, &commands)
 }
 
-fn run_one(alloc: Global, tested: &mut Tested, commands: &[Command]) -> Result<Outcome, Failure> {
+fn run_one(alloc: Global, tested: &mut Tested, commands: &[Command]) -> Result<Outcome, CaseError> {
     tested.store_another(alloc)?;
     let (outcome, state) = match tested.run(alloc, commands) {
         Ok(_) => (Outcome::Returned, (0, None, None)),
@@ -239,7 +243,7 @@ fn run_one(alloc: Global, tested: &mut Tested, commands: &[Command]) -> Result<O
     )
 }
 
-fn commands(alloc: Global, planned: &[Planned]) -> Result<Vec<Command>, Failure> {
+fn commands(alloc: Global, planned: &[Planned]) -> Result<Vec<Command>, CaseError> {
     let mut commands = Vec::new(alloc);
     for (action, specifier, text) in planned {
         commands.push(command(alloc, *action, specifier, text)?)?;
@@ -247,7 +251,12 @@ fn commands(alloc: Global, planned: &[Planned]) -> Result<Vec<Command>, Failure>
     Ok(commands)
 }
 
-fn command(alloc: Global, action: Action, specifier: &str, text: &str) -> Result<Command, Failure> {
+fn command(
+    alloc: Global,
+    action: Action,
+    specifier: &str,
+    text: &str,
+) -> Result<Command, CaseError> {
     let specifier = url(alloc, specifier)?;
     let source = RcStr::from_str(alloc, text)?;
     let media_type = MediaType::JavaScript;

@@ -1,8 +1,8 @@
 //! `analyze_sync`, which parses a text, stores the source and then makes the info.
 
-use crate::failure::Failure;
-use crate::outcome::{Outcome, check};
-use crate::sources::{U, braces, info_of, source};
+use crate::case_error::CaseError;
+use crate::failed_allocations::outcome::{Outcome, check};
+use crate::failed_allocations::sources::{U, braces, info_of, source};
 use deno_graph_analysis::ast::{
     AnalyzeError, CapturingModuleAnalyzer, DefaultParsedSourceStore, ModuleAnalyzer,
     ParsedSourceStore,
@@ -77,7 +77,7 @@ struct Tested {
 }
 
 impl Tested {
-    fn new(alloc: Global) -> Result<Tested, Failure> {
+    fn new(alloc: Global) -> Result<Tested, CaseError> {
         let stored = Rc::new(alloc, Cell::new(0))?;
         let first = source(alloc, U, "a")?;
         let second = braces(alloc)?;
@@ -89,7 +89,7 @@ impl Tested {
         })
     }
 
-    fn store_first(&mut self, alloc: Global) -> Result<(), Failure> {
+    fn store_first(&mut self, alloc: Global) -> Result<(), CaseError> {
         let specifier = self.first.specifier().clone()?;
         let first = self.first.try_clone(alloc)?;
         drop(self.analyzer.set_parsed_source(alloc, specifier, first)?);
@@ -130,7 +130,7 @@ fn analyzer(
     alloc: Global,
     source: &ParsedSource,
     stored: &Rc<Cell<u64>>,
-) -> Result<Analyzer, Failure> {
+) -> Result<Analyzer, CaseError> {
     let mut sources = Vec::new(alloc);
     sources.push(source.try_clone(alloc)?)?;
     let parser = TableParser::new(sources, Rc::new(alloc, Cell::new(0))?);
@@ -143,12 +143,12 @@ fn analyzer(
 
 /// If the info is out of memory, the parsed source stays in the store. If the parse is out of
 /// memory, this returns no outcome: `stores::parse` tests that.
-pub fn analyze(alloc: Global) -> Result<Outcome, Failure> {
+pub fn analyze(alloc: Global) -> Result<Outcome, CaseError> {
     let mut tested = Tested::new(alloc)?;
     analyze_second(alloc, &mut tested)
 }
 
-fn analyze_second(alloc: Global, tested: &mut Tested) -> Result<Outcome, Failure> {
+fn analyze_second(alloc: Global, tested: &mut Tested) -> Result<Outcome, CaseError> {
     tested.store_first(alloc)?;
     let expected = info_of(alloc, &tested.second)?;
     analyze_and_check(alloc, tested, &expected)
@@ -158,7 +158,7 @@ fn analyze_and_check(
     alloc: Global,
     tested: &mut Tested,
     expected: &ModuleInfo,
-) -> Result<Outcome, Failure> {
+) -> Result<Outcome, CaseError> {
     let outcome = analyze_tested(alloc, tested, expected);
     check(
         tested.has_last(alloc)?,
@@ -171,7 +171,7 @@ fn analyze_tested(
     alloc: Global,
     tested: &mut Tested,
     expected: &ModuleInfo,
-) -> Result<Outcome, Failure> {
+) -> Result<Outcome, CaseError> {
     let found = tested.analyze(alloc)?;
     outcome(&found, expected, tested.is_parsed())
 }
@@ -180,13 +180,13 @@ fn outcome(
     found: &Result<ModuleInfo, AnalyzeError>,
     expected: &ModuleInfo,
     is_parsed: bool,
-) -> Result<Outcome, Failure> {
+) -> Result<Outcome, CaseError> {
     match found {
         Ok(info) => {
             Outcome::Returned.provided(is_parsed && info == expected, "the info is another")
         }
         Err(AnalyzeError::OutOfMemory) if is_parsed => Ok(Outcome::OutOfMemory),
-        Err(AnalyzeError::OutOfMemory) => Err(Failure::OutOfMemory),
-        Err(AnalyzeError::Parse(_)) => Err(Failure::Unexpected("a text is not parsed")),
+        Err(AnalyzeError::OutOfMemory) => Err(CaseError::OutOfMemory),
+        Err(AnalyzeError::Parse(_)) => Err(CaseError::Unexpected("a text is not parsed")),
     }
 }

@@ -1,6 +1,6 @@
 //! Small sources, and a parser that knows two texts under each of two specifiers.
 
-use crate::failure::Failure;
+use crate::case_error::CaseError;
 use deno_graph_analysis::ast::{ParseOptions, module_info};
 use deno_graph_info::analysis::ModuleInfo;
 use deno_graph_source::text::SourceRange;
@@ -18,12 +18,12 @@ pub const U: &str = "file:///u.js";
 
 pub const V: &str = "file:///v.js";
 
-pub fn url(alloc: Global, specifier: &str) -> Result<Url, Failure> {
+pub fn url(alloc: Global, specifier: &str) -> Result<Url, CaseError> {
     Ok(Url::parse(alloc, specifier)?)
 }
 
 /// Returns the source of a text, whose program is one export.
-pub fn source(alloc: Global, specifier: &str, text: &str) -> Result<ParsedSource, Failure> {
+pub fn source(alloc: Global, specifier: &str, text: &str) -> Result<ParsedSource, CaseError> {
     let specifier = url(alloc, specifier)?;
     let shared = RcStr::from_str(alloc, text)?;
     let range = SourceRange::new(0, text.len());
@@ -36,7 +36,7 @@ pub fn source(alloc: Global, specifier: &str, text: &str) -> Result<ParsedSource
 }
 
 /// Returns a source under `U` with one JSDoc comment: an import after hundreds of braces.
-pub fn braces(alloc: Global) -> Result<ParsedSource, Failure> {
+pub fn braces(alloc: Global) -> Result<ParsedSource, CaseError> {
     let text = text_of_braces(alloc)?;
     let source = format!(in alloc; "/*{text}*/")?;
     source_of_comment(alloc, source.as_str(), text.as_str())
@@ -52,7 +52,7 @@ fn text_of_braces(alloc: Global) -> Result<String, AllocError> {
 }
 
 /// Returns a source with one comment of this text.
-fn source_of_comment(alloc: Global, source: &str, text: &str) -> Result<ParsedSource, Failure> {
+fn source_of_comment(alloc: Global, source: &str, text: &str) -> Result<ParsedSource, CaseError> {
     let specifier = url(alloc, U)?;
     let shared = RcStr::from_str(alloc, source)?;
     let range = SourceRange::new(0, source.len());
@@ -82,7 +82,7 @@ fn source_of(
     text: RcStr,
     program: Program,
     comments: Comments,
-) -> Result<ParsedSource, Failure> {
+) -> Result<ParsedSource, CaseError> {
     let media_type = MediaType::JavaScript;
     Ok(ParsedSource::new(alloc, specifier, text, media_type, program, comments, false)?)
 }
@@ -93,13 +93,13 @@ pub fn info_of(alloc: Global, source: &ParsedSource) -> Result<ModuleInfo, Alloc
 }
 
 /// Returns a parser of the texts `a` and `b`.
-pub fn table(alloc: Global) -> Result<TableParser, Failure> {
+pub fn table(alloc: Global) -> Result<TableParser, CaseError> {
     let calls = Rc::new(alloc, Cell::new(0))?;
     parser(alloc, &calls)
 }
 
 /// Returns a parser of the texts `a` and `b`, which counts its calls.
-pub fn parser(alloc: Global, calls: &Rc<Cell<u64>>) -> Result<TableParser, Failure> {
+pub fn parser(alloc: Global, calls: &Rc<Cell<u64>>) -> Result<TableParser, CaseError> {
     let mut sources = Vec::new(alloc);
     for (specifier, text) in &[(U, "a"), (U, "b"), (V, "a"), (V, "b")] {
         sources.push(source(alloc, specifier, text)?)?;

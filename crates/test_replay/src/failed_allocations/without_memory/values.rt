@@ -1,8 +1,8 @@
 //! Positions, strings, look-ups, accessors and constructors.
 
-use crate::failure::Failure;
-use crate::outcome::{check, check_each};
-use crate::without_memory::made::{Made, Strings, TEXT};
+use crate::case_error::CaseError;
+use crate::failed_allocations::outcome::{check, check_each};
+use crate::failed_allocations::without_memory::made::{Made, Strings, TEXT};
 use deno_graph_analysis::ast::{
     CapturingEsParser, CapturingModuleAnalyzer, DefaultParsedSourceStore, ParserModuleAnalyzer,
 };
@@ -26,7 +26,7 @@ const NOWHERE: [(usize, usize); 2] = [(0, 2), (usize::MAX, usize::MAX)];
 /// The range of the specifier of the import.
 const SPECIFIER: SourceRange = SourceRange { start: 16, end: 19 };
 
-pub fn look_up(alloc: Global, made: &Made) -> Result<(), Failure> {
+pub fn look_up(alloc: Global, made: &Made) -> Result<(), CaseError> {
     find_boundaries(&made.line)?;
     let source = &made.source;
     check_each(&[
@@ -60,7 +60,7 @@ fn has_comments(alloc: Global, comments: &Comments) -> bool {
     Comments::new(alloc) != *comments
 }
 
-fn find_boundaries(line: &SourceTextInfo) -> Result<(), Failure> {
+fn find_boundaries(line: &SourceTextInfo) -> Result<(), CaseError> {
     for (pos, line_number, character) in &BOUNDARIES {
         let position = Position::new(*line_number, *character);
         check(is_boundary(line, *pos, position), "a boundary's position")?;
@@ -126,7 +126,7 @@ fn are_parts_found(source: &ParsedSource) -> bool {
     let leading = source.comments().get_leading(9);
     leading.is_some_and(|comments| comments.len() == 1)
         && source.comments().get_trailing(9).is_none()
-        && source.specifier().as_str() == crate::sources::U
+        && source.specifier().as_str() == crate::failed_allocations::sources::U
         && source.text().as_str() == TEXT
         && source.media_type() == MediaType::TypeScript
         && !source.has_scope_analysis()
@@ -171,7 +171,7 @@ fn are_borrowed_wrapped() -> bool {
 }
 
 /// The calls that take their value, and the constructors.
-pub fn take_apart(alloc: Global, made: Made) -> Result<(), Failure> {
+pub fn take_apart(alloc: Global, made: Made) -> Result<(), CaseError> {
     let Made {
         source,
         info,

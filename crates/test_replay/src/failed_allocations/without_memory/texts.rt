@@ -1,7 +1,7 @@
 //! The finders, the parsers of JSDoc imports, and the names of modes.
 
-use crate::failure::Failure;
-use crate::outcome::{check, check_each};
+use crate::case_error::CaseError;
+use crate::failed_allocations::outcome::{check, check_each};
 use deno_graph_analysis::jsdoc::{
     JsDocImport, NoParse, parse_jsdoc_dynamic_import, parse_jsdoc_import_decl,
 };
@@ -130,7 +130,7 @@ const DYNAMIC_IMPORTS: [(&str, Option<Import>); 5] = [
     ("{ imported: import('./a') }", None),
 ];
 
-pub fn read() -> Result<(), Failure> {
+pub fn read() -> Result<(), CaseError> {
     find_matches()?;
     find_types_of_deno()?;
     parse_imports()?;
@@ -140,7 +140,7 @@ pub fn read() -> Result<(), Failure> {
     ])
 }
 
-fn find_matches() -> Result<(), Failure> {
+fn find_matches() -> Result<(), CaseError> {
     for (finder, text, expected) in &MATCHES {
         check(is_match(find(*finder, *text), *expected), *text)?;
     }
@@ -170,7 +170,7 @@ fn is_match(found: Option<Match<'_>>, expected: Option<Found>) -> bool {
     }
 }
 
-fn find_types_of_deno() -> Result<(), Failure> {
+fn find_types_of_deno() -> Result<(), CaseError> {
     for (text, (specifier, start, end), is_quoteless) in &DENO_TYPES {
         let is_found = find_deno_types(text).is_some_and(|found| found.text == *specifier
             && found.range == (*start..*end)
@@ -180,7 +180,7 @@ fn find_types_of_deno() -> Result<(), Failure> {
     Ok(())
 }
 
-fn parse_imports() -> Result<(), Failure> {
+fn parse_imports() -> Result<(), CaseError> {
     for (text, expected) in &DECLARATIONS {
         check(is_import(parse_jsdoc_import_decl(text), *expected), *text)?;
     }

@@ -4,13 +4,13 @@ pub mod made;
 mod texts;
 mod values;
 
-use crate::failure::Failure;
-use crate::outcome::Outcome;
-use crate::without_memory::made::Made;
+use crate::case_error::CaseError;
+use crate::failed_allocations::outcome::Outcome;
+use crate::failed_allocations::without_memory::made::Made;
 use std::alloc::Global;
 
 /// Each call returns the right result, whether allocations fail or not.
-pub fn call_all(alloc: Global) -> Result<Outcome, Failure> {
+pub fn call_all(alloc: Global) -> Result<Outcome, CaseError> {
     let made = Made::new(alloc)?;
     let was_out_of_memory = is_out_of_memory(alloc);
     let read = read_and_look_up(alloc, &made);
@@ -24,7 +24,7 @@ pub fn call_all(alloc: Global) -> Result<Outcome, Failure> {
     }
 }
 
-fn read_and_look_up(alloc: Global, made: &Made) -> Result<(), Failure> {
+fn read_and_look_up(alloc: Global, made: &Made) -> Result<(), CaseError> {
     texts::read()?;
     values::look_up(alloc, made)
 }

@@ -1,30 +1,20 @@
-//! Tests the state after a call that is out of memory.
-//!
-//!     test_failed_allocations           each call, once
-//!     test_failed_allocations NAME      one call
-//!
-//! `tools/fail_allocations` runs each call with each of its allocations failing in turn. Prints one
-//! line per call: whether the call returned or was out of memory. Status 0 if the state after the
-//! call is right, 1 if it is wrong, and 3 if an allocation failed outside the call.
-#![tactic(auto)]
+//! Tests of the state after a call that is out of memory. `tools/fail_allocations` runs each call with each
+//! of its allocations failing in turn.
 
 mod analysis;
 mod commands;
 mod comments;
 mod conversion;
 mod copies;
-mod failure;
 mod outcome;
 mod sources;
 mod steps;
 mod stores;
 mod without_memory;
 
-use crate::failure::Failure;
-use crate::outcome::Outcome;
+use crate::case_error::CaseError;
+use crate::failed_allocations::outcome::Outcome;
 use std::alloc::Global;
-use std::env;
-use std::process::ExitCode;
 
 const NAMES: [&str; 13] = [
     "conversion",
@@ -42,35 +32,23 @@ const NAMES: [&str; 13] = [
     "calls_without_memory",
 ];
 
-fn main(rt: HostRuntime) -> ExitCode {
-    match print_all(&rt) {
-        Ok(()) => ExitCode::SUCCESS,
-        Err(Failure::OutOfMemory) => ExitCode::from(3),
-        Err(failure) => {
-            let _ = eprintln!(rt; "test_failed_allocations: {failure}");
-            ExitCode::FAILURE
-        }
-    }
-}
-
-fn print_all(rt: &HostRuntime) -> Result<(), Failure> {
-    let mut names = env::args(rt)?.skip(1);
-    if let Some(name) = names.next() {
-        return print_outcome(rt, name.as_str());
-    }
+/// Makes each call once, and prints a line for each.
+pub fn call_all<R: AllocGlobal + Print>(rt: &R) -> Result<(), CaseError> {
     for name in NAMES {
-        print_outcome(rt, name)?;
+        call_one(rt, name)?;
     }
     Ok(())
 }
 
-fn print_outcome<R: AllocGlobal + Print>(rt: &R, name: &str) -> Result<(), Failure> {
+/// Makes the call of this name. Prints whether the call returned or was out of memory, if the state after it
+/// is right.
+pub fn call_one<R: AllocGlobal + Print>(rt: &R, name: &str) -> Result<(), CaseError> {
     let outcome = outcome_of(rt.alloc(), name)?;
     println!(rt; "{name}: {}", outcome.as_str())?;
     Ok(())
 }
 
-fn outcome_of(alloc: Global, name: &str) -> Result<Outcome, Failure> {
+fn outcome_of(alloc: Global, name: &str) -> Result<Outcome, CaseError> {
     match name {
         "conversion" => conversion::convert(alloc),
         "set_another" => stores::set_another(alloc),
@@ -85,6 +63,6 @@ fn outcome_of(alloc: Global, name: &str) -> Result<Outcome, Failure> {
         "steps_through_a_deep_tree" => steps::through_a_deep_tree(alloc),
         "steps_through_a_wide_tree" => steps::through_a_wide_tree(alloc),
         "calls_without_memory" => without_memory::call_all(alloc),
-        _ => Err(Failure::Unexpected("no call has this name")),
+        _ => Err(CaseError::Invalid("no call has this name")),
     }
 }

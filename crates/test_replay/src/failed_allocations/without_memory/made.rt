@@ -1,5 +1,5 @@
-use crate::failure::Failure;
-use crate::sources::{U, info_of, table, url};
+use crate::case_error::CaseError;
+use crate::failed_allocations::sources::{U, info_of, table, url};
 use deno_graph_info::analysis::ModuleInfo;
 use deno_graph_source::text::{JsString, SourceRange, SourceTextInfo};
 use deno_graph_source::tree::{
@@ -37,7 +37,7 @@ pub struct Strings {
 }
 
 impl Made {
-    pub fn new(alloc: Global) -> Result<Made, Failure> {
+    pub fn new(alloc: Global) -> Result<Made, CaseError> {
         let line = SourceTextInfo::new(alloc, RcStr::from_str(alloc, "é\n")?)?;
         let strings = strings_of_units(alloc)?;
         let parser = table(alloc)?;
@@ -60,7 +60,7 @@ fn strings_of_units(alloc: Global) -> Result<Strings, AllocError> {
     })
 }
 
-fn source(alloc: Global) -> Result<ParsedSource, Failure> {
+fn source(alloc: Global) -> Result<ParsedSource, CaseError> {
     Ok(ParsedSource::new(
         alloc,
         url(alloc, U)?,

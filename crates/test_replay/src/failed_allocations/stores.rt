@@ -1,8 +1,8 @@
 //! `set_parsed_source`, and `parse_program` of a parser over a store.
 
-use crate::failure::Failure;
-use crate::outcome::Outcome;
-use crate::sources::{U, V, options, source, table, url};
+use crate::case_error::CaseError;
+use crate::failed_allocations::outcome::Outcome;
+use crate::failed_allocations::sources::{U, V, options, source, table, url};
 use deno_graph_analysis::ast::{
     CapturingEsParser, DefaultParsedSourceStore, EsParser, ParseError, ParsedSourceStore,
 };
@@ -24,7 +24,7 @@ struct Tested {
 
 impl Tested {
     /// The second source is that of `b`, under `specifier`.
-    fn new(alloc: Global, specifier: &str) -> Result<Tested, Failure> {
+    fn new(alloc: Global, specifier: &str) -> Result<Tested, CaseError> {
         Ok(Tested {
             v: url(alloc, V)?,
             first: source(alloc, U, "a")?,
@@ -34,7 +34,7 @@ impl Tested {
         })
     }
 
-    fn store_first(&mut self, alloc: Global) -> Result<(), Failure> {
+    fn store_first(&mut self, alloc: Global) -> Result<(), CaseError> {
         drop(self.set(alloc, U, "a")??);
         Ok(())
     }
@@ -45,7 +45,7 @@ impl Tested {
         alloc: Global,
         specifier: &str,
         text: &str,
-    ) -> Result<Result<Option<ParsedSource>, AllocError>, Failure> {
+    ) -> Result<Result<Option<ParsedSource>, AllocError>, CaseError> {
         let key = url(alloc, specifier)?;
         let source = source(alloc, specifier, text)?;
         Ok(self.store.set_parsed_source(alloc, key, source))
@@ -99,7 +99,7 @@ impl Tested {
 fn outcome_of_set(
     set: Result<Option<ParsedSource>, AllocError>,
     before: Option<&ParsedSource>,
-) -> Result<Outcome, Failure> {
+) -> Result<Outcome, CaseError> {
     match set {
         Ok(former) => {
             Outcome::Returned.provided(former.as_ref() == before, "another source was there")
@@ -109,12 +109,12 @@ fn outcome_of_set(
 }
 
 /// Stores the second source under `V`. If that fails, only the first source is there.
-pub fn set_another(alloc: Global) -> Result<Outcome, Failure> {
+pub fn set_another(alloc: Global) -> Result<Outcome, CaseError> {
     let mut tested = Tested::new(alloc, V)?;
     set_beside(alloc, &mut tested)
 }
 
-fn set_beside(alloc: Global, tested: &mut Tested) -> Result<Outcome, Failure> {
+fn set_beside(alloc: Global, tested: &mut Tested) -> Result<Outcome, CaseError> {
     tested.store_first(alloc)?;
     let outcome = outcome_of_set(tested.set(alloc, V, "b")?, None)?;
     let stored = (outcome == Outcome::Returned).then_some(&tested.second);
@@ -125,12 +125,12 @@ fn set_beside(alloc: Global, tested: &mut Tested) -> Result<Outcome, Failure> {
 }
 
 /// Stores the second source under `U`. If that fails, the first source is still there.
-pub fn set_again(alloc: Global) -> Result<Outcome, Failure> {
+pub fn set_again(alloc: Global) -> Result<Outcome, CaseError> {
     let mut tested = Tested::new(alloc, U)?;
     set_in_place(alloc, &mut tested)
 }
 
-fn set_in_place(alloc: Global, tested: &mut Tested) -> Result<Outcome, Failure> {
+fn set_in_place(alloc: Global, tested: &mut Tested) -> Result<Outcome, CaseError> {
     tested.store_first(alloc)?;
     let set = tested.set(alloc, U, "b")?;
     let outcome = outcome_of_set(set, Some(&tested.first))?;
@@ -144,23 +144,23 @@ fn set_in_place(alloc: Global, tested: &mut Tested) -> Result<Outcome, Failure> 
 fn outcome_of_parse(
     answer: Result<ParsedSource, ParseError>,
     expected: &ParsedSource,
-) -> Result<Outcome, Failure> {
+) -> Result<Outcome, CaseError> {
     match answer {
         Ok(answer) => {
             Outcome::Returned.provided(answer == *expected, "the parser's result is another")
         }
         Err(ParseError::OutOfMemory) => Ok(Outcome::OutOfMemory),
-        Err(ParseError::Diagnostic(_)) => Err(Failure::Unexpected("a text is not parsed")),
+        Err(ParseError::Diagnostic(_)) => Err(CaseError::Unexpected("a text is not parsed")),
     }
 }
 
 /// Parses `b` over the store. If that fails, the first source is still there.
-pub fn parse(alloc: Global) -> Result<Outcome, Failure> {
+pub fn parse(alloc: Global) -> Result<Outcome, CaseError> {
     let mut tested = Tested::new(alloc, U)?;
     parse_second(alloc, &mut tested)
 }
 
-fn parse_second(alloc: Global, tested: &mut Tested) -> Result<Outcome, Failure> {
+fn parse_second(alloc: Global, tested: &mut Tested) -> Result<Outcome, CaseError> {
     tested.store_first(alloc)?;
     let outcome = outcome_of_parse(tested.parse(alloc, false)?, &tested.second)?;
     outcome.provided(
@@ -170,7 +170,7 @@ fn parse_second(alloc: Global, tested: &mut Tested) -> Result<Outcome, Failure> 
 }
 
 /// Like `parse`, with the scope option: after a failure the first source may have its mark set.
-pub fn parse_with_scopes(alloc: Global) -> Result<Outcome, Failure> {
+pub fn parse_with_scopes(alloc: Global) -> Result<Outcome, CaseError> {
     let marked_first = source(alloc, U, "a")?.into_with_scope_analysis();
     let marked_second = source(alloc, U, "b")?.into_with_scope_analysis();
     parse_beside(alloc, &marked_first, &marked_second)
@@ -180,7 +180,7 @@ fn parse_beside(
     alloc: Global,
     marked_first: &ParsedSource,
     marked_second: &ParsedSource,
-) -> Result<Outcome, Failure> {
+) -> Result<Outcome, CaseError> {
     let mut tested = Tested::new(alloc, U)?;
     parse_marked(alloc, &mut tested, marked_first, marked_second)
 }
@@ -190,7 +190,7 @@ fn parse_marked(
     tested: &mut Tested,
     marked_first: &ParsedSource,
     marked_second: &ParsedSource,
-) -> Result<Outcome, Failure> {
+) -> Result<Outcome, CaseError> {
     tested.store_first(alloc)?;
     let outcome = outcome_of_parse(tested.parse(alloc, true)?, marked_second)?;
     let is_stored = if outcome == Outcome::Returned {

@@ -1,7 +1,7 @@
 //! `Comments::add_leading` and `add_trailing`.
 
-use crate::failure::Failure;
-use crate::outcome::{Outcome, check};
+use crate::case_error::CaseError;
+use crate::failed_allocations::outcome::{Outcome, check};
 use deno_graph_source::text::SourceRange;
 use deno_graph_source::tree::{CommentKind, CommentSide, Comments, DependencyComment};
 use deno_graph_source::values::{Text, TryClone};
@@ -32,12 +32,12 @@ const FILINGS: [(CommentSide, usize); 16] = [
 const OFFSETS: usize = 18;
 
 /// A failed call changes no look-up, and returns when it is tried again.
-pub fn file_all(alloc: Global) -> Result<Outcome, Failure> {
+pub fn file_all(alloc: Global) -> Result<Outcome, CaseError> {
     let mut comments = Comments::new(alloc);
     file_each(alloc, &mut comments)
 }
 
-fn file_each(alloc: Global, comments: &mut Comments) -> Result<Outcome, Failure> {
+fn file_each(alloc: Global, comments: &mut Comments) -> Result<Outcome, CaseError> {
     let mut outcome = Outcome::Returned;
     for (side, pos) in &FILINGS {
         if file_one(alloc, comments, *side, *pos)? == Outcome::OutOfMemory {
@@ -55,7 +55,7 @@ fn file_one(
     comments: &mut Comments,
     side: CommentSide,
     pos: usize,
-) -> Result<Outcome, Failure> {
+) -> Result<Outcome, CaseError> {
     let before = comments.try_clone(alloc)?;
     file_over(alloc, comments, &before, side, pos)
 }
@@ -66,7 +66,7 @@ fn file_over(
     before: &Comments,
     side: CommentSide,
     pos: usize,
-) -> Result<Outcome, Failure> {
+) -> Result<Outcome, CaseError> {
     file_after(alloc, comments, before, side, pos)?.provided(
         is_filed(comments, before, side, pos),
         "a comment isn't where it was filed",
@@ -80,7 +80,7 @@ fn file_after(
     before: &Comments,
     side: CommentSide,
     pos: usize,
-) -> Result<Outcome, Failure> {
+) -> Result<Outcome, CaseError> {
     let comment = comment(alloc, pos)?;
     if file(comments, side, pos, comment).is_ok() {
         return Ok(Outcome::Returned);
@@ -90,7 +90,7 @@ fn file_after(
     Ok(Outcome::OutOfMemory)
 }
 
-fn check_unchanged(alloc: Global, comments: &Comments, before: &Comments) -> Result<(), Failure> {
+fn check_unchanged(alloc: Global, comments: &Comments, before: &Comments) -> Result<(), CaseError> {
     check(comments == before, "a failed call changed the comments")?;
     check(
         look_ups_agree(comments, before),

@@ -1,7 +1,7 @@
 //! `Walk::step`.
 
-use crate::failure::Failure;
-use crate::outcome::{Outcome, check};
+use crate::case_error::CaseError;
+use crate::failed_allocations::outcome::{Outcome, check};
 use deno_graph_analysis::dep::Walk;
 use deno_graph_source::text::{JsString, SourceRange};
 use deno_graph_source::tree::{Kind, Node, Program, StrLit};
@@ -23,12 +23,12 @@ type Returned<'a> = (Option<&'a Node>, u64);
 
 /// A failed step skips no dependency, although it passed other nodes: the steps after it return the
 /// same nodes as without the failure.
-pub fn through_a_deep_tree(alloc: Global) -> Result<Outcome, Failure> {
+pub fn through_a_deep_tree(alloc: Global) -> Result<Outcome, CaseError> {
     let program = program(deep(alloc)?);
     step_through(alloc, &program)
 }
 
-fn step_through(alloc: Global, program: &Program) -> Result<Outcome, Failure> {
+fn step_through(alloc: Global, program: &Program) -> Result<Outcome, CaseError> {
     let expected = all_returned(alloc, &mut Walk::new(alloc, program))?;
     check(
         expected.iter().filter(|(node, _)| node.is_some()).count() == 3,
@@ -37,7 +37,7 @@ fn step_through(alloc: Global, program: &Program) -> Result<Outcome, Failure> {
     take_steps(&mut Walk::new(alloc, program), &expected)
 }
 
-fn take_steps<'a>(walk: &mut Walk<'a>, expected: &[Returned<'a>]) -> Result<Outcome, Failure> {
+fn take_steps<'a>(walk: &mut Walk<'a>, expected: &[Returned<'a>]) -> Result<Outcome, CaseError> {
     let mut outcome = Outcome::Returned;
     let mut entered_before = 0;
     for (node, entered) in expected {
@@ -64,14 +64,14 @@ fn step_again<'a>(
     walk: &mut Walk<'a>,
     before: u64,
     after: u64,
-) -> Result<Option<&'a Node>, Failure> {
+) -> Result<Option<&'a Node>, CaseError> {
     let is_between = before <= walk.entered() && walk.entered() <= after;
     check(is_between, "a failed step entered too many nodes")?;
     Ok(walk.step()?)
 }
 
 /// Each step enters one node, the first step too, although the tree is wide.
-pub fn through_a_wide_tree(alloc: Global) -> Result<Outcome, Failure> {
+pub fn through_a_wide_tree(alloc: Global) -> Result<Outcome, CaseError> {
     let program = program(wide(alloc)?);
     let mut walk = Walk::new(alloc, &program);
     let outcome = step_into(&mut walk, program.body.first())?;
@@ -79,7 +79,7 @@ pub fn through_a_wide_tree(alloc: Global) -> Result<Outcome, Failure> {
     Ok(outcome)
 }
 
-fn step_into(walk: &mut Walk<'_>, first: Option<&Node>) -> Result<Outcome, Failure> {
+fn step_into(walk: &mut Walk<'_>, first: Option<&Node>) -> Result<Outcome, CaseError> {
     let (returned, outcome) = match walk.step() {
         Ok(returned) => (returned, Outcome::Returned),
         Err(_) => (walk.step()?, Outcome::OutOfMemory),
@@ -95,7 +95,7 @@ fn step_into(walk: &mut Walk<'_>, first: Option<&Node>) -> Result<Outcome, Failu
 }
 
 /// Takes all steps after the first step.
-fn step_to_the_end(walk: &mut Walk<'_>) -> Result<(), Failure> {
+fn step_to_the_end(walk: &mut Walk<'_>) -> Result<(), CaseError> {
     for count in 2..=WIDTH {
         check(walk.step()?.is_some(), "a step returns no node")?;
         check(

@@ -1,24 +1,24 @@
 //! `try_clone` of values that own memory.
 
-use crate::failure::Failure;
-use crate::outcome::Outcome;
-use crate::without_memory::made::Made;
+use crate::case_error::CaseError;
+use crate::failed_allocations::outcome::Outcome;
+use crate::failed_allocations::without_memory::made::Made;
 use deno_graph_source::values::TryClone;
 use std::alloc::{AllocError, Global};
 
 /// No value changes, and each copy is equal to its value.
-pub fn copy_all(alloc: Global) -> Result<Outcome, Failure> {
+pub fn copy_all(alloc: Global) -> Result<Outcome, CaseError> {
     let made = Made::new(alloc)?;
     copy_made(alloc, &made)
 }
 
-fn copy_made(alloc: Global, made: &Made) -> Result<Outcome, Failure> {
+fn copy_made(alloc: Global, made: &Made) -> Result<Outcome, CaseError> {
     let twin = Made::new(alloc)?;
     copy_parts(alloc, made, &twin)
 }
 
 /// Takes the values by reference, so that no `?` drops them.
-fn copy_parts(alloc: Global, made: &Made, twin: &Made) -> Result<Outcome, Failure> {
+fn copy_parts(alloc: Global, made: &Made, twin: &Made) -> Result<Outcome, CaseError> {
     let outcomes = [
         copy(alloc, made.source.program(), twin.source.program())?,
         copy(alloc, made.source.comments(), twin.source.comments())?,
@@ -37,7 +37,7 @@ fn copy<T: TryClone + PartialEq + Drop>(
     alloc: Global,
     value: &T,
     twin: &T,
-) -> Result<Outcome, Failure> {
+) -> Result<Outcome, CaseError> {
     let copied = value.try_clone(alloc);
     let outcome = outcome_of(copied, twin)?;
     outcome.provided(value == twin, "the value changed")
@@ -46,7 +46,7 @@ fn copy<T: TryClone + PartialEq + Drop>(
 fn outcome_of<T: PartialEq + Drop>(
     copied: Result<T, AllocError>,
     twin: &T,
-) -> Result<Outcome, Failure> {
+) -> Result<Outcome, CaseError> {
     match copied {
         Ok(copy) => Outcome::Returned.provided(copy == *twin, "the copy differs from the value"),
         Err(_) => Ok(Outcome::OutOfMemory),

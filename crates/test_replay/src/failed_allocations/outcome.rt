@@ -1,4 +1,4 @@
-use crate::failure::Failure;
+use crate::case_error::CaseError;
 
 /// How a call ended. The state after the call has been checked.
 #[derive(Clone, Copy, PartialEq, Eq)]
@@ -21,23 +21,23 @@ impl Outcome {
     }
 
     /// Returns this outcome, or the message as an error if `holds` is false.
-    pub fn provided(self, holds: bool, message: &'static str) -> Result<Outcome, Failure> {
+    pub fn provided(self, holds: bool, message: &'static str) -> Result<Outcome, CaseError> {
         check(holds, message)?;
         Ok(self)
     }
 }
 
 /// Returns the message as an error if `holds` is false.
-pub fn check(holds: bool, message: &'static str) -> Result<(), Failure> {
+pub fn check(holds: bool, message: &'static str) -> Result<(), CaseError> {
     if holds {
         Ok(())
     } else {
-        Err(Failure::Unexpected(message))
+        Err(CaseError::Unexpected(message))
     }
 }
 
 /// Returns the first message whose condition is false as an error.
-pub fn check_each(checks: &[(bool, &'static str)]) -> Result<(), Failure> {
+pub fn check_each(checks: &[(bool, &'static str)]) -> Result<(), CaseError> {
     for (holds, message) in checks {
         check(*holds, *message)?;
     }

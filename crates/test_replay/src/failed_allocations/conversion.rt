@@ -1,7 +1,7 @@
 //! `module_graph_1_to_2`.
 
-use crate::failure::Failure;
-use crate::outcome::Outcome;
+use crate::case_error::CaseError;
+use crate::failed_allocations::outcome::Outcome;
 use deno_graph_info::analysis::{ConvertFault, module_graph_1_to_2};
 use serde_json::Value;
 use std::alloc::Global;
@@ -13,7 +13,7 @@ const CONVERTED: &str =
     r#"{"dependencies":[{"specifier":"./a.js","typesSpecifier":{"range":[[0,15],[0,25]],"text":"./a.d.ts"}},{"specifier":"./b.js"},{"specifier":"./c.js","typesSpecifier":{"range":[[2,18],[2,28]],"text":"./c.d.ts"}}]}"#;
 
 /// A failed conversion leaves the value unchanged.
-pub fn convert(alloc: Global) -> Result<Outcome, Failure> {
+pub fn convert(alloc: Global) -> Result<Outcome, CaseError> {
     let stored = Value::from_str(alloc, STORED)?;
     let converted = Value::from_str(alloc, CONVERTED)?;
     let mut value = stored.clone()?;
@@ -25,7 +25,7 @@ fn convert_copy(
     value: &mut Value,
     stored: &Value,
     converted: &Value,
-) -> Result<Outcome, Failure> {
+) -> Result<Outcome, CaseError> {
     match module_graph_1_to_2(alloc, value) {
         Ok(()) => Outcome::Returned.provided(*value == *converted, "the value isn't converted"),
         Err(ConvertFault::OutOfMemory) => {
@@ -34,6 +34,6 @@ fn convert_copy(
                 "a failed conversion changed the value",
             )
         }
-        Err(_) => Err(Failure::Unexpected("the value isn't read")),
+        Err(_) => Err(CaseError::Unexpected("the value isn't read")),
     }
 }
