@@ -14,7 +14,7 @@ fn assert_source(rt: &(impl AllocGlobal + Abort), found: Option<ParsedSource>, e
         return;
     };
     let source = parsed_with(rt, text, is_marked);
-    assert!(rt; found.is_some_and(|found| found == source));
+    assert!(rt; matches!(&found, Some(found) if *found == source));
 }
 
 /// A call of a store under the specifier `U`. `Set` stores the source of a text.

@@ -10,7 +10,7 @@ use std::process::Abort;
 fn store_of_a(rt: &(impl AllocGlobal + Abort)) -> DefaultParsedSourceStore {
     let mut store = DefaultParsedSourceStore::new(rt.alloc());
     let before = store.set_parsed_source(rt.alloc(), url(rt, U), parsed(rt, "a"));
-    assert!(rt; before.is_ok_and(|before| before.is_none()));
+    assert!(rt; matches!(&before, Ok(None)));
     store
 }
 
@@ -33,14 +33,14 @@ fn parse_with_scopes(
 fn assert_marked(rt: &(impl AllocGlobal + Abort), store: &DefaultParsedSourceStore) {
     let found = store.get_parsed_source(rt.alloc(), &url(rt, U));
     let marked = parsed_with(rt, "a", true);
-    assert!(rt; found.is_ok_and(|found| found.as_ref() == Some(&marked)));
+    assert!(rt; matches!(&found, Ok(Some(source)) if *source == marked));
 }
 
 #[test]
 fn the_mark_is_set_if_the_text_is_the_same(rt: HostRuntime) {
     let outcome = parse_with_scopes(&rt, "a");
     let marked = parsed_with(&rt, "a", true);
-    assert!(rt; outcome.is_ok_and(|source| source == marked));
+    assert!(rt; matches!(&outcome, Ok(source) if *source == marked));
 }
 
 #[test]

@@ -146,7 +146,7 @@ fn store_with_a_source_of_the_caller(rt: &(impl AllocGlobal + Abort)) -> Default
     let mut store = empty(rt);
     let source = source_with(rt, U, "a", MediaType::JavaScript, Items::new(rt.alloc()));
     let before = store.set_parsed_source(rt.alloc(), url(rt, U), source);
-    assert!(rt; before.is_ok_and(|before| before.is_none()));
+    assert!(rt; matches!(&before, Ok(None)));
     store
 }
 

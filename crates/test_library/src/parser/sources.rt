@@ -140,14 +140,14 @@ pub fn assert_parsed<P: EsParser>(
 ) {
     let outcome = parse(rt, parser, "a", scope_analysis);
     let expected = parsed_with(rt, "a", scope_analysis);
-    assert!(rt; outcome.is_ok_and(|source| source == expected));
+    assert!(rt; matches!(&outcome, Ok(source) if *source == expected));
 }
 
 /// Asserts that the info of `a` is that of a module, not of a script.
 pub fn assert_module<A: ModuleAnalyzer>(rt: &(impl AllocGlobal + Abort), analyzer: &mut A) {
     let (specifier, source) = (url(rt, U), shared(rt, "a"));
     let info = analyzer.analyze_sync(rt.alloc(), &specifier, source, MediaType::JavaScript);
-    assert!(rt; info.is_ok_and(|info| !info.is_script));
+    assert!(rt; matches!(&info, Ok(info) if !info.is_script));
 }
 
 /// The data of a command: specifier, text and media type.

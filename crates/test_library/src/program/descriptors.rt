@@ -53,11 +53,10 @@ fn assert_parts(rt: &(impl AllocGlobal + Abort), info: &ModuleInfo) {
 fn is_the_import(dependency: &DependencyDescriptor) -> bool {
     let attributes = dependency.import_attributes();
     dependency.as_dynamic().is_none()
-        && dependency.as_static().is_some_and(|found| {
-            found.kind == StaticDependencyKind::ImportType
+        && matches!(dependency.as_static(), Some(found)
+            if found.kind == StaticDependencyKind::ImportType
                 && found.specifier.as_str() == "a"
-                && !found.is_side_effect
-        })
+                && !found.is_side_effect)
         && attributes.get("type") == Some("bytes")
         && attributes.get("with").is_none()
         && attributes.has_asset()
@@ -66,11 +65,10 @@ fn is_the_import(dependency: &DependencyDescriptor) -> bool {
 
 fn is_the_call(dependency: &DependencyDescriptor) -> bool {
     dependency.as_static().is_none()
-        && dependency.as_dynamic().is_some_and(|found| {
-            found.kind == DynamicDependencyKind::Require
+        && matches!(dependency.as_dynamic(), Some(found)
+            if found.kind == DynamicDependencyKind::Require
                 && !found.argument.is_expr()
-                && found.import_attributes == ImportAttributes::default()
-        })
+                && found.import_attributes == ImportAttributes::default())
         && DynamicArgument::default().is_expr()
 }
 

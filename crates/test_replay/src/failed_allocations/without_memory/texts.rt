@@ -172,7 +172,7 @@ fn is_match(found: Option<Match<'_>>, expected: Option<Found>) -> bool {
 
 fn find_types_of_deno() -> Result<(), CaseError> {
     for (text, (specifier, start, end), is_quoteless) in &DENO_TYPES {
-        let is_found = find_deno_types(text).is_some_and(|found| found.text == *specifier
+        let is_found = matches!(find_deno_types(text), Some(found) if found.text == *specifier
             && found.range == (*start..*end)
             && found.is_quoteless == *is_quoteless);
         check(is_found, *text)?;
@@ -213,7 +213,7 @@ fn is_reference() -> bool {
 
 fn are_modes_named() -> bool {
     let mode = TypeScriptTypesResolutionMode::from_str("require");
-    mode.is_some_and(|mode| mode.as_deno_graph() == ResolutionMode::Require)
+    matches!(mode, Some(mode) if mode.as_deno_graph() == ResolutionMode::Require)
         && TypeScriptTypesResolutionMode::from_str("asdf").is_none()
         && MediaType::Dts.is_typed()
         && !MediaType::Jsx.is_typed()

@@ -124,7 +124,7 @@ fn has_text(string: &JsString, text: Option<&str>, lossy: &str) -> bool {
 
 fn are_parts_found(source: &ParsedSource) -> bool {
     let leading = source.comments().get_leading(9);
-    leading.is_some_and(|comments| comments.len() == 1)
+    matches!(leading, Some(comments) if comments.len() == 1)
         && source.comments().get_trailing(9).is_none()
         && source.specifier().as_str() == crate::failed_allocations::sources::U
         && source.text().as_str() == TEXT
@@ -137,8 +137,7 @@ fn dependency_is_found(found: Option<&DependencyDescriptor>) -> bool {
         return false;
     };
     let attributes = found.import_attributes();
-    found.as_static().is_some_and(|import| import.specifier.as_str() == "a"
-        && import.is_side_effect)
+    matches!(found.as_static(), Some(import) if import.specifier.as_str() == "a" && import.is_side_effect)
         && found.as_dynamic().is_none()
         && attributes.is_none()
         && !attributes.has_asset()
@@ -196,9 +195,7 @@ fn is_static_wrapped(info: ModuleInfo) -> bool {
         return false;
     };
     let dependency = DependencyDescriptor::from(import);
-    dependency
-        .as_static()
-        .is_some_and(|import| import.specifier.as_str() == "a")
+    matches!(dependency.as_static(), Some(import) if import.specifier.as_str() == "a")
 }
 
 fn is_static_none() -> bool {
