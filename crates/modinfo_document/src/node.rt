@@ -1,6 +1,6 @@
 //! Reading nodes and programs.
 
-ghost use Rattle.std.specs.Prelude.{◌≡◌, codes, option_map};
+ghost use Rattle.std.specs.Prelude.{◌≡◌, Err, MatchResult, Ok, codes, option_map};
 ghost use Rattle.serde_json.specs.Find.{get_member};
 ghost use Rattle.deno_graph_json.specs.Data.{data_of};
 ghost use Rattle.deno_graph_json.specs.ObjectReader.{readable, value_of};
@@ -53,12 +53,22 @@ fn read_node(alloc: Global, value: Element<'_>) -> Result<Node, ReadError>
     let [range, kind, children] = found;
     let range = object.read_found("range", range)?;
     let kind = read_kind(&object, kind)?;
-    let children = read_children(alloc, &object, children)?;
+    let (children, kind) = beside(read_children(alloc, &object, children), kind)?;
     Ok(Node {
         range,
         kind,
         children,
     })
+}
+
+/// Returns what was read, together with `value`.
+fn beside<A, B: Drop, E>(read: Result<A, E>, value: B) -> Result<(A, B), E>
+    ensures { MatchResult result (λ both. (read ≡ Ok both.0) × (both.1 ≡ value)) (λ error. read ≡ Err error) }
+{
+    match read {
+        Ok(read) => Ok((read, value)),
+        Err(error) => Err(error),
+    }
 }
 
 /// Reads the children of a node. `found` is the member `children`.

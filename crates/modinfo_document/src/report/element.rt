@@ -83,12 +83,13 @@ fn located_node<'a>(
 fn part_in<'a>(node: Option<Located<'a>>, part: NodePart) -> Result<Option<Located<'a>>, AllocError>
     ensures { (root : Data) → IsInside root node.entry → IfOk result (IsInside root) }
 {
-    match part {
-        NodePart::Range => member_in(node, "range"),
-        NodePart::Literal => member_in(literal_in(node)?, "range"),
-        NodePart::Argument(number) => member_in(item_in(node, "args", number)?, "range"),
-        NodePart::Children(_) => Ok(node),
-    }
+    let holder = match part {
+        NodePart::Range => Ok(node),
+        NodePart::Literal => literal_in(node),
+        NodePart::Argument(number) => item_in(node, "args", number),
+        NodePart::Children(_) => return Ok(node),
+    };
+    member_in(holder?, "range")
 }
 
 /// Finds the string literal of a node.

@@ -13,6 +13,7 @@ use Rattle.deno_graph_json.proofs.Reading.{
   before_nil,
   error_around,
   exits,
+  goes_on,
   is_array,
   items_done,
   items_error,
@@ -39,23 +40,37 @@ read_node-returns-in_err-object t c = rw (node_read (data_of c.args.value)) (gri
 
 pub read_node-returns-in_err-range : goal.read_node-returns-in_err-range
 unfolding node_with
-read_node-returns-in_err-range t c = rw (node_read (data_of c.args.value)) (grind (arith, reading))
+read_node-returns-in_err-range t c = rw (node_read (data_of c.args.value))
+    (object_on _ _ (readable c.in_ok-object.object) _ c.in_ok-object.ensures
+    (exits _ _ _ _ _ c.from_residual-in_err-range.ensures.1 c.in_err-range.ensures))
 
 pub read_node-returns-in_err-kind : goal.read_node-returns-in_err-kind
 unfolding node_with
-read_node-returns-in_err-kind t c = rw (node_read (data_of c.args.value)) (grind (arith, reading))
+read_node-returns-in_err-kind t c = rw (node_read (data_of c.args.value))
+    (object_on _ _ (readable c.in_ok-object.object) _ c.in_ok-object.ensures
+    (result_on _ _ _ c.in_ok-range.range _ c.in_ok-range.ensures
+    (exits _ _ _ _ _ c.from_residual-in_err-kind.ensures.1 c.in_err-kind.ensures)))
 
 pub read_node-returns-in_err-children : goal.read_node-returns-in_err-children
 unfolding node_with
-read_node-returns-in_err-children t c = rw (node_read (data_of c.args.value))
+read_node-returns-in_err-children t c =
+    let read = rw c.in_err-children.ensures at c.read_children.ensures in
+    rw (node_read (data_of c.args.value))
     (object_on _ _ (readable c.in_ok-object.object) _ c.in_ok-object.ensures
     (result_on _ _ _ c.in_ok-range.range _ c.in_ok-range.ensures
     (result_on _ _ _ c.in_ok-kind.kind _ c.in_ok-kind.ensures
-    (exits _ _ _ _ _ c.from_residual-in_err-children.ensures.1 c.in_err-children.ensures))))
+    (exits _ _ _ _ _ c.from_residual-in_err-children.ensures.1 read))))
 
 pub read_node-returns : goal.read_node-returns
 unfolding node_with
-read_node-returns t c = rw (node_read (data_of c.args.value)) (grind (arith, reading))
+read_node-returns t c =
+    let read = rw c.in_ok-children.ensures.0 at c.read_children.ensures in
+    let kept = c.in_ok-kind.ensures ∙ ap Some (sym c.in_ok-children.ensures.1) in
+    node_read (data_of c.args.value)
+    ∙ goes_on _ _ (readable c.in_ok-object.object) _ c.in_ok-object.ensures
+    (goes_on _ _ c.in_ok-range.range _ c.in_ok-range.ensures
+    (goes_on _ _ c.in_ok-children.kind _ kept
+    (goes_on _ _ c.in_ok-children.children _ read refl)))
 
 pub read_node-read_children-requires : goal.read_node-read_children-requires
 read_node-read_children-requires t c =
