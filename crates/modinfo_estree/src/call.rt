@@ -1,12 +1,12 @@
 //! Calls.
 
-ghost use Rattle.std.specs.Prelude.{◌≡◌, IfOk};
+ghost use Rattle.std.specs.Prelude.{◌≡◌, ◌++◌, IfOk, OnOk, map};
 ghost use Rattle.deno_graph_json.specs.ObjectReader.{readable};
 ghost use Rattle.modinfo_estree.specs.Child.{nodes_in};
 ghost use Rattle.modinfo_estree.specs.Kind as spec;
 ghost use Rattle.modinfo_estree.specs.Source.{source_of};
 
-use crate::child::{Child, around, first_in, push_nodes, split};
+use crate::child::{Child, first_in, push_around, push_nodes, split};
 use crate::declaration::phase_named;
 use crate::member::{has_type, is_true, text_at};
 use crate::parentheses::extent_in;
@@ -105,16 +105,32 @@ impl<'a, 't, 'v> Reading<'a, 't, 'v> {
             callee nodes below.items) }
     {
         let (arguments, others) = split(self.alloc, below, Group::Arguments)?;
+        let args = self.push_arguments(arguments, &mut nodes)?;
+        push_nodes(others, &mut nodes)?;
+        Ok(self.node(Kind::Call { callee, args }, nodes))
+    }
+
+    /// Appends the nodes of arguments, each with the parentheses around it, and returns the arguments.
+    #[tactic(auto, unfolding(deno_graph_source::specs::Node::range_of))]
+    fn push_arguments(
+        &self,
+        arguments: Vec<Child>,
+        nodes: &mut Items<Node>,
+    ) -> Result<Items<Arg>, AllocError>
+        ensures args { IfOk result (λ args. args
+            ≡ map (spec.argument (source_of self.now.source.now) self.now.range) arguments.items) }
+        ensures nodes { OnOk result (nodes.new ≡ nodes.old
+            ++ map (spec.argument_node (source_of self.now.source.now) self.now.range) arguments.items) }
+    {
         let mut args = Items::new(self.alloc);
         for child in arguments {
             let range = extent_in(self.source, self.range.end, child.node.range);
+            push_around(self.alloc, range, child.node, nodes)?;
             args.push(Arg {
                 spread: child.is_spread,
                 range,
             })?;
-            nodes.push(around(self.alloc, range, child.node)?)?;
         }
-        push_nodes(others, &mut nodes)?;
-        Ok(self.node(Kind::Call { callee, args }, nodes))
+        Ok(args)
     }
 }

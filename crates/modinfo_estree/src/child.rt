@@ -1,7 +1,7 @@
 //! The nodes below a node.
 #![tactic(auto, unfolding(deno_graph_source::specs::Node::range_of))]
 
-ghost use Rattle.std.specs.Prelude.{◌≡◌, ◌++◌, IfOk, OnOk, filter, map, option_copied, slice_get};
+ghost use Rattle.std.specs.Prelude.{◌≡◌, [], ◌∷◌, ◌++◌, IfOk, OnOk, filter, map, option_copied, slice_get};
 ghost use Rattle.modinfo_estree.specs.Child.{has_group, in_extent, lacks_group, node_of, sorted_by_start};
 ghost use Rattle.modinfo_estree.specs.Child.{around as around_node, extent_in, nodes_in};
 
@@ -80,9 +80,21 @@ pub fn nodes_in_parentheses(
     let mut nodes = Items::new(alloc);
     for child in children {
         let extent = extent_in(range, &child);
-        nodes.push(around(alloc, extent, child.node)?)?;
+        push_around(alloc, extent, child.node, &mut nodes)?;
     }
     Ok(nodes)
+}
+
+/// Appends a node, inside of an `Other` of the range `extent` if that isn't the range of the node.
+pub fn push_around(
+    alloc: Global,
+    extent: SourceRange,
+    node: Node,
+    nodes: &mut Items<Node>,
+) -> Result<(), AllocError>
+    ensures { OnOk result (nodes.new ≡ nodes.old ++ around_node extent node ∷ []) }
+{
+    nodes.push(around(alloc, extent, node)?)
 }
 
 /// Returns the range of a child with the parentheses around it, in the range of the node above.

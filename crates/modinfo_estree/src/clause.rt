@@ -1,6 +1,7 @@
 //! The attributes of an import type.
 
 ghost use Rattle.std.specs.Prelude.{◌≡◌, IfOk};
+ghost use Rattle.deno_graph_source.specs.Node.{children_of};
 ghost use Rattle.modinfo_estree.specs.Kind as spec;
 
 use deno_graph_source::tree::{Kind, Node, PropKey};
@@ -14,22 +15,30 @@ pub fn clause_of(alloc: Global, options: Items<Node>) -> Result<Items<Node>, All
     ensures { IfOk result (λ clause. clause ≡ spec.clause_of options) }
 {
     match options.into_vec().into_iter().next() {
-        Some(options) => clause_among(alloc, options.children),
+        Some(options) => last_object(alloc, first_with(alloc, below(options))),
         None => Ok(Items::new(alloc)),
     }
 }
 
-/// Returns the value of the first property `with`, if it is an object literal.
+/// Returns the nodes below the first property `with`, none if there is no such property.
 #[tactic(auto, unfolding(deno_graph_source::specs::Node::kind_of, deno_graph_source::specs::Node::children_of))]
-fn clause_among(alloc: Global, properties: Items<Node>) -> Result<Items<Node>, AllocError>
-    ensures { IfOk result (λ clause. clause ≡ spec.clause_among properties) }
+fn first_with(alloc: Global, properties: Items<Node>) -> Items<Node>
+    ensures { spec.last_object result ≡ spec.clause_among properties }
 {
     for property in properties.into_vec() {
         if is_with_key(&property.kind) {
-            return last_object(alloc, property.children);
+            return below(property);
         }
     }
-    Ok(Items::new(alloc))
+    Items::new(alloc)
+}
+
+/// Returns the nodes below a node.
+#[tactic(auto, unfolding(deno_graph_source::specs::Node::children_of))]
+fn below(node: Node) -> Items<Node>
+    ensures { result ≡ children_of node }
+{
+    node.children
 }
 
 /// Returns the last of some nodes, if it is an object literal.

@@ -12,6 +12,7 @@ ghost use Rattle.modinfo_estree.specs.Source.{source_of};
 use crate::child::{Child, first_in, nodes_of, split};
 use crate::member::{has_items, has_text, has_type, is_present, read_literal_at, text_at};
 use crate::reading::Reading;
+use crate::required::in_member;
 use crate::role::Group;
 use crate::source::Members;
 use deno_graph_json::{Element, ReadError};
@@ -79,10 +80,8 @@ impl<'a, 't, 'v> Reading<'a, 't, 'v> {
         }
         match self.members.get("declaration") {
             Some(declaration) if has_type(&self.members, "declaration", IMPORT_EQUALS) => {
-                match self.exported(declaration, children) {
-                    Ok(node) => Ok(node),
-                    Err(error) => Err(error.in_member(self.alloc, "declaration")),
-                }
+                let read = self.exported(declaration, children);
+                in_member(self.alloc, &self.members, "declaration", read)
             }
             _ => Ok(self.export(children)?),
         }

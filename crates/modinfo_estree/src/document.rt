@@ -21,7 +21,8 @@ use crate::tokens::Tokens;
 use deno_graph_json::read::{read_object, read_str};
 use deno_graph_json::{Element, Expected, FromJson, ObjectReader, ReadError, Tape};
 use deno_graph_source::text::SourceRange;
-use deno_graph_source::tree::{Comments, Node, Program};
+use deno_graph_source::tree::{Comments, MediaType, Node, Program};
+use deno_graph_source::values::Text;
 use json::Scratch;
 use modinfo_document::{Document, DocumentError};
 use std::alloc::Global;
@@ -51,16 +52,34 @@ pub fn read_estree(alloc: Global, value: Element<'_>) -> Result<Document, ReadEr
     let media_type = object.read("mediaType")?;
     let text = object.read_str("source")?;
     let unit = object.read_or("offsets", OffsetUnit::Utf16)?;
-    let members = Members::of_members(alloc, found);
-    let (comments, program) = read_tree(alloc, unit, text, &members)?;
     let source = RcStr::from_str(alloc, text)?;
-    Ok(Document {
+    let members = Members::of_members(alloc, found);
+    let tree = read_tree(alloc, unit, text, &members)?;
+    Ok(document_of(specifier, media_type, source, tree))
+}
+
+/// Returns a document from its parts.
+fn document_of(
+    specifier: Text,
+    media_type: MediaType,
+    source: RcStr,
+    tree: (Comments, Program),
+) -> Document
+    ensures { result ≡ record {
+      specifier = specifier;
+      media_type = media_type;
+      source = source;
+      comments = tree.0;
+      program = tree.1;
+    } }
+{
+    Document {
         specifier,
         media_type,
         source,
-        program,
-        comments,
-    })
+        program: tree.1,
+        comments: tree.0,
+    }
 }
 
 /// Reads the comments and the program.

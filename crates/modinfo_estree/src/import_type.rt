@@ -1,8 +1,10 @@
 //! TypeScript's type `import("..")`.
 
+ghost use Rattle.std.specs.Prelude.{◌≡◌, ◌++◌, IfOk, length, nat_lt};
 ghost use Rattle.deno_graph_json.specs.Data.{data_of};
 ghost use Rattle.deno_graph_json.specs.ObjectReader.{readable, value_of};
 ghost use Rattle.deno_graph_json.specs.Read.Result.{IsReadResult};
+ghost use Rattle.modinfo_estree.specs.Child.{nodes_in, nodes_outside};
 ghost use Rattle.modinfo_estree.specs.Kind as spec;
 ghost use Rattle.modinfo_estree.specs.Source.{byte_of, source_of};
 
@@ -10,10 +12,13 @@ use crate::child::{Child, nodes_of, push_nodes, split};
 use crate::clause::clause_of;
 use crate::member::{is_present, read_literal, read_literal_at};
 use crate::reading::Reading;
+use crate::required::{in_member, required};
 use crate::role::Group;
 use crate::source::Members;
-use deno_graph_json::{Element, Expected, ReadError};
+use deno_graph_json::{Element, ReadError};
 use deno_graph_source::tree::{Kind, Node, StrLit};
+use deno_graph_source::values::Items;
+use std::alloc::{AllocError, Global};
 
 impl<'a, 't, 'v> Reading<'a, 't, 'v> {
     /// Reads an import type.
@@ -24,10 +29,7 @@ impl<'a, 't, 'v> Reading<'a, 't, 'v> {
             children.items) result }
     {
         let arg = self.import_type_literal()?;
-        let (options, others) = split(self.alloc, children, Group::Options)?;
-        let mut nodes = clause_of(self.alloc, nodes_of(self.alloc, options)?)?;
-        let has_with = !nodes.is_empty();
-        push_nodes(others, &mut nodes)?;
+        let (has_with, nodes) = import_type_nodes(self.alloc, children)?;
         Ok(self.node(Kind::ImportType { arg, has_with }, nodes))
     }
 
@@ -42,13 +44,9 @@ impl<'a, 't, 'v> Reading<'a, 't, 'v> {
         if is_present(&self.members, "source") {
             return read_literal_at(self.alloc, &self.source.offsets, &self.members, "source");
         }
-        match self.members.get("argument") {
-            Some(argument) => match self.literal_in(argument) {
-                Ok(literal) => Ok(literal),
-                Err(error) => Err(error.in_member(self.alloc, "argument")),
-            },
-            None => Err(ReadError::expected(self.alloc, Expected::Member("argument"))),
-        }
+        let argument = required(self.alloc, &self.members, "argument")?;
+        let read = self.literal_in(argument);
+        in_member(self.alloc, &self.members, "argument", read)
     }
 
     /// Reads the literal in a node with a `literal`, or the node as a literal.
@@ -64,4 +62,19 @@ impl<'a, 't, 'v> Reading<'a, 't, 'v> {
             None => read_literal(self.alloc, &self.source.offsets, argument),
         }
     }
+}
+
+/// Returns whether an import type has attributes, and its nodes: the attributes, then all nodes but the
+/// options.
+fn import_type_nodes(alloc: Global, children: Vec<Child>) -> Result<(bool, Items<Node>), AllocError>
+    ensures has_with { IfOk result (λ parts. parts.0
+        ≡ nat_lt 0 (length (spec.clause_of (nodes_in Group.Options children.items)))) }
+    ensures nodes { IfOk result (λ parts. parts.1 ≡ spec.clause_of (nodes_in Group.Options children.items)
+        ++ nodes_outside Group.Options children.items) }
+{
+    let (options, others) = split(alloc, children, Group::Options)?;
+    let mut nodes = clause_of(alloc, nodes_of(alloc, options)?)?;
+    let has_with = !nodes.is_empty();
+    push_nodes(others, &mut nodes)?;
+    Ok((has_with, nodes))
 }

@@ -10,6 +10,7 @@ ghost use Rattle.modinfo_estree.specs.Member.{range_between};
 ghost use Rattle.modinfo_estree.specs.Source.{byte_in};
 
 use crate::offsets::Offsets;
+use crate::required::{in_member, required};
 use crate::source::Members;
 use deno_graph_json::{Element, Expected, FromJson, ReadError, View};
 use deno_graph_source::text::{JsString, SourceRange};
@@ -200,7 +201,7 @@ pub fn read_literal(
 }
 
 /// Reads the string literal that is a member.
-#[tactic(auto, unfolding(deno_graph_json::specs::Read::Partial::member_at))]
+#[tactic(auto, using(deno_graph_json::proofs::Reading::reading), unfolding(deno_graph_json::specs::Read::Partial::member_at))]
 pub fn read_literal_at(
     alloc: Global,
     offsets: &Offsets<'_>,
@@ -210,11 +211,6 @@ pub fn read_literal_at(
     ensures { IsReadResult (value_of members.now) (spec.reads_literal_at (byte_in offsets.now) name.now
         (readable members.now)) result }
 {
-    match members.get(name) {
-        Some(value) => match read_literal(alloc, offsets, value) {
-            Ok(literal) => Ok(literal),
-            Err(error) => Err(error.in_member(alloc, name)),
-        },
-        None => Err(ReadError::expected(alloc, Expected::Member(name))),
-    }
+    let value = required(alloc, members, name)?;
+    in_member(alloc, members, name, read_literal(alloc, offsets, value))
 }

@@ -77,9 +77,8 @@ impl<'a, 't, 'v> Reading<'a, 't, 'v> {
             Group::Decorators
         };
         let (outside, inside) = split(self.alloc, children, group)?;
-        let function = self.whole(Kind::Function, inside)?;
         let mut nodes = nodes_of(self.alloc, outside)?;
-        nodes.push(function)?;
+        nodes.push(self.whole(Kind::Function, inside)?)?;
         Ok(self.node(Kind::Other, nodes))
     }
 }

@@ -1,16 +1,15 @@
 use Rattle.std.proofs.Common.{◌≡◌, codes, true, false, Some, option_map, sym, ap, ◌∙◌}
 use Rattle.serde_json.specs.Find.{get_member}
 use Rattle.deno_graph_json.specs.Data.{data_of}
-use Rattle.deno_graph_json.specs.ObjectReader.{readable, value_of}
+use Rattle.deno_graph_json.specs.ObjectReader.{readable}
 use Rattle.modinfo_estree.specs.Kind.{reads_exported, reads_named_export}
 use Rattle.modinfo_estree.specs.Member.{has_type, is_present}
 use Rattle.modinfo_estree.specs.Source.{source_of}
-use Rattle.modinfo_estree.proofs.JsonMembers.{error_of_member}
 use Rattle.modinfo_estree.proofs.reading.Reading.named_export.Goals as goal
 
-pub returns-in-Err : goal.returns-in-Err
+pub returns-in-Some : goal.returns-in-Some
 unfolding reads_named_export
-returns-in-Err c =
+returns-in-Some c =
     let reading = c.args.self.now in
     let members = readable reading.members in
     let declaration = data_of c.in-Some.declaration in
@@ -23,6 +22,4 @@ returns-in-Err c =
     let is_import : has_type name (codes "TSImportEqualsDeclaration") members ≡ true =
     sym c.has_type.ensures ∙ c.if-has_type.true in
     rw (no_source, is_import)
-    (error_of_member members name declaration reads _ _ here
-    (c.in_member.ensures.place (value_of reading.members) declaration here) c.in_member.ensures.mismatch
-    c.in-Err.ensures)
+    (c.in_member.ensures declaration reads here c.exported-read.ensures)
