@@ -87,17 +87,24 @@ impl CommandLine {
             (Task.Check (subcommand_of_check checked) (are_strict flags))) }
     {
         match words {
-            [word] if *word == "--help" || *word == "-h" => Some(CommandLine::Help),
-            [word] if *word == "--version" => Some(CommandLine::Version),
             [word, words @ ..] if *word == "check" => CommandLine::from_check(words),
             [name, word, words @ ..] if *name == "analyze" && *word == "--estree" => {
                 CommandLine::of_answer(Subcommand::AnalyzeEstree, words)
             }
-            [name, words @ ..] => {
-                let subcommand = Subcommand::from_name(name)?;
-                CommandLine::of_answer(subcommand, words)
-            }
+            [name, flags @ ..] => match Subcommand::from_name(name) {
+                Some(subcommand) => CommandLine::of_answer(subcommand, flags),
+                None => CommandLine::of_option(words),
+            },
             [] => None,
+        }
+    }
+
+    /// The command line of `--help`, `-h` or `--version`.
+    fn of_option(words: &[&str]) -> Option<CommandLine> {
+        match words {
+            [word] if *word == "--help" || *word == "-h" => Some(CommandLine::Help),
+            [word] if *word == "--version" => Some(CommandLine::Version),
+            _ => None,
         }
     }
 
