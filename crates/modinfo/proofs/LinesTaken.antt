@@ -75,7 +75,7 @@ use Rattle.modinfo.specs.Lines.{
 use Rattle.modinfo.specs.internal.Lines.{TakesLines}
 use Rattle.modinfo.specs.Lines.PrintsLine.{answered, faulted, out_of_memory, reported}
 use Rattle.modinfo.specs.Lines.PrintsLines.{more, none}
-use Rattle.modinfo.specs.Run.{PrintsReport, AppendsFront, IsFailure}
+use Rattle.modinfo.specs.Run.{AppendsFront, IsFailure}
 use Rattle.modinfo.specs.declared.fault.Fault.{Fault}
 use Rattle.modinfo.specs.declared.fault.Fault.TheVariants.{OutOfMemory}
 use Rattle.modinfo.specs.declared.subcommand.Subcommand.{Subcommand}

@@ -14,8 +14,11 @@ use Rattle.deno_graph_module_info.specs.InfoOfModule.{IsInfoOfModule}
 use Rattle.modinfo_document.specs.Check.{IsInvalidIn, IsValidIn}
 use Rattle.modinfo_document.specs.Document.{Contents, HasErrorIn, IsDocumentIn, IsSourceOf, reads_document}
 use Rattle.modinfo_estree.specs.Document.{reads_estree}
+use Rattle.modinfo_document.specs.Report.{MatchReport}
+use Rattle.modinfo_document.specs.ReportText.{report_text}
 use Rattle.modinfo_document.specs.declared.document.Document.{Document}
 use Rattle.modinfo_document.specs.declared.error.DocumentError.{DocumentError}
+use Rattle.modinfo_document.specs.declared.report.Report.{Report}
 use Rattle.modinfo.specs.Check.{
   IsConvertibleText,
   IsNoConvertibleText,
@@ -126,6 +129,16 @@ IsFaultyDocument Analyze document = (¬ IsUtf8 document) ⊎ IsInvalidIn reads_d
 IsFaultyDocument AnalyzeEstree document = (¬ IsUtf8 document) ⊎ IsInvalidIn reads_estree document
 IsFaultyDocument Convert document = (¬ IsUtf8 document) ⊎ IsNoConvertibleText document
 IsFaultyDocument Reach document = (¬ IsUtf8 document) ⊎ IsNoQuestionText document
+
+-- The report on a document is `Valid` only if the document has no fault, `Invalid` only if it has one.
+abbrev pub IsReportOn : Subcommand → List ℕ → Report → Type 0
+IsReportOn subcommand document =
+    MatchReport (IsValidDocument subcommand document) (IsFaultyDocument subcommand document)
+
+-- The JSON of a report on a document, and a line feed.
+abbrev pub IsReportLine : Subcommand → List ℕ → List ℕ → Type 0
+IsReportLine subcommand document line = (report : Report) × IsReportOn subcommand document report
+    × (line ≡ report_text report ++ codes "\n")
 
 -- The words that ask for a subcommand.
 abbrev pub words_of : Subcommand → List (List ℕ)

@@ -21,7 +21,7 @@ use Rattle.std.specs.Prelude.{
 use Rattle.std.specs.String.{string_bytes}
 use Rattle.modinfo.specs.Answer.{IsAnswerText, IsDocumentFault}
 use Rattle.modinfo.specs.Fault.{name_of_fault}
-use Rattle.modinfo.specs.Run.{AppendsFront, IsFailure, PrintsReport, error_line}
+use Rattle.modinfo.specs.Run.{AppendsFront, IsFailure, IsChecked, error_line}
 use Rattle.modinfo.specs.declared.fault.Fault.{Fault}
 use Rattle.modinfo.specs.declared.fault.Fault.TheVariants.{OutOfMemory}
 use Rattle.modinfo.specs.declared.subcommand.Subcommand.{Subcommand}
@@ -58,7 +58,7 @@ abbrev pub IsPrinted : Task → List ℕ → Printed → Type 0
 IsPrinted (Answer subcommand) document printed = IsTrue printed.is_passed
     × IsAnswerText subcommand document (string_bytes printed.line)
 IsPrinted (Check subcommand is_strict) document printed =
-    PrintsReport subcommand is_strict document printed.is_passed (string_bytes printed.line)
+    IsChecked subcommand is_strict document printed.is_passed (string_bytes printed.line)
 
 -- Why there is no answer or report: the document has this fault, or, for a check, an allocation failed.
 abbrev pub IsPrintFault : Task → List ℕ → Fault → Type 0
@@ -72,7 +72,7 @@ pub data PrintsLine : Task → List ℕ → Bool → List ℕ → Type 0 where
   faulted : {subcommand : Subcommand} {line : List ℕ} (fault : Fault) → IsDocumentFault subcommand line fault
       → PrintsLine (Answer subcommand) line true (fault_line fault)
   reported : {subcommand : Subcommand} {is_strict passes : Bool} {line : List ℕ} (text : List ℕ)
-      → PrintsReport subcommand is_strict line passes text
+      → IsChecked subcommand is_strict line passes text
       → PrintsLine (Check subcommand is_strict) line passes (framed (Check subcommand is_strict) text)
   out_of_memory : {subcommand : Subcommand} {is_strict : Bool} {line : List ℕ}
       → PrintsLine (Check subcommand is_strict) line false (fault_line OutOfMemory)

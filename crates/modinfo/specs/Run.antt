@@ -2,22 +2,22 @@
 use Rattle.std.specs.Prelude.{
   ◌≡◌,
   ◌≢◌,
-  ◌⊎◌,
+  ◌↔◌,
   ◌++◌,
   ℕ,
   List,
   codes,
   take,
   Bool,
-  true,
-  false,
   IsTrue,
   Option,
-  MatchBool,
   if◌then◌else◌,
 }
 use Rattle.std.specs.Io.KnownBytes.{Appends, Keeps}
-use Rattle.modinfo.specs.Answer.{IsAnswerLine, IsFaultyDocument, IsValidDocument}
+use Rattle.modinfo_document.specs.Report.{LetsPass}
+use Rattle.modinfo_document.specs.ReportText.{report_text}
+use Rattle.modinfo_document.specs.declared.report.Report.{Report}
+use Rattle.modinfo.specs.Answer.{IsAnswerLine, IsReportOn}
 use Rattle.modinfo.specs.Fault.{name_of_fault}
 use Rattle.modinfo.specs.declared.fault.Fault.{Fault}
 use Rattle.modinfo.specs.declared.fault.Fault.TheVariants.{
@@ -57,12 +57,18 @@ IsFailure OutOfMemory = Unit {0}
 abbrev pub PrintsAnswer : Subcommand → List ℕ → Bool → List ℕ → Type 0
 PrintsAnswer subcommand document passes line = IsTrue passes × IsAnswerLine subcommand document line
 
--- The line that a check prints for a document. Status 0 only for a valid document, status 1 only for a faulty
--- one or in a strict check.
+-- The JSON of a report on a document, and whether the check passes.
+abbrev pub IsChecked : Subcommand → Bool → List ℕ → Bool → List ℕ → Type 0
+IsChecked subcommand is_strict document passes text = (report : Report)
+    × IsReportOn subcommand document report
+    × (IsTrue passes ↔ LetsPass is_strict report)
+    × (text ≡ report_text report)
+
+-- The line that a check prints for a document, with status 0 if the check passes.
 abbrev pub PrintsReport : Subcommand → Bool → List ℕ → Bool → List ℕ → Type 0
-PrintsReport subcommand is_strict document passes line =
-    MatchBool passes (IsValidDocument subcommand document)
-    (IsFaultyDocument subcommand document ⊎ (is_strict ≡ true))
+PrintsReport subcommand is_strict document passes line = (text : List ℕ)
+    × IsChecked subcommand is_strict document passes text
+    × (line ≡ text ++ codes "\n")
 
 -- Either a line was appended to the output, and the error output is unchanged. Or there was a fault: its
 -- line, or a beginning of that line, was appended to the error output, and the output is unchanged unless a

@@ -2,9 +2,8 @@
 
 ghost use Rattle.std.specs.Prelude.{◌≡◌, ◌≢◌, [], ◌∷◌, ℕ, IfOk, IfSome, List, MatchResult, None};
 ghost use Rattle.std.specs.String.{string_bytes};
-ghost use Rattle.modinfo_document.specs.Report.{MatchReport};
-ghost use Rattle.modinfo.specs.Answer.{IsAnswerLine, IsAnswerText, IsDocumentFault, IsFaultyDocument};
-ghost use Rattle.modinfo.specs.Answer.{IsInputFault, IsValidDocument, words_of};
+ghost use Rattle.modinfo.specs.Answer.{IsAnswerLine, IsAnswerText, IsDocumentFault, IsInputFault};
+ghost use Rattle.modinfo.specs.Answer.{IsReportLine, IsReportOn, words_of};
 
 use crate::check::{
     Report, check_document, check_estree, check_modules, check_stored, report_invalid_utf8,
@@ -97,8 +96,7 @@ impl Subcommand {
 impl Subcommand {
     /// Checks a document of this subcommand. The only error is a failed allocation.
     pub fn check(self, alloc: Global, document: &[u8]) -> Result<Report, AllocError>
-        ensures { IfOk result (MatchReport (IsValidDocument self document.now)
-            (IsFaultyDocument self document.now)) }
+        ensures { IfOk result (IsReportOn self document.now) }
     {
         let text = match compat::from_utf8(document) {
             Ok(text) => text,
@@ -110,5 +108,15 @@ impl Subcommand {
             Subcommand::Convert => check_stored(alloc, text),
             Subcommand::Reach => check_modules(alloc, text),
         }
+    }
+
+    /// Checks a document of this subcommand, and returns the report: compact JSON and a line feed. The
+    /// only error is a failed allocation.
+    pub fn report_line(self, alloc: Global, document: &[u8]) -> Result<String, AllocError>
+        ensures { IfOk result (λ line. IsReportLine self document.now (string_bytes line)) }
+    {
+        let mut line = self.check(alloc, document)?.to_line(alloc)?;
+        line.push('\n')?;
+        Ok(line)
     }
 }

@@ -51,10 +51,6 @@ pub data IsAnswered (IsAnswer : List ℕ → Type 0) (IsFault : Fault → Type 0
 abbrev pub IsOutOfMemory : Fault → Type 0
 IsOutOfMemory fault = fault ≡ OutOfMemory
 
--- Any text: nothing is proved about the text of a report.
-abbrev pub IsReport : List ℕ → Type 0
-IsReport line = Unit {0}
-
 -- The task of a command by its number, if there is one.
 abbrev pub task_of : ℕ → Option Task
 task_of command =

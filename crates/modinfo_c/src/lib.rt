@@ -3,12 +3,12 @@
 #![tactic(auto)]
 
 ghost use Rattle.std.specs.Prelude.{◌≡◌, false, None, Some};
-ghost use Rattle.modinfo.specs.Answer.{IsAnswerLine, IsDocumentFault};
+ghost use Rattle.modinfo.specs.Answer.{IsAnswerLine, IsDocumentFault, IsReportLine};
 ghost use Rattle.modinfo.specs.Fault.{name_of_fault};
-ghost use Rattle.modinfo_c.specs.Call.{IsAnswered, IsLeft, IsLinesText, IsOutOfMemory, IsReport, task_of};
+ghost use Rattle.modinfo_c.specs.Call.{IsAnswered, IsLeft, IsLinesText, IsOutOfMemory, task_of};
 
 use modinfo::{Fault, Subcommand, Task};
-use std::alloc::{AllocError, Global};
+use std::alloc::Global;
 
 /// Status: the answer is in the buffer.
 const ANSWERED: u8 = 0;
@@ -100,7 +100,8 @@ pub extern "C" fn modinfo_check(
     answer: &mut [u8],
     length: &mut usize,
 ) -> u8
-    ensures { IsAnswered IsReport IsOutOfMemory answer.old answer.new length.new result }
+    ensures { IsAnswered (IsReportLine Subcommand.Analyze document.now) IsOutOfMemory
+        answer.old answer.new length.new result }
 {
     check(alloc, Subcommand::Analyze, document, answer, length)
 }
@@ -113,7 +114,8 @@ pub extern "C" fn modinfo_check_estree(
     answer: &mut [u8],
     length: &mut usize,
 ) -> u8
-    ensures { IsAnswered IsReport IsOutOfMemory answer.old answer.new length.new result }
+    ensures { IsAnswered (IsReportLine Subcommand.AnalyzeEstree document.now) IsOutOfMemory
+        answer.old answer.new length.new result }
 {
     check(alloc, Subcommand::AnalyzeEstree, document, answer, length)
 }
@@ -126,7 +128,8 @@ pub extern "C" fn modinfo_check_convert(
     answer: &mut [u8],
     length: &mut usize,
 ) -> u8
-    ensures { IsAnswered IsReport IsOutOfMemory answer.old answer.new length.new result }
+    ensures { IsAnswered (IsReportLine Subcommand.Convert document.now) IsOutOfMemory
+        answer.old answer.new length.new result }
 {
     check(alloc, Subcommand::Convert, document, answer, length)
 }
@@ -139,7 +142,8 @@ pub extern "C" fn modinfo_check_reach(
     answer: &mut [u8],
     length: &mut usize,
 ) -> u8
-    ensures { IsAnswered IsReport IsOutOfMemory answer.old answer.new length.new result }
+    ensures { IsAnswered (IsReportLine Subcommand.Reach document.now) IsOutOfMemory
+        answer.old answer.new length.new result }
 {
     check(alloc, Subcommand::Reach, document, answer, length)
 }
@@ -206,23 +210,13 @@ fn check(
     answer: &mut [u8],
     length: &mut usize,
 ) -> u8
-    ensures { IsAnswered IsReport IsOutOfMemory answer.old answer.new length.new result }
+    ensures { IsAnswered (IsReportLine subcommand document.now) IsOutOfMemory
+        answer.old answer.new length.new result }
 {
-    match report_line(alloc, subcommand, document) {
+    match subcommand.report_line(alloc, document) {
         Ok(line) => put(line.as_bytes(), ANSWERED, answer, length),
         Err(_) => put_name(&Fault::OutOfMemory, answer, length),
     }
-}
-
-/// The report on a document, with a line feed.
-fn report_line(
-    alloc: Global,
-    subcommand: Subcommand,
-    document: &[u8],
-) -> Result<String, AllocError> {
-    let mut line = subcommand.check(alloc, document)?.to_line(alloc)?;
-    line.push('\n')?;
-    Ok(line)
 }
 
 /// Writes the answer to a document.

@@ -6,4 +6,5 @@ pub mod Documents
 pub mod NodeLookup
 pub mod CommentLookup
 pub mod Places
+pub mod ReportTexts
 pub mod Urls

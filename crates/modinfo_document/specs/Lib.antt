@@ -8,5 +8,6 @@ pub mod Node
 pub mod Lookup
 pub mod Pointer
 pub mod Report
+pub mod ReportText
 pub mod Result
 pub mod internal

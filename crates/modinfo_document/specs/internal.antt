@@ -2,3 +2,4 @@
 pub mod Comments
 pub mod Document
 pub mod Lookup
+pub mod ReportText

@@ -1,7 +1,14 @@
 //! Reports on documents: the fault of a document, and where it is. docs/FORMATS.md describes them.
 
-ghost use Rattle.std.specs.Prelude.{◌≡◌, ◌↔◌, IfOk, IsTrue, OnOk, Some};
+ghost use Rattle.std.specs.Prelude.{◌≡◌, ◌↔◌, ◌==◌, IfOk, IsTrue, OnOk, Some, codes, option_map};
+ghost use Rattle.std.specs.String.{string_bytes};
+ghost use Rattle.json.specs.Json.{string};
+ghost use Rattle.json.specs.Tree.{json_tokens};
+ghost use Rattle.deno_graph_json.specs.Object.{unless};
+ghost use Rattle.deno_graph_json.specs.Text.{text_in, with_tokens};
 ghost use Rattle.modinfo_document.specs.Report.{LetsPass, Reports};
+ghost use Rattle.modinfo_document.specs.ReportText.{json_of_count, json_of_fault, json_of_offsets, json_of_place, json_of_valid, json_of_warning, json_of_warnings, report_text};
+ghost use Rattle.modinfo_document.specs.internal.ReportText.{member_tokens};
 
 mod element;
 mod pointer;
@@ -117,10 +124,12 @@ impl Report {
     }
 
     /// The report as one line of JSON, without a line feed. The only error is a failed allocation.
-    pub fn to_line(&self, alloc: Global) -> Result<String, AllocError> {
+    pub fn to_line(&self, alloc: Global) -> Result<String, AllocError>
+        ensures { IfOk result (λ line. string_bytes line ≡ report_text self.now) }
+    {
         let mut line = new_writer(alloc)?;
         match self {
-            Report::Valid(warnings) => write_warnings(&mut line, warnings)?,
+            Report::Valid(warnings) => write_valid(&mut line, warnings)?,
             Report::Invalid(fault) => write_fault(&mut line, fault)?,
         }
         Ok(into_text(line))
@@ -128,37 +137,36 @@ impl Report {
 }
 
 fn write_fault(line: &mut Writer, report: &FaultReport) -> Result<(), AllocError>
-    ensures { OnOk result (line.new.before ≡ line.old.before) }
+    ensures { OnOk result
+        (text_in line.new ≡ with_tokens (json_tokens (json_of_fault report.now)) (text_in line.old)) }
 {
     line.begin_object()?;
     write_member(line, "fault", report.fault.as_str())?;
-    write_location(line, report)?;
+    write_pointer(line, "pointer", &report.pointer)?;
+    write_pointer(line, "other", &report.other)?;
+    write_range(line, report.range)?;
+    write_text_place(line, report.at)?;
     write_member(line, "expected", report.expected.as_str())?;
     line.end_object()
 }
 
-/// Writes the members with the location of the fault.
-fn write_location(line: &mut Writer, report: &FaultReport) -> Result<(), AllocError>
-    ensures { OnOk result (line.new.before ≡ line.old.before) }
+fn write_pointer(line: &mut Writer, name: &str, pointer: &Option<String>) -> Result<(), AllocError>
+    ensures { OnOk result (text_in line.new ≡ with_tokens (member_tokens name.now
+        (option_map (λ pointer. string (string_bytes pointer)) pointer.now)) (text_in line.old)) }
 {
-    if let Some(pointer) = &report.pointer {
-        write_member(line, "pointer", pointer.as_str())?;
-    }
-    if let Some(other) = &report.other {
-        write_member(line, "other", other.as_str())?;
-    }
-    if let Some(range) = report.range {
-        write_range(line, range)?;
-    }
-    match report.at {
-        Some(at) => write_text_place(line, at),
+    match pointer {
+        Some(pointer) => write_member(line, name, pointer.as_str()),
         None => Ok(()),
     }
 }
 
-fn write_range(line: &mut Writer, range: SourceRange) -> Result<(), AllocError>
-    ensures { OnOk result (line.new.before ≡ line.old.before) }
+fn write_range(line: &mut Writer, range: Option<SourceRange>) -> Result<(), AllocError>
+    ensures { OnOk result (text_in line.new ≡ with_tokens
+        (member_tokens (codes "range") (option_map json_of_offsets range)) (text_in line.old)) }
 {
+    let Some(range) = range else {
+        return Ok(());
+    };
     line.key("range")?;
     line.begin_array()?;
     line.u64(range.start as u64)?;
@@ -166,10 +174,21 @@ fn write_range(line: &mut Writer, range: SourceRange) -> Result<(), AllocError>
     line.end_array()
 }
 
-fn write_text_place(line: &mut Writer, at: TextPlace) -> Result<(), AllocError>
-    ensures { OnOk result (line.new.before ≡ line.old.before) }
+fn write_text_place(line: &mut Writer, at: Option<TextPlace>) -> Result<(), AllocError>
+    ensures { OnOk result (text_in line.new ≡ with_tokens
+        (member_tokens (codes "at") (option_map json_of_place at)) (text_in line.old)) }
 {
+    let Some(at) = at else {
+        return Ok(());
+    };
     line.key("at")?;
+    write_place(line, at)
+}
+
+fn write_place(line: &mut Writer, at: TextPlace) -> Result<(), AllocError>
+    ensures { OnOk result
+        (text_in line.new ≡ with_tokens (json_tokens (json_of_place at)) (text_in line.old)) }
+{
     line.begin_object()?;
     write_count(line, "line", at.position.line)?;
     write_count(line, "column", at.position.character)?;
@@ -177,44 +196,55 @@ fn write_text_place(line: &mut Writer, at: TextPlace) -> Result<(), AllocError>
     line.end_object()
 }
 
-fn write_warnings(line: &mut Writer, warnings: &Warnings) -> Result<(), AllocError>
-    ensures { OnOk result (line.new.before ≡ line.old.before) }
+fn write_valid(line: &mut Writer, warnings: &Warnings) -> Result<(), AllocError>
+    ensures { OnOk result
+        (text_in line.new ≡ with_tokens (json_tokens (json_of_valid warnings.now)) (text_in line.old)) }
 {
     line.begin_object()?;
     line.key("valid")?;
     line.boolean(true)?;
-    if !warnings.is_empty() {
+    if !warnings.kept.is_empty() {
         line.key("warnings")?;
         write_kept(line, warnings.kept.as_slice())?;
     }
-    if warnings.more > 0 {
+    if warnings.more != 0 {
         write_count(line, "more", warnings.more)?;
     }
     line.end_object()
 }
 
 fn write_kept(line: &mut Writer, kept: &[Warning]) -> Result<(), AllocError>
-    ensures { OnOk result (line.new.before ≡ line.old.before) }
+    ensures { OnOk result
+        (text_in line.new ≡ with_tokens (json_tokens (json_of_warnings kept.now)) (text_in line.old)) }
 {
     line.begin_array()?;
     for warning in kept {
-        line.begin_object()?;
-        write_member(line, "pointer", warning.pointer.as_str())?;
-        write_member(line, "says", warning.says)?;
-        line.end_object()?;
+        write_warning(line, warning)?;
     }
     line.end_array()
 }
 
+fn write_warning(line: &mut Writer, warning: &Warning) -> Result<(), AllocError>
+    ensures { OnOk result
+        (text_in line.new ≡ with_tokens (json_tokens (json_of_warning warning.now)) (text_in line.old)) }
+{
+    line.begin_object()?;
+    write_member(line, "pointer", warning.pointer.as_str())?;
+    write_member(line, "says", warning.says)?;
+    line.end_object()
+}
+
 fn write_count(line: &mut Writer, name: &str, count: usize) -> Result<(), AllocError>
-    ensures { OnOk result (line.new.before ≡ line.old.before) }
+    ensures { OnOk result (text_in line.new ≡ with_tokens
+        (member_tokens name.now (Some (json_of_count count))) (text_in line.old)) }
 {
     line.key(name)?;
     line.u64(count as u64)
 }
 
 fn write_member(line: &mut Writer, name: &str, text: &str) -> Result<(), AllocError>
-    ensures { OnOk result (line.new.before ≡ line.old.before) }
+    ensures { OnOk result (text_in line.new ≡ with_tokens
+        (member_tokens name.now (Some (string text.now))) (text_in line.old)) }
 {
     line.key(name)?;
     line.string(text)

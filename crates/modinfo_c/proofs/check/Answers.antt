@@ -4,7 +4,7 @@ use Rattle.modinfo_c.proofs.check.Goals as goal
 
 -- The report was written.
 pub returns-in-Ok : goal.returns-in-Ok
-returns-in-Ok c = answered _ tt c.put.ensures
+returns-in-Ok c = answered _ c.in-Ok.ensures (rw c.as_bytes.ensures.value at c.put.ensures)
 
 -- The name of the fault was written.
 pub returns-in-Err : goal.returns-in-Err

@@ -57,3 +57,16 @@ returns-clause-subcommand g c subcommand is =
         search rules,
       ),
     )
+
+-- The line is the report and a line feed.
+pub returns-clause-check : goal.returns-clause-check
+returns-clause-check g c subcommand is_strict is =
+    let found = rw is at c.in_ok-line.ensures in (
+      c.in_ok-document.document.items,
+      c.in_ok-document.ensures,
+      (
+        c.as_str.result.now,
+        (string_bytes c.in_ok-line.field-0.line, found, search rules),
+        search rules,
+      ),
+    )
