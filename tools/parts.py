@@ -1,0 +1,111 @@
+"""The list of all tests but those of `rt ci`: the parts of tools/test, what each runs, and what is built for it.
+
+The command of a part finds the program by MODINFO, the folder of the libraries by MODINFO_LIB_DIR, and the program
+of the test cases by TEST_REPLAY, all in the environment. It ends with status 69 where what it needs can't be
+installed.
+"""
+
+from dataclasses import dataclass
+
+UNAVAILABLE = 69
+
+
+@dataclass(frozen=True)
+class Part:
+    """A command of bash, which runs in the folder of the repository, and what has to be built for it."""
+
+    name: str
+    command: str
+    builds: tuple[str, ...] = ()
+
+
+@dataclass(frozen=True)
+class Programs:
+    """Where the programs are that the parts test, and the command that builds each."""
+
+    places: dict[str, str]
+    builds: dict[str, str]
+
+
+UNCHECKED = Programs(
+    {
+        "MODINFO": "build/unchecked/modinfo",
+        "MODINFO_LIB_DIR": "build/unchecked",
+        "TEST_REPLAY": "build/unchecked/test_replay",
+    },
+    {name: f"exec tools/build_unchecked {name}" for name in ("modinfo", "libmodinfo", "test_replay")},
+)
+PROVED = Programs(
+    {
+        "MODINFO": "build/modinfo",
+        "MODINFO_LIB_DIR": "build",
+        "TEST_REPLAY": "crates/test_replay/out/test_replay",
+    },
+    {
+        "modinfo": "exec ./modinfo --prove",
+        "libmodinfo": "exec tools/build_library",
+        "test_replay": "[[ -x $TEST_REPLAY ]] || { cd crates/test_replay && exec rt run; }",
+    },
+)
+
+
+def after(setup: str, command: str) -> str:
+    """The command once its packages are installed. One setup runs at a time, since apt-get runs once at a time."""
+    return f"flock build/test {setup} && {command}"
+
+
+def with_or_without(setup: str, command: str) -> str:
+    """The command, which passes over what it can't test, also where its packages can't be installed."""
+    return f"{{ flock build/test {setup} || [[ $? -eq {UNAVAILABLE} ]]; }} && {command}"
+
+
+PYTEST = "exec /usr/bin/python3 -B -m pytest"
+NODE = "cd bindings/node && exec node --test"
+BROWSER = after("bindings/node/setup", f"{NODE} tests/browser/*.test.mjs")
+HAS_BROWSER = f"{{ command -v chromium && command -v chromedriver || exit {UNAVAILABLE}; }}"
+
+# Parts that take long come first.
+QUICK = [
+    Part("node", after("bindings/node/setup", f"{NODE} tests/*.test.mjs"), ("modinfo",)),
+    Part("rust", after("bindings/setup rust", "exec bindings/rust/run_tests"), ("libmodinfo",)),
+    Part("python", after("bindings/setup python", "exec bindings/python/run_tests"), ("libmodinfo",)),
+    Part(
+        "formats",
+        after("bindings/node/setup", after("bindings/setup python", "exec tools/tests/formats")),
+        ("modinfo",),
+    ),
+    Part(
+        "replay",
+        'set -o pipefail; cd crates/test_replay/data && "$TEST_REPLAY" | diff ../stdout -',
+        ("test_replay",),
+    ),
+    Part("examples", 'exec python3 -B tools/examples.py "$MODINFO"', ("modinfo",)),
+    Part("files", "tools/copy_examples --check && tools/generate_formats --check && tools/set_version --check"),
+    Part("scripts", after("bindings/setup python", f"{PYTEST} tools/tests -m 'not slow'")),
+    Part("manual", "exec tools/tests/manual"),
+    Part("generate_formats", "exec tools/tests/generate_formats"),
+]
+UNCHECKED_PARTS = [Part("browser", f"{HAS_BROWSER} && {BROWSER}", ("modinfo",)), *QUICK]
+# Other parts take long, or test what is installed and packed, which is the proved program alone.
+PROVED_PARTS = [
+    Part("fail_allocations", "exec tools/fail_allocations", ("test_replay",)),
+    Part("browser", after("bindings/node/setup_report", BROWSER), ("modinfo",)),
+    *QUICK,
+    Part("fresh_clone", after("bindings/setup python", f"{PYTEST} tools/tests -m slow")),
+    Part("library", "exec tools/tests/library", ("libmodinfo",)),
+    Part(
+        "aarch64",
+        after("packaging/setup aarch64", "tools/build_library --target aarch64 && exec tools/tests/aarch64"),
+        ("modinfo", "libmodinfo"),
+    ),
+    Part("embed", "exec examples/embed", ("libmodinfo",)),
+    *(
+        Part(
+            name,
+            with_or_without("packaging/setup", with_or_without("bindings/setup python", f"exec tools/tests/{name}")),
+            ("modinfo", "libmodinfo"),
+        )
+        for name in ("install", "package", "interfaces")
+    ),
+    Part("cluster", after("examples/cluster/setup", "exec examples/cluster/test"), ("modinfo", "libmodinfo")),
+]

@@ -1,0 +1,154 @@
+"""Tests the help of each script, tools/mutations, tools/set_version and the header for C."""
+
+import os
+import re
+import shutil
+import subprocess
+from pathlib import Path
+
+import pytest
+from conftest import ROOT, Repository
+
+VERSION = (ROOT / "VERSION").read_text().strip()
+
+
+def tracked(*paths: str) -> list[str]:
+    words = ["git", "-C", ROOT, "ls-files", "--cached", "--others", "--exclude-standard", *paths]
+    names = subprocess.run(words, capture_output=True, text=True, check=True).stdout.splitlines()
+    return [name for name in names if (ROOT / name).is_file()]
+
+
+def has_help(name: str) -> bool:
+    """Whether it is a script that a person starts. The words of tools/try_modinfo are those of modinfo; node --test
+    tests the commands of the package for node, and analyze.py needs Dask."""
+    others = r"/tests/|^packaging/debian/|^bindings/node/src/|^tools/try_modinfo$|^examples/cluster/analyze.py$"
+    return not re.search(others, name) and (ROOT / name).read_bytes()[:3] == b"#!/"
+
+
+SCRIPTS = [name for name in tracked(".ci", "bench", "bindings", "examples", "packaging", "tools") if has_help(name)]
+
+
+@pytest.mark.parametrize("option", ["-h", "--help"])
+@pytest.mark.parametrize("words", [["modinfo", "--prove"], *([name] for name in SCRIPTS)], ids=" ".join)
+def test_help(words: list[str], option: str) -> None:
+    """The usage and an example, in at most 40 lines of 110 columns. It needs no build, no network and no package."""
+    program = (ROOT / words[0]).read_text().splitlines()[0].removeprefix("#!").split()
+    run = subprocess.run(
+        [*program, ROOT / words[0], *words[1:], option], stdin=subprocess.DEVNULL, capture_output=True, text=True
+    )
+    assert (run.returncode, run.stderr) == (0, "")
+    lines = run.stdout.splitlines()
+    assert any(line.startswith("usage: ") for line in lines)
+    assert any("example:" in line.lower() for line in lines)
+    assert len(lines) <= 40
+    assert max(map(len, lines)) <= 110
+
+
+def test_scripts_are_found() -> None:
+    assert len(SCRIPTS) >= 40
+
+
+@pytest.fixture
+def crates(tmp_path: Path) -> Path:
+    """Three crates, of which two have mutations that CI leaves out, and an rt that prints those that it tries."""
+    folder = tmp_path / "repository"
+    (folder / "tools").mkdir(parents=True)
+    for name in "mutations", "help.bash":
+        shutil.copy(ROOT / "tools" / name, folder / "tools")
+    for crate in "plain", "other", "lowest":
+        (folder / f"crates/{crate}/must-fail").mkdir(parents=True)
+        (folder / f"crates/{crate}/must-fail/tried.edit").touch()
+        if crate != "lowest":
+            (folder / f"crates/{crate}/must-fail-rest").mkdir()
+            (folder / f"crates/{crate}/must-fail-rest/{crate}.edit").touch()
+    (tmp_path / "rt").write_text('#!/bin/sh\necho "$@"\nls crates/*/must-fail/*\nexit "${STATUS:-0}"\n')
+    (tmp_path / "rt").chmod(0o755)
+    for words in ["init", "-q"], ["add", "."], ["-c", "user.name=a", "-c", "user.email=a", "commit", "-qm", "A test"]:
+        subprocess.run(["git", *words], cwd=folder, check=True)
+    return folder
+
+
+@pytest.mark.parametrize(
+    ("words", "status", "printed"),
+    [
+        ([], 0, "ci other plain\ncrates/other/must-fail/other.edit\ncrates/plain/must-fail/plain.edit\n"),
+        (["plain"], 0, "ci plain\ncrates/plain/must-fail/plain.edit\n"),
+        (["plain"], 1, "ci plain\ncrates/plain/must-fail/plain.edit\n"),
+        (["lowest"], 2, "tools/mutations: crates/lowest/must-fail-rest: no such folder\n"),
+    ],
+)
+def test_mutations(crates: Path, words: list[str], status: int, printed: str) -> None:
+    environment = {**os.environ, "PATH": f"{crates.parent}:{os.environ['PATH']}", "STATUS": str(status)}
+    command = [crates / "tools/mutations", *words]
+    run = subprocess.run(command, env=environment, stdout=subprocess.PIPE, stderr=subprocess.STDOUT, text=True)
+    assert (run.returncode, run.stdout) == (status, printed)
+    assert not subprocess.run(["git", "status", "--porcelain"], cwd=crates, stdout=subprocess.PIPE, check=True).stdout
+
+
+def test_a_new_version(repository: Repository) -> None:
+    """All but the sources in Rattle get it; what is left with another version is named."""
+    crates = ["crates/modinfo/src", "crates/modinfo_c/src"]
+    for name in tracked("VERSION", "bindings", "include", "packaging", "tools", "*.md", *crates):
+        repository.write(name, (ROOT / name).read_text(errors="ignore"))
+    repository.run("git", "init", "-q")
+    command = ["python3", "tools/set_version"]
+    assert repository.run(*command, "--check")[:2] == (0, f"version: {VERSION} in every file that has it\n")
+    repository.write("VERSION", "12.3.45\n")
+    sources = ["crates/modinfo/src/command_line.rt", "crates/modinfo_c/src/lib.rt"]
+    named = [f"{source} doesn't have the version 12.3.45: change it by hand" for source in sources]
+    status, output, _ = repository.run(*command)
+    assert (status, output.splitlines()) == (1, named)
+    assert repository.run(*command, "--check")[1].splitlines() == named
+    cargo = (repository.folder / "bindings/rust/Cargo.toml").read_text()
+    repository.write("bindings/rust/Cargo.toml", cargo.replace("12.3.45", VERSION))
+    old = "bindings/rust/Cargo.toml doesn't have the version 12.3.45: run tools/set_version"
+    assert old in repository.run(*command, "--check")[1]
+    repository.write("bindings/rust/Cargo.toml", "")
+    assert 'bindings/rust/Cargo.toml doesn\'t have name = "modinfo"' in repository.run(*command, "--check")[1]
+
+
+# Calls each function and uses each constant, so that a macro that isn't an expression is an error too.
+CALLS = "".join(
+    f"    if (modinfo_{name}(document, length, answer, room, written) == MODINFO_{status}) return MODINFO_FAULT;\n"
+    for name, status in [
+        ("analyze", "TOO_SMALL"),
+        ("analyze_estree", "ANSWERED"),
+        ("convert", "ANSWERED"),
+        ("reach", "ANSWERED"),
+        ("check", "ANSWERED"),
+        ("check_estree", "ANSWERED"),
+        ("check_convert", "ANSWERED"),
+        ("check_reach", "ANSWERED"),
+    ]
+)
+ARGUMENTS = "const uint8_t *document, size_t length, uint8_t *answer, size_t room, size_t *written"
+PROGRAM = f"""#include "modinfo.h"
+int use({ARGUMENTS});
+int use({ARGUMENTS})
+{{
+    static const char version[] = MODINFO_VERSION_STRING;
+    if (modinfo_version() != MODINFO_VERSION || sizeof version < 2) return MODINFO_FAULT;
+{CALLS}    return modinfo_lines(MODINFO_CHECK_ESTREE, document, length, answer, room, written);
+}}
+"""
+
+
+def compiled(folder: Path, source: str, compiler: str, *options: str) -> "subprocess.CompletedProcess[str]":
+    file = folder / ("program.cc" if compiler == "c++" else "program.c")
+    file.write_text(source)
+    warnings = ["-Wall", "-Wextra", "-Werror"]
+    words = [compiler, *options, *warnings, f"-I{ROOT}/include", "-c", "-o", folder / "made.o", file]
+    return subprocess.run(words, capture_output=True, text=True)
+
+
+@pytest.mark.parametrize("standard", "c89 c99 c11 c17 c++98 c++11 c++17 c++20".split())
+def test_the_header_by_each_standard(tmp_path: Path, standard: str) -> None:
+    run = compiled(tmp_path, PROGRAM, "c++" if "+" in standard else "cc", f"-std={standard}", "-pedantic-errors")
+    assert run.returncode == 0, run.stderr
+
+
+def test_a_null_pointer_that_the_compiler_sees(tmp_path: Path) -> None:
+    function = "int use(uint8_t *answer, size_t *written)"
+    call = "return modinfo_analyze(NULL, 1, answer, 1, written);"
+    run = compiled(tmp_path, f'#include "modinfo.h"\n{function};\n{function} {{ {call} }}\n', "cc")
+    assert run.returncode != 0 and "nonnull" in run.stderr
