@@ -83,7 +83,6 @@ QUICK = [
     Part("files", "tools/copy_examples --check && tools/generate_formats --check && tools/set_version --check"),
     Part("scripts", after("bindings/setup python", f"{PYTEST} tools/tests -m 'not slow'")),
     Part("manual", "exec tools/tests/manual"),
-    Part("generate_formats", "exec tools/tests/generate_formats"),
 ]
 UNCHECKED_PARTS = [Part("browser", f"{HAS_BROWSER} && {BROWSER}", ("modinfo",)), *QUICK]
 # Other parts take long, or test what is installed and packed, which is the proved program alone.

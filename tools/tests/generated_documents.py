@@ -13,7 +13,7 @@ from typing import Any
 
 sys.path.append(str(Path(__file__).resolve().parents[1]))
 
-from formats import Format, Schema, choices, literals
+from formats.schema import Format, Schema, choices, literals
 
 TEXTS = ["./a.ts", "é/😀.js", "", '"\\\n', "*", "node:fs", "resolution-mode", "import", "type", "require"]
 LINE_COMMENTS = [

@@ -7,15 +7,9 @@ import subprocess
 from pathlib import Path
 
 import pytest
-from conftest import ROOT, Repository
+from conftest import ROOT, Repository, copy_tracked, tracked
 
 VERSION = (ROOT / "VERSION").read_text().strip()
-
-
-def tracked(*paths: str) -> list[str]:
-    words = ["git", "-C", ROOT, "ls-files", "--cached", "--others", "--exclude-standard", *paths]
-    names = subprocess.run(words, capture_output=True, text=True, check=True).stdout.splitlines()
-    return [name for name in names if (ROOT / name).is_file()]
 
 
 def has_help(name: str) -> bool:
@@ -88,8 +82,7 @@ def test_mutations(crates: Path, words: list[str], status: int, printed: str) ->
 def test_a_new_version(repository: Repository) -> None:
     """All but the sources in Rattle get it; what is left with another version is named."""
     crates = ["crates/modinfo/src", "crates/modinfo_c/src"]
-    for name in tracked("VERSION", "bindings", "include", "packaging", "tools", "*.md", *crates):
-        repository.write(name, (ROOT / name).read_text(errors="ignore"))
+    copy_tracked(repository, "VERSION", "bindings", "include", "packaging", "tools", "*.md", *crates)
     repository.run("git", "init", "-q")
     command = ["python3", "tools/set_version"]
     assert repository.run(*command, "--check")[:2] == (0, f"version: {VERSION} in every file that has it\n")
