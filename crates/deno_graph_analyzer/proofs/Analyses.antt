@@ -7,8 +7,8 @@ use Rattle.deno_graph_analyzer.specs.Analysis.{IsAnalyzeResult, IsAnalysisOf}
 use Rattle.deno_graph_analyzer.specs.Parsing.{ParseFunction, Input, IsParseResult}
 use Rattle.deno_graph_analyzer.specs.declared.analyzer.AnalyzeError.{AnalyzeError}
 use Rattle.deno_graph_analyzer.specs.declared.analyzer.AnalyzeError.TheVariants as analyze
-use Rattle.deno_graph_analyzer.specs.declared.parser.ParseError.{ParseError}
-use Rattle.deno_graph_analyzer.specs.declared.parser.ParseError.TheVariants as parse
+use Rattle.deno_graph_source.specs.declared.tree.parse_error.ParseError.{ParseError}
+use Rattle.deno_graph_source.specs.declared.tree.parse_error.ParseError.TheVariants as parse
 
 -- if the parser returns its outcome, the analyzer returns the info or the diagnostic of the outcome
 pub analysis_of_outcome : (f : ParseFunction) (asked : Input) (answer : Result ParsedModule ParseError)

@@ -25,8 +25,8 @@ use Rattle.deno_graph_analyzer.specs.Captures.{State, IsSoundState, Captures}
 use Rattle.deno_graph_analyzer.specs.Capturing.{IsFaithful, MatchesInput, HasSourceFor, after_look_up}
 use Rattle.deno_graph_analyzer.specs.Parsing.{ParseFunction, ResultRelation, Input, IsParseResult}
 use Rattle.deno_graph_analyzer.specs.Sources.{Sources, source_at, with_source}
-use Rattle.deno_graph_analyzer.specs.declared.parser.ParseError.{ParseError}
-use Rattle.deno_graph_analyzer.specs.declared.parser.ParseError.TheVariants.{OutOfMemory}
+use Rattle.deno_graph_source.specs.declared.tree.parse_error.ParseError.{ParseError}
+use Rattle.deno_graph_source.specs.declared.tree.parse_error.ParseError.TheVariants.{OutOfMemory}
 use Rattle.deno_graph_analyzer.proofs.Captured.{
   stored_before,
   stored_after,

@@ -33,7 +33,7 @@ use Rattle.deno_graph_analyzer.specs.Parsing.{
   input_under,
 }
 use Rattle.deno_graph_analyzer.specs.Sources.{Sources, source_at, with_source, with_mark_of}
-use Rattle.deno_graph_analyzer.specs.declared.parser.ParseError.{ParseError}
+use Rattle.deno_graph_source.specs.declared.tree.parse_error.ParseError.{ParseError}
 use Rattle.deno_graph_analyzer.proofs.StoredSources.{source_at-with_source, equal_text}
 
 -- the sources `n` have at a key what `m` has, or the same source with its mark

@@ -48,9 +48,9 @@ use Rattle.deno_graph_analyzer.specs.Parsing.{
   specifier_text,
 }
 use Rattle.deno_graph_analyzer.specs.Sources.{Sources, source_at, without_source}
-use Rattle.deno_graph_analyzer.specs.declared.parser.ParseDiagnostic.{ParseDiagnostic}
-use Rattle.deno_graph_analyzer.specs.declared.parser.ParseError.{ParseError}
-use Rattle.deno_graph_analyzer.specs.declared.parser.ParseError.TheVariants as parse
+use Rattle.deno_graph_source.specs.declared.tree.parse_error.ParseDiagnostic.{ParseDiagnostic}
+use Rattle.deno_graph_source.specs.declared.tree.parse_error.ParseError.{ParseError}
+use Rattle.deno_graph_source.specs.declared.tree.parse_error.ParseError.TheVariants as parse
 use Rattle.deno_graph_analyzer.proofs.Analyses.{analysis_of_outcome}
 use Rattle.deno_graph_analyzer.proofs.StoredSources.{
   source_at-with_source,

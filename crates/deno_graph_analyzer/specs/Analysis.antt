@@ -6,7 +6,7 @@ use Rattle.deno_graph_source.specs.declared.tree.node.Program.{Program}
 use Rattle.deno_graph_info.specs.declared.analysis.module_info.ModuleInfo.{ModuleInfo}
 use Rattle.deno_graph_module_info.specs.InfoOfModule.{IsInfoOfModule, IsInfoOfSource}
 use Rattle.deno_graph_analyzer.specs.Parsing.{ParseFunction, Input, parsed, rejected}
-use Rattle.deno_graph_analyzer.specs.declared.parser.ParseError.{ParseError}
+use Rattle.deno_graph_source.specs.declared.tree.parse_error.ParseError.{ParseError}
 use Rattle.deno_graph_analyzer.specs.AnalyzeError.{analyze_error_of}
 use Rattle.deno_graph_analyzer.specs.declared.analyzer.AnalyzeError.{AnalyzeError}
 use Rattle.deno_graph_analyzer.specs.declared.analyzer.AnalyzeError.TheVariants.{Parse, OutOfMemory}

@@ -1,6 +1,6 @@
 -- Errors of analyzers.
-use Rattle.deno_graph_analyzer.specs.declared.parser.ParseError.{ParseError}
-use Rattle.deno_graph_analyzer.specs.declared.parser.ParseError.TheVariants as parse
+use Rattle.deno_graph_source.specs.declared.tree.parse_error.ParseError.{ParseError}
+use Rattle.deno_graph_source.specs.declared.tree.parse_error.ParseError.TheVariants as parse
 use Rattle.deno_graph_analyzer.specs.declared.analyzer.AnalyzeError.{AnalyzeError}
 use Rattle.deno_graph_analyzer.specs.declared.analyzer.AnalyzeError.TheVariants.{Parse, OutOfMemory}
 

@@ -4,8 +4,8 @@ use Rattle.deno_graph_source.specs.ParsedSource.{ParsedModule}
 use Rattle.deno_graph_analyzer.specs.Capturing.{IsFaithful, HasSourceFor, after_look_up}
 use Rattle.deno_graph_analyzer.specs.Parsing.{ParseFunction, ResultRelation, Input, IsParseResult}
 use Rattle.deno_graph_analyzer.specs.Sources.{Sources, source_at, with_source}
-use Rattle.deno_graph_analyzer.specs.declared.parser.ParseError.{ParseError}
-use Rattle.deno_graph_analyzer.specs.declared.parser.ParseError.TheVariants.{OutOfMemory}
+use Rattle.deno_graph_source.specs.declared.tree.parse_error.ParseError.{ParseError}
+use Rattle.deno_graph_source.specs.declared.tree.parse_error.ParseError.TheVariants.{OutOfMemory}
 
 -- the state of a parser over a store: the parser and the sources in the store
 pub record State (P : Type 0) : Type 0 where

@@ -5,9 +5,9 @@ use Rattle.deno_graph_source.specs.ParsedSource.{ParsedModule}
 use Rattle.deno_graph_info.specs.declared.analysis.module_info.ModuleInfo.{ModuleInfo}
 use Rattle.deno_graph_analyzer.specs.Parsing.{ParseFunction, ResultRelation, Input, specifier_text}
 use Rattle.deno_graph_analyzer.specs.Sources.{source_at, without_source}
-use Rattle.deno_graph_analyzer.specs.declared.parser.ParseDiagnostic.{ParseDiagnostic}
-use Rattle.deno_graph_analyzer.specs.declared.parser.ParseError.{ParseError}
-use Rattle.deno_graph_analyzer.specs.declared.parser.ParseError.TheVariants as parse
+use Rattle.deno_graph_source.specs.declared.tree.parse_error.ParseDiagnostic.{ParseDiagnostic}
+use Rattle.deno_graph_source.specs.declared.tree.parse_error.ParseError.{ParseError}
+use Rattle.deno_graph_source.specs.declared.tree.parse_error.ParseError.TheVariants as parse
 use Rattle.deno_graph_analyzer.specs.Analysis.{IsAnalysisOf}
 use Rattle.deno_graph_analyzer.specs.Captures.{State, Captures}
 use Rattle.deno_graph_analyzer.specs.Commands.{input}

@@ -1,12 +1,11 @@
-//! The trait of parsers, with the options and errors of a parse.
+//! The trait of parsers, with the options of a parse.
 
 ghost use Rattle.std.specs.Prelude.{◌≡◌, IfOk};
 ghost use Rattle.std.specs.Rc.{rc_str_bytes};
 
-use deno_graph_base::text::Position;
-use deno_graph_base::values::{Text, TryClone};
 use deno_graph_source::tree::{MediaType, ParsedSource};
-use std::alloc::{AllocError, AllocFailed, Global};
+pub use deno_graph_source::tree::{ParseDiagnostic, ParseError};
+use std::alloc::{AllocError, Global};
 use std::rc::RcStr;
 use url::Url;
 
@@ -79,64 +78,6 @@ impl<'a> ParseOptions<'a> {
             media_type: self.media_type,
             scope_analysis: self.scope_analysis,
         })
-    }
-}
-
-/// A syntax error.
-#[derive(Debug, PartialEq, Eq, Drop)]
-pub struct ParseDiagnostic {
-    /// Message of the parser.
-    pub message: Text,
-    /// Line and character of the error, counted from zero.
-    pub position: Position,
-}
-
-impl TryClone for ParseDiagnostic {
-    fn try_clone(&self, alloc: Global) -> Result<ParseDiagnostic, AllocError> {
-        Ok(ParseDiagnostic {
-            message: self.message.try_clone(alloc)?,
-            position: self.position,
-        })
-    }
-}
-
-/// An error of a parser.
-#[derive(Debug, PartialEq, Eq, Drop)]
-pub enum ParseError {
-    /// The text is no module.
-    Diagnostic(ParseDiagnostic),
-    /// An allocation failed.
-    OutOfMemory,
-}
-
-impl TryClone for ParseError {
-    fn try_clone(&self, alloc: Global) -> Result<ParseError, AllocError> {
-        match self {
-            ParseError::Diagnostic(diagnostic) => {
-                Ok(ParseError::Diagnostic(diagnostic.try_clone(alloc)?))
-            }
-            ParseError::OutOfMemory => Ok(ParseError::OutOfMemory),
-        }
-    }
-}
-
-impl From<AllocError> for ParseError {
-    ghost use Rattle.deno_graph_analyzer.specs.declared.parser.ParseError.TheVariants.{OutOfMemory};
-
-    ghost from_gives = { λ error parse_error. parse_error ≡ OutOfMemory };
-
-    fn from(_error: AllocError) -> ParseError {
-        ParseError::OutOfMemory
-    }
-}
-
-impl<T: Drop> From<AllocFailed<T>> for ParseError {
-    ghost use Rattle.deno_graph_analyzer.specs.declared.parser.ParseError.TheVariants.{OutOfMemory};
-
-    ghost from_gives = { λ error parse_error. parse_error ≡ OutOfMemory };
-
-    fn from(_error: AllocFailed<T>) -> ParseError {
-        ParseError::OutOfMemory
     }
 }
 

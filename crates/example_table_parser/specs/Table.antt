@@ -11,7 +11,7 @@ use Rattle.deno_graph_analyzer.specs.Parsing.{
   specifier_text,
   outcome_of,
 }
-use Rattle.deno_graph_analyzer.specs.declared.parser.ParseDiagnostic.{ParseDiagnostic}
+use Rattle.deno_graph_source.specs.declared.tree.parse_error.ParseDiagnostic.{ParseDiagnostic}
 
 -- the source has the specifier, the text and the media type of the input
 abbrev pub is_for : Input → ParsedModule → Bool

@@ -45,6 +45,8 @@ pub struct Sources {
     pub source_fault_place: Cloned<source::SourceFaultPlace>,
     pub kind: Cloned<source::Kind>,
     pub node: Cloned<source::Node>,
+    pub parse_diagnostic: Cloned<source::ParseDiagnostic>,
+    pub parse_error: Cloned<source::ParseError>,
     pub parsed_source: Cloned<source::ParsedSource>,
     pub program: Cloned<source::Program>,
     pub prop_key: Cloned<source::PropKey>,
