@@ -2,7 +2,9 @@ pub mod AddedItems
 pub mod FiledComments
 pub mod NodeFindings
 pub mod Judgements
+pub mod LastSeparator
 pub mod Lists
+pub mod MediaTypeTables
 pub mod Neighbours
 pub mod NodePaths
 pub mod NodeRanges

@@ -1,3 +1,4 @@
 pub mod ByOffset
 pub mod Check
 pub mod Finding
+pub mod MediaType
