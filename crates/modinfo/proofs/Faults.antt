@@ -1,11 +1,14 @@
 -- The faults of a document, by the step that failed.
-use Rattle.std.proofs.Common.{◌≡◌, ◌≢◌, ℕ, List, Some, None, refl}
+use Rattle.std.proofs.Common.{◌≡◌, ◌≢◌, ◌∙◌, ℕ, List, Option, Some, None, refl, subst, sym}
 use Rattle.std.proofs.Common.{Result, Ok, Err, MatchResult, String, Global, string_bytes}
 use Rattle.serde_json.specs.Data.{Data, Members}
 use Rattle.serde_json.specs.Read.{read as read_text}
 use Rattle.deno_graph_base.specs.TextMap.{entries_of}
 use Rattle.deno_graph_json.specs.declared.flat.error.TapeError.{TapeError}
 use Rattle.deno_graph_json.specs.declared.flat.error.TapeError.TheVariants as tape
+use Rattle.modinfo_document.specs.Document.{Contents, reads_document}
+use Rattle.modinfo_document.specs.declared.error.DocumentError.TheVariants as error
+use Rattle.modinfo_estree.specs.Document.{reads_estree}
 use Rattle.deno_graph_info.specs.Conversion.{IsConvertFault}
 use Rattle.deno_graph_info.specs.declared.analysis.fault.InfoFault.{InfoFault}
 use Rattle.deno_graph_info.specs.declared.analysis.fault.InfoFault.TheVariants as info
@@ -14,19 +17,20 @@ use Rattle.deno_graph_info.specs.declared.conversion.fault.ConvertFault.TheVaria
 use Rattle.modinfo.specs.Answer.{
   IsConvertedText,
   IsDocumentFault,
-  IsInputFault,
   IsNoConversion,
   IsNoJson,
+  IsNoModule,
   IsNoReach,
-  IsRunFault,
 }
 use Rattle.modinfo.specs.internal.Answer.{IsReadFailure}
 use Rattle.modinfo.specs.internal.Convert.{IsConvertedValue, IsNoConvertedValue}
-use Rattle.modinfo.specs.Run.{IsFailure}
+use Rattle.modinfo.specs.Run.{IsNoResult, IsRunFault}
 use Rattle.modinfo.specs.Fault.{fault_of_conversion, fault_of_info, fault_of_tape}
 use Rattle.modinfo.specs.Reach.{Asks, IsFirstFault, IsNoQuestion, IsQuestionFault, Question, reads_question}
 use Rattle.modinfo.specs.internal.Reach.{IsNoInfos, IsQuestionOf}
 use Rattle.modinfo.specs.declared.reach.Question.{Question as Asked}
+use Rattle.modinfo.specs.declared.command.Command.{Command}
+use Rattle.modinfo.specs.declared.command.Command.TheVariants.{Answer, Check}
 use Rattle.modinfo.specs.declared.fault.Fault.{Fault}
 use Rattle.modinfo.specs.declared.fault.Fault.TheVariants.{
   Input,
@@ -39,8 +43,8 @@ use Rattle.modinfo.specs.declared.fault.Fault.TheVariants.{
   Output,
   OutOfMemory,
 }
-use Rattle.modinfo.specs.declared.subcommand.Subcommand.{Subcommand}
-use Rattle.modinfo.specs.declared.subcommand.Subcommand.TheVariants.{Analyze, AnalyzeEstree, Convert, Reach}
+use Rattle.modinfo.specs.declared.format.Format.{Format}
+use Rattle.modinfo.specs.declared.format.Format.TheVariants.{Module, Estree, Stored, Modules}
 
 -- A text of which no flat list can be made isn't converted.
 pub no_converted_tape : (text : List ℕ) (inner : TapeError)
@@ -159,70 +163,68 @@ question_fault value (Source inner) apart none = absurd none
 question_fault value (Convert inner) apart none = absurd none
 question_fault value Output apart none = absurd none
 
--- A fault of the document is one of the run.
-pub input_fault : (subcommand : Subcommand) (text : List ℕ) (fault : Fault)
-    → IsDocumentFault subcommand text fault → IsInputFault subcommand text fault
-input_fault subcommand text Input has = tt
-input_fault subcommand text Json has = has
-input_fault subcommand text Tree has = has
-input_fault subcommand text Specifier has = has
-input_fault subcommand text (Source inner) has = has
-input_fault subcommand text (Convert inner) has = has
-input_fault subcommand text (Info inner) has = has
-input_fault subcommand text Output has = has
-input_fault subcommand text OutOfMemory has = has
+-- A document without a result is a fault of the run.
+pub run_fault : (command : Command) (document : List ℕ) (fault : Fault)
+    → IsNoResult command document fault → IsRunFault command document fault
+run_fault command document Input has = tt
+run_fault command document Json has = has
+run_fault command document Tree has = has
+run_fault command document Specifier has = has
+run_fault command document (Source inner) has = has
+run_fault command document (Convert inner) has = has
+run_fault command document (Info inner) has = has
+run_fault command document Output has = tt
+run_fault command document OutOfMemory has = has
 
-pub run_fault : (subcommand : Subcommand) (text : List ℕ) (fault : Fault)
-    → IsDocumentFault subcommand text fault → IsRunFault subcommand text fault
-run_fault subcommand text Input has = tt
-run_fault subcommand text Json has = has
-run_fault subcommand text Tree has = has
-run_fault subcommand text Specifier has = has
-run_fault subcommand text (Source inner) has = has
-run_fault subcommand text (Convert inner) has = has
-run_fault subcommand text (Info inner) has = has
-run_fault subcommand text Output has = tt
-run_fault subcommand text OutOfMemory has = has
+-- A failed allocation is a fault of a document, for each format.
+no_memory : (format : Format) (document : List ℕ) → IsDocumentFault format document OutOfMemory
+no_memory Module document = tt
+no_memory Estree document = tt
+no_memory Stored document = tt
+no_memory Modules document = tt
 
--- A failed allocation is a fault of a document, for each subcommand.
-no_memory : (subcommand : Subcommand) (text : List ℕ) → IsDocumentFault subcommand text OutOfMemory
-no_memory Analyze text = tt
-no_memory AnalyzeEstree text = tt
-no_memory Convert text = tt
-no_memory Reach text = tt
+-- A failed allocation is a fault of the run, for each command.
+pub run_without_memory : (command : Command) (document : List ℕ) → IsRunFault command document OutOfMemory
+run_without_memory (Answer format) document = no_memory format document
+run_without_memory (Check format is_strict) document = refl
 
 -- A failed read is a fault of the run.
-pub failed_input : (subcommand : Subcommand) (text : List ℕ) (fault : Fault) → IsReadFailure fault
-    → IsInputFault subcommand text fault
-failed_input subcommand text Input failed = tt
-failed_input subcommand text OutOfMemory failed = no_memory subcommand text
-failed_input subcommand text Json failed = absurd failed
-failed_input subcommand text Tree failed = absurd failed
-failed_input subcommand text Specifier failed = absurd failed
-failed_input subcommand text (Source inner) failed = absurd failed
-failed_input subcommand text (Convert inner) failed = absurd failed
-failed_input subcommand text (Info inner) failed = absurd failed
-failed_input subcommand text Output failed = absurd failed
+pub failed_read : (command : Command) (document : List ℕ) (fault : Fault) → IsReadFailure fault
+    → IsRunFault command document fault
+failed_read command document Input failed = tt
+failed_read command document OutOfMemory failed = run_without_memory command document
+failed_read command document Json failed = absurd failed
+failed_read command document Tree failed = absurd failed
+failed_read command document Specifier failed = absurd failed
+failed_read command document (Source inner) failed = absurd failed
+failed_read command document (Convert inner) failed = absurd failed
+failed_read command document (Info inner) failed = absurd failed
+failed_read command document Output failed = absurd failed
 
-pub failed_run : (subcommand : Subcommand) (text : List ℕ) (fault : Fault) → IsReadFailure fault
-    → IsRunFault subcommand text fault
-failed_run subcommand text Input failed = tt
-failed_run subcommand text OutOfMemory failed = no_memory subcommand text
-failed_run subcommand text Json failed = absurd failed
-failed_run subcommand text Tree failed = absurd failed
-failed_run subcommand text Specifier failed = absurd failed
-failed_run subcommand text (Source inner) failed = absurd failed
-failed_run subcommand text (Convert inner) failed = absurd failed
-failed_run subcommand text (Info inner) failed = absurd failed
-failed_run subcommand text Output failed = absurd failed
+-- A failed write is a fault of the run.
+pub write_fault : (command : Command) (document : List ℕ) (fault : Fault) → fault ≡ Output
+    → IsRunFault command document fault
+write_fault command document fault same = subst (IsRunFault command document) (sym same) tt
 
-pub read_failure : (fault : Fault) → IsReadFailure fault → IsFailure fault
-read_failure Input failed = tt
-read_failure OutOfMemory failed = tt
-read_failure Json failed = absurd failed
-read_failure Tree failed = absurd failed
-read_failure Specifier failed = absurd failed
-read_failure (Source inner) failed = absurd failed
-read_failure (Convert inner) failed = absurd failed
-read_failure (Info inner) failed = absurd failed
-read_failure Output failed = absurd failed
+-- A failed read isn't a failed write.
+pub read_apart : (fault : Fault) → IsReadFailure fault → fault ≢ Output
+read_apart fault failed same = subst IsReadFailure same failed
+
+-- No module is missing because a write failed.
+module_apart : (reads : Data → Option Contents) (document : List ℕ) → ¬ IsNoModule reads document Output
+module_apart reads document (error.Json place, is, has) = cc (is)
+module_apart reads document (error.Tree mismatch, is, has) = cc (is)
+module_apart reads document (error.Specifier, is, has) = cc (is)
+module_apart reads document (error.Source inner, is, has) = cc (is)
+module_apart reads document (error.OutOfMemory, is, has) = cc (is)
+
+-- No result is missing because a write failed.
+pub result_apart : (command : Command) (document : List ℕ) (fault : Fault) → IsNoResult command document fault
+    → fault ≢ Output
+result_apart (Answer Module) document fault has same =
+    module_apart reads_document document (subst (IsNoModule reads_document document) same has)
+result_apart (Answer Estree) document fault has same =
+    module_apart reads_estree document (subst (IsNoModule reads_estree document) same has)
+result_apart (Answer Stored) document fault has same = subst (IsNoConversion document) same has
+result_apart (Answer Modules) document fault has same = subst (IsNoReach document) same has
+result_apart (Check format is_strict) document fault has same = cc (sym has ∙ same)

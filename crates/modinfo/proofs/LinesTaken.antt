@@ -59,9 +59,8 @@ use Rattle.std.proofs.KnownBytes.{Appends-nil, Appends-trans}
 use Rattle.std.proofs.lemmas.List.{take-append-le}
 use Rattle.std.proofs.lemmas.List.Elements.{All-more, All-nil}
 use Rattle.std.proofs.lemmas.Result.{err_from_is_err_and}
-use Rattle.modinfo.specs.Answer.{IsAnswerText, IsDocumentFault}
+use Rattle.modinfo.proofs.Faults.{run_without_memory}
 use Rattle.modinfo.specs.Lines.{
-  IsPrintFault,
   IsPrinted,
   PrintsLine,
   PrintsLines,
@@ -73,16 +72,14 @@ use Rattle.modinfo.specs.Lines.{
   LeavesFirstLines,
 }
 use Rattle.modinfo.specs.internal.Lines.{TakesLines}
-use Rattle.modinfo.specs.Lines.PrintsLine.{answered, faulted, out_of_memory, reported}
+use Rattle.modinfo.specs.Lines.PrintsLine.{with_fault, with_result}
 use Rattle.modinfo.specs.Lines.PrintsLines.{more, none}
-use Rattle.modinfo.specs.Run.{AppendsFront, IsFailure}
+use Rattle.modinfo.specs.Run.{AppendsFront, IsFailure, IsNoResult}
 use Rattle.modinfo.specs.declared.fault.Fault.{Fault}
 use Rattle.modinfo.specs.declared.fault.Fault.TheVariants.{OutOfMemory}
-use Rattle.modinfo.specs.declared.subcommand.Subcommand.{Subcommand}
-use Rattle.modinfo.specs.declared.subcommand.Subcommand.TheVariants.{Analyze, AnalyzeEstree, Convert, Reach}
-use Rattle.modinfo.specs.declared.task.Printed.{Printed}
-use Rattle.modinfo.specs.declared.task.Task.{Task}
-use Rattle.modinfo.specs.declared.task.Task.TheVariants.{Answer, Check}
+use Rattle.modinfo.specs.declared.command.Printed.{Printed}
+use Rattle.modinfo.specs.declared.command.Command.{Command}
+use Rattle.modinfo.specs.declared.command.Command.TheVariants.{Answer, Check}
 
 -- The last byte of a longer list.
 ends_with_byte-cons : (byte x : ℕ) (xs : List ℕ) → 0 < length xs
@@ -278,29 +275,29 @@ and_true true = refl
 and_true false = refl
 
 -- The printed lines for a line after others.
-pub PrintsLines-more : (task : Task) (lines : List (List ℕ)) (line : List ℕ) (passes next : Bool)
-    (printed text : List ℕ) → PrintsLines task lines passes printed → PrintsLine task line next text
-    → PrintsLines task (lines ++ line ∷ []) (passes && next) (printed ++ text)
-PrintsLines-more task _ line _ next _ text none one =
-    subst (λ b. PrintsLines task (line ∷ []) b text) (and_true next)
-    (subst (λ t. PrintsLines task (line ∷ []) (next && true) t) (append-nil text) (more one none))
-PrintsLines-more task _ line _ next _ text (more one_line others) one =
-    rw (and_assoc, append_assoc) (more one_line (PrintsLines-more task _ line _ next _ text others one))
+pub PrintsLines-more : (command : Command) (lines : List (List ℕ)) (line : List ℕ) (passes next : Bool)
+    (printed text : List ℕ) → PrintsLines command lines passes printed → PrintsLine command line next text
+    → PrintsLines command (lines ++ line ∷ []) (passes && next) (printed ++ text)
+PrintsLines-more command _ line _ next _ text none one =
+    subst (λ b. PrintsLines command (line ∷ []) b text) (and_true next)
+    (subst (λ t. PrintsLines command (line ∷ []) (next && true) t) (append-nil text) (more one none))
+PrintsLines-more command _ line _ next _ text (more one_line others) one =
+    rw (and_assoc, append_assoc) (more one_line (PrintsLines-more command _ line _ next _ text others one))
 
 -- Like `PrintsLines-more`, if a part of the printed lines was written.
-pub PrintsLines-next : (task : Task) (lines : List (List ℕ)) (line : List ℕ) (passes next : Bool)
-    (sent waiting written left printed new : List ℕ) → PrintsLines task lines passes (sent ++ waiting)
-    → waiting ≡ written ++ left → PrintsLine task line next printed → new ≡ left ++ printed
-    → PrintsLines task (lines ++ line ∷ []) (passes && next) ((sent ++ written) ++ new)
-PrintsLines-next task lines line passes next sent waiting written left printed new all is one e =
+pub PrintsLines-next : (command : Command) (lines : List (List ℕ)) (line : List ℕ) (passes next : Bool)
+    (sent waiting written left printed new : List ℕ) → PrintsLines command lines passes (sent ++ waiting)
+    → waiting ≡ written ++ left → PrintsLine command line next printed → new ≡ left ++ printed
+    → PrintsLines command (lines ++ line ∷ []) (passes && next) ((sent ++ written) ++ new)
+PrintsLines-next command lines line passes next sent waiting written left printed new all is one e =
     let same : (sent ++ waiting) ++ printed ≡ (sent ++ written) ++ new = cc (
       ap (λ l. (sent ++ l) ++ printed) is,
       ap (λ l. l ++ printed) (append_assoc sent written left),
       append_assoc (sent ++ written) left printed,
       ap (λ l. (sent ++ written) ++ l) e,
     ) in
-    subst (PrintsLines task (lines ++ line ∷ []) (passes && next)) same
-    (PrintsLines-more task lines line passes next (sent ++ waiting) printed all one)
+    subst (PrintsLines command (lines ++ line ∷ []) (passes && next)) same
+    (PrintsLines-more command lines line passes next (sent ++ waiting) printed all one)
 
 -- The bytes that were written are a beginning of the printed lines.
 pub AppendsFront-sent : (a b : Option (List ℕ)) (sent waiting : List ℕ) → Appends a b sent
@@ -325,57 +322,42 @@ AppendsFront-more a b c sent waiting p q = (
   subst (Appends a c) (sym (take_past sent waiting q.0)) (Appends-trans a b c sent (take q.0 waiting) p q.1),
 )
 
--- The line with the answer or the report.
-pub PrintsLine-framed : (task : Task) (line : List ℕ) (printed : Printed) → IsPrinted task line printed
-    → PrintsLine task line printed.is_passed (framed task (string_bytes printed.line))
-PrintsLine-framed (Answer subcommand) line printed is =
-    let text = string_bytes printed.line in
-    subst (λ b. PrintsLine (Answer subcommand) line b (framed (Answer subcommand) text)) (sym is.0)
-    (answered text is.1)
-PrintsLine-framed (Check subcommand is_strict) line printed is = reported (string_bytes printed.line) is
+-- The line with a result.
+pub PrintsLine-framed : (command : Command) (line : List ℕ) (result : Printed) → IsPrinted command line result
+    → PrintsLine command line result.is_passed (framed command (string_bytes result.line))
+PrintsLine-framed command line result is = with_result (string_bytes result.line) is
 
 -- The line with the fault.
-pub PrintsLine-faulted : (task : Task) (line : List ℕ) (fault : Fault) → IsPrintFault task line fault
-    → PrintsLine task line (passes_without task) (fault_line fault)
-PrintsLine-faulted (Answer subcommand) line fault has = faulted fault has
-PrintsLine-faulted (Check subcommand is_strict) line fault has =
-    subst (λ f. PrintsLine (Check subcommand is_strict) line false (fault_line f)) (sym has) out_of_memory
+pub PrintsLine-faulted : (command : Command) (line : List ℕ) (fault : Fault) → IsNoResult command line fault
+    → PrintsLine command line (passes_without command) (fault_line fault)
+PrintsLine-faulted command line fault has = with_fault fault has
 
--- An allocation may fail for each document.
-IsDocumentFault-out_of_memory : (subcommand : Subcommand) (line : List ℕ)
-    → IsDocumentFault subcommand line OutOfMemory
-IsDocumentFault-out_of_memory Analyze line = tt
-IsDocumentFault-out_of_memory AnalyzeEstree line = tt
-IsDocumentFault-out_of_memory Convert line = tt
-IsDocumentFault-out_of_memory Reach line = tt
-
-pub PrintsLine-out_of_memory : (task : Task) (line : List ℕ)
-    → PrintsLine task line (passes_without task) (fault_line OutOfMemory)
-PrintsLine-out_of_memory (Answer subcommand) line =
-    faulted OutOfMemory (IsDocumentFault-out_of_memory subcommand line)
-PrintsLine-out_of_memory (Check subcommand is_strict) line = out_of_memory
+-- The line of a document for which an allocation failed.
+pub PrintsLine-out_of_memory : (command : Command) (line : List ℕ)
+    → PrintsLine command line (passes_without command) (fault_line OutOfMemory)
+PrintsLine-out_of_memory command line = with_fault OutOfMemory (run_without_memory command line)
 
 -- A text of which a part was written.
-pub PrintsLines-written : (task : Task) (lines : List (List ℕ)) (passes : Bool) (sent waiting written left
+pub PrintsLines-written : (command : Command) (lines : List (List ℕ)) (passes : Bool) (sent waiting written left
     : List ℕ)
-    → PrintsLines task lines passes (sent ++ waiting) → waiting ≡ written ++ left
-    → PrintsLines task lines passes ((sent ++ written) ++ left)
-PrintsLines-written task lines passes sent waiting written left all is =
-    subst (PrintsLines task lines passes) (ap (λ l. sent ++ l) is ∙ sym (append_assoc sent written left)) all
+    → PrintsLines command lines passes (sent ++ waiting) → waiting ≡ written ++ left
+    → PrintsLines command lines passes ((sent ++ written) ++ left)
+PrintsLines-written command lines passes sent waiting written left all is =
+    subst (PrintsLines command lines passes) (ap (λ l. sent ++ l) is ∙ sym (append_assoc sent written left)) all
 
 -- A run that fails after some lines.
-pub LeavesFirstLines-at : (task : Task) (input now before after : Option (List ℕ)) (lines : List (List ℕ))
+pub LeavesFirstLines-at : (command : Command) (input now before after : Option (List ℕ)) (lines : List (List ℕ))
     (passes : Bool) (printed : List ℕ) (fault : Fault) → IsFailure fault → TakesLines input now lines
-    → PrintsLines task lines passes printed → AppendsFront before after printed
-    → LeavesFirstLines task input before after fault
-LeavesFirstLines-at task input now before after lines passes printed fault failure taken prints front =
+    → PrintsLines command lines passes printed → AppendsFront before after printed
+    → LeavesFirstLines command input before after fault
+LeavesFirstLines-at command input now before after lines passes printed fault failure taken prints front =
     (failure, lines, TakesLines-first input now lines taken, passes, printed, prints, front)
 
 -- A run that fails before the first line.
-pub LeavesFirstLines-none : (task : Task) (input output : Option (List ℕ)) (fault : Fault) → IsFailure fault
-    → LeavesFirstLines task input output output fault
-LeavesFirstLines-none task input output fault failure =
-    LeavesFirstLines-at task input input output output [] true [] fault failure (TakesLines-nil input) none
+pub LeavesFirstLines-none : (command : Command) (input output : Option (List ℕ)) (fault : Fault) → IsFailure fault
+    → LeavesFirstLines command input output output fault
+LeavesFirstLines-none command input output fault failure =
+    LeavesFirstLines-at command input input output output [] true [] fault failure (TakesLines-nil input) none
     (0, Appends-nil output)
 
 -- The fault that a `?` returns.
@@ -384,18 +366,18 @@ pub exits : (r : Result Bool Fault) (P : Bool → Type 0) (Q : Fault → Type 0)
 exits r P Q fault err rest = let p = err_from_is_err_and r err in rw (p.1, p.2) rest
 
 -- A line for whose answer or report an allocation failed.
-pub refused_after : (r : Result Bool Fault) (task : Task) (line old kept new : List ℕ) → kept ≡ old
-    → MatchResult r (λ passes. (passes ≡ passes_without task) × (new ≡ kept ++ fault_line OutOfMemory))
+pub refused_after : (r : Result Bool Fault) (command : Command) (line old kept new : List ℕ) → kept ≡ old
+    → MatchResult r (λ passes. (passes ≡ passes_without command) × (new ≡ kept ++ fault_line OutOfMemory))
     (λ fault. fault ≡ OutOfMemory)
-    → MatchResult r (λ passes. (printed : List ℕ) × PrintsLine task line passes printed
+    → MatchResult r (λ passes. (printed : List ℕ) × PrintsLine command line passes printed
     × (new ≡ old ++ printed))
     (λ fault. fault ≡ OutOfMemory)
-refused_after (Ok passes) task line old kept new same h = (
+refused_after (Ok passes) command line old kept new same h = (
   fault_line OutOfMemory,
-  subst (λ b. PrintsLine task line b (fault_line OutOfMemory)) (sym h.0) (PrintsLine-out_of_memory task line),
+  subst (λ b. PrintsLine command line b (fault_line OutOfMemory)) (sym h.0) (PrintsLine-out_of_memory command line),
   h.1 ∙ ap (λ l. l ++ fault_line OutOfMemory) same,
 )
-refused_after (Err fault) task line old kept new same h = h
+refused_after (Err fault) command line old kept new same h = h
 
 pub TakesLines-same : (a b c : Option (List ℕ)) (lines : List (List ℕ)) → a ≡ b → TakesLines a c lines
     → TakesLines b c lines

@@ -1,5 +1,5 @@
--- The answer of a subcommand to a document, and the faults of a document.
-use Rattle.std.specs.Prelude.{◌≡◌, ◌≢◌, ◌⊎◌, ◌++◌, ℕ, List, [], ◌∷◌, Option, Some, None, IsUtf8, codes, false}
+-- The answer of a format to a document, and the faults of a document.
+use Rattle.std.specs.Prelude.{◌≡◌, ◌≢◌, ◌⊎◌, ℕ, List, Option, Some, None, IsUtf8, false}
 use Rattle.json.specs.Lex.{tokens}
 use Rattle.json.specs.Print.{print}
 use Rattle.serde_json.specs.Data.{Data}
@@ -15,7 +15,6 @@ use Rattle.modinfo_document.specs.Check.{IsInvalidIn, IsValidIn}
 use Rattle.modinfo_document.specs.Document.{Contents, HasErrorIn, IsDocumentIn, IsSourceOf, reads_document}
 use Rattle.modinfo_estree.specs.Document.{reads_estree}
 use Rattle.modinfo_document.specs.Report.{MatchReport}
-use Rattle.modinfo_document.specs.ReportText.{report_text}
 use Rattle.modinfo_document.specs.declared.document.Document.{Document}
 use Rattle.modinfo_document.specs.declared.error.DocumentError.{DocumentError}
 use Rattle.modinfo_document.specs.declared.report.Report.{Report}
@@ -26,10 +25,10 @@ use Rattle.modinfo.specs.Check.{
   IsQuestionText,
 }
 use Rattle.modinfo.specs.declared.fault.Fault.{Fault}
-use Rattle.modinfo.specs.declared.fault.Fault.TheVariants.{Input, Json, Output, OutOfMemory}
+use Rattle.modinfo.specs.declared.fault.Fault.TheVariants.{Input, Json, OutOfMemory}
 use Rattle.modinfo.specs.declared.fault.Fault.TheVariants as fault_of
-use Rattle.modinfo.specs.declared.subcommand.Subcommand.{Subcommand}
-use Rattle.modinfo.specs.declared.subcommand.Subcommand.TheVariants.{Analyze, AnalyzeEstree, Convert, Reach}
+use Rattle.modinfo.specs.declared.format.Format.{Format}
+use Rattle.modinfo.specs.declared.format.Format.TheVariants.{Module, Estree, Stored, Modules}
 use Rattle.modinfo.specs.Fault.{fault_of_document}
 use Rattle.modinfo.specs.Reach.{IsNoQuestion, IsReachText}
 
@@ -87,62 +86,35 @@ IsNoReach document (fault_of.Info inner) = (value : Data) × (read_text document
     × IsNoQuestion value (fault_of.Info inner)
 IsNoReach document fault = IsNoJson document fault
 
--- The answer of a subcommand to a document: compact JSON.
-abbrev pub IsAnswerText : Subcommand → List ℕ → List ℕ → Type 0
-IsAnswerText Analyze document text = IsInfoText reads_document document text
-IsAnswerText AnalyzeEstree document text = IsInfoText reads_estree document text
-IsAnswerText Convert document text = IsConvertedText document text
-IsAnswerText Reach document text = IsReachText document text
+-- The answer of a format to a document: compact JSON.
+abbrev pub IsAnswerText : Format → List ℕ → List ℕ → Type 0
+IsAnswerText Module document text = IsInfoText reads_document document text
+IsAnswerText Estree document text = IsInfoText reads_estree document text
+IsAnswerText Stored document text = IsConvertedText document text
+IsAnswerText Modules document text = IsReachText document text
 
 -- The document has this fault, or an allocation failed.
-abbrev pub IsDocumentFault : Subcommand → List ℕ → Fault → Type 0
-IsDocumentFault Analyze document fault = IsNoModule reads_document document fault
-IsDocumentFault AnalyzeEstree document fault = IsNoModule reads_estree document fault
-IsDocumentFault Convert document fault = IsNoConversion document fault
-IsDocumentFault Reach document fault = IsNoReach document fault
+abbrev pub IsDocumentFault : Format → List ℕ → Fault → Type 0
+IsDocumentFault Module document fault = IsNoModule reads_document document fault
+IsDocumentFault Estree document fault = IsNoModule reads_estree document fault
+IsDocumentFault Stored document fault = IsNoConversion document fault
+IsDocumentFault Modules document fault = IsNoReach document fault
 
--- The document has this fault, or a read or an allocation failed.
-abbrev pub IsInputFault : Subcommand → List ℕ → Fault → Type 0
-IsInputFault subcommand document Input = Unit {0}
-IsInputFault subcommand document fault = IsDocumentFault subcommand document fault
+-- The bytes are a document of the format without a fault.
+abbrev pub IsValidDocument : Format → List ℕ → Type 0
+IsValidDocument Module document = IsValidIn reads_document document
+IsValidDocument Estree document = IsValidIn reads_estree document
+IsValidDocument Stored document = IsConvertibleText document
+IsValidDocument Modules document = IsQuestionText document
 
--- The document has this fault, or a read, a write or an allocation failed.
-abbrev pub IsRunFault : Subcommand → List ℕ → Fault → Type 0
-IsRunFault subcommand document Output = Unit {0}
-IsRunFault subcommand document fault = IsInputFault subcommand document fault
-
--- The answer to a document, and a line feed.
-abbrev pub IsAnswerLine : Subcommand → List ℕ → List ℕ → Type 0
-IsAnswerLine subcommand document line = (text : List ℕ) × IsAnswerText subcommand document text
-    × (line ≡ text ++ codes "\n")
-
--- The bytes are a document of the subcommand without a fault.
-abbrev pub IsValidDocument : Subcommand → List ℕ → Type 0
-IsValidDocument Analyze document = IsValidIn reads_document document
-IsValidDocument AnalyzeEstree document = IsValidIn reads_estree document
-IsValidDocument Convert document = IsConvertibleText document
-IsValidDocument Reach document = IsQuestionText document
-
--- The bytes aren't UTF-8, or the text has a fault as a document of the subcommand.
-abbrev pub IsFaultyDocument : Subcommand → List ℕ → Type 0
-IsFaultyDocument Analyze document = (¬ IsUtf8 document) ⊎ IsInvalidIn reads_document document
-IsFaultyDocument AnalyzeEstree document = (¬ IsUtf8 document) ⊎ IsInvalidIn reads_estree document
-IsFaultyDocument Convert document = (¬ IsUtf8 document) ⊎ IsNoConvertibleText document
-IsFaultyDocument Reach document = (¬ IsUtf8 document) ⊎ IsNoQuestionText document
+-- The bytes aren't UTF-8, or the text has a fault as a document of the format.
+abbrev pub IsFaultyDocument : Format → List ℕ → Type 0
+IsFaultyDocument Module document = (¬ IsUtf8 document) ⊎ IsInvalidIn reads_document document
+IsFaultyDocument Estree document = (¬ IsUtf8 document) ⊎ IsInvalidIn reads_estree document
+IsFaultyDocument Stored document = (¬ IsUtf8 document) ⊎ IsNoConvertibleText document
+IsFaultyDocument Modules document = (¬ IsUtf8 document) ⊎ IsNoQuestionText document
 
 -- The report on a document is `Valid` only if the document has no fault, `Invalid` only if it has one.
-abbrev pub IsReportOn : Subcommand → List ℕ → Report → Type 0
-IsReportOn subcommand document =
-    MatchReport (IsValidDocument subcommand document) (IsFaultyDocument subcommand document)
-
--- The JSON of a report on a document, and a line feed.
-abbrev pub IsReportLine : Subcommand → List ℕ → List ℕ → Type 0
-IsReportLine subcommand document line = (report : Report) × IsReportOn subcommand document report
-    × (line ≡ report_text report ++ codes "\n")
-
--- The words that ask for a subcommand.
-abbrev pub words_of : Subcommand → List (List ℕ)
-words_of Analyze = codes "analyze" ∷ []
-words_of AnalyzeEstree = codes "analyze" ∷ codes "--estree" ∷ []
-words_of Convert = codes "convert" ∷ []
-words_of Reach = codes "reach" ∷ []
+abbrev pub IsReportOn : Format → List ℕ → Report → Type 0
+IsReportOn format document =
+    MatchReport (IsValidDocument format document) (IsFaultyDocument format document)

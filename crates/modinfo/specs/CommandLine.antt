@@ -1,64 +1,35 @@
--- The words of a command line.
-use Rattle.std.specs.Prelude.{ℕ, List, [], ◌∷◌, ◌++◌, codes, Bool, true, false}
-use Rattle.modinfo.specs.Answer.{words_of}
-use Rattle.modinfo.specs.declared.subcommand.Subcommand.{Subcommand}
-use Rattle.modinfo.specs.declared.subcommand.Subcommand.TheVariants.{Analyze, AnalyzeEstree}
+-- The words of command lines.
+use Rattle.std.specs.Prelude.{◌&&◌, ℕ, List, [], ◌∷◌, codes, Bool, false, not}
+use Rattle.std.specs.Str.{bytes_eq}
+use Rattle.modinfo.specs.Commands.{has_words}
+use Rattle.modinfo.specs.Words.{is_among}
+use Rattle.modinfo.specs.declared.command_line.CommandLine.{CommandLine}
+use Rattle.modinfo.specs.declared.command_line.CommandLine.TheVariants.{Help, Version, Document, Lines}
 
--- The words of a subcommand, with or without `--lines`.
-abbrev pub answer_words : Subcommand → Bool → List (List ℕ)
-answer_words subcommand false = words_of subcommand
-answer_words subcommand true = words_of subcommand ++ codes "--lines" ∷ []
+-- The names of all commands.
+abbrev pub command_names : List (List ℕ)
+command_names = codes "analyze" ∷ codes "convert" ∷ codes "reach" ∷ codes "check" ∷ []
 
--- What is checked: documents of a subcommand that is named, or of `analyze`.
-pub data Checked : Type 0 where
-  named : Subcommand → Checked
-  unnamed : Checked
-  unnamed_estree : Checked
+-- Whether the words are `--help`, `-h`, or the name of a command and `--help`.
+abbrev pub asks_for_help : List (List ℕ) → Bool
+asks_for_help [] = false
+asks_for_help (word ∷ []) = is_among word (codes "--help" ∷ codes "-h" ∷ [])
+asks_for_help (name ∷ word ∷ []) = bytes_eq word (codes "--help") && is_among name command_names
+asks_for_help (first ∷ second ∷ third ∷ words) = false
 
--- The subcommand whose documents are checked.
-abbrev pub subcommand_of_check : Checked → Subcommand
-subcommand_of_check (named subcommand) = subcommand
-subcommand_of_check unnamed = Analyze
-subcommand_of_check unnamed_estree = AnalyzeEstree
+-- Whether the words are `--version` or `-V`.
+abbrev pub asks_for_version : List (List ℕ) → Bool
+asks_for_version [] = false
+asks_for_version (word ∷ []) = is_among word (codes "--version" ∷ codes "-V" ∷ [])
+asks_for_version (first ∷ second ∷ words) = false
 
--- The words that say what is checked.
-abbrev pub checked_words : Checked → List (List ℕ)
-checked_words (named subcommand) = words_of subcommand
-checked_words unnamed = []
-checked_words unnamed_estree = codes "--estree" ∷ []
-
--- The flags of a check, in every order.
-pub data Flags : Type 0 where
-  none : Flags
-  strict : Flags
-  lines : Flags
-  strict_lines : Flags
-  lines_strict : Flags
-
--- The words of the flags.
-abbrev pub flag_words : Flags → List (List ℕ)
-flag_words none = []
-flag_words strict = codes "--strict" ∷ []
-flag_words lines = codes "--lines" ∷ []
-flag_words strict_lines = codes "--strict" ∷ codes "--lines" ∷ []
-flag_words lines_strict = codes "--lines" ∷ codes "--strict" ∷ []
-
--- Whether `--strict` is among the flags.
-abbrev pub are_strict : Flags → Bool
-are_strict none = false
-are_strict strict = true
-are_strict lines = false
-are_strict strict_lines = true
-are_strict lines_strict = true
-
--- Whether `--lines` is among the flags.
-abbrev pub have_lines : Flags → Bool
-have_lines none = false
-have_lines strict = false
-have_lines lines = true
-have_lines strict_lines = true
-have_lines lines_strict = true
-
--- The words of a check.
-abbrev pub check_words : Checked → Flags → List (List ℕ)
-check_words checked flags = codes "check" ∷ (checked_words checked ++ flag_words flags)
+-- Whether the words ask for the command line.
+abbrev pub asks_for : CommandLine → List (List ℕ) → Bool
+asks_for Help words = asks_for_help words
+asks_for Version words = asks_for_version words
+asks_for (Document command) [] = false
+asks_for (Document command) (name ∷ words) =
+    not (is_among (codes "--lines") words) && has_words command name words
+asks_for (Lines command) [] = false
+asks_for (Lines command) (name ∷ words) =
+    is_among (codes "--lines") words && has_words command name words

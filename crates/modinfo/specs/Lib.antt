@@ -1,8 +1,10 @@
 pub mod Answer
 pub mod Check
-pub mod Fault
-pub mod Reach
 pub mod CommandLine
+pub mod Commands
+pub mod Fault
 pub mod Lines
+pub mod Reach
 pub mod Run
+pub mod Words
 pub mod internal

@@ -1,7 +1,7 @@
 -- Definitions for contracts of private functions and for proofs.
 pub mod Answer
 pub mod Check
-pub mod CommandLine
+pub mod Commands
 pub mod Convert
 pub mod Lines
 pub mod Reach

@@ -2,9 +2,12 @@
 #![tactic(auto)]
 
 pub mod check;
+pub mod command;
 mod command_line;
 mod convert;
 pub mod fault;
+pub mod format;
+mod help;
 mod input;
 pub mod laws;
 mod lines;
@@ -12,12 +15,11 @@ mod output;
 mod program;
 mod reach;
 mod request;
-pub mod subcommand;
-pub mod task;
+mod words;
 
+pub use command::Command;
 pub use fault::Fault;
+pub use format::Format;
 pub use modinfo_document as document;
 pub use modinfo_document::parse_document;
 pub use program::serve;
-pub use subcommand::Subcommand;
-pub use task::Task;

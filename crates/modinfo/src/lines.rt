@@ -5,14 +5,14 @@ ghost use Rattle.std.specs.Io.Buffered.{reader_remaining};
 ghost use Rattle.std.specs.Io.{StopsAt};
 ghost use Rattle.std.specs.Io.BufRead.{ends_with_byte, strip_last};
 ghost use Rattle.std.specs.Io.KnownBytes.{Appends, Consumes, IsAtEnd};
-ghost use Rattle.modinfo.specs.Lines.{IsPrintFault, IsPrinted, LeavesFirstLines, LeavesLines, PrintsLine, PrintsLines};
+ghost use Rattle.modinfo.specs.Lines.{IsPrinted, LeavesFirstLines, LeavesLines, PrintsLine, PrintsLines};
 ghost use Rattle.modinfo.specs.Lines.{fault_line, framed, lines_of, passes_without};
 ghost use Rattle.modinfo.specs.internal.Lines.{TakesLines, TakesNext};
-ghost use Rattle.modinfo.specs.Run.{AppendsFront, IsFailure};
+ghost use Rattle.modinfo.specs.Run.{AppendsFront, IsFailure, IsNoResult};
 
+use crate::command::{Command, Printed};
 use crate::fault::Fault;
 use crate::output::write_front;
-use crate::task::{Printed, Task};
 use memchr::memchr;
 use std::alloc::{AllocError, Global};
 use std::io::{BufRead, BufReader, ErrorKind, Read, Write};
@@ -27,15 +27,15 @@ const FAULT_ROOM: usize = 64;
 /// input. `Input` if a read fails, `Output` if a write fails, `OutOfMemory` if an allocation fails.
 pub fn run_lines<R: Read, W: Write>(
     alloc: Global,
-    task: Task,
+    command: Command,
     input: R,
     output: &mut W,
 ) -> Result<bool, Fault>
 where
     R: Drop,
     ensures { MatchResult result
-        (LeavesLines task (R.remaining input) (W.contents output.old) (W.contents output.new))
-        (LeavesFirstLines task (R.remaining input) (W.contents output.old) (W.contents output.new)) }
+        (LeavesLines command (R.remaining input) (W.contents output.old) (W.contents output.new))
+        (LeavesFirstLines command (R.remaining input) (W.contents output.old) (W.contents output.new)) }
 {
     let mut input = buffered(alloc, input)?;
     let mut waiting = Vec::with_capacity(alloc, CHUNK + FAULT_ROOM)?;
@@ -43,7 +43,7 @@ where
     'lines: for _ in 0..u64::MAX {
         let is_due = waiting.len() >= CHUNK || memchr(b'\n', input.buffer()).is_none();
         write_waiting(output, &mut waiting, is_due)?;
-        match run_next(alloc, task, &mut input, &mut waiting)? {
+        match run_next(alloc, command, &mut input, &mut waiting)? {
             Some(passes) => is_passed &= passes,
             None => {
                 write_waiting(output, &mut waiting, true)?;
@@ -91,7 +91,7 @@ fn write_waiting<W: Write>(output: &mut W, waiting: &mut Vec<u8>, is_due: bool) 
 /// `None` at the end of the input. Doesn't copy a line that is whole in the buffer.
 fn run_next<R: Read>(
     alloc: Global,
-    task: Task,
+    command: Command,
     input: &mut BufReader<R, Global>,
     waiting: &mut Vec<u8>,
 ) -> Result<Option<bool>, Fault>
@@ -101,18 +101,18 @@ fn run_next<R: Read>(
         (λ passes. (line : List ℕ) × (printed : List ℕ)
         × TakesLines (reader_remaining R.remaining input.old)
         (reader_remaining R.remaining input.new) (line ∷ [])
-        × PrintsLine task line passes printed
+        × PrintsLine command line passes printed
         × (waiting.new.items ≡ waiting.old.items ++ printed))) IsFailure }
 {
     let buffer = input.buffer();
     if let Some(length) = memchr(b'\n', buffer) {
-        let passes = print_line(alloc, task, &buffer[..length], waiting)?;
+        let passes = print_line(alloc, command, &buffer[..length], waiting)?;
         input.consume(length + 1);
         return Ok(Some(passes));
     }
     match next_line(alloc, input)? {
-        Next::Line(line) => Ok(Some(print_owned(alloc, task, line, waiting)?)),
-        Next::Skipped => Ok(Some(put_out_of_memory(task, waiting)?)),
+        Next::Line(line) => Ok(Some(print_owned(alloc, command, line, waiting)?)),
+        Next::Skipped => Ok(Some(put_out_of_memory(command, waiting)?)),
         Next::End => Ok(None),
     }
 }
@@ -180,15 +180,15 @@ fn skip_rest<R: Read>(input: &mut BufReader<R, Global>, first: Vec<u8>) -> Resul
 }
 
 /// The printed lines for the lines of a text, in the same order. The only fault is `OutOfMemory`.
-pub fn print_lines(alloc: Global, task: Task, documents: &[u8]) -> Result<Vec<u8>, Fault>
+pub fn print_lines(alloc: Global, command: Command, documents: &[u8]) -> Result<Vec<u8>, Fault>
     ensures { IfOk result (λ printed. (passes : Bool)
-        × PrintsLines task (lines_of documents.now) passes printed.items) }
+        × PrintsLines command (lines_of documents.now) passes printed.items) }
 {
     let mut printed = Vec::new(alloc);
     let mut rest = documents;
     'lines: while !rest.is_empty() {
         let (line, after) = split_line(rest);
-        print_line(alloc, task, line, &mut printed)?;
+        print_line(alloc, command, line, &mut printed)?;
         rest = after;
     }
     Ok(printed)
@@ -206,82 +206,87 @@ fn split_line(text: &[u8]) -> (&[u8], &[u8])
 }
 
 /// Appends the printed line for a line of the input. Returns whether the line passes.
-fn print_line(alloc: Global, task: Task, line: &[u8], waiting: &mut Vec<u8>) -> Result<bool, Fault>
+fn print_line(
+    alloc: Global,
+    command: Command,
+    line: &[u8],
+    waiting: &mut Vec<u8>,
+) -> Result<bool, Fault>
     ensures { MatchResult result
-        (λ passes. (printed : List ℕ) × PrintsLine task line.now passes printed
+        (λ passes. (printed : List ℕ) × PrintsLine command line.now passes printed
         × (waiting.new.items ≡ waiting.old.items ++ printed))
         (λ fault. fault ≡ Fault.OutOfMemory) }
 {
-    put_printed(task, task.print(alloc, line), waiting)
+    put_printed(command, command.print(alloc, line), waiting)
 }
 
 /// Like `print_line`, but drops the line when its document was read.
 fn print_owned(
     alloc: Global,
-    task: Task,
+    command: Command,
     line: Vec<u8>,
     waiting: &mut Vec<u8>,
 ) -> Result<bool, Fault>
     ensures { MatchResult result
-        (λ passes. (printed : List ℕ) × PrintsLine task line.items passes printed
+        (λ passes. (printed : List ℕ) × PrintsLine command line.items passes printed
         × (waiting.new.items ≡ waiting.old.items ++ printed))
         (λ fault. fault ≡ Fault.OutOfMemory) }
 {
-    put_printed(task, task.print_bytes(alloc, line), waiting)
+    put_printed(command, command.print_bytes(alloc, line), waiting)
 }
 
 /// Appends the line with an answer, a report or a fault. Returns whether the line passes.
 fn put_printed(
-    task: Task,
+    command: Command,
     printed: Result<Printed, Fault>,
     waiting: &mut Vec<u8>,
 ) -> Result<bool, Fault>
-    ensures { (line : List ℕ) → MatchResult printed (IsPrinted task line) (IsPrintFault task line)
-        → MatchResult result (λ passes. (text : List ℕ) × PrintsLine task line passes text
+    ensures { (line : List ℕ) → MatchResult printed (IsPrinted command line) (IsNoResult command line)
+        → MatchResult result (λ passes. (text : List ℕ) × PrintsLine command line passes text
         × (waiting.new.items ≡ waiting.old.items ++ text))
         (λ fault. fault ≡ Fault.OutOfMemory) }
 {
     match printed {
-        Ok(printed) => match put_framed(task, printed.line.as_str(), waiting) {
+        Ok(printed) => match put_framed(command, printed.line.as_str(), waiting) {
             Ok(()) => Ok(printed.is_passed),
-            Err(_) => put_out_of_memory(task, waiting),
+            Err(_) => put_out_of_memory(command, waiting),
         },
         Err(fault) => {
             put_fault(&fault, waiting)?;
-            Ok(passes_without(task))
+            Ok(passes_without(command))
         }
     }
 }
 
 /// Appends the line with the fault `OutOfMemory`. Returns whether the line passes.
-fn put_out_of_memory(task: Task, waiting: &mut Vec<u8>) -> Result<bool, Fault>
+fn put_out_of_memory(command: Command, waiting: &mut Vec<u8>) -> Result<bool, Fault>
     ensures { MatchResult result
-        (λ passes. (passes ≡ passes_without task)
+        (λ passes. (passes ≡ passes_without command)
         × (waiting.new.items ≡ waiting.old.items ++ fault_line Fault.OutOfMemory))
         (λ fault. fault ≡ Fault.OutOfMemory) }
 {
     put_fault(&Fault::OutOfMemory, waiting)?;
-    Ok(passes_without(task))
+    Ok(passes_without(command))
 }
 
 /// Whether a line without an answer or a report passes: only a check can fail.
-fn passes_without(task: Task) -> bool
-    ensures { result ≡ passes_without task }
+fn passes_without(command: Command) -> bool
+    ensures { result ≡ passes_without command }
 {
-    match task {
-        Task::Answer(_) => true,
-        Task::Check { .. } => false,
+    match command {
+        Command::Answer(_) => true,
+        Command::Check { .. } => false,
     }
 }
 
 /// Appends the line with an answer or a report, or nothing if an allocation fails.
-fn put_framed(task: Task, text: &str, waiting: &mut Vec<u8>) -> Result<(), AllocError>
+fn put_framed(command: Command, text: &str, waiting: &mut Vec<u8>) -> Result<(), AllocError>
     ensures { MatchResult result
-        (λ _. waiting.new.items ≡ waiting.old.items ++ framed task text.now)
+        (λ _. waiting.new.items ≡ waiting.old.items ++ framed command text.now)
         (λ _. waiting.new.items ≡ waiting.old.items) }
 {
     let start = waiting.len();
-    let (before, after) = frame(task);
+    let (before, after) = frame(command);
     match put_parts(before, text, after, waiting) {
         Ok(()) => Ok(()),
         Err(error) => {
@@ -292,12 +297,12 @@ fn put_framed(task: Task, text: &str, waiting: &mut Vec<u8>) -> Result<(), Alloc
 }
 
 /// The texts before and after an answer or a report in its line.
-fn frame(task: Task) -> (&'static str, &'static str)
-    ensures { (text : List ℕ) → result.0.now ++ text ++ result.1.now ≡ framed task text }
+fn frame(command: Command) -> (&'static str, &'static str)
+    ensures { (text : List ℕ) → result.0.now ++ text ++ result.1.now ≡ framed command text }
 {
-    match task {
-        Task::Answer(_) => ("{\"answer\":", "}\n"),
-        Task::Check { .. } => ("", "\n"),
+    match command {
+        Command::Answer(_) => ("{\"answer\":", "}\n"),
+        Command::Check { .. } => ("", "\n"),
     }
 }
 

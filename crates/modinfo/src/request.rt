@@ -8,12 +8,12 @@ ghost use Rattle.serde_json.specs.Data.{Data};
 ghost use Rattle.modinfo_document.specs.Document.{Contents, IsDocumentIn};
 ghost use Rattle.modinfo.specs.Answer.{IsAnswerText, IsDocumentFault, IsInfoText, IsModuleOf};
 ghost use Rattle.modinfo.specs.Answer.{IsNoModule};
-ghost use Rattle.modinfo.specs.internal.Request.{IsReadFrom, subcommand_of};
+ghost use Rattle.modinfo.specs.internal.Request.{IsReadFrom, format_of};
 
 use crate::fault::Fault;
+use crate::format::Format;
 use crate::input::{converted_of, document_of, estree_of, question_of};
 use crate::reach::Question;
-use crate::subcommand::Subcommand;
 use deno_graph_info::analysis::ModuleInfo;
 use deno_graph_module_info::module_info;
 use deno_graph_source::tree::ParsedSource;
@@ -24,28 +24,28 @@ use std::alloc::Global;
 #[derive(Drop)]
 pub enum Request {
     /// A module document, whose tree isn't checked yet.
-    Analyze(Document),
+    Module(Document),
     /// The module document that the tree of a parser is.
-    AnalyzeEstree(Document),
+    Estree(Document),
     /// The information of version 2 to which a document was converted, as compact JSON.
-    Convert(String),
+    Stored(String),
     /// A root, and the information on modules.
-    Reach(Question),
+    Modules(Question),
 }
 
 impl Request {
-    /// Reads a document of the subcommand. The error is a fault of the document, or `OutOfMemory` if an
+    /// Reads a document of the format. The error is a fault of the document, or `OutOfMemory` if an
     /// allocation fails.
-    pub fn read(alloc: Global, subcommand: Subcommand, document: &[u8]) -> Result<Request, Fault>
+    pub fn read(alloc: Global, format: Format, document: &[u8]) -> Result<Request, Fault>
         ensures { MatchResult result
-            (λ request. (subcommand_of request ≡ subcommand) × IsReadFrom document.now request)
-            (IsDocumentFault subcommand document.now) }
+            (λ request. (format_of request ≡ format) × IsReadFrom document.now request)
+            (IsDocumentFault format document.now) }
     {
-        match subcommand {
-            Subcommand::Analyze => Ok(Request::Analyze(document_of(alloc, document)?)),
-            Subcommand::AnalyzeEstree => Ok(Request::AnalyzeEstree(estree_of(alloc, document)?)),
-            Subcommand::Convert => Ok(Request::Convert(converted_of(alloc, document)?)),
-            Subcommand::Reach => Ok(Request::Reach(question_of(alloc, document)?)),
+        match format {
+            Format::Module => Ok(Request::Module(document_of(alloc, document)?)),
+            Format::Estree => Ok(Request::Estree(estree_of(alloc, document)?)),
+            Format::Stored => Ok(Request::Stored(converted_of(alloc, document)?)),
+            Format::Modules => Ok(Request::Modules(question_of(alloc, document)?)),
         }
     }
 
@@ -53,14 +53,14 @@ impl Request {
     /// document, or `OutOfMemory` if an allocation fails.
     pub fn answer(self, alloc: Global) -> Result<String, Fault>
         ensures { (document : List ℕ) → IsReadFrom document self → MatchResult result
-            (λ text. IsAnswerText (subcommand_of self) document (string_bytes text))
-            (IsDocumentFault (subcommand_of self) document) }
+            (λ text. IsAnswerText (format_of self) document (string_bytes text))
+            (IsDocumentFault (format_of self) document) }
     {
         match self {
-            Request::Analyze(document) => analyze(alloc, document),
-            Request::AnalyzeEstree(document) => analyze(alloc, document),
-            Request::Convert(text) => Ok(text),
-            Request::Reach(question) => Ok(question.answer(alloc)?),
+            Request::Module(document) => analyze(alloc, document),
+            Request::Estree(document) => analyze(alloc, document),
+            Request::Stored(text) => Ok(text),
+            Request::Modules(question) => Ok(question.answer(alloc)?),
         }
     }
 }

@@ -1,28 +1,11 @@
 -- The status of a call, and what the call writes to the memory of its caller.
-use Rattle.std.specs.Prelude.{
-  ◌≡◌,
-  ◌++◌,
-  ◌<◌,
-  ◌≤◌,
-  ◌==◌,
-  ℕ,
-  List,
-  length,
-  drop,
-  Bool,
-  false,
-  Option,
-  None,
-  Some,
-  if◌then◌else◌,
-}
+use Rattle.std.specs.Prelude.{◌≡◌, ◌++◌, ◌<◌, ◌≤◌, ℕ, List, length, drop, Bool}
 use Rattle.modinfo.specs.Fault.{name_of_fault}
 use Rattle.modinfo.specs.Lines.{PrintsLines, lines_of}
+use Rattle.modinfo.specs.Run.{PrintsResult}
+use Rattle.modinfo.specs.declared.command.Command.{Command}
 use Rattle.modinfo.specs.declared.fault.Fault.{Fault}
 use Rattle.modinfo.specs.declared.fault.Fault.TheVariants.{OutOfMemory}
-use Rattle.modinfo.specs.declared.subcommand.Subcommand.TheVariants.{Analyze, AnalyzeEstree, Convert, Reach}
-use Rattle.modinfo.specs.declared.task.Task.{Task}
-use Rattle.modinfo.specs.declared.task.Task.TheVariants.{Answer, Check}
 
 -- The text was written to the start of the buffer, and the other bytes are unchanged.
 pub record IsPut (text before after : List ℕ) : Type 0 where
@@ -51,19 +34,10 @@ pub data IsAnswered (IsAnswer : List ℕ → Type 0) (IsFault : Fault → Type 0
 abbrev pub IsOutOfMemory : Fault → Type 0
 IsOutOfMemory fault = fault ≡ OutOfMemory
 
--- The task of a command by its number, if there is one.
-abbrev pub task_of : ℕ → Option Task
-task_of command =
-    if command == 0 then Some (Answer Analyze)
-    else if command == 1 then Some (Answer Convert)
-    else if command == 2 then Some (Answer Reach)
-    else if command == 3 then Some (Check Analyze false)
-    else if command == 4 then Some (Check Convert false)
-    else if command == 5 then Some (Check Reach false)
-    else if command == 6 then Some (Answer AnalyzeEstree)
-    else if command == 7 then Some (Check AnalyzeEstree false)
-    else None
+-- The line is the printed result of a command for a document.
+abbrev pub IsResultLine : Command → List ℕ → List ℕ → Type 0
+IsResultLine command document line = (passes : Bool) × PrintsResult command document passes line
 
 -- The text has the printed lines for the lines of the documents, in the same order.
-abbrev pub IsLinesText : Task → List ℕ → List ℕ → Type 0
-IsLinesText task documents text = (passes : Bool) × PrintsLines task (lines_of documents) passes text
+abbrev pub IsLinesText : Command → List ℕ → List ℕ → Type 0
+IsLinesText command documents text = (passes : Bool) × PrintsLines command (lines_of documents) passes text

@@ -3,11 +3,12 @@
 #![tactic(auto)]
 
 ghost use Rattle.std.specs.Prelude.{◌≡◌, false, None, Some};
-ghost use Rattle.modinfo.specs.Answer.{IsAnswerLine, IsDocumentFault, IsReportLine};
+ghost use Rattle.modinfo.specs.Commands.{command_at};
 ghost use Rattle.modinfo.specs.Fault.{name_of_fault};
-ghost use Rattle.modinfo_c.specs.Call.{IsAnswered, IsLeft, IsLinesText, IsOutOfMemory, task_of};
+ghost use Rattle.modinfo.specs.Run.{IsNoResult};
+ghost use Rattle.modinfo_c.specs.Call.{IsAnswered, IsLeft, IsLinesText, IsOutOfMemory, IsResultLine};
 
-use modinfo::{Fault, Subcommand, Task};
+use modinfo::{Command, Fault, Format};
 use std::alloc::Global;
 
 /// Status: the answer is in the buffer.
@@ -33,9 +34,53 @@ pub extern "C" fn modinfo_version() -> u32
     VERSION
 }
 
-/// Runs `modinfo analyze` on a document, and writes the answer or the name of the fault to the buffer
-/// `answer`. Returns the status. Sets `length` to the number of bytes that were written, with status 2
-/// to the number of bytes that the buffer needs.
+/// Runs a command, by its number, on a document, and writes the answer or the name of the fault to the
+/// buffer `answer`. Of a check the answer is the report, even on a document with a fault. Returns the
+/// status. Sets `length` to the number of bytes that were written, with status 2 to the number of bytes
+/// that the buffer needs, with status 3 to 0.
+#[unsafe(no_mangle)]
+pub extern "C" fn modinfo_run(
+    alloc: Global,
+    command: u8,
+    document: &[u8],
+    answer: &mut [u8],
+    length: &mut usize,
+) -> u8
+    ensures run { (of : Command) → command_at command ≡ Some of
+        → IsAnswered (IsResultLine of document.now) (IsNoResult of document.now)
+        answer.old answer.new length.new result }
+    ensures no_command { command_at command ≡ None
+        → (result ≡ 3) × (length.new ≡ 0) × (answer.new ≡ answer.old) }
+{
+    match Command::from_number(command) {
+        Some(command) => write_result(alloc, command, document, answer, length),
+        None => no_command(length),
+    }
+}
+
+/// Runs a command, by its number, with `--lines` on documents, one per line. The answer has a line for
+/// each document, in the same order. The only fault is `OutOfMemory`. Otherwise like `modinfo_run`.
+#[unsafe(no_mangle)]
+pub extern "C" fn modinfo_run_lines(
+    alloc: Global,
+    command: u8,
+    documents: &[u8],
+    answer: &mut [u8],
+    length: &mut usize,
+) -> u8
+    ensures lines { (of : Command) → command_at command ≡ Some of
+        → IsAnswered (IsLinesText of documents.now) IsOutOfMemory
+        answer.old answer.new length.new result }
+    ensures no_command { command_at command ≡ None
+        → (result ≡ 3) × (length.new ≡ 0) × (answer.new ≡ answer.old) }
+{
+    match Command::from_number(command) {
+        Some(command) => write_lines(alloc, command, documents, answer, length),
+        None => no_command(length),
+    }
+}
+
+/// Runs `modinfo analyze` on a document. Otherwise like `modinfo_run`.
 #[unsafe(no_mangle)]
 pub extern "C" fn modinfo_analyze(
     alloc: Global,
@@ -43,13 +88,13 @@ pub extern "C" fn modinfo_analyze(
     answer: &mut [u8],
     length: &mut usize,
 ) -> u8
-    ensures { IsAnswered (IsAnswerLine Subcommand.Analyze document.now)
-        (IsDocumentFault Subcommand.Analyze document.now) answer.old answer.new length.new result }
+    ensures { IsAnswered (IsResultLine (Command.Answer Format.Module) document.now)
+        (IsNoResult (Command.Answer Format.Module) document.now) answer.old answer.new length.new result }
 {
-    call(alloc, Subcommand::Analyze, document, answer, length)
+    write_answer(alloc, Format::Module, document, answer, length)
 }
 
-/// Runs `modinfo analyze --estree`. Otherwise like `modinfo_analyze`.
+/// Runs `modinfo analyze --estree`. Otherwise like `modinfo_run`.
 #[unsafe(no_mangle)]
 pub extern "C" fn modinfo_analyze_estree(
     alloc: Global,
@@ -57,13 +102,13 @@ pub extern "C" fn modinfo_analyze_estree(
     answer: &mut [u8],
     length: &mut usize,
 ) -> u8
-    ensures { IsAnswered (IsAnswerLine Subcommand.AnalyzeEstree document.now)
-        (IsDocumentFault Subcommand.AnalyzeEstree document.now) answer.old answer.new length.new result }
+    ensures { IsAnswered (IsResultLine (Command.Answer Format.Estree) document.now)
+        (IsNoResult (Command.Answer Format.Estree) document.now) answer.old answer.new length.new result }
 {
-    call(alloc, Subcommand::AnalyzeEstree, document, answer, length)
+    write_answer(alloc, Format::Estree, document, answer, length)
 }
 
-/// Runs `modinfo convert`. Otherwise like `modinfo_analyze`.
+/// Runs `modinfo convert`. Otherwise like `modinfo_run`.
 #[unsafe(no_mangle)]
 pub extern "C" fn modinfo_convert(
     alloc: Global,
@@ -71,13 +116,13 @@ pub extern "C" fn modinfo_convert(
     answer: &mut [u8],
     length: &mut usize,
 ) -> u8
-    ensures { IsAnswered (IsAnswerLine Subcommand.Convert document.now)
-        (IsDocumentFault Subcommand.Convert document.now) answer.old answer.new length.new result }
+    ensures { IsAnswered (IsResultLine (Command.Answer Format.Stored) document.now)
+        (IsNoResult (Command.Answer Format.Stored) document.now) answer.old answer.new length.new result }
 {
-    call(alloc, Subcommand::Convert, document, answer, length)
+    write_answer(alloc, Format::Stored, document, answer, length)
 }
 
-/// Runs `modinfo reach`. Otherwise like `modinfo_analyze`.
+/// Runs `modinfo reach`. Otherwise like `modinfo_run`.
 #[unsafe(no_mangle)]
 pub extern "C" fn modinfo_reach(
     alloc: Global,
@@ -85,14 +130,13 @@ pub extern "C" fn modinfo_reach(
     answer: &mut [u8],
     length: &mut usize,
 ) -> u8
-    ensures { IsAnswered (IsAnswerLine Subcommand.Reach document.now)
-        (IsDocumentFault Subcommand.Reach document.now) answer.old answer.new length.new result }
+    ensures { IsAnswered (IsResultLine (Command.Answer Format.Modules) document.now)
+        (IsNoResult (Command.Answer Format.Modules) document.now) answer.old answer.new length.new result }
 {
-    call(alloc, Subcommand::Reach, document, answer, length)
+    write_answer(alloc, Format::Modules, document, answer, length)
 }
 
-/// Runs `modinfo check` on a document of `modinfo analyze`. The answer is the report, even on a document
-/// with a fault. Otherwise like `modinfo_analyze`.
+/// Runs `modinfo check` on a document of `modinfo analyze`. Otherwise like `modinfo_run`.
 #[unsafe(no_mangle)]
 pub extern "C" fn modinfo_check(
     alloc: Global,
@@ -100,13 +144,13 @@ pub extern "C" fn modinfo_check(
     answer: &mut [u8],
     length: &mut usize,
 ) -> u8
-    ensures { IsAnswered (IsReportLine Subcommand.Analyze document.now) IsOutOfMemory
-        answer.old answer.new length.new result }
+    ensures { IsAnswered (IsResultLine (Command.Check Format.Module false) document.now)
+        (IsNoResult (Command.Check Format.Module false) document.now) answer.old answer.new length.new result }
 {
-    check(alloc, Subcommand::Analyze, document, answer, length)
+    write_report(alloc, Format::Module, document, answer, length)
 }
 
-/// Runs `modinfo check --estree`. Otherwise like `modinfo_check`.
+/// Runs `modinfo check --estree`. Otherwise like `modinfo_run`.
 #[unsafe(no_mangle)]
 pub extern "C" fn modinfo_check_estree(
     alloc: Global,
@@ -114,13 +158,13 @@ pub extern "C" fn modinfo_check_estree(
     answer: &mut [u8],
     length: &mut usize,
 ) -> u8
-    ensures { IsAnswered (IsReportLine Subcommand.AnalyzeEstree document.now) IsOutOfMemory
-        answer.old answer.new length.new result }
+    ensures { IsAnswered (IsResultLine (Command.Check Format.Estree false) document.now)
+        (IsNoResult (Command.Check Format.Estree false) document.now) answer.old answer.new length.new result }
 {
-    check(alloc, Subcommand::AnalyzeEstree, document, answer, length)
+    write_report(alloc, Format::Estree, document, answer, length)
 }
 
-/// Runs `modinfo check convert`. Otherwise like `modinfo_check`.
+/// Runs `modinfo check convert`. Otherwise like `modinfo_run`.
 #[unsafe(no_mangle)]
 pub extern "C" fn modinfo_check_convert(
     alloc: Global,
@@ -128,13 +172,13 @@ pub extern "C" fn modinfo_check_convert(
     answer: &mut [u8],
     length: &mut usize,
 ) -> u8
-    ensures { IsAnswered (IsReportLine Subcommand.Convert document.now) IsOutOfMemory
-        answer.old answer.new length.new result }
+    ensures { IsAnswered (IsResultLine (Command.Check Format.Stored false) document.now)
+        (IsNoResult (Command.Check Format.Stored false) document.now) answer.old answer.new length.new result }
 {
-    check(alloc, Subcommand::Convert, document, answer, length)
+    write_report(alloc, Format::Stored, document, answer, length)
 }
 
-/// Runs `modinfo check reach`. Otherwise like `modinfo_check`.
+/// Runs `modinfo check reach`. Otherwise like `modinfo_run`.
 #[unsafe(no_mangle)]
 pub extern "C" fn modinfo_check_reach(
     alloc: Global,
@@ -142,15 +186,13 @@ pub extern "C" fn modinfo_check_reach(
     answer: &mut [u8],
     length: &mut usize,
 ) -> u8
-    ensures { IsAnswered (IsReportLine Subcommand.Reach document.now) IsOutOfMemory
-        answer.old answer.new length.new result }
+    ensures { IsAnswered (IsResultLine (Command.Check Format.Modules false) document.now)
+        (IsNoResult (Command.Check Format.Modules false) document.now) answer.old answer.new length.new result }
 {
-    check(alloc, Subcommand::Reach, document, answer, length)
+    write_report(alloc, Format::Modules, document, answer, length)
 }
 
-/// Runs a command, by its number, with `--lines` on documents, one per line. The answer has a line for
-/// each document, in the same order. The only fault is `OutOfMemory`. Otherwise like
-/// `modinfo_analyze`.
+/// Like `modinfo_run_lines`, by its older name.
 #[unsafe(no_mangle)]
 pub extern "C" fn modinfo_lines(
     alloc: Global,
@@ -159,81 +201,87 @@ pub extern "C" fn modinfo_lines(
     answer: &mut [u8],
     length: &mut usize,
 ) -> u8
-    ensures lines { (task : Task) → task_of command ≡ Some task
-        → IsAnswered (IsLinesText task documents.now) IsOutOfMemory
+    ensures lines { (of : Command) → command_at command ≡ Some of
+        → IsAnswered (IsLinesText of documents.now) IsOutOfMemory
         answer.old answer.new length.new result }
-    ensures no_command { task_of command ≡ None
+    ensures no_command { command_at command ≡ None
         → (result ≡ 3) × (length.new ≡ 0) × (answer.new ≡ answer.old) }
 {
-    let Some(task) = task_of(command) else {
-        *length = 0;
-        return NO_COMMAND;
+    modinfo_run_lines(alloc, command, documents, answer, length)
+}
+
+/// Writes the result for a document.
+fn write_result(
+    alloc: Global,
+    command: Command,
+    document: &[u8],
+    answer: &mut [u8],
+    length: &mut usize,
+) -> u8
+    ensures { IsAnswered (IsResultLine command document.now) (IsNoResult command document.now)
+        answer.old answer.new length.new result }
+{
+    match command.print_line(alloc, document) {
+        Ok(line) => put(line.as_bytes(), ANSWERED, answer, length),
+        Err(fault) => put_name(&fault, answer, length),
+    }
+}
+
+/// Writes the answer to a document.
+fn write_answer(
+    alloc: Global,
+    format: Format,
+    document: &[u8],
+    answer: &mut [u8],
+    length: &mut usize,
+) -> u8
+    ensures { IsAnswered (IsResultLine (Command.Answer format) document.now)
+        (IsNoResult (Command.Answer format) document.now) answer.old answer.new length.new result }
+{
+    write_result(alloc, Command::Answer(format), document, answer, length)
+}
+
+/// Writes the report on a document.
+fn write_report(
+    alloc: Global,
+    format: Format,
+    document: &[u8],
+    answer: &mut [u8],
+    length: &mut usize,
+) -> u8
+    ensures { IsAnswered (IsResultLine (Command.Check format false) document.now)
+        (IsNoResult (Command.Check format false) document.now) answer.old answer.new length.new result }
+{
+    let command = Command::Check {
+        format,
+        is_strict: false,
     };
-    match task.print_lines(alloc, documents) {
+    write_result(alloc, command, document, answer, length)
+}
+
+/// Writes the results for documents, one per line.
+fn write_lines(
+    alloc: Global,
+    command: Command,
+    documents: &[u8],
+    answer: &mut [u8],
+    length: &mut usize,
+) -> u8
+    ensures { IsAnswered (IsLinesText command documents.now) IsOutOfMemory
+        answer.old answer.new length.new result }
+{
+    match command.print_lines(alloc, documents) {
         Ok(lines) => put(lines.as_slice(), ANSWERED, answer, length),
         Err(_) => put_name(&Fault::OutOfMemory, answer, length),
     }
 }
 
-/// The task of a command by its number.
-fn task_of(command: u8) -> Option<Task>
-    ensures { result ≡ task_of command }
+/// Writes nothing.
+fn no_command(length: &mut usize) -> u8
+    ensures { (result ≡ 3) × (length.new ≡ 0) }
 {
-    match command {
-        0 => Some(Task::Answer(Subcommand::Analyze)),
-        1 => Some(Task::Answer(Subcommand::Convert)),
-        2 => Some(Task::Answer(Subcommand::Reach)),
-        3 => Some(check_of(Subcommand::Analyze)),
-        4 => Some(check_of(Subcommand::Convert)),
-        5 => Some(check_of(Subcommand::Reach)),
-        6 => Some(Task::Answer(Subcommand::AnalyzeEstree)),
-        7 => Some(check_of(Subcommand::AnalyzeEstree)),
-        _ => None,
-    }
-}
-
-/// A check that isn't strict.
-fn check_of(subcommand: Subcommand) -> Task
-    ensures { result ≡ Task.Check subcommand false }
-{
-    Task::Check {
-        subcommand,
-        is_strict: false,
-    }
-}
-
-/// Writes the report on a document.
-fn check(
-    alloc: Global,
-    subcommand: Subcommand,
-    document: &[u8],
-    answer: &mut [u8],
-    length: &mut usize,
-) -> u8
-    ensures { IsAnswered (IsReportLine subcommand document.now) IsOutOfMemory
-        answer.old answer.new length.new result }
-{
-    match subcommand.report_line(alloc, document) {
-        Ok(line) => put(line.as_bytes(), ANSWERED, answer, length),
-        Err(_) => put_name(&Fault::OutOfMemory, answer, length),
-    }
-}
-
-/// Writes the answer to a document.
-fn call(
-    alloc: Global,
-    subcommand: Subcommand,
-    document: &[u8],
-    answer: &mut [u8],
-    length: &mut usize,
-) -> u8
-    ensures { IsAnswered (IsAnswerLine subcommand document.now) (IsDocumentFault subcommand document.now)
-        answer.old answer.new length.new result }
-{
-    match subcommand.answer_slice(alloc, document) {
-        Ok(line) => put(line.as_bytes(), ANSWERED, answer, length),
-        Err(fault) => put_name(&fault, answer, length),
-    }
+    *length = 0;
+    NO_COMMAND
 }
 
 /// Writes the name of a fault.

@@ -1,6 +1,7 @@
 //! The program `modinfo`, over the standard streams.
 #![tactic(auto)]
 
+use std::io::ErrorKind;
 use std::process::ExitCode;
 use std::{env, io};
 
@@ -15,7 +16,7 @@ fn main(rt: HostRuntime) -> ExitCode {
 }
 
 fn run(rt: &HostRuntime) -> io::Result<u8> {
-    let arguments: Vec<String> = env::args(rt)?.skip(1).collect(rt.alloc())?;
+    let arguments = arguments(rt)?;
     let words: Vec<&str> = arguments
         .iter()
         .map(|word| word.as_str())
@@ -27,4 +28,13 @@ fn run(rt: &HostRuntime) -> io::Result<u8> {
         &mut rt.stdout(),
         &mut rt.stderr(),
     ))
+}
+
+/// The arguments after the program's name. None if one isn't UTF-8, since no arguments are wrong ones too.
+fn arguments(rt: &HostRuntime) -> io::Result<Vec<String>> {
+    match env::args(rt) {
+        Ok(arguments) => Ok(arguments.skip(1).collect(rt.alloc())?),
+        Err(error) if error.kind() == ErrorKind::InvalidData => Ok(Vec::new(rt.alloc())),
+        Err(error) => Err(error),
+    }
 }

@@ -7,19 +7,19 @@ use Rattle.modinfo.specs.Answer.{IsConvertedText}
 use Rattle.modinfo.specs.internal.Reach.{IsQuestionOf}
 use Rattle.modinfo.specs.declared.request.Request.{Request}
 use Rattle.modinfo.specs.declared.request.Request.TheVariants as request
-use Rattle.modinfo.specs.declared.subcommand.Subcommand.{Subcommand}
-use Rattle.modinfo.specs.declared.subcommand.Subcommand.TheVariants as subcommand
+use Rattle.modinfo.specs.declared.format.Format.{Format}
+use Rattle.modinfo.specs.declared.format.Format.TheVariants as format
 
--- The subcommand of the document.
-abbrev pub subcommand_of : Request → Subcommand
-subcommand_of (request.Analyze document) = subcommand.Analyze
-subcommand_of (request.AnalyzeEstree document) = subcommand.AnalyzeEstree
-subcommand_of (request.Convert text) = subcommand.Convert
-subcommand_of (request.Reach question) = subcommand.Reach
+-- The format of the document.
+abbrev pub format_of : Request → Format
+format_of (request.Module document) = format.Module
+format_of (request.Estree document) = format.Estree
+format_of (request.Stored text) = format.Stored
+format_of (request.Modules question) = format.Modules
 
 -- The document was read from these bytes, and converted if it is one of `convert`.
 abbrev pub IsReadFrom : List ℕ → Request → Type 0
-IsReadFrom bytes (request.Analyze document) = IsDocumentIn reads_document bytes document
-IsReadFrom bytes (request.AnalyzeEstree document) = IsDocumentIn reads_estree bytes document
-IsReadFrom bytes (request.Convert text) = IsConvertedText bytes (string_bytes text)
-IsReadFrom bytes (request.Reach question) = IsQuestionOf bytes question
+IsReadFrom bytes (request.Module document) = IsDocumentIn reads_document bytes document
+IsReadFrom bytes (request.Estree document) = IsDocumentIn reads_estree bytes document
+IsReadFrom bytes (request.Stored text) = IsConvertedText bytes (string_bytes text)
+IsReadFrom bytes (request.Modules question) = IsQuestionOf bytes question

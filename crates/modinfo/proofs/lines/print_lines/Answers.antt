@@ -9,7 +9,7 @@ lines-init c = (
   [],
   true,
   refl,
-  subst (PrintsLines c.args.task [] true) (sym c.new-printed.ensures.items) none,
+  subst (PrintsLines c.args.command [] true) (sym c.new-printed.ensures.items) none,
 )
 
 -- The first line of the rest was printed.
@@ -23,6 +23,6 @@ lines-preserved c =
       passes && next,
       split ∙ ap (λ l. done ++ l) (c.split_line.ensures.lines (search rules))
           ∙ sym (append_assoc done (line ∷ []) (lines_of c.split_line.result.1.now)),
-      subst (PrintsLines c.args.task (done ++ line ∷ []) (passes && next)) (sym put)
-          (PrintsLines-more c.args.task done line passes next c.lines.printed.items text prints one),
+      subst (PrintsLines c.args.command (done ++ line ∷ []) (passes && next)) (sym put)
+          (PrintsLines-more c.args.command done line passes next c.lines.printed.items text prints one),
     )

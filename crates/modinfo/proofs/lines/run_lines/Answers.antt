@@ -23,20 +23,20 @@ use Rattle.modinfo.proofs.lines.run_lines.Goals as goal
 pub returns-in_err-input : goal.returns-in_err-input
 returns-in_err-input g c =
     exits _ _ _ c.in_err-input.field-0.0 c.from_residual.ensures.1
-    (LeavesFirstLines-none c.args.task _ _ c.in_err-input.field-0.0 (subst IsFailure
+    (LeavesFirstLines-none c.args.command _ _ c.in_err-input.field-0.0 (subst IsFailure
     (sym c.in_err-input.ensures) tt))
 
 pub returns-in_err-waiting : goal.returns-in_err-waiting
 returns-in_err-waiting g c =
     exits _ _ _ OutOfMemory c.from_residual-in_err-waiting.ensures.1
-    (LeavesFirstLines-none c.args.task _ _ OutOfMemory tt)
+    (LeavesFirstLines-none c.args.command _ _ OutOfMemory tt)
 
 pub lines-init : goal.lines-init
 lines-init g c = (
   [],
   [],
   TakesLines-nil _,
-  subst (PrintsLines c.args.task [] true) (sym c.in_ok-waiting.ensures.items) none,
+  subst (PrintsLines c.args.command [] true) (sym c.in_ok-waiting.ensures.items) none,
   Appends-nil _,
 )
 
@@ -46,7 +46,7 @@ returns-in_err-write_waiting g c =
     let (done, sent, taken, prints, appended) = c.lines.invariant in
     let (is_fault, front) = c.in_err-write_waiting.ensures in
     exits _ _ _ c.in_err-write_waiting.field-0.0 c.from_residual-in_err-write_waiting.ensures.1
-    (LeavesFirstLines-at c.args.task _ _ _ _ done c.lines.is_passed (sent ++ c.lines.waiting.items)
+    (LeavesFirstLines-at c.args.command _ _ _ _ done c.lines.is_passed (sent ++ c.lines.waiting.items)
     c.in_err-write_waiting.field-0.0 (subst IsFailure (sym is_fault) tt)
     (TakesLines-same _ _ _ done c.in_ok-input.ensures taken) prints
     (AppendsFront-more _ _ _ sent c.lines.waiting.items appended front))
@@ -58,10 +58,10 @@ returns-in_err-passes g c =
     let (written, split, wrote, empty) = c.in_ok-write_waiting.ensures in
     let left = c.write_waiting.new.waiting.items in
     exits _ _ _ c.in_err-passes.field-0.0 c.from_residual-in_err-passes.ensures.1
-    (LeavesFirstLines-at c.args.task _ _ _ _ done c.lines.is_passed ((sent ++ written) ++ left)
+    (LeavesFirstLines-at c.args.command _ _ _ _ done c.lines.is_passed ((sent ++ written) ++ left)
     c.in_err-passes.field-0.0 c.in_err-passes.ensures
     (TakesLines-same _ _ _ done c.in_ok-input.ensures taken)
-    (PrintsLines-written c.args.task done c.lines.is_passed sent c.lines.waiting.items written left prints
+    (PrintsLines-written c.args.command done c.lines.is_passed sent c.lines.waiting.items written left prints
     split)
     (AppendsFront-sent _ _ (sent ++ written) left (Appends-trans _ _ _ sent written appended wrote)))
 
@@ -75,10 +75,10 @@ returns-in_err-write_waiting-in-None g c =
     let new = c.run_next.new.waiting.items in
     exits _ _ _ c.in_err-write_waiting-in-None.field-0.0
     c.from_residual-in_err-write_waiting-in-None.ensures.1
-    (LeavesFirstLines-at c.args.task _ _ _ _ done c.lines.is_passed ((sent ++ written) ++ new)
+    (LeavesFirstLines-at c.args.command _ _ _ _ done c.lines.is_passed ((sent ++ written) ++ new)
     c.in_err-write_waiting-in-None.field-0.0 (subst IsFailure (sym is_fault) tt)
     (TakesLines-same _ _ _ done c.in_ok-input.ensures taken)
-    (PrintsLines-written c.args.task done c.lines.is_passed sent c.lines.waiting.items written new prints
+    (PrintsLines-written c.args.command done c.lines.is_passed sent c.lines.waiting.items written new prints
     (split ∙ ap (λ l. written ++ l) (sym same)))
     (AppendsFront-more _ _ _ (sent ++ written) new (Appends-trans _ _ _ sent written appended wrote) front))
 
@@ -93,7 +93,7 @@ returns-in-None g c =
       done,
       TakesLines-all _ _ done (TakesLines-same _ _ _ done c.in_ok-input.ensures taken) end,
       (sent ++ written) ++ new,
-      PrintsLines-written c.args.task done c.lines.is_passed sent c.lines.waiting.items written new prints
+      PrintsLines-written c.args.command done c.lines.is_passed sent c.lines.waiting.items written new prints
           (split ∙ ap (λ l. written ++ l) (sym same)),
       Appends-same _ _ ((sent ++ written) ++ last) ((sent ++ written) ++ new)
           (ap (λ l. (sent ++ written) ++ l) (sym (split' ∙ ap (λ l. last ++ l) (empty' refl)
@@ -111,7 +111,7 @@ lines-preserved g c =
       done ++ line ∷ [],
       sent ++ written,
       TakesLines-more _ _ _ done line taken next,
-      PrintsLines-next c.args.task done line c.lines.is_passed c.in-Some.passes sent c.lines.waiting.items
+      PrintsLines-next c.args.command done line c.lines.is_passed c.in-Some.passes sent c.lines.waiting.items
           written
           c.write_waiting.new.waiting.items printed c.run_next.new.waiting.items prints split one put,
       Appends-trans _ _ _ sent written appended wrote,
@@ -120,6 +120,6 @@ lines-preserved g c =
 pub returns : goal.returns
 returns g c =
     let (done, sent, taken, prints, appended) = c.lines.invariant in
-    LeavesFirstLines-at c.args.task _ _ _ _ done c.lines.is_passed (sent ++ c.lines.waiting.items) Input tt
+    LeavesFirstLines-at c.args.command _ _ _ _ done c.lines.is_passed (sent ++ c.lines.waiting.items) Input tt
     (TakesLines-same _ _ _ done c.in_ok-input.ensures taken) prints
     (AppendsFront-sent _ _ sent c.lines.waiting.items appended)

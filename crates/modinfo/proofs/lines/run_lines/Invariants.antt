@@ -10,5 +10,5 @@ abbrev pub invariant-lines : goal.invariant-lines
 invariant-lines g l = (done : List (List ℕ)) × (sent : List ℕ)
     × TakesLines (reader_remaining g.R.Read.remaining l.initial.input)
     (reader_remaining g.R.Read.remaining l.input) done
-    × PrintsLines l.task done l.is_passed (sent ++ l.waiting.items)
+    × PrintsLines l.command done l.is_passed (sent ++ l.waiting.items)
     × Appends (g.W.Write.contents l.initial.output) (g.W.Write.contents l.output) sent

@@ -13,8 +13,8 @@ returns-in_ok-put_out_of_memory-in-Skipped g c =
       line,
       fault_line OutOfMemory,
       taken,
-      subst (λ b. PrintsLine c.args.task line b (fault_line OutOfMemory)) (sym passes)
-          (PrintsLine-out_of_memory c.args.task line),
+      subst (λ b. PrintsLine c.args.command line b (fault_line OutOfMemory)) (sym passes)
+          (PrintsLine-out_of_memory c.args.command line),
       put,
     )
 

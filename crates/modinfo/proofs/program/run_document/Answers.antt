@@ -1,72 +1,80 @@
 use Rattle.std.proofs.Common.{[], rules, unwrap_or}
-use Rattle.std.proofs.KnownBytes.{Keeps-refl}
 use Rattle.std.proofs.lemmas.Result.{err_from_is_err_and}
 use Rattle.std.specs.String.{string_bytes}
+use Rattle.modinfo.specs.Run.{PrintsResult}
 use Rattle.modinfo.specs.declared.fault.Fault.TheVariants.{OutOfMemory}
-use Rattle.modinfo.proofs.Faults.{failed_run, read_failure}
+use Rattle.modinfo.proofs.Faults.{failed_read, read_apart, result_apart, run_fault, run_without_memory, write_fault}
+use Rattle.modinfo.proofs.Outputs.{front_left, nothing_left}
 use Rattle.modinfo.proofs.Written.{known_or_none}
 use Rattle.modinfo.proofs.program.run_document.Goals as goal
 
 -- The input wasn't read.
-pub returns-in_err-document-clause-subcommand : goal.returns-in_err-document-clause-subcommand
-returns-in_err-document-clause-subcommand g c subcommand is =
-    let f = err_from_is_err_and c.from_residual.result c.from_residual.ensures.1 in
-    let known = g.R.Read.remaining c.args.input.now in (
-      unwrap_or known [],
+pub returns-in_err-document : goal.returns-in_err-document
+returns-in_err-document g c =
+    let is = err_from_is_err_and c.from_residual.result c.from_residual.ensures.1 in
+    let known = g.R.Read.remaining c.args.input.now in
+    let document = unwrap_or known [] in
+    let fault = c.in_err-document.field-0.0 in (
+      document,
       known_or_none known,
-      rw (f.1, f.2) (
-        failed_run subcommand (unwrap_or known []) c.in_err-document.field-0.0 c.in_err-document.ensures,
-        λ apart. Keeps-refl _,
+      rw (is.1, is.2) (
+        failed_read c.args.command document fault c.in_err-document.ensures,
+        nothing_left (PrintsResult c.args.command document) _ fault (read_apart fault c.in_err-document.ensures),
       ),
     )
 
-pub returns-in_err-document-clause-check : goal.returns-in_err-document-clause-check
-returns-in_err-document-clause-check g c subcommand is_strict is =
-    let f = err_from_is_err_and c.from_residual.result c.from_residual.ensures.1 in
-    let known = g.R.Read.remaining c.args.input.now in (
-      unwrap_or known [],
-      known_or_none known,
-      rw (f.1, f.2) (
-        read_failure c.in_err-document.field-0.0 c.in_err-document.ensures,
-        λ apart. Keeps-refl _,
+-- The document has no result.
+pub returns-in_err-line : goal.returns-in_err-line
+returns-in_err-line g c =
+    let is = err_from_is_err_and c.from_residual-in_err-line.result c.from_residual-in_err-line.ensures.1 in
+    let document = c.in_ok-document.document.items in
+    let fault = c.in_err-line.field-0.0 in (
+      document,
+      c.in_ok-document.ensures,
+      rw (is.1, is.2) (
+        run_fault c.args.command document fault c.in_err-line.ensures,
+        nothing_left (PrintsResult c.args.command document) _ fault
+            (result_apart c.args.command document fault c.in_err-line.ensures),
       ),
     )
 
 -- An allocation for the line feed failed.
-pub returns-in_err-push-clause-subcommand : goal.returns-in_err-push-clause-subcommand
-returns-in_err-push-clause-subcommand g c subcommand is =
-    let pushed = c.from_residual-in_err-push in
-    let f = err_from_is_err_and pushed.result pushed.ensures.1 in (
-      c.in_ok-document.document.items,
+pub returns-in_err-push : goal.returns-in_err-push
+returns-in_err-push g c =
+    let is = err_from_is_err_and c.from_residual-in_err-push.result c.from_residual-in_err-push.ensures.1 in
+    let document = c.in_ok-document.document.items in (
+      document,
       c.in_ok-document.ensures,
-      rw (f.1, f.2) (
-        failed_run subcommand c.in_ok-document.document.items OutOfMemory tt,
-        λ apart. Keeps-refl _,
+      rw (is.1, is.2) (
+        run_without_memory c.args.command document,
+        nothing_left (PrintsResult c.args.command document) _ OutOfMemory (λ same. cc (same)),
       ),
     )
 
--- The line is the answer and a line feed.
-pub returns-clause-subcommand : goal.returns-clause-subcommand
-returns-clause-subcommand g c subcommand is =
-    let found = rw is at c.in_ok-line.ensures in (
-      c.in_ok-document.document.items,
+-- A write failed.
+pub returns-in_err-print : goal.returns-in_err-print
+returns-in_err-print g c =
+    let is = err_from_is_err_and c.from_residual-in_err-print.result c.from_residual-in_err-print.ensures.1 in
+    let document = c.in_ok-document.document.items in
+    let fault = c.in_err-print.field-0.0 in
+    let failed = c.in_err-print.ensures in (
+      document,
       c.in_ok-document.ensures,
-      (
-        c.as_str.result.now,
-        (found.0, (string_bytes c.in_ok-line.field-0.line, found.1, search rules)),
-        search rules,
+      rw (is.1, is.2) (
+        write_fault c.args.command document fault failed.0,
+        front_left (PrintsResult c.args.command document) _ _ fault c.in_ok-line.field-0.is_passed
+            c.as_bytes.result.now (string_bytes c.in_ok-line.field-0.line, c.in_ok-line.ensures, search rules) failed.0 failed.1,
       ),
     )
 
--- The line is the report and a line feed.
-pub returns-clause-check : goal.returns-clause-check
-returns-clause-check g c subcommand is_strict is =
-    let found = rw is at c.in_ok-line.ensures in (
-      c.in_ok-document.document.items,
-      c.in_ok-document.ensures,
-      (
-        c.as_str.result.now,
-        (string_bytes c.in_ok-line.field-0.line, found, search rules),
-        search rules,
-      ),
-    )
+-- The line is the result and a line feed.
+pub returns : goal.returns
+returns g c = (
+  c.in_ok-document.document.items,
+  c.in_ok-document.ensures,
+  (
+    c.as_bytes.result.now,
+    (string_bytes c.in_ok-line.field-0.line, c.in_ok-line.ensures, search rules),
+    search rules,
+  ),
+)

@@ -1,86 +1,86 @@
-use Rattle.std.proofs.Common.{◌∙◌, Some, false, true, ap, refl, sym}
+use Rattle.std.proofs.Common.{◌∙◌, refl, sym}
 use Rattle.std.proofs.KnownBytes.{Keeps-refl}
 use Rattle.std.proofs.lemmas.Option.{none-some, same_Some}
-use Rattle.modinfo.specs.CommandLine.{are_strict, subcommand_of_check}
-use Rattle.modinfo.specs.internal.CommandLine.{command_line_of}
 use Rattle.modinfo.specs.Lines.IsLinesRun.{printed as lines_printed, failed as lines_failed}
-use Rattle.modinfo.specs.Run.{printed, failed}
-use Rattle.modinfo.specs.declared.task.Task.TheVariants.{Answer, Check}
+use Rattle.modinfo.specs.Run.IsRun.{printed, failed}
+use Rattle.modinfo.specs.declared.command_line.CommandLine.TheVariants.{Help, Version, Document, Lines}
 use Rattle.modinfo.proofs.program.serve.Goals as goal
 
--- Wrong arguments are none of these.
+-- Words that ask for no command line.
 
-pub returns-in_default-clause-subcommand : goal.returns-in_default-clause-subcommand
-returns-in_default-clause-subcommand g c subcommand words =
-    absurd (none-some _ (sym c.in_default.is ∙ c.from_words.ensures.subcommand subcommand false words))
+pub returns-in_default-clause-help : goal.returns-in_default-clause-help
+returns-in_default-clause-help g c asks = absurd (none-some _ (sym c.in_default.is ∙ (c.from_words.ensures Help).1 asks))
 
-pub returns-in_default-clause-check : goal.returns-in_default-clause-check
-returns-in_default-clause-check g c checked flags words one =
-    absurd (none-some _ (sym c.in_default.is ∙ c.from_words.ensures.check checked flags words))
+pub returns-in_default-clause-version : goal.returns-in_default-clause-version
+returns-in_default-clause-version g c asks =
+    absurd (none-some _ (sym c.in_default.is ∙ (c.from_words.ensures Version).1 asks))
+
+pub returns-in_default-clause-document : goal.returns-in_default-clause-document
+returns-in_default-clause-document g c command asks =
+    absurd (none-some _ (sym c.in_default.is ∙ (c.from_words.ensures (Document command)).1 asks))
 
 pub returns-in_default-clause-lines : goal.returns-in_default-clause-lines
-returns-in_default-clause-lines g c subcommand words =
-    absurd (none-some _ (sym c.in_default.is ∙ c.from_words.ensures.subcommand subcommand true words))
+returns-in_default-clause-lines g c command asks =
+    absurd (none-some _ (sym c.in_default.is ∙ (c.from_words.ensures (Lines command)).1 asks))
 
-pub returns-in_default-clause-check_lines : goal.returns-in_default-clause-check_lines
-returns-in_default-clause-check_lines g c checked flags words many =
-    absurd (none-some _ (sym c.in_default.is ∙ c.from_words.ensures.check checked flags words))
+pub returns-in_default-clause-wrong : goal.returns-in_default-clause-wrong
+returns-in_default-clause-wrong g c none =
+    record { is = refl; unchanged = Keeps-refl _; usage_printed = c.print_line.ensures }
 
 -- A line was printed.
 
-pub returns-in-Ok-clause-subcommand : goal.returns-in-Ok-clause-subcommand
-returns-in-Ok-clause-subcommand g c subcommand words =
-    let is = same_Some _ _ (sym c.in-Some.is ∙ c.from_words.ensures.subcommand subcommand false words) in
-    let ran = c.in-Ok.ensures.subcommand subcommand is in
+pub returns-in-Ok-clause-help : goal.returns-in-Ok-clause-help
+returns-in-Ok-clause-help g c asks =
+    let is = same_Some _ _ (sym c.in-Some.is ∙ (c.from_words.ensures Help).1 asks) in
+    let ran = c.in-Ok.ensures.help is in
+    printed c.in-Ok.passes ran.0 ran.1 c.status_of.ensures ran.2 (Keeps-refl _)
+
+pub returns-in-Ok-clause-version : goal.returns-in-Ok-clause-version
+returns-in-Ok-clause-version g c asks =
+    let is = same_Some _ _ (sym c.in-Some.is ∙ (c.from_words.ensures Version).1 asks) in
+    let ran = c.in-Ok.ensures.version is in
+    printed c.in-Ok.passes ran.0 ran.1 c.status_of.ensures ran.2 (Keeps-refl _)
+
+pub returns-in-Ok-clause-document : goal.returns-in-Ok-clause-document
+returns-in-Ok-clause-document g c command asks =
+    let is = same_Some _ _ (sym c.in-Some.is ∙ (c.from_words.ensures (Document command)).1 asks) in
+    let ran = c.in-Ok.ensures.document command is in
     (ran.0, ran.1, printed c.in-Ok.passes ran.2.0 ran.2.1 c.status_of.ensures ran.2.2 (Keeps-refl _))
 
-pub returns-in-Ok-clause-check : goal.returns-in-Ok-clause-check
-returns-in-Ok-clause-check g c checked flags words one =
-    let task = Check (subcommand_of_check checked) (are_strict flags) in
-    let is = same_Some _ _ (sym c.in-Some.is ∙ c.from_words.ensures.check checked flags words
-    ∙ ap (λ b. Some (command_line_of b task)) one) in
-    let ran = c.in-Ok.ensures.check (subcommand_of_check checked) (are_strict flags) is in
-    (ran.0, ran.1, printed c.in-Ok.passes ran.2.0 ran.2.1 c.status_of.ensures ran.2.2 (Keeps-refl _))
+pub returns-in-Ok-clause-lines : goal.returns-in-Ok-clause-lines
+returns-in-Ok-clause-lines g c command asks =
+    let is = same_Some _ _ (sym c.in-Some.is ∙ (c.from_words.ensures (Lines command)).1 asks) in
+    lines_printed c.in-Ok.passes (c.in-Ok.ensures.lines command is) c.status_of.ensures (Keeps-refl _)
+
+pub returns-in-Ok-clause-wrong : goal.returns-in-Ok-clause-wrong
+returns-in-Ok-clause-wrong g c none =
+    absurd (none c.in-Some.command_line ((c.from_words.ensures c.in-Some.command_line).0 c.in-Some.is))
 
 -- There was a fault.
 
-pub returns-in-Err-clause-subcommand : goal.returns-in-Err-clause-subcommand
-returns-in-Err-clause-subcommand g c subcommand words =
-    let is = same_Some _ _ (sym c.in-Some.is ∙ c.from_words.ensures.subcommand subcommand false words) in
-    let ran = c.in-Err.ensures.subcommand subcommand is in
+pub returns-in-Err-clause-help : goal.returns-in-Err-clause-help
+returns-in-Err-clause-help g c asks =
+    let is = same_Some _ _ (sym c.in-Some.is ∙ (c.from_words.ensures Help).1 asks) in
+    let ran = c.in-Err.ensures.help is in
+    failed c.in-Err.fault ran.0 refl ran.1 c.print_fault.ensures
+
+pub returns-in-Err-clause-version : goal.returns-in-Err-clause-version
+returns-in-Err-clause-version g c asks =
+    let is = same_Some _ _ (sym c.in-Some.is ∙ (c.from_words.ensures Version).1 asks) in
+    let ran = c.in-Err.ensures.version is in
+    failed c.in-Err.fault ran.0 refl ran.1 c.print_fault.ensures
+
+pub returns-in-Err-clause-document : goal.returns-in-Err-clause-document
+returns-in-Err-clause-document g c command asks =
+    let is = same_Some _ _ (sym c.in-Some.is ∙ (c.from_words.ensures (Document command)).1 asks) in
+    let ran = c.in-Err.ensures.document command is in
     (ran.0, ran.1, failed c.in-Err.fault ran.2.0 refl ran.2.1 c.print_fault.ensures)
-
-pub returns-in-Err-clause-check : goal.returns-in-Err-clause-check
-returns-in-Err-clause-check g c checked flags words one =
-    let task = Check (subcommand_of_check checked) (are_strict flags) in
-    let is = same_Some _ _ (sym c.in-Some.is ∙ c.from_words.ensures.check checked flags words
-    ∙ ap (λ b. Some (command_line_of b task)) one) in
-    let ran = c.in-Err.ensures.check (subcommand_of_check checked) (are_strict flags) is in
-    (ran.0, ran.1, failed c.in-Err.fault ran.2.0 refl ran.2.1 c.print_fault.ensures)
-
--- All lines, or the first lines, were printed.
-
-pub returns-in-Ok-clause-lines : goal.returns-in-Ok-clause-lines
-returns-in-Ok-clause-lines g c subcommand words =
-    let is = same_Some _ _ (sym c.in-Some.is ∙ c.from_words.ensures.subcommand subcommand true words) in
-    lines_printed c.in-Ok.passes (c.in-Ok.ensures.lines (Answer subcommand) is) c.status_of.ensures
-    (Keeps-refl _)
-
-pub returns-in-Ok-clause-check_lines : goal.returns-in-Ok-clause-check_lines
-returns-in-Ok-clause-check_lines g c checked flags words many =
-    let task = Check (subcommand_of_check checked) (are_strict flags) in
-    let is = same_Some _ _ (sym c.in-Some.is ∙ c.from_words.ensures.check checked flags words
-    ∙ ap (λ b. Some (command_line_of b task)) many) in
-    lines_printed c.in-Ok.passes (c.in-Ok.ensures.lines task is) c.status_of.ensures (Keeps-refl _)
 
 pub returns-in-Err-clause-lines : goal.returns-in-Err-clause-lines
-returns-in-Err-clause-lines g c subcommand words =
-    let is = same_Some _ _ (sym c.in-Some.is ∙ c.from_words.ensures.subcommand subcommand true words) in
-    lines_failed c.in-Err.fault (c.in-Err.ensures.lines (Answer subcommand) is) refl c.print_fault.ensures
+returns-in-Err-clause-lines g c command asks =
+    let is = same_Some _ _ (sym c.in-Some.is ∙ (c.from_words.ensures (Lines command)).1 asks) in
+    lines_failed c.in-Err.fault (c.in-Err.ensures.lines command is) refl c.print_fault.ensures
 
-pub returns-in-Err-clause-check_lines : goal.returns-in-Err-clause-check_lines
-returns-in-Err-clause-check_lines g c checked flags words many =
-    let task = Check (subcommand_of_check checked) (are_strict flags) in
-    let is = same_Some _ _ (sym c.in-Some.is ∙ c.from_words.ensures.check checked flags words
-    ∙ ap (λ b. Some (command_line_of b task)) many) in
-    lines_failed c.in-Err.fault (c.in-Err.ensures.lines task is) refl c.print_fault.ensures
+pub returns-in-Err-clause-wrong : goal.returns-in-Err-clause-wrong
+returns-in-Err-clause-wrong g c none =
+    absurd (none c.in-Some.command_line ((c.from_words.ensures c.in-Some.command_line).0 c.in-Some.is))

@@ -1,0 +1,10 @@
+use Rattle.std.proofs.Common.{refl}
+use Rattle.std.proofs.KnownBytes.{Appends-kept}
+use Rattle.modinfo.proofs.Written.{whole_front}
+use Rattle.modinfo.proofs.program.print.Goals as goal
+
+-- All bytes were written, and the flush failed.
+pub returns-in-Err : goal.returns-in-Err
+returns-in-Err g c =
+    let whole = rw c.if-not-write_front.false at c.write_front.ensures in
+    (refl, whole_front _ _ _ (Appends-kept _ _ _ c.args.bytes.now whole c.flush.ensures.bytes))

@@ -1,0 +1,56 @@
+//! The texts of the program about itself.
+
+/// The line on the error output for wrong arguments.
+pub const USAGE: &str = "modinfo: usage: modinfo analyze, modinfo convert or modinfo reach";
+
+/// The output of `--version`.
+pub const VERSION: &str = "modinfo 0.1.0\n";
+
+/// The output of `--help`.
+pub const HELP: &str = r#"modinfo: what one JavaScript or TypeScript module depends on
+
+usage: modinfo analyze [--estree] | convert | reach [--lines]
+       modinfo check [analyze] [--estree] [--lines] [--strict]
+       modinfo check convert | reach [--lines] [--strict]
+       modinfo -h | --help | --version
+
+Each command reads one JSON document from the standard input, and prints its result as one line of
+JSON.
+
+  analyze   reads {"specifier":URL,"mediaType":NAME,"source":TEXT,"program":TREE,..}, a parsed module;
+            prints its ModuleInfo
+  convert   reads the ModuleInfo of one module as version 1 stored it; prints that of version 2
+  reach     reads {"root":KEY,"modules":{KEY:MODULEINFO,..}}; prints the keys that the root reaches,
+            ascending
+  check     reads a document of that command, of analyze where none is named; prints {"valid":true}
+            with warnings where there are any, or {"fault":NAME,"pointer":..,"expected":..}, where
+            the pointer leads to the value with the fault
+  --estree  of analyze: "program" is the tree of a parser, as ESTree describes it, with its "comments"
+  --lines   each line of the input is a document, and each line of the output the result of one, in
+            the same order: {"answer":RESULT} or {"fault":NAME}, of check the report alone
+  --strict  a warning counts as a fault does
+
+Status 0: the result is printed; with --lines whatever the results are. Status 1: a line
+`modinfo: NAME` on the error output, and no result; of check a document with a fault, with --lines
+too. Status 2: other words.
+
+  Input            a read fails, or the input isn't UTF-8
+  Json             it is no JSON, nests deeper than 127, or has a number too large for a float
+  Tree             analyze: the JSON isn't a module document
+  Specifier        analyze: the specifier is no URL
+  RangeReversed, RangeOutside, RangeOffBoundary, CommentText, CommentsOverlap, Shape
+                   analyze: the tree or the comments don't fit the source
+  Shape            reach: a value in the JSON isn't what is expected there
+  Float            convert, reach: a number isn't held as a whole number
+  ColumnOverflow   convert: a column is above 2^64 - 1
+  Output           a write fails
+  OutOfMemory      an allocation failed
+
+Example:
+
+  $ echo '{"specifier":"file:///a.js","mediaType":"JavaScript","source":"import \"./b.js\";","program":
+    {"range":[0,16],"body":[{"kind":"ImportDecl","range":[0,16],"src":{"value":"./b.js",
+    "range":[7,15]}}]}}' | modinfo analyze
+  {"dependencies":[{"kind":"import","sideEffect":true,"specifier":"./b.js",
+  "specifierRange":[[0,7],[0,15]],"type":"static"}]}
+"#;
