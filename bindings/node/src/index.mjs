@@ -9,7 +9,7 @@
 import { resolve as absolute } from "node:path";
 
 import { readGraphOptions, graphOf } from "./graph/graph_service.mjs";
-import { ResolveService, readResolveOptions } from "./graph/resolve_service.mjs";
+import { readResolveOptions, resolveInfo } from "./graph/resolve_service.mjs";
 import { checkKnown, readSignal, unlessAborted } from "./runtime/call_options.mjs";
 import { checkedForm, describeReport, withPlace } from "./runtime/check_input.mjs";
 import { faultOf, withoutExcerpt } from "./runtime/faults.mjs";
@@ -55,7 +55,6 @@ export class Modinfo {
   #pool;
   #program;
   #jobs;
-  #resolveService = new ResolveService();
   /**
    * Calls that are under way and that no service or pool waits for.
    * @type {Set<Promise<unknown>>}
@@ -164,7 +163,7 @@ export class Modinfo {
   async resolve(information, options) {
     this.#checkOpen();
     const task = readResolveOptions(information, options);
-    return this.#track(readSignal(options), () => this.#resolveService.resolve(task));
+    return this.#track(readSignal(options), () => resolveInfo(task));
   }
 
   /**
@@ -191,7 +190,7 @@ export class Modinfo {
   async #end() {
     await Promise.allSettled(this.#underWay);
     const services = [...Object.values(this.#services), ...Object.values(this.#checks)];
-    const closing = [...services, this.#resolveService].map((service) => service.close());
+    const closing = services.map((service) => service.close());
     await Promise.all([this.#pool?.close(), ...closing]);
   }
 

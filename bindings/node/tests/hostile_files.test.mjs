@@ -94,7 +94,7 @@ test("what configures the resolution is read only where it is a regular file", (
   execFileSync("mkfifo", [join(folder, "base.json")]);
   const { stdout, stderr, status } = run("files.mjs", ["--resolve", "src"], folder);
   assert.deepEqual([namesOf(stdout), status], [["a.js", "b.js"], 0]);
-  assert.match(stderr, /^modinfo-files: warning: .*tsconfig\.json: .*base\.json/);
+  assert.match(stderr, /^modinfo-files: warning: .*base\.json: passed over: not a regular file\n$/);
 });
 
 test("a link out of the given paths is followed only with --follow", () => {
@@ -188,7 +188,7 @@ done
 test("names are shown with their control characters escaped", () => {
   const evil = "a\x1b[31m\nmodinfo-files: \u202e\x9b.js";
   const shown = "a\\x1b[31m\\nmodinfo-files: \\u{202e}\\x9b.js";
-  const folder = folderOf({ [evil]: "(", "tsconfig.json": `{"compilerOptions":{"\x1b[32m":1}}`, "b.js": "" });
+  const folder = folderOf({ [evil]: "(", "tsconfig.json": `{"compilerOptions":{"\\u001b[32m":1}}`, "b.js": `import "./b.js";` });
   /** @param {string} stderr */
   const isClean = (stderr) => assert.doesNotMatch(stderr, /[^\P{Cc}\n]|\u202e/u);
   /** @type {[name: string, words: string[], label?: string][]} */

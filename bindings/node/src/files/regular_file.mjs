@@ -1,6 +1,6 @@
 /** Reads regular files alone: a FIFO or a device may never end, and opening one may have effects. */
 
-import { closeSync, constants, fstatSync, openSync, readSync, statSync } from "node:fs";
+import fs, { closeSync, constants, openSync, statSync } from "node:fs";
 
 import { FileFault } from "../runtime/faults.mjs";
 
@@ -23,13 +23,25 @@ export function readRegularFile(path, maxBytes = MAX_BYTES) {
   // The path may lead to something else by now: opening doesn't wait for a FIFO's writer.
   const file = openSync(path, constants.O_RDONLY | constants.O_NONBLOCK | constants.O_NOCTTY);
   try {
-    const status = fstatSync(file);
-    requireRegular(status);
-    requireAtMost(maxBytes, status.size);
-    return readAtMost(file, status.size, maxBytes);
+    return readOpened(file, maxBytes);
   } finally {
     closeSync(file);
   }
+}
+
+/**
+ * The content of a file that was opened.
+ * @param {number} file its descriptor
+ * @param {number} maxBytes
+ * @param {Pick<typeof fs, "fstatSync" | "readSync">} [system]
+ * @returns {Buffer}
+ * @throws {FileFault} the file is not regular, or has more bytes
+ */
+export function readOpened(file, maxBytes, system = fs) {
+  const status = system.fstatSync(file);
+  requireRegular(status);
+  requireAtMost(maxBytes, status.size);
+  return readAtMost(file, status.size, maxBytes, system);
 }
 
 /**
@@ -55,8 +67,9 @@ export async function readStream(input, maxBytes) {
  * @param {number} file
  * @param {number} size
  * @param {number} maxBytes
+ * @param {Pick<typeof fs, "readSync">} system
  */
-function readAtMost(file, size, maxBytes) {
+function readAtMost(file, size, maxBytes, { readSync }) {
   let bytes = Buffer.allocUnsafe((size || FIRST_PART) + 1);
   let length = 0;
   for (;;) {

@@ -15,7 +15,7 @@ const MODULES = new Set([
  * Folders of packages for all projects: those of NODE_PATH, and what this node is built with.
  * @type {string[]}
  */
-const globalFolders = /** @type {any} */ (Module).globalPaths ?? [];
+export const globalFolders = /** @type {any} */ (Module).globalPaths ?? [];
 
 /**
  * @param {string} path

@@ -5,34 +5,48 @@ import type {
 } from "../document/module_info.mjs";
 
 /**
- * What a specifier resolves to. Files are URLs without symbolic links in them.
+ * The rules by which a name was found, where the first that find it count:
  *
- * `file` is what runs: what node finds by its own `require.resolve` and `import.meta.resolve`, with
- * `exports`, `imports`, conditions, `main`, extensions and folders, for a `require` and an `import`
- * each by its own rules. Where node refuses the file that imports, since it has the syntax of ES
- * modules and node doesn't take it for one, an import that isn't found is looked for as a `require`,
- * as bundlers do. TypeScript also finds what runs, where that is a source file of the project: by
- * `paths` and `baseUrl`; from a TypeScript file, whose `./b.js` is `b.ts`; and where node finds
- * nothing. TypeScript before 5.0 finds nothing for a specifier that ends in `.ts`, `.tsx`, `.mts` or
- * `.cts`; it is asked for the specifier of its JavaScript instead.
+ * - `importmap`: a deno.json, or the import map that it names;
+ * - `tsconfig`: `paths`, `baseUrl`, `rootDirs` or `outDir` of a tsconfig.json or jsconfig.json;
+ * - `node`: those of an import, or of a `require`, as node 20.19, 22.12 and later have them;
+ * - `bundler`: those of TypeScript's compiler and of bundlers, where node as it is finds nothing:
+ *   names without an ending, an index, `./a.js` for `./a.ts`, queries, `browser` and `module` of a
+ *   package.json, packages of a workspace.
+ */
+export type Rules = "node" | "bundler" | "tsconfig" | "importmap";
+
+/**
+ * What a name leads to. Files are URLs without symbolic links in them.
  *
- * `types` is the TypeScript or declaration file that has the types, where that is another file: what
- * TypeScript finds, by the `compilerOptions` of the nearest tsconfig.json or jsconfig.json. Where that
- * refers to projects and doesn't include the file, those of the first project that does. Where there
- * is none, by `"module": "NodeNext"`, `"moduleResolution": "NodeNext"` and `"allowJs": true`.
+ * `file` is what runs. `types` is the TypeScript or declaration file that has the types, where that
+ * is another one: a declaration file that is all there is; and, where types are asked for, what
+ * TypeScript finds by the nearest configuration that includes the file, else by
+ * `"module": "NodeNext"` and `"allowJs": true`. `by` is there with `file` or `types`, except for a
+ * triple-slash reference, and where TypeScript alone found something.
  */
 export type Resolution =
-  /** A module of the project. Without `file` only types were found. */
-  | { class: "file"; file?: string; types?: string }
-  /** A package of its name. Without `file` and `types` it isn't installed. */
-  | { class: "package"; package: string; file?: string; types?: string }
+  /** A module of the project. */
+  | { class: "file"; file?: string; types?: string; by?: Rules }
+  /** A module of an installed package. Without `file` and `types` the package isn't installed. */
+  | { class: "package"; package: string; file?: string; types?: string; by?: Rules }
   /** A file that exists and is no module, as a style sheet is. */
-  | { class: "asset"; file: string; types?: string }
+  | { class: "asset"; file: string; types?: string; by?: Rules }
+  /** A file or folder that a link or a path leads to, in no folder of the project. Nothing is read there. */
+  | { class: "outside"; target: string }
   /** A module of node's own. */
   | { class: "builtin" }
-  /** A URL that isn't a file's, as `https:` or `npm:`. */
+  /** A `data:` URL. */
+  | { class: "data" }
+  /** A name of `npm:`, as in Deno. */
+  | { class: "npm" }
+  /** A name of `jsr:`, as in Deno. */
+  | { class: "jsr" }
+  /** Another URL that isn't a file's, as `https:`. */
   | { class: "url" }
-  /** Nothing was found. */
+  /** `browser` of a package.json has `false` for it. */
+  | { class: "disabled" }
+  /** Nothing was found, or the name can be none: it is empty, has a NUL or more than 4,096 characters. */
   | { class: "missing" }
   /** The text of the specifier isn't known. */
   | { class: "unknown" };

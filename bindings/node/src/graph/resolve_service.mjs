@@ -1,11 +1,10 @@
-/** Resolves the specifiers of modules in threads, for the service. */
+/** Resolves the names in modules, for the service. */
 
 import { resolve as absolute } from "node:path";
 import { fileURLToPath } from "node:url";
 
 import { checkKnown } from "../runtime/call_options.mjs";
-import { Pool } from "../runtime/pool.mjs";
-import { nodeFlags } from "./node_resolution.mjs";
+import { createResolver } from "./resolver.mjs";
 
 /**
  * @typedef {object} Task
@@ -14,33 +13,16 @@ import { nodeFlags } from "./node_resolution.mjs";
  * @property {import("./resolver.mjs").ResolverOptions} options
  */
 
-const WORKER = new URL("./resolve_worker.mjs", import.meta.url);
-
-/** Threads that resolve, one for each set of conditions. */
-export class ResolveService {
-  /** @type {Map<string, Pool>} */
-  #pools = new Map();
-
-  /**
-   * @param {Task} task
-   * @returns {Promise<any>} a copy of the `ModuleInfo`, in which each object that names a module has
-   *   the member `resolved`
-   */
-  resolve(task) {
-    const { conditions } = task.options;
-    const key = JSON.stringify(conditions);
-    let pool = this.#pools.get(key);
-    if (!pool) {
-      pool = new Pool(WORKER, { jobs: 1, flags: nodeFlags(conditions) });
-      this.#pools.set(key, pool);
-    }
-    return pool.run(task);
-  }
-
-  /** @returns {Promise<void>} */
-  async close() {
-    await Promise.all([...this.#pools.values()].map((pool) => pool.close()));
-  }
+/**
+ * Looks for what names lead to, among the files as they are now.
+ * @param {Task} task
+ * @returns {Promise<any>} a copy of the `ModuleInfo`, in which each object that names a module has
+ *   the member `resolved`
+ */
+export async function resolveInfo({ info, path, options }) {
+  const copy = structuredClone(info);
+  createResolver(options).resolveInfo(copy, path);
+  return copy;
 }
 
 /**
@@ -63,7 +45,7 @@ export function readResolveOptions(info, options) {
 }
 
 /** The options of `readResolverOptions`. */
-export const RESOLVER_OPTIONS = ["tsconfig", "conditions"];
+export const RESOLVER_OPTIONS = ["tsconfig", "conditions", "root"];
 
 /**
  * How specifiers are resolved.
@@ -71,11 +53,16 @@ export const RESOLVER_OPTIONS = ["tsconfig", "conditions"];
  * @returns {import("./resolver.mjs").ResolverOptions}
  * @throws {TypeError} with what is wrong
  */
-export function readResolverOptions({ tsconfig, conditions = [] }) {
+export function readResolverOptions({ tsconfig, conditions = [], root }) {
   if (!Array.isArray(conditions) || !conditions.every((each) => /^[^\s=]+$/.test(each))) {
     throw new TypeError("conditions must be an array of names");
   }
-  return { conditions, ...(tsconfig !== undefined && { tsconfig: pathOf(tsconfig, "tsconfig") }) };
+  const roots = root === undefined ? [] : [root].flat();
+  return {
+    conditions,
+    ...(tsconfig !== undefined && { tsconfig: pathOf(tsconfig, "tsconfig") }),
+    ...(roots.length > 0 && { root: roots.map((each) => pathOf(each, "root")) }),
+  };
 }
 
 /**

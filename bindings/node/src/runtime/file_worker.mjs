@@ -39,7 +39,7 @@ import { canonicalUrl } from "../graph/reach.mjs";
 import { documentOfFile } from "../files/document_of_file.mjs";
 import { isDeclaration } from "../graph/file_kinds.mjs";
 import { referencesOf } from "../graph/references.mjs";
-import { Resolver } from "../graph/resolver.mjs";
+import { createResolver } from "../graph/resolver.mjs";
 import { serve } from "./worker.mjs";
 
 /** @type {Work} */
@@ -51,7 +51,7 @@ if (parser) {
 }
 const analyzer = program ? new Analyzer(program) : undefined;
 const encoder = new TextEncoder();
-/** @type {Resolver | undefined} */
+/** @type {import("../graph/resolver.mjs").Resolver | undefined} */
 let resolver;
 
 serve(handle, async () => analyzer?.close());
@@ -114,8 +114,8 @@ async function analyzeFile(service, path) {
 function resolved(path, json) {
   const file = absolute(path);
   const info = JSON.parse(json);
-  resolver ??= new Resolver(loadParser("typescript"), resolve);
-  resolver.resolve(info, file);
+  resolver ??= createResolver(resolve);
+  resolver.resolveInfo(info, file);
   const noticed = resolver.takeNotices();
   const notices = noticed.length > 0 ? noticed : undefined;
   if (graph) {

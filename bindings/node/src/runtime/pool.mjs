@@ -64,19 +64,18 @@ export class Pool {
    * @param {number} options.jobs the most workers at once
    * @param {unknown} [options.data] their `workerData`
    * @param {object} [options.resourceLimits] as node's `Worker` has them
-   * @param {string[]} [options.flags] node's, for each thread
    * @param {number} [options.perWorker] how many tasks each worker holds before another is started, which
    *   takes time; 1 where it is missing
    * @param {number} [options.timeout] after how many seconds without a result a worker that holds
    *   tasks is ended; never where it is missing
    */
-  constructor(module, { jobs, data: workerData, resourceLimits, timeout, flags = [], perWorker = 1 }) {
+  constructor(module, { jobs, data: workerData, resourceLimits, timeout, perWorker = 1 }) {
     this.#module = module;
     this.#most = jobs;
     this.#timeout = timeout;
     this.#perWorker = perWorker;
     // Words of node's command line, as --input-type, may be for the main thread alone.
-    this.#options = { workerData, resourceLimits, execArgv: flags };
+    this.#options = { workerData, resourceLimits, execArgv: [] };
   }
 
   /**

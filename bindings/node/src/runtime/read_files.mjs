@@ -7,7 +7,6 @@
  * @typedef {import("./file_worker.mjs").FileResult & Found} ReadFile
  */
 
-import { nodeFlags } from "../graph/node_resolution.mjs";
 import { faultOf } from "./faults.mjs";
 import { infoLine } from "./info_line.mjs";
 import { Pool, WorkerEnd, inOrder } from "./pool.mjs";
@@ -31,8 +30,7 @@ const WORKER = new URL("./file_worker.mjs", import.meta.url);
  * @returns {AsyncGenerator<ReadFile, void>}
  */
 export async function* readFiles(files, { jobs, work, timeout, cache }) {
-  const flags = work.resolve ? nodeFlags(work.resolve.conditions) : [];
-  const pool = new Pool(WORKER, { jobs, data: work, flags, timeout, perWorker: PER_WORKER });
+  const pool = new Pool(WORKER, { jobs, data: work, timeout, perWorker: PER_WORKER });
   try {
     /** @type {(file: Found) => Promise<ReadFile>} */
     const read = cache ? (file) => readByCache(pool, file, work, cache) : (file) => readFile(pool, file);

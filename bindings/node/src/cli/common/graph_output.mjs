@@ -4,7 +4,6 @@ import { realpathSync } from "node:fs";
 import { relative } from "node:path";
 import { fileURLToPath } from "node:url";
 
-import { packageName } from "../../graph/node_resolution.mjs";
 import { printable } from "../../runtime/printable.mjs";
 
 /**
@@ -52,7 +51,7 @@ export function cycleLine({ modules, path }, isRun) {
 export function missingLine(mention) {
   const { specifier = "", resolved } = mention.reference;
   const why = resolved.class === "package"
-    ? `the package ${packageName(specifier) ?? specifier} isn't installed`
+    ? `the package ${resolved.package} isn't installed`
     : "not found";
   return printable(`${placeOf(mention)}: ${specifier}: ${why}`);
 }

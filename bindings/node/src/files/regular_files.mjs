@@ -1,0 +1,239 @@
+/**
+ * The files that resolution looks at: what paths lead to, and the text of package.json and of
+ * configurations. Nothing else is opened, and of these regular files alone: a device or a FIFO that
+ * has such a name never is.
+ *
+ * Links are followed here, one by one, so that it is known where each path leads before anything is
+ * opened. What is found is kept: a path is looked at once.
+ */
+
+import fs from "node:fs";
+import { dirname, isAbsolute, join } from "node:path";
+
+import { FileFault } from "../runtime/faults.mjs";
+import { readOpened } from "./regular_file.mjs";
+
+/**
+ * @typedef {Pick<typeof fs, "lstatSync" | "readlinkSync" | "readdirSync" | "openSync" | "fstatSync" |
+ *   "readSync" | "closeSync">} System
+ *
+ * @typedef {object} Entry what a path leads to
+ * @property {"file" | "folder" | "other" | "none"} kind `file` is a regular one
+ * @property {string} path without links; empty where nothing is there
+ * @property {number} links how many were followed
+ */
+
+/** The most links on the way to a file, as Linux has it. */
+const MAX_LINKS = 40;
+
+/** The most bytes of a package.json or a configuration: 4 MiB. */
+const MAX_BYTES = 4 * 2 ** 20;
+
+/** @type {Entry} */
+const NONE = { kind: "none", path: "", links: 0 };
+
+const READ_HERE = fs.constants.O_RDONLY | fs.constants.O_NONBLOCK | fs.constants.O_NOCTTY |
+  (fs.constants.O_NOFOLLOW ?? 0);
+
+export class RegularFiles {
+  #system;
+  /** @type {Map<string, Entry>} */
+  #entries = new Map([["/", { kind: "folder", path: "/", links: 0 }]]);
+  /** @type {Set<string>} */
+  #roots = new Set();
+  /** Folders above a root: their own package.json and configurations count. @type {Set<string>} */
+  #above = new Set();
+
+  /** @param {System} [system] what looks at files and opens them */
+  constructor(system = fs) {
+    this.#system = system;
+  }
+
+  /**
+   * Adds a folder in which files may be, together with each `node_modules` above it.
+   * @param {string} path absolute
+   */
+  addProject(path) {
+    const { path: root } = this.at(path);
+    if (root === "" || this.#roots.has(root)) {
+      return;
+    }
+    this.#roots.add(root);
+    for (let folder = root; folder !== "/";) {
+      folder = dirname(folder);
+      this.#above.add(folder);
+      this.addFolder(join(folder, "node_modules"));
+    }
+  }
+
+  /**
+   * Adds a folder in which files may be.
+   * @param {string} path absolute
+   */
+  addFolder(path) {
+    const { kind, path: root } = this.at(path);
+    if (kind === "folder") {
+      this.#roots.add(root);
+    }
+  }
+
+  /**
+   * Looks at what a path leads to.
+   * @param {string} path absolute and normal
+   * @returns {Entry}
+   */
+  at(path) {
+    let entry = this.#entries.get(path);
+    if (entry === undefined) {
+      // A link that leads to itself leads to nothing.
+      this.#entries.set(path, NONE);
+      entry = this.#look(path);
+      this.#entries.set(path, entry);
+    }
+    return entry;
+  }
+
+  /**
+   * Whether a path without links is in no folder that was added.
+   * @param {string} path
+   * @returns {boolean}
+   */
+  isOutside(path) {
+    for (let folder = path; ; folder = dirname(folder)) {
+      if (this.#roots.has(folder)) {
+        return false;
+      }
+      if (folder === "/") {
+        return true;
+      }
+    }
+  }
+
+  /**
+   * The text of a package.json or a configuration.
+   * @param {string} path absolute and normal
+   * @returns {string} without a byte order mark
+   * @throws {FileFault} nothing is there, or no regular file; the file is in no folder that was
+   *   added, or has more than 4 MiB
+   * @throws {Error} the system's, where it can't be read
+   */
+  read(path) {
+    const { kind, path: real } = this.at(path);
+    if (kind !== "file") {
+      throw new FileFault("Input", kind === "none" ? "no such file" : "not a regular file");
+    }
+    if (this.isOutside(real) && !this.#above.has(dirname(real))) {
+      throw new FileFault("Input", `outside of the project, in ${dirname(real)}`);
+    }
+    const file = this.#system.openSync(real, READ_HERE);
+    try {
+      return textOf(readOpened(file, MAX_BYTES, this.#system));
+    } finally {
+      this.#system.closeSync(file);
+    }
+  }
+
+  /**
+   * The folders in a folder of a project, without links to folders.
+   * @param {string} path absolute and normal
+   * @returns {string[]} their names, sorted; none where the folder can't be read
+   */
+  foldersIn(path) {
+    const { kind, path: real } = this.at(path);
+    if (kind !== "folder" || this.isOutside(real)) {
+      return [];
+    }
+    try {
+      const entries = this.#system.readdirSync(real, { withFileTypes: true });
+      return entries.filter((entry) => entry.isDirectory()).map(({ name }) => name).sort();
+    } catch {
+      return [];
+    }
+  }
+
+  /**
+   * @param {string} path
+   * @returns {Entry}
+   */
+  #look(path) {
+    const parent = this.at(dirname(path));
+    if (parent.kind !== "folder") {
+      return NONE;
+    }
+    const real = join(parent.path, path.slice(path.lastIndexOf("/") + 1));
+    if (real !== path) {
+      return behind(parent.links, this.at(real));
+    }
+    const status = this.#statusOf(path);
+    if (!status) {
+      return NONE;
+    }
+    return status.isSymbolicLink() ? this.#follow(path) : { kind: kindOf(status), path, links: 0 };
+  }
+
+  /**
+   * @param {string} path of a link, in a folder whose path has none
+   * @returns {Entry}
+   */
+  #follow(path) {
+    const target = this.#targetOf(path);
+    let entry = behind(1, this.at(isAbsolute(target) ? "/" : dirname(path)));
+    for (const part of target.split("/")) {
+      if (entry.kind !== "folder") {
+        return NONE;
+      }
+      if (part === "..") {
+        entry = behind(entry.links, this.at(dirname(entry.path)));
+      } else if (part !== "" && part !== ".") {
+        entry = behind(entry.links, this.at(join(entry.path, part)));
+      }
+    }
+    return entry;
+  }
+
+  /** @param {string} path */
+  #statusOf(path) {
+    try {
+      return this.#system.lstatSync(path, { throwIfNoEntry: false });
+    } catch {
+      return undefined;
+    }
+  }
+
+  /** @param {string} path */
+  #targetOf(path) {
+    try {
+      return this.#system.readlinkSync(path);
+    } catch {
+      return ".";
+    }
+  }
+}
+
+/**
+ * What some links lead to, and then those of an entry.
+ * @param {number} links
+ * @param {Entry} entry
+ * @returns {Entry}
+ */
+function behind(links, entry) {
+  const all = links + entry.links;
+  return entry.kind === "none" || all > MAX_LINKS ? NONE : { ...entry, links: all };
+}
+
+/** @param {import("node:fs").Stats} status */
+function kindOf(status) {
+  if (status.isDirectory()) {
+    return "folder";
+  }
+  return status.isFile() ? "file" : "other";
+}
+
+/** @param {Uint8Array} bytes in the encoding that their byte order mark names, else in UTF-8 */
+function textOf(bytes) {
+  const [first, second] = bytes;
+  const isBig = first === 0xfe && second === 0xff;
+  const isLittle = first === 0xff && second === 0xfe;
+  return new TextDecoder(isBig ? "utf-16be" : isLittle ? "utf-16le" : "utf-8").decode(bytes);
+}
+

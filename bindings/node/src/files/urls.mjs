@@ -1,0 +1,20 @@
+/** URLs of names and of folders. */
+
+import { pathToFileURL } from "node:url";
+
+/**
+ * @param {string} text
+ * @param {URL} [base]
+ * @returns {URL | undefined} nothing where the text is no URL
+ */
+export function urlFrom(text, base) {
+  return /** @type {any} */ (URL).canParse(text, base) ? new URL(text, base) : undefined;
+}
+
+/**
+ * @param {string} folder its absolute path
+ * @returns {URL} with a slash at the end
+ */
+export function urlOfFolder(folder) {
+  return pathToFileURL(`${folder}/`);
+}

@@ -1,0 +1,52 @@
+/** Matches paths with wildcards, in time that grows as pattern times path. */
+
+/**
+ * Whether a text is what a pattern has: `*` is any characters, `?` one.
+ * @param {string} pattern
+ * @param {string} text
+ * @returns {boolean}
+ */
+export function matchesName(pattern, text) {
+  return matches([...pattern], [...text], "*", (one, other) => one === "?" || one === other);
+}
+
+/**
+ * Whether a path is what a pattern has: `**` as a part is any parts, and `*` and `?` in one are
+ * characters of a part.
+ * @param {string} pattern
+ * @param {string} path
+ * @returns {boolean}
+ */
+export function matchesPath(pattern, path) {
+  return matches(pattern.split("/"), path.split("/"), "**", matchesName);
+}
+
+/**
+ * Whether items are those of a pattern, in which `any` stands for any number of them. An `any` takes
+ * more only where what follows it fails: then none before it needs another try.
+ * @param {string[]} pattern
+ * @param {string[]} items
+ * @param {string} any
+ * @param {(one: string, other: string) => boolean} isSame
+ */
+function matches(pattern, items, any, isSame) {
+  let [at, taken] = [0, 0];
+  /** @type {{ at: number, taken: number } | undefined} */
+  let last;
+  while (taken < items.length) {
+    if (pattern[at] === any) {
+      last = { at, taken };
+      at++;
+    } else if (at < pattern.length && isSame(pattern[at], items[taken])) {
+      at++;
+      taken++;
+    } else if (last) {
+      last.taken++;
+      at = last.at + 1;
+      taken = last.taken;
+    } else {
+      return false;
+    }
+  }
+  return pattern.slice(at).every((each) => each === any);
+}

@@ -1,0 +1,421 @@
+/** The tsconfig.json and jsconfig.json that are for files, and what they have about names. */
+
+import { dirname, join, resolve as absolute } from "node:path";
+
+import { matchesPath } from "../files/wildcards.mjs";
+import { parseWithComments } from "./json_with_comments.mjs";
+import { isObject } from "./package_targets.mjs";
+
+/** In the order in which a folder is looked through. */
+const NAMES = ["tsconfig.json", "jsconfig.json"];
+
+/** How many configurations extend each other at most. */
+const MAX_EXTENDED = 32;
+
+/** What a configuration includes that says nothing about it. */
+const ALL = ["**/*"];
+const NEVER = ["node_modules", "bower_components", "jspm_packages"];
+
+const HAS_WILDCARD = /[*?]/;
+const HAS_EXTENSION = /\.[^./]+$/;
+const MODULES = "/node_modules/";
+
+/**
+ * @typedef {object} Options those that decide what names lead to, with absolute paths
+ * @property {string} [baseUrl]
+ * @property {Map<string, string[]>} [paths] absolute patterns by the patterns of names
+ * @property {string[]} [rootDirs]
+ * @property {string} [rootDir]
+ * @property {string[]} [outDirs] those of the JavaScript and of the declarations
+ * @property {string} [module] in lower case
+ * @property {string[]} [moduleSuffixes]
+ * @property {string[]} [customConditions]
+ *
+ * @typedef {object} Configuration
+ * @property {string} path of its file
+ * @property {string} folder
+ * @property {Options} options together with those that it extends
+ * @property {string[]} references the paths of the configurations that it refers to
+ * @property {string[]} files absolute
+ * @property {string[]} include absolute patterns
+ * @property {string[]} exclude absolute patterns
+ */
+
+export class Configurations {
+  #files;
+  #fixed;
+  /** @type {Map<string, Configuration | undefined>} */
+  #byFolder = new Map();
+  /** @type {Map<string, Configuration | undefined>} */
+  #byFile = new Map();
+  /** @type {Map<string, Configuration>} */
+  #byPath = new Map();
+  /** @type {Set<string>} */
+  #noticed = new Set();
+  /** @type {string[]} */
+  #notices = [];
+
+  /**
+   * @param {import("../files/regular_files.mjs").RegularFiles} files
+   * @param {string} [fixed] the absolute path of a configuration for all files
+   */
+  constructor(files, fixed) {
+    this.#files = files;
+    this.#fixed = fixed;
+  }
+
+  /**
+   * The configuration for a file: the nearest one or, where that refers to others and doesn't
+   * include the file itself, the first one of these that does.
+   * @param {string} file absolute
+   * @returns {Configuration | undefined} nothing for the file of an installed package
+   */
+  of(file) {
+    if (!this.#byFile.has(file)) {
+      this.#byFile.set(file, this.#find(file));
+    }
+    return this.#byFile.get(file);
+  }
+
+  /**
+   * The nearest configuration of a folder, with those that it refers to.
+   * @param {string} folder absolute
+   * @returns {Configuration[]}
+   */
+  allOf(folder) {
+    const nearest = this.#fixed === undefined ? this.#nearest(folder) : this.#read(this.#fixed);
+    return nearest ? this.#withReferences(nearest) : [];
+  }
+
+  /**
+   * What was found wrong since the last call.
+   * @returns {string[]}
+   */
+  takeNotices() {
+    return this.#notices.splice(0);
+  }
+
+  /** @param {string} file */
+  #find(file) {
+    if (file.includes(MODULES)) {
+      return undefined;
+    }
+    const [nearest, ...others] = this.allOf(dirname(file));
+    const including = others.length > 0 ? [nearest, ...others].find((each) => includes(each, file)) : undefined;
+    return including ?? nearest;
+  }
+
+  /**
+   * @param {string} folder
+   * @returns {Configuration | undefined}
+   */
+  #nearest(folder) {
+    if (!this.#byFolder.has(folder)) {
+      const path = NAMES.map((name) => join(folder, name)).find((each) => this.#isThere(each));
+      const parent = dirname(folder);
+      const above = () => (parent === folder ? undefined : this.#nearest(parent));
+      this.#byFolder.set(folder, path ? this.#read(path) : above());
+    }
+    return this.#byFolder.get(folder);
+  }
+
+  /**
+   * @param {Configuration} root
+   * @returns {Configuration[]} each once
+   */
+  #withReferences(root) {
+    const found = new Map([[root.path, root]]);
+    for (const { references } of found.values()) {
+      for (const path of references.filter((each) => this.#isThere(each))) {
+        if (!found.has(path)) {
+          found.set(path, this.#read(path));
+        }
+      }
+    }
+    return [...found.values()];
+  }
+
+  /** @param {string} path */
+  #isThere(path) {
+    const { kind } = this.#files.at(path);
+    return kind === "file" || kind === "other";
+  }
+
+  /**
+   * @param {string} path
+   * @returns {Configuration}
+   */
+  #read(path) {
+    let configuration = this.#byPath.get(path);
+    if (!configuration) {
+      const { options, members } = this.#extended(path, []);
+      configuration = configurationOf(path, options, members, this.#referencesOf(path, members.references));
+      this.#byPath.set(path, configuration);
+    }
+    return configuration;
+  }
+
+  /**
+   * The options and other members of a configuration, together with those that it extends.
+   * @param {string} path
+   * @param {string[]} extending the paths of those that lead to it
+   * @returns {{ options: Options, members: Record<string, unknown> }} of `files`, `include` and
+   *   `exclude` absolute patterns
+   */
+  #extended(path, extending) {
+    const members = this.#membersOf(path);
+    const paths = [...extending, path];
+    /** @type {{ options: Options, members: Record<string, unknown> }} */
+    const all = { options: {}, members: {} };
+    for (const name of [members.extends ?? []].flat()) {
+      const other = this.#extendedPath(name, path);
+      if (other === undefined || paths.includes(other) || paths.length > MAX_EXTENDED) {
+        this.#note(path, `"extends" has ${JSON.stringify(name)}, which isn't there, or extends this one`);
+      } else {
+        const { options, members: inherited } = this.#extended(other, paths);
+        Object.assign(all.options, options);
+        Object.assign(all.members, inherited, { references: undefined });
+      }
+    }
+    Object.assign(all.options, this.#optionsOf(path, members.compilerOptions, paths[0]));
+    Object.assign(all.members, listsOf(members, dirname(path)), { references: members.references });
+    return all;
+  }
+
+  /**
+   * @param {string} path
+   * @returns {Record<string, unknown>} none where it can't be read
+   */
+  #membersOf(path) {
+    try {
+      const members = parseWithComments(this.#files.read(path));
+      if (isObject(members)) {
+        return members;
+      }
+      this.#note(path, "passed over: it is no object");
+    } catch (/** @type {any} */ error) {
+      this.#note(path, `passed over: ${error.message}`);
+    }
+    return {};
+  }
+
+  /**
+   * The path of what a configuration extends.
+   * @param {unknown} name
+   * @param {string} path of the configuration
+   * @returns {string | undefined}
+   */
+  #extendedPath(name, path) {
+    if (typeof name !== "string") {
+      return undefined;
+    }
+    const isPath = /^\.{0,2}\//.test(name);
+    const places = isPath ? [absolute(dirname(path), name)] : inModules(dirname(path), name);
+    const endings = isPath ? ["", ".json"] : ["", ".json", "/tsconfig.json"];
+    return places.flatMap((place) => endings.map((ending) => place + ending))
+      .find((each) => this.#isThere(each));
+  }
+
+  /**
+   * @param {string} path
+   * @param {unknown} options
+   * @param {string} main the path of the configuration that extends all
+   * @returns {Options}
+   */
+  #optionsOf(path, options = {}, main) {
+    if (!isObject(options)) {
+      this.#note(path, `"compilerOptions" is no object`);
+      return {};
+    }
+    const own = new Members(options, (why) => this.#note(path, why));
+    const at = (/** @type {string} */ name) => {
+      return absolute(dirname(path), name.replace(/^\$\{configDir\}/, dirname(main)));
+    };
+    const baseUrl = own.text("baseUrl");
+    const base = baseUrl === undefined ? dirname(path) : at(baseUrl);
+    const outDirs = [own.text("outDir"), own.text("declarationDir")].flatMap((each) => each ?? []).map(at);
+    return withoutAbsent({
+      baseUrl: baseUrl === undefined ? undefined : base,
+      paths: own.paths((target) => absolute(base, target.replace(/^\$\{configDir\}/, dirname(main)))),
+      rootDirs: own.texts("rootDirs")?.map(at),
+      rootDir: own.texts("rootDir")?.map(at)[0],
+      outDirs: outDirs.length > 0 ? outDirs : undefined,
+      module: own.text("module")?.toLowerCase(),
+      moduleSuffixes: own.texts("moduleSuffixes"),
+      customConditions: own.texts("customConditions"),
+    });
+  }
+
+  /**
+   * @param {string} path
+   * @param {unknown} references
+   * @returns {string[]}
+   */
+  #referencesOf(path, references = []) {
+    const paths = [references].flat().map((each) => (isObject(each) ? each.path : undefined));
+    const texts = paths.flatMap((each) => (typeof each === "string" ? [each] : []));
+    if (texts.length < paths.length) {
+      this.#note(path, `"references" has more than objects with a "path"`);
+    }
+    return texts.map((each) => absolute(dirname(path), each))
+      .map((each) => (this.#files.at(each).kind === "folder" ? join(each, NAMES[0]) : each));
+  }
+
+  /**
+   * @param {string} path
+   * @param {string} why
+   */
+  #note(path, why) {
+    const notice = `${path}: ${why}`;
+    if (!this.#noticed.has(notice)) {
+      this.#noticed.add(notice);
+      this.#notices.push(notice);
+    }
+  }
+}
+
+/** The members of an object of which each has to have a shape. */
+class Members {
+  #members;
+  #note;
+
+  /**
+   * @param {Record<string, unknown>} members
+   * @param {(why: string) => void} note
+   */
+  constructor(members, note) {
+    this.#members = members;
+    this.#note = note;
+  }
+
+  /**
+   * @param {string} name
+   * @returns {string | undefined}
+   */
+  text(name) {
+    return this.#shaped(name, (value) => (typeof value === "string" ? value : undefined), "text");
+  }
+
+  /**
+   * @param {string} name
+   * @returns {string[] | undefined} also where it is one text
+   */
+  texts(name) {
+    return this.#shaped(name, textsOf, "list of texts");
+  }
+
+  /**
+   * @param {(target: string) => string} absolutePath
+   * @returns {Map<string, string[]> | undefined}
+   */
+  paths(absolutePath) {
+    const paths = this.#shaped("paths", (value) => (isObject(value) ? value : undefined), "object");
+    if (!paths) {
+      return undefined;
+    }
+    const found = new Map();
+    for (const [pattern, targets] of Object.entries(paths)) {
+      const texts = Array.isArray(targets) ? textsOf(targets) : undefined;
+      if (texts) {
+        found.set(pattern, texts.map(absolutePath));
+      } else {
+        this.#note(`${JSON.stringify(pattern)} of "paths" is passed over: it is no list of texts`);
+      }
+    }
+    return found;
+  }
+
+  /**
+   * @template Shape
+   * @param {string} name
+   * @param {(value: unknown) => Shape | undefined} shaped
+   * @param {string} shape
+   * @returns {Shape | undefined}
+   */
+  #shaped(name, shaped, shape) {
+    if (!Object.hasOwn(this.#members, name) || this.#members[name] === null) {
+      return undefined;
+    }
+    const value = shaped(this.#members[name]);
+    if (value === undefined) {
+      this.#note(`${JSON.stringify(name)} is passed over: it is no ${shape}`);
+    }
+    return value;
+  }
+}
+
+/** @param {unknown} value */
+function textsOf(value) {
+  const list = [value].flat();
+  return list.every((each) => typeof each === "string") ? /** @type {string[]} */ (list) : undefined;
+}
+
+/**
+ * @param {string} path
+ * @param {Options} options
+ * @param {Record<string, any>} lists
+ * @param {string[]} references
+ * @returns {Configuration}
+ */
+function configurationOf(path, options, { files, include, exclude }, references) {
+  const folder = dirname(path);
+  const inFolder = (/** @type {string[]} */ patterns) => patterns.map((each) => absolute(folder, each));
+  return {
+    path, folder, options, references,
+    files: files ?? [],
+    include: include ?? (files ? [] : inFolder(ALL)),
+    exclude: exclude ?? [...inFolder(NEVER), ...options.outDirs ?? []],
+  };
+}
+
+/**
+ * @param {Record<string, unknown>} members
+ * @param {string} folder
+ */
+function listsOf(members, folder) {
+  return withoutAbsent(Object.fromEntries(["files", "include", "exclude"].map((name) => {
+    const texts = Array.isArray(members[name]) ? textsOf(members[name]) : undefined;
+    return [name, texts?.map((each) => absolute(folder, each.replace(/^\$\{configDir\}/, ".")))];
+  })));
+}
+
+/**
+ * @template {object} T
+ * @param {T} members
+ * @returns {Partial<T>}
+ */
+function withoutAbsent(members) {
+  const there = Object.entries(members).filter(([, value]) => value !== undefined);
+  return /** @type {Partial<T>} */ (Object.fromEntries(there));
+}
+
+/**
+ * @param {string} folder
+ * @param {string} name
+ * @returns {string[]} the paths of a name in each `node_modules` above a folder
+ */
+function inModules(folder, name) {
+  const parent = dirname(folder);
+  const own = join(folder, "node_modules", name);
+  return parent === folder ? [own] : [own, ...inModules(parent, name)];
+}
+
+/**
+ * Whether a configuration includes a file.
+ * @param {Configuration} configuration
+ * @param {string} file
+ */
+function includes({ files, include, exclude }, file) {
+  const has = (/** @type {string} */ pattern) => matchesPattern(pattern, file);
+  return files.includes(file) || (include.some(has) && !exclude.some(has));
+}
+
+/**
+ * @param {string} pattern of `include` or `exclude`, absolute; a folder has all below it
+ * @param {string} file
+ */
+function matchesPattern(pattern, file) {
+  const last = pattern.slice(pattern.lastIndexOf("/") + 1);
+  const isFile = HAS_EXTENSION.test(last) || HAS_WILDCARD.test(last);
+  return (isFile && matchesPath(pattern, file)) || matchesPath(join(pattern, "**"), file);
+}

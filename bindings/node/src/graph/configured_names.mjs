@@ -1,0 +1,156 @@
+/**
+ * What the configurations of a project have about names: `paths`, `baseUrl`, `rootDirs` and `outDir`
+ * of a tsconfig.json, and the import maps of Deno.
+ *
+ * @typedef {import("./configurations.mjs").Configuration} Configuration
+ * @typedef {import("./package_manifests.mjs").Format} Format
+ *
+ * @typedef {object} Configured
+ * @property {"tsconfig" | "importmap"} by
+ * @property {string[]} paths at which the module may be, without what is added to names
+ * @property {string} [name] another name for it, which no path is
+ */
+
+import { dirname, join, relative, resolve as absolute, sep } from "node:path";
+
+import { Configurations } from "./configurations.mjs";
+import { ImportMaps } from "./import_maps.mjs";
+import { longestPattern } from "./package_targets.mjs";
+
+const IS_PATH = /^\.{0,2}(?:\/|$)/;
+const JAVASCRIPT = /(?:\.d)?\.[cm]?[jt]sx?$/;
+
+/** The settings of `module` by which each file has the format that node takes it for. */
+const BY_NODE = /^node/;
+const TO_REQUIRE = new Set(["commonjs", "amd", "umd", "system", "none"]);
+
+export class ConfiguredNames {
+  #configurations;
+  #importMaps;
+  #manifests;
+
+  /**
+   * @param {import("../files/regular_files.mjs").RegularFiles} files
+   * @param {import("./package_manifests.mjs").PackageManifests} manifests
+   * @param {string} [tsconfig] the absolute path of a configuration for all files
+   */
+  constructor(files, manifests, tsconfig) {
+    this.#configurations = new Configurations(files, tsconfig);
+    this.#importMaps = new ImportMaps(files);
+    this.#manifests = manifests;
+  }
+
+  /**
+   * What an import in a file becomes before it runs.
+   * @param {string} file absolute
+   * @param {boolean} isTypeScript
+   * @returns {Format | undefined} nothing where it isn't known
+   */
+  formatOf(file, isTypeScript) {
+    if (this.#importMaps.isDeno(file)) {
+      return "import";
+    }
+    const format = this.#manifests.formatOf(file);
+    if (!isTypeScript) {
+      return format;
+    }
+    const configuration = this.#configurations.of(file);
+    const { module } = configuration?.options ?? {};
+    if (!configuration || BY_NODE.test(module ?? "")) {
+      return format ?? "require";
+    }
+    return TO_REQUIRE.has(module ?? "") ? "require" : format === "import" ? format : undefined;
+  }
+
+  /**
+   * Where a name may be.
+   * @param {string} specifier
+   * @param {string} importer the path of its file
+   * @returns {Configured[]} the first one first
+   */
+  find(specifier, importer) {
+    const mapped = this.#importMaps.find(specifier, importer);
+    if (mapped) {
+      return [mapped];
+    }
+    const { options } = this.#configurations.of(importer) ?? {};
+    const { baseUrl, paths: patterns, rootDirs } = options ?? {};
+    const paths = IS_PATH.test(specifier)
+      ? inRootDirs(specifier, importer, rootDirs)
+      : [...inPaths(specifier, patterns), ...(baseUrl ? [absolute(baseUrl, specifier)] : [])];
+    return paths.length > 0 ? [{ by: "tsconfig", paths }] : [];
+  }
+
+  /**
+   * Where the source of a file may be that is compiled.
+   * @param {string} path absolute
+   * @returns {string[]} paths without what is added to names
+   */
+  sourcesOf(path) {
+    return this.#configurations.allOf(dirname(path)).flatMap((configuration) => {
+      const { outDirs = [] } = configuration.options;
+      const inside = outDirs.filter((each) => path.startsWith(each + sep)).map((each) => relative(each, path));
+      return inside.flatMap((each) => {
+        const name = each.replace(JAVASCRIPT, "");
+        return sourceFolders(configuration).map((folder) => join(folder, name));
+      });
+    });
+  }
+
+  /**
+   * The configuration that is for a file.
+   * @param {string} file absolute
+   * @returns {Configuration | undefined}
+   */
+  configurationOf(file) {
+    return this.#configurations.of(file);
+  }
+
+  /**
+   * What was found wrong since the last call.
+   * @returns {string[]}
+   */
+  takeNotices() {
+    return [...this.#configurations.takeNotices(), ...this.#importMaps.takeNotices()];
+  }
+}
+
+/**
+ * The paths of a name by `paths`: of the pattern that it is, else of the longest one for it.
+ * @param {string} specifier
+ * @param {Map<string, string[]>} [paths]
+ * @returns {string[]}
+ */
+function inPaths(specifier, paths = new Map()) {
+  const own = paths.get(specifier);
+  if (own) {
+    return own;
+  }
+  const best = longestPattern([...paths.keys()], specifier);
+  return best ? (paths.get(best.key) ?? []).map((each) => each.replace("*", () => best.match)) : [];
+}
+
+/**
+ * The paths of a relative name in other folders that count as one.
+ * @param {string} specifier
+ * @param {string} importer
+ * @param {string[]} [rootDirs]
+ * @returns {string[]}
+ */
+function inRootDirs(specifier, importer, rootDirs = []) {
+  const path = absolute(dirname(importer), specifier);
+  const inside = rootDirs.filter((each) => path.startsWith(each + sep))
+    .sort((one, other) => other.length - one.length)[0];
+  return inside === undefined ? [] : rootDirs.map((each) => join(each, relative(inside, path)));
+}
+
+/**
+ * The folders in which sources may be.
+ * @param {Configuration} configuration
+ * @returns {string[]}
+ */
+function sourceFolders({ folder, include, options: { rootDir, rootDirs = [] } }) {
+  const included = include.map((pattern) => pattern.replace(/\/[^/]*[*?].*$|\/[^/]*\.[^/]*$/, ""));
+  const guessed = [...included, join(folder, "src"), folder];
+  return rootDir === undefined ? [...new Set([...rootDirs, ...guessed])] : [rootDir];
+}

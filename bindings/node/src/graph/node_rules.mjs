@@ -1,0 +1,444 @@
+/**
+ * What node loads for a name: ESM_RESOLVE
+ * (https://nodejs.org/api/esm.html#resolution-algorithm-specification) for an import, and
+ * `require(X) from module at path Y` (https://nodejs.org/api/modules.html#all-together) for a
+ * `require`, as node 20.19, 22.12 and later have them.
+ *
+ * Other than node's own, these rules find regular files alone, and go on where a package.json is no
+ * JSON.
+ *
+ * @typedef {import("./package_manifests.mjs").Format} Mode
+ * @typedef {import("./package_manifests.mjs").Manifest} Manifest
+ * @typedef {import("./package_targets.mjs").Target} Target
+ *
+ * @typedef {{ kind: "file" | "outside", path: string }
+ *   | { kind: "builtin" }
+ *   | { kind: "url", url: string }
+ *   | Missing} Found
+ *   `outside` is there, in no folder of the project
+ *
+ * @typedef {object} Missing
+ * @property {"none"} kind
+ * @property {string} [wanted] the path at which nothing is, where the rules lead to one
+ * @property {string} [package] the folder of the package that was looked in
+ * @property {boolean} [isFinal] whether other folders of packages don't count
+ */
+
+import { isBuiltin } from "node:module";
+import { basename, dirname, join, resolve as absolute } from "node:path";
+import { fileURLToPath, pathToFileURL } from "node:url";
+
+import { urlFrom, urlOfFolder } from "../files/urls.mjs";
+import { exportsTarget, importsTarget } from "./package_targets.mjs";
+
+/** What a `require` adds to a name. */
+const ENDINGS = [".js", ".json", ".node"];
+const INDEXES = ENDINGS.map((ending) => `/index${ending}`);
+
+/** What an import takes for a path. */
+const PATH = /^(?:\/|\.\.?(?:\/|$))/;
+/** What a `require` looks for in the importer's folder. */
+const BESIDE = /^\.(?:[./]|$)/;
+/** The names for which a `require` never takes a file. */
+const FOLDER = /(?:^|\/)\.{0,2}$/;
+
+const PACKAGE = /^(@[^/]*\/[^/]*|[^@/][^/]*)(\/.*)?$/s;
+/** What no name of a package has. */
+const NO_PACKAGE = /^\.|[%\\?#]/;
+/** The name and the subpath of a `require` whose package may have `exports`. */
+const REQUIRED = /^((?:@[^/\\%]+\/)?[^./\\%][^/\\%]*)(\/.*)?$/s;
+
+const ENCODED_SEPARATOR = /%2f|%5c/i;
+const MANIFEST = "/package.json";
+
+/** @type {Missing} */
+const NONE = { kind: "none" };
+
+export class NodeRules {
+  #files;
+  #manifests;
+  #conditions;
+  #globalFolders;
+  /**
+   * Folders of packages, by the folder and the name that they are looked for.
+   * @type {Map<string, string | undefined>}
+   */
+  #packages = new Map();
+
+  /**
+   * @param {import("../files/regular_files.mjs").RegularFiles} files
+   * @param {import("./package_manifests.mjs").PackageManifests} manifests
+   * @param {object} options
+   * @param {Record<Mode, ReadonlySet<string>>} options.conditions
+   * @param {string[]} options.globalFolders those in which a `require` looks last
+   */
+  constructor(files, manifests, { conditions, globalFolders }) {
+    this.#files = files;
+    this.#manifests = manifests;
+    this.#conditions = conditions;
+    this.#globalFolders = globalFolders;
+  }
+
+  /**
+   * What `import "specifier"` loads.
+   * @param {string} specifier
+   * @param {string} importer the path of its file, without links
+   * @returns {Found}
+   */
+  import(specifier, importer) {
+    const folder = dirname(importer);
+    if (PATH.test(specifier)) {
+      const url = urlFrom(specifier, pathToFileURL(importer));
+      return url ? this.#atUrl(url) : NONE;
+    }
+    if (specifier.startsWith("#")) {
+      const scope = this.#manifests.scopeOf(folder);
+      return scope?.imports ? this.#byImports(specifier, scope, "import") : NONE;
+    }
+    const url = urlFrom(specifier);
+    return url ? this.#atUrl(url) : this.#named(specifier, folder, "import");
+  }
+
+  /**
+   * What `require("specifier")` loads.
+   * @param {string} specifier
+   * @param {string} importer the path of its file, without links
+   * @returns {Found}
+   */
+  require(specifier, importer) {
+    if (isBuiltin(specifier)) {
+      return { kind: "builtin" };
+    }
+    const folder = dirname(importer);
+    const scope = this.#manifests.scopeOf(folder);
+    if (specifier.startsWith("#") && isSet(scope?.imports)) {
+      return this.#byImports(specifier, /** @type {Manifest} */ (scope), "require");
+    }
+    if (scope?.name !== undefined && isSet(scope.exports) && `${specifier}/`.startsWith(`${scope.name}/`)) {
+      return this.#byExports(`.${specifier.slice(scope.name.length)}`, scope, "require");
+    }
+    if (specifier.startsWith("/") || BESIDE.test(specifier)) {
+      return this.#fileOrFolder(absolute(folder, specifier), FOLDER.test(specifier));
+    }
+    return this.#inModules(specifier, folder);
+  }
+
+  /**
+   * The folder of the package of a name.
+   * @param {string} specifier
+   * @param {string} importer the path of a file, without links
+   * @returns {{ name: string, rest: string, folder: string | undefined } | undefined} with what
+   *   follows the package's name; nothing where no package can have the name
+   */
+  packageOf(specifier, importer) {
+    const [, name = "", rest = ""] = PACKAGE.exec(specifier) ?? [];
+    if (name === "" || NO_PACKAGE.test(name)) {
+      return undefined;
+    }
+    const modules = [...modulesAbove(dirname(importer)), ...this.#globalFolders];
+    const folders = modules.map((each) => absolute(each, name));
+    return { name, rest, folder: folders.find((each) => this.#files.at(each).kind === "folder") };
+  }
+
+  /**
+   * What a URL of an import leads to.
+   * @param {URL} url
+   * @returns {Found}
+   */
+  #atUrl(url) {
+    if (url.protocol === "node:") {
+      return isBuiltin(url.href) ? { kind: "builtin" } : NONE;
+    }
+    if (url.protocol !== "file:") {
+      return { kind: "url", url: url.href };
+    }
+    const path = pathOf(url);
+    return path === undefined || path.endsWith("/") ? NONE : this.#file(absolute(path));
+  }
+
+  /**
+   * @param {string} path absolute and normal
+   * @returns {Found}
+   */
+  #file(path) {
+    const { kind, path: real } = this.#files.at(path);
+    if (kind !== "file") {
+      return { kind: "none", wanted: path };
+    }
+    return { kind: this.#files.isOutside(real) ? "outside" : "file", path: real };
+  }
+
+  /**
+   * @param {string} specifier that begins with `#`
+   * @param {Manifest} manifest
+   * @param {Mode} mode
+   */
+  #byImports(specifier, manifest, mode) {
+    const target = importsTarget(manifest.imports, specifier, this.#context(manifest.folder, mode));
+    return this.#ofTarget(target, manifest, mode);
+  }
+
+  /**
+   * @param {string} subpath
+   * @param {Manifest} manifest
+   * @param {Mode} mode
+   */
+  #byExports(subpath, manifest, mode) {
+    const target = exportsTarget(manifest.exports, subpath, this.#context(manifest.folder, mode));
+    return this.#ofTarget(target, manifest, mode);
+  }
+
+  /**
+   * @param {Target} target
+   * @param {Manifest} manifest
+   * @param {Mode} mode
+   * @returns {Found}
+   */
+  #ofTarget(target, manifest, mode) {
+    switch (target.kind) {
+      case "file":
+        return inPackage(this.#atUrl(target.url), manifest.folder);
+      case "name":
+        return this.#named(target.name, manifest.folder, mode);
+      case "none":
+        return { kind: "none", package: manifest.folder };
+      default:
+        this.#manifests.note(manifest, target.why);
+        return { kind: "none", package: manifest.folder };
+    }
+  }
+
+  /**
+   * @param {string} folder
+   * @param {Mode} mode
+   */
+  #context(folder, mode) {
+    return { folder: urlOfFolder(folder), conditions: this.#conditions[mode] };
+  }
+
+  /**
+   * PACKAGE_RESOLVE.
+   * @param {string} specifier
+   * @param {string} folder the importer's
+   * @param {Mode} mode
+   * @returns {Found}
+   */
+  #named(specifier, folder, mode) {
+    if (isBuiltin(specifier)) {
+      return { kind: "builtin" };
+    }
+    const [, name = "", rest = ""] = PACKAGE.exec(specifier) ?? [];
+    if (name === "" || NO_PACKAGE.test(name)) {
+      return NONE;
+    }
+    const scope = this.#manifests.scopeOf(folder);
+    if (scope && isSet(scope.exports) && scope.name === name) {
+      return this.#byExports(`.${rest}`, scope, mode);
+    }
+    const own = this.#packageFolder(name, folder);
+    return own === undefined ? NONE : this.ofPackage(own, rest, mode);
+  }
+
+  /**
+   * What an import of a package finds in the package's folder.
+   * @param {string} folder
+   * @param {string} rest what follows the package's name
+   * @param {Mode} mode
+   * @returns {Found}
+   */
+  ofPackage(folder, rest, mode) {
+    const { path } = this.#files.at(folder);
+    if (this.#files.isOutside(path)) {
+      return { kind: "outside", path };
+    }
+    const manifest = this.#manifests.of(folder);
+    if (manifest && isSet(manifest.exports)) {
+      return this.#byExports(`.${rest}`, manifest, mode);
+    }
+    const base = urlOfFolder(folder);
+    const found = rest === "" ? this.#main(base, manifest?.main) : this.#atUrl(new URL(`.${rest}`, base));
+    return inPackage(found, folder);
+  }
+
+  /**
+   * The nearest folder of a package.
+   * @param {string} name
+   * @param {string} folder the importer's
+   * @returns {string | undefined} its path, with links
+   */
+  #packageFolder(name, folder) {
+    const key = `${folder}/\0${name}`;
+    if (!this.#packages.has(key)) {
+      this.#packages.set(key, this.#findPackage(name, folder));
+    }
+    return this.#packages.get(key);
+  }
+
+  /**
+   * @param {string} name
+   * @param {string} folder
+   * @returns {string | undefined}
+   */
+  #findPackage(name, folder) {
+    const up = name.startsWith("@") ? "../../../../" : "../../../";
+    let url = new URL(`./node_modules/${name}${MANIFEST}`, urlOfFolder(folder));
+    for (let path = fileURLToPath(url), last = ""; path.length !== last.length;) {
+      const own = absolute(path.slice(0, -MANIFEST.length));
+      if (this.#files.at(own).kind === "folder") {
+        return own;
+      }
+      last = path;
+      url = new URL(`${up}node_modules/${name}${MANIFEST}`, url);
+      path = fileURLToPath(url);
+    }
+    return undefined;
+  }
+
+  /**
+   * The main module of a package without `exports`, for an import.
+   * @param {URL} base the package's folder
+   * @param {string | undefined} main
+   * @returns {Found}
+   */
+  #main(base, main) {
+    const named = main === undefined ? [] : ["", ...ENDINGS, ...INDEXES].map((ending) => [`./${main}`, ending]);
+    for (const [path, ending] of [...named, ...INDEXES.map((index) => [".", index])]) {
+      const beginning = pathOf(new URL(path, base));
+      if (beginning === undefined) {
+        return NONE;
+      }
+      if (this.#files.at(absolute(beginning + ending)).kind === "file") {
+        return this.#atUrl(new URL(path + ending, base));
+      }
+    }
+    const wanted = pathOf(new URL(`./${main ?? "index.js"}`, base));
+    return { kind: "none", ...(wanted && { wanted: absolute(wanted) }) };
+  }
+
+  /**
+   * LOAD_NODE_MODULES, and then the folders for all projects.
+   * @param {string} specifier
+   * @param {string} folder the importer's
+   * @returns {Found}
+   */
+  #inModules(specifier, folder) {
+    /** @type {Missing} */
+    let missing = NONE;
+    for (const modules of [...modulesAbove(folder), ...this.#globalFolders]) {
+      if (this.#files.at(modules).kind === "folder") {
+        const found = this.#inFolder(modules, specifier);
+        if (found.kind !== "none" || found.isFinal) {
+          return found;
+        }
+        missing = missing.package === undefined ? found : missing;
+      }
+    }
+    return missing;
+  }
+
+  /**
+   * @param {string} modules a folder of packages
+   * @param {string} specifier
+   * @returns {Found}
+   */
+  #inFolder(modules, specifier) {
+    const [, name, rest = ""] = REQUIRED.exec(specifier) ?? [];
+    const own = name === undefined ? undefined : absolute(modules, name);
+    const { kind, path } = own === undefined ? { kind: "none", path: "" } : this.#files.at(own);
+    if (own === undefined || kind !== "folder") {
+      return this.#fileOrFolder(absolute(modules, specifier), FOLDER.test(specifier));
+    }
+    if (this.#files.isOutside(path)) {
+      return { kind: "outside", path };
+    }
+    const manifest = this.#manifests.of(own);
+    if (manifest && isSet(manifest.exports)) {
+      return final(this.#byExports(`.${rest}`, manifest, "require"));
+    }
+    return inPackage(this.#fileOrFolder(absolute(modules, specifier), FOLDER.test(specifier)), own);
+  }
+
+  /**
+   * LOAD_AS_FILE and LOAD_AS_DIRECTORY.
+   * @param {string} path absolute and normal
+   * @param {boolean} isFolder whether the name can't be a file's
+   * @returns {Found}
+   */
+  #fileOrFolder(path, isFolder) {
+    const found = isFolder ? NONE : this.#firstFile(path, ["", ...ENDINGS]);
+    return found.kind === "none" && this.#files.at(path).kind === "folder" ? this.#asFolder(path) : found;
+  }
+
+  /**
+   * @param {string} folder
+   * @returns {Found}
+   */
+  #asFolder(folder) {
+    const main = this.#manifests.of(folder)?.main;
+    const path = main ? absolute(folder, main) : undefined;
+    const found = path === undefined ? NONE : this.#firstFile(path, ["", ...ENDINGS, ...INDEXES]);
+    const other = found.kind === "none" ? this.#firstFile(folder, INDEXES) : found;
+    return other.kind === "none" && path !== undefined ? { kind: "none", wanted: path, isFinal: true } : other;
+  }
+
+  /**
+   * @param {string} path absolute and normal
+   * @param {string[]} endings
+   * @returns {Found}
+   */
+  #firstFile(path, endings) {
+    for (const ending of endings) {
+      const found = this.#file(path + ending);
+      if (found.kind !== "none") {
+        return found;
+      }
+    }
+    return { kind: "none", wanted: path };
+  }
+}
+
+/**
+ * The folders of packages in which a `require` looks.
+ * @param {string} folder
+ * @returns {string[]}
+ */
+function modulesAbove(folder) {
+  const parent = dirname(folder);
+  const own = basename(folder) === "node_modules" ? [] : [join(folder, "node_modules")];
+  return parent === folder ? own : [...own, ...modulesAbove(parent)];
+}
+
+/**
+ * @param {Found} found
+ * @param {string} folder of the package in which it was looked for
+ * @returns {Found}
+ */
+function inPackage(found, folder) {
+  return found.kind === "none" ? { ...found, package: folder } : found;
+}
+
+/**
+ * @param {Found} found
+ * @returns {Found} not looked for in other folders
+ */
+function final(found) {
+  return found.kind === "none" ? { ...found, isFinal: true } : found;
+}
+
+/**
+ * The path of a URL of a file.
+ * @param {URL} url
+ * @returns {string | undefined} nothing where it has encoded separators, or can't be decoded
+ */
+function pathOf(url) {
+  try {
+    return ENCODED_SEPARATOR.test(url.pathname) ? undefined : fileURLToPath(url);
+  } catch {
+    return undefined;
+  }
+}
+
+/** @param {unknown} value of a manifest's member */
+function isSet(value) {
+  return value !== undefined && value !== null;
+}

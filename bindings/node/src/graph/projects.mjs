@@ -1,0 +1,34 @@
+/** Which folder the project of a file is. */
+
+import { dirname, join } from "node:path";
+
+/** What the folder of a project may have; that of a repository is never passed. */
+const MARKS = ["package.json", "deno.json", "deno.jsonc", "tsconfig.json", "jsconfig.json", "pnpm-workspace.yaml"];
+const REPOSITORY = [".git", ".hg"];
+
+/**
+ * The folder of the repository that a folder is in; else the uppermost one with a package.json or a
+ * configuration; else the current one, where it is above the folder; else the folder itself.
+ * @param {string} folder absolute and normal
+ * @param {import("../files/regular_files.mjs").RegularFiles} files
+ * @param {string} [current]
+ * @returns {string}
+ */
+export function projectOf(folder, files, current = process.cwd()) {
+  const has = (/** @type {string} */ each, /** @type {string[]} */ names) => {
+    return names.some((name) => files.at(join(each, name)).kind !== "none");
+  };
+  const above = foldersFrom(folder);
+  const repository = above.find((each) => has(each, REPOSITORY));
+  const uppermost = repository ?? above.filter((each) => has(each, MARKS)).at(-1);
+  return uppermost ?? (above.includes(current) ? current : folder);
+}
+
+/**
+ * @param {string} folder
+ * @returns {string[]} the folder, and all above it
+ */
+function foldersFrom(folder) {
+  const parent = dirname(folder);
+  return parent === folder ? [folder] : [folder, ...foldersFrom(parent)];
+}

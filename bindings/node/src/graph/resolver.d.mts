@@ -1,0 +1,51 @@
+/** What the names in modules lead to. */
+
+import type { Resolution } from "./graph.mjs";
+import type { System } from "../files/regular_files.mjs";
+
+export interface ResolverOptions {
+  /**
+   * The folders of the project, as paths. What is in none of them, in no `node_modules` above one and
+   * in no folder of `globalFolders` is `outside`. Without it, it is decided for each module: the
+   * folder of its repository, else the uppermost one with a package.json or a configuration, else the
+   * current one, where it is above the module, else the module's.
+   */
+  root?: string | readonly string[];
+  /** Conditions of `exports` and `imports`, besides those that node sets. With `browser` that member counts. */
+  conditions?: readonly string[];
+  /** Whether TypeScript looks for `types`. It is loaded with the first name. */
+  types?: boolean;
+  /** The absolute path of a configuration for all files, instead of the nearest one of each. */
+  tsconfig?: string;
+  /** The folders in which a `require` looks last: those of NODE_PATH and node's own, where it is missing. */
+  globalFolders?: readonly string[];
+  /** What looks at files and opens them: `node:fs`, where it is missing. */
+  system?: System;
+}
+
+/**
+ * How a name stands in a module: `import` and `export .. from`, `import(..)`, `require(..)`, a
+ * triple-slash reference to `types` or to a `path`, `@jsxImportSource`, `declare module`.
+ */
+export type NameKind = "import" | "dynamic" | "require" | "types" | "path" | "jsx" | "augmentation";
+
+export interface NameOptions {
+  /** `import`, where it is missing. */
+  kind?: NameKind;
+  /** What a `resolution-mode` asks for. */
+  mode?: "import" | "require";
+  /** Whether the module has no syntax of ES modules: then node runs it as it is. */
+  isScript?: boolean;
+}
+
+export interface Resolver {
+  /** What a name in the module at an absolute path leads to. Never throws for a file or a configuration. */
+  resolve(specifier: string, from: string, options?: NameOptions): Resolution;
+  /** Sets the member `resolved` of each object of a `ModuleInfo` that names a module. */
+  resolveInfo(info: object, path: string): void;
+  /** What was found wrong with package.json and configurations since the last call, each once. */
+  takeNotices(): string[];
+}
+
+/** A resolver that looks at each file once: what changes after that isn't seen. */
+export function createResolver(options?: ResolverOptions): Resolver;

@@ -1,0 +1,127 @@
+/**
+ * The packages of a project that has several: those that the `workspaces` of a package.json name, or
+ * the `packages` of a pnpm-workspace.yaml. They are found where nothing is installed, too.
+ */
+
+import { dirname, join } from "node:path";
+
+import { matchesName } from "../files/wildcards.mjs";
+import { isObject } from "./package_targets.mjs";
+
+const PNPM = "pnpm-workspace.yaml";
+/** The list of packages in YAML, and an item of it. */
+const PACKAGES = /^packages:[^\S\n]*\n((?:[^\S\n]*(?:-.*|#.*)?\n)*)/m;
+const ITEM = /^[^\S\n]*-[^\S\n]*["']?([^"'\n#]+)/gm;
+
+const MODULES = "/node_modules/";
+
+export class Workspaces {
+  #files;
+  #manifests;
+  /**
+   * The folders of packages by their names, by the folder that has them.
+   * @type {Map<string, Map<string, string>>}
+   */
+  #byFolder = new Map();
+
+  /**
+   * @param {import("../files/regular_files.mjs").RegularFiles} files
+   * @param {import("./package_manifests.mjs").PackageManifests} manifests
+   */
+  constructor(files, manifests) {
+    this.#files = files;
+    this.#manifests = manifests;
+  }
+
+  /**
+   * @param {string} name of a package
+   * @param {string} importer the path of a file
+   * @returns {string | undefined} the folder of the package of the project that has this name
+   */
+  folderOf(name, importer) {
+    return importer.includes(MODULES) ? undefined : this.#packages(dirname(importer)).get(name);
+  }
+
+  /**
+   * @param {string} folder
+   * @returns {Map<string, string>}
+   */
+  #packages(folder) {
+    let packages = this.#byFolder.get(folder);
+    if (!packages) {
+      const patterns = this.#patternsOf(folder);
+      const parent = dirname(folder);
+      packages = patterns.length > 0
+        ? this.#named(patterns.flatMap((pattern) => this.#folders(folder, pattern.split("/"))))
+        : parent === folder ? new Map() : this.#packages(parent);
+      this.#byFolder.set(folder, packages);
+    }
+    return packages;
+  }
+
+  /**
+   * @param {string} folder
+   * @returns {string[]}
+   */
+  #patternsOf(folder) {
+    const workspaces = this.#manifests.of(folder)?.members.workspaces;
+    const patterns = isObject(workspaces) ? workspaces.packages : workspaces;
+    const own = Array.isArray(patterns) ? patterns.filter((each) => typeof each === "string") : [];
+    return own.length > 0 ? own : this.#pnpmPatterns(join(folder, PNPM));
+  }
+
+  /**
+   * @param {string} path
+   * @returns {string[]}
+   */
+  #pnpmPatterns(path) {
+    if (this.#files.at(path).kind !== "file") {
+      return [];
+    }
+    try {
+      const [, list = ""] = PACKAGES.exec(`${this.#files.read(path)}\n`) ?? [];
+      return [...list.matchAll(ITEM)].map(([, pattern]) => pattern.trim());
+    } catch {
+      return [];
+    }
+  }
+
+  /**
+   * The folders of a pattern, of which each part is a name, has wildcards, or is `**`.
+   * @param {string} folder
+   * @param {string[]} parts
+   * @returns {string[]}
+   */
+  #folders(folder, [part, ...rest]) {
+    if (part === undefined) {
+      return [folder];
+    }
+    if (part === "" || part === ".") {
+      return this.#folders(folder, rest);
+    }
+    const names = /[*?]/.test(part)
+      ? this.#files.foldersIn(folder).filter((name) => isTaken(name) && matchesName(part.replace("**", "*"), name))
+      : [part];
+    return names.flatMap((name) => this.#folders(join(folder, name), rest));
+  }
+
+  /**
+   * @param {string[]} folders
+   * @returns {Map<string, string>}
+   */
+  #named(folders) {
+    const found = new Map();
+    for (const folder of folders) {
+      const name = this.#manifests.of(folder)?.name;
+      if (name !== undefined) {
+        found.set(name, folder);
+      }
+    }
+    return found;
+  }
+}
+
+/** @param {string} name of a folder */
+function isTaken(name) {
+  return name !== "node_modules" && !name.startsWith(".");
+}
