@@ -58,25 +58,6 @@ test("--entry prints what the entry reaches, with nothing named besides", () => 
   assert.equal(zeros.stdout, "src/lonely.js\0src/c.js\0");
 });
 
-test("--unreached prints the files of the paths that no entry reaches, whatever lies between", () => {
-  const folder = folderOf(PROJECT);
-  const note = `${NAME}: 1 of these are reached by types alone: --types counts them\n`;
-  const words = ["--entry", "src/main.ts", "--unreached", "src"];
-  assert.deepEqual(lines(words, folder, { stderr: note }), ["src/lonely.js", "src/only_types.ts"]);
-  assert.deepEqual(lines([...words, "--types"], folder), ["src/lonely.js"]);
-  assert.deepEqual(lines(["--entry", "src/lonely.js", "--unreached", "lib"], folder), ["lib/d.js"]);
-  assert.deepEqual(lines(["--entry", "src/lonely.js", "--types", "--unreached", "lib"], folder), [
-    "lib/d.d.ts", "lib/d.js",
-  ]);
-});
-
-test("with --types a declaration file is reached with the JavaScript of which it has the types", () => {
-  const folder = folderOf({
-    "a.mjs": `import "./b.mjs";`, "a.d.mts": "", "b.mjs": "", "b.d.mts": "", "c.d.ts": "", "d.jsx": "", "d.d.ts": "",
-  });
-  assert.deepEqual(lines(["--entry", "a.mjs", "--entry", "d.jsx", "--unreached", "--types", "."], folder), ["c.d.ts"]);
-});
-
 test("a cycle of what runs is one, whatever declarations lie beside", () => {
   const folder = folderOf({
     "a.js": `require("./b");`, "b.js": `require("./a");`, "a.d.ts": "export {};", "b.d.ts": "export {};",
@@ -172,11 +153,12 @@ test("--missing prints what leads to no file, and what isn't installed", () => {
     "node_modules/p/package.json": "{}", "b.js": `require("fs"); require("./a.css"); require(x);`, "a.css": "",
   });
   const own = ["a.ts:1:8: ./none.js: not found", "a.ts:2:8: p: not found", "a.ts:3:11: q/r: the package q isn't installed"];
-  assert.deepEqual(lines(["--missing", "."], folder), own);
-  assert.deepEqual(lines(["--missing", "--types", "."], folder), [...own, "a.ts:4:24: ./t: not found"]);
-  const { missing } = JSON.parse(lines(["--missing", "--json", "."], folder)[0]);
+  assert.deepEqual(lines(["--missing", "."], folder, { status: 1 }), own);
+  assert.deepEqual(lines(["--missing", "--types", "."], folder, { status: 1 }), [...own, "a.ts:4:24: ./t: not found"]);
+  assert.deepEqual(lines(["--missing", "b.js"], folder), []);
+  const { missing } = JSON.parse(lines(["--missing", "--json", "."], folder, { status: 1 })[0]);
   assert.deepEqual(missing[0], {
-    module: urlOf(folder, "a.ts"), kind: "static", specifier: "./none.js", range: [[0, 7], [0, 18]],
+    module: urlOf(folder, "a.ts"), kind: "static", specifier: "./none.js", sideEffect: true, range: [[0, 7], [0, 18]],
     resolved: { class: "missing" },
   });
 });

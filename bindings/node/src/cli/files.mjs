@@ -9,10 +9,8 @@
 import { resolve as absolute } from "node:path";
 import { pathToFileURL } from "node:url";
 
-import { isFolder } from "../files/find_files.mjs";
 import { TYPESCRIPT_MEDIA_TYPES } from "../parsers/typescript/parse.mjs";
 import { withoutExcerpt } from "../runtime/faults.mjs";
-import { printable } from "../runtime/printable.mjs";
 import { PROGRAM_HELP, checkProgram, modinfoPath } from "../runtime/program.mjs";
 import { UsageFault, runProgram, usageOf } from "./common/command_line.mjs";
 import { QUESTIONS, answerQuestion } from "./common/graph_questions.mjs";
@@ -37,32 +35,41 @@ With --entry, prints the files that the entries reach by what runs, one a line. 
   ${NAME} --entry src/main.ts --unreached src
 
 Questions, one at a time:
-  --unreached        the files of PATH that no entry reaches; declaration files only with --types
-  --cycles           modules that lead to each other, a cycle a line; status 1 if there is one
+  --unreached        the files of PATH that no entry reaches, then as FILE: may be reached: REASON and
+                     FILE: reached by types alone: REASON those that may be in use; declaration files
+                     only with --types
+  --cycles           modules that lead to each other, a cycle a line
   --missing          specifiers that lead nowhere, as FILE:LINE:COLUMN: SPECIFIER: REASON
-  --why FILE         a shortest chain of imports from an entry to it; status 1 if there is none
+  --why FILE         a shortest chain of imports from an entry to it
   --dependents FILE  the files that lead to the file directly
   --dot, --mermaid   the graph, for Graphviz or Mermaid
   --json             the graph, or with a question its result, as JSON
 
 Files, printed as paths from the current folder:
   PATH               a file, a folder, or - for paths from the standard input, one a line
-  --entry FILE       a file with which the program begins. Reads what it leads to, outside of PATH
-                     too, but not installed packages (without --all). May be repeated
-  --exclude GLOB     leaves out files and folders, as "*.test.ts" or "src/**/old". May be repeated
-  --gitignore        leaves out what git ignores
+  --entry FILE       a file with which the program begins; a folder with a package.json, whose
+                     "exports", "main", "module", "bin" and "browser" name some; or an HTML page with
+                     scripts. Reads what it leads to, outside of PATH too, but not installed packages
+                     (without --all). May be repeated
+  --exclude GLOB     doesn't list files and folders, as "*.test.ts" or "src/**/old", but follows them.
+                     May be repeated
+  --ignore GLOB      neither lists them nor follows them. May be repeated
+  --gitignore        doesn't list what git ignores
 ${LINE_HELP}  -0, --null         paths that are read and printed end with zero bytes
-  --cache FILE       keeps results in FILE, and parses only files whose size or time has changed
+  --cache FILE       keeps results in FILE, and parses only files that have changed
 
 Resolution:
   --resolve          adds a member "resolved" to all that names a module
   --types            counts types, JSDoc and references too, and not only what runs
+  --no-dynamic       doesn't count import(..)
   --tsconfig FILE    for all files, in place of the nearest tsconfig.json
   --conditions NAME  a condition of "exports" and "imports", as browser. May be repeated
   -h, --help, --version
 
-Status 0; 1 if a file can't be read or parsed, with a line on the error output for each; 2 for a
-usage error, an entry that can't be read or parsed, or no file to read.
+Status 0; 1 for a finding, which is an unreached file, a cycle of what runs, a name that leads nowhere,
+no chain of imports, or a gap in what an entry reaches; 1 also if a file can't be read or parsed, with a
+line on the error output for each; 2 for a usage error, an entry that can't be read or parsed, or no file
+to read.
 
 ${PROGRAM_HELP}`;
 
@@ -126,10 +133,6 @@ function checkWords(values, paths, question) {
   if (values.json && (question === "dot" || question === "mermaid")) {
     throw new UsageFault(`--json and --${question} are two forms of the graph: ask for one`);
   }
-  const folder = entries.find(isFolder);
-  if (folder) {
-    throw new UsageFault(`an entry must be a file, and ${printable(folder)} is a folder`);
-  }
   if (values.resolve && (question || entries.length > 0)) {
     throw new UsageFault("--resolve is for the lines of files; for a graph, use --json without --resolve");
   }
@@ -150,6 +153,8 @@ await runProgram({
     cache: { type: "string" },
     entry: { type: "string", multiple: true },
     exclude: { type: "string", multiple: true },
+    ignore: { type: "string", multiple: true },
+    "no-dynamic": { type: "boolean" },
     gitignore: { type: "boolean" },
     resolve: { type: "boolean" },
     types: { type: "boolean" },

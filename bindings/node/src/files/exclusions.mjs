@@ -1,8 +1,10 @@
-/** Which files are left out: those of `--exclude`, and those that git ignores. */
+/** Which files are left out: those that globs match, and those that git ignores. */
 
 import { execFile } from "node:child_process";
 import { dirname, join, relative, sep } from "node:path";
 import { promisify } from "node:util";
+
+import { globMatcher } from "./globs.mjs";
 
 /** git can't list what it ignores. */
 export class GitFault extends Error {}
@@ -11,18 +13,17 @@ export class GitFault extends Error {}
  * Returns a function that is true for a path to leave out: one that matches, or that lies in a
  * folder that matches.
  * @param {object} options
- * @param {string[]} [options.globs] `*` matches any characters of a name, `?` one of them, `**` any
- *   folders, `{a,b}` one of several texts. A glob without a slash matches a name in any folder, one
- *   with a slash a path from the current folder
+ * @param {string[]} [options.globs] as `globMatcher` takes them
  * @param {string[]} [options.ignoredIn] folders in whose repositories git decides what is ignored
- * @returns {Promise<(path: string) => boolean>} takes absolute paths
+ * @returns {Promise<(path: string) => boolean>} takes absolute paths; rejected with a `GlobFault` or a
+ *   `GitFault`
  */
 export async function exclusionsOf({ globs = [], ignoredIn = [] }) {
-  const patterns = globs.map(patternOf);
+  const matchers = globs.map(globMatcher);
   const ignored = new Set((await Promise.all(ignoredIn.map(ignoredBelow))).flat());
   const isNamed = (/** @type {string} */ path) => {
     const from = relative(process.cwd(), path).replaceAll(sep, "/");
-    return patterns.some((pattern) => pattern.test(from));
+    return matchers.some((matches) => matches(from));
   };
   const known = new Map();
   /** @type {(path: string) => boolean} */
@@ -35,40 +36,7 @@ export async function exclusionsOf({ globs = [], ignoredIn = [] }) {
     }
     return found;
   };
-  return patterns.length + ignored.size > 0 ? isOut : () => false;
-}
-
-/**
- * @param {string} glob
- * @returns {RegExp} for a path with slashes
- */
-function patternOf(glob) {
-  const path = glob.replace(/^\.\//, "").replace(/\/$/, "");
-  const begin = path.includes("/") ? "" : "(?:.*/)?";
-  return new RegExp(`^${begin}${path.split(/(\*\*\/|\*\*|\*|\?|\{[^{}]*\})/).map(partOf).join("")}$`, "s");
-}
-
-/** @param {string} part of a glob, which is a wildcard or a text */
-function partOf(part) {
-  switch (part) {
-    case "**/":
-      return "(?:.*/)?";
-    case "**":
-      return ".*";
-    case "*":
-      return "[^/]*";
-    case "?":
-      return "[^/]";
-    default:
-      return /^\{.*\}$/s.test(part)
-        ? `(?:${part.slice(1, -1).split(",").map(escaped).join("|")})`
-        : escaped(part);
-  }
-}
-
-/** @param {string} text */
-function escaped(text) {
-  return text.replace(/[\\^$.*+?()[\]{}|/-]/g, "\\$&");
+  return matchers.length + ignored.size > 0 ? isOut : () => false;
 }
 
 /**

@@ -14,6 +14,8 @@ import { FileFault } from "../runtime/faults.mjs";
  * @property {string} path
  * @property {Error} [error] why the path can't be read
  * @property {boolean} [isLeft] whether it is a link that is not followed
+ * @property {boolean} [isExcluded] whether it is among those that are left out
+ * @property {boolean} [isPage] whether it is a page or a component, as `isPage` has it
  *
  * @typedef {object} Options
  * @property {string[]} mediaTypes those that are read
@@ -23,7 +25,21 @@ import { FileFault } from "../runtime/faults.mjs";
  * @property {string[]} [roots] paths, besides the folder itself, below which a link may lead
  * @property {(path: string) => boolean} [isExcluded] whether a file or folder is left out that a
  *   folder has; takes an absolute path
+ * @property {(path: string) => boolean} [isKept] whether a file or folder that is left out is taken
+ *   all the same, with `isExcluded`; takes an absolute path
+ * @property {boolean} [pages] whether to take pages and components too
  */
+
+const PAGE = /\.(?:vue|svelte|astro|html?)$/i;
+
+/**
+ * Whether a file is a page or a component that isn't parsed and may have scripts.
+ * @param {string} path
+ * @returns {boolean}
+ */
+export function isPage(path) {
+  return PAGE.test(path);
+}
 
 /**
  * The files of some paths, in their order. A path that is not a folder is taken as it is. Of a folder
@@ -96,22 +112,26 @@ async function* filesBelow(folder, options, roots) {
  * @param {Options} options
  * @param {string[]} roots
  */
-async function entriesOf(folder, { mediaTypes, all, follow, isExcluded = () => false }, roots) {
+async function entriesOf(folder, options, roots) {
+  const { mediaTypes, all, follow, isExcluded = () => false, isKept = () => false, pages } = options;
   const entries = await readdir(folder, { withFileTypes: true });
   entries.sort((one, other) => (one.name < other.name ? 1 : -1));
   const taken = [];
   for (const entry of entries) {
     const path = join(folder, entry.name);
-    if (isExcluded(absolute(path))) {
+    const isOut = isExcluded(absolute(path));
+    if (isOut && !isKept(absolute(path))) {
       continue;
     }
     if (entry.isDirectory()) {
       if (all || !(entry.name === "node_modules" || entry.name.startsWith("."))) {
         taken.push({ path, isFolder: true });
       }
+    } else if (pages && isPage(entry.name) && entry.isFile()) {
+      taken.push({ path, isFolder: false, isPage: true });
     } else if (mediaTypes.includes(mediaTypeOf(entry.name) ?? "") && isRegular(entry, path)) {
       const isLeft = entry.isSymbolicLink() && !follow && leadsOut(path, roots);
-      taken.push({ path, isFolder: false, ...(isLeft && { isLeft }) });
+      taken.push({ path, isFolder: false, ...(isLeft && { isLeft }), ...(isOut && { isExcluded: true }) });
     }
   }
   return taken;

@@ -1,7 +1,8 @@
 /** The graph of modules: what each module names, and what each name resolves to. */
 
 import type {
-  DependencyDescriptor, JsDocImportInfo, ModuleInfo, PositionRange, SpecifierWithRange, TypeScriptReference,
+  DependencyDescriptor, DynamicTemplatePart, JsDocImportInfo, ModuleInfo, Position, PositionRange,
+  SpecifierWithRange, TypeScriptReference,
 } from "../document/module_info.mjs";
 
 /**
@@ -78,6 +79,10 @@ export interface Reference {
   kind: ReferenceKind;
   /** Missing where the text isn't known as a whole. */
   specifier?: string;
+  /** The parts of the text, where only some are known. */
+  argument?: DynamicTemplatePart[];
+  /** Whether it is an import without names, which no compiler removes. */
+  sideEffect?: true;
   range: PositionRange;
   resolved: Resolution;
 }
@@ -96,13 +101,89 @@ export interface GraphModule {
   references: Reference[];
   /** Why the module couldn't be read or parsed. Then it has no references. */
   fault?: { fault: string; message: string; line?: number; column?: number };
+  /** Whether `exclude` or `gitignore` leaves it out of what is listed. */
+  isExcluded?: true;
 }
 
+/** A module names something. */
+export interface Mention {
+  module: string;
+  reference: Reference;
+}
+
+/** A step of a chain of imports; the first has no `by`. */
+export interface Step {
+  module: string;
+  by?: Mention;
+}
+
+/** Modules of which each leads to each other one. */
+export interface Cycle {
+  modules: string[];
+  /** A shortest path from the first module back to it, without its end. */
+  path: string[];
+}
+
+/** Why a module may be reached though nothing that is known as a whole leads to it. */
+export type ReasonKind =
+  /** The known parts of an argument match its path. */
+  | "template"
+  /** A call or a name that a search finds in the text of a module. */
+  | "new URL" | "new Worker" | "require.resolve" | "import.meta.resolve" | "import.meta.glob" | "require.context"
+  | "jest.mock" | "__dirname"
+  /** A script of a page or a component. */
+  | "script"
+  /** A file that can't be parsed has its name. */
+  | "fault"
+  /** An excluded file leads to it. */
+  | "excluded"
+  /** An ignored file has its name. */
+  | "ignored"
+  /** A module that may be reached itself leads to it. */
+  | "import";
+
+export interface Reason {
+  kind: ReasonKind;
+  /** The URL of the file that has it. */
+  module: string;
+  position?: Position;
+  /** The name, with `${..}` for a part that isn't known. */
+  text?: string;
+}
+
+/** The modules that no entry reaches by what runs. Each is in one of the lists. */
+export interface Unreached {
+  unreached: string[];
+  mayBeReached: { module: string; reason: Reason }[];
+  /** Reached by types, JSDoc or references alone. Empty where `types` is true. */
+  byTypes: { module: string; by: Mention }[];
+}
+
+/**
+ * Returns what a name leads to: a path or the URL of a file; null for nothing; undefined where the usual rules
+ * count.
+ * @param from the URL of the module that has the name
+ */
+export type ResolveHook = (
+  specifier: string, from: string, options: { kind: ReferenceKind },
+) => string | URL | null | undefined | Promise<string | URL | null | undefined>;
+
+/** A graph of modules. As JSON it has `entries` and `modules`. */
 export interface Graph {
   /** Those from which modules were followed. */
-  entries?: string[];
+  readonly entries?: string[];
   /** Those that were named first, then those that were reached, in the order of their discovery. */
-  modules: GraphModule[];
+  readonly modules: GraphModule[];
+  /** The cycles of what runs, and those that types close. */
+  cycles(): { cycles: Cycle[]; typeCycles: Cycle[] };
+  /** The modules of `paths` that no entry reaches. */
+  unreached(): Promise<Unreached>;
+  /** A shortest chain of imports from an entry to a file, given by its path or URL. Empty where no entry reaches it. */
+  why(file: string | URL): Step[];
+  /** The URLs of the modules that lead to a file directly. */
+  dependents(file: string | URL): string[];
+  /** The references to what isn't found, or isn't installed. */
+  missing(): Mention[];
 }
 
 /** A `ModuleInfo` in which each object that names a module has the member `resolved`. */

@@ -1,38 +1,46 @@
 /**
  * A graph of modules, and what can be asked of it.
  *
+ * @typedef {import("./graph.mjs").Cycle} NamedCycle
  * @typedef {import("./graph.mjs").Edge} Edge
  * @typedef {import("./graph.mjs").GraphModule} GraphModule
+ * @typedef {import("./graph.mjs").Mention} Mention
  * @typedef {import("./graph.mjs").Reference} Reference
+ * @typedef {import("./graph.mjs").Step} Step
  *
- * @typedef {{ module: string, reference: Reference }} Mention a module names something
- * @typedef {{ module: string, by?: Mention }} Step of a chain of imports; the first has no `by`
- *
- * @typedef {object} NamedCycle
- * @property {string[]} modules
- * @property {string[]} path a shortest path from the first back to it, without its end
+ * @typedef {object} Counted
+ * @property {boolean} [types] whether edges of types, JSDoc and references count
+ * @property {boolean} [dynamic] whether edges of `import(..)` count; true where it is missing
  */
 
 import { cyclesOf } from "./cycles.mjs";
+import { isDeclaration, isTypeScript } from "./file_kinds.mjs";
 import { reach } from "./reach.mjs";
 import { edgesOf, isRunKind } from "./references.mjs";
 
 export class ModuleGraph {
-  #types;
+  #counted;
   #modules;
+  /** @type {Map<string, Edge[]>} */
+  #edges = new Map();
 
   /**
-   * @param {{ types?: boolean }} [options] whether edges of types, JSDoc and references count
+   * @param {Counted} [counted]
    * @param {Map<string, GraphModule>} [modules]
    */
-  constructor(options = {}, modules = new Map()) {
-    this.#types = options.types ?? false;
+  constructor(counted = {}, modules = new Map()) {
+    this.#counted = counted;
     this.#modules = modules;
   }
 
-  /** @returns {ModuleGraph} of the same modules, in which all edges count */
+  /** Whether edges of types count. */
+  get hasTypes() {
+    return this.#counted.types ?? false;
+  }
+
+  /** @returns {ModuleGraph} of the same modules, in which edges of types count too */
   withTypes() {
-    return new ModuleGraph({ types: true }, this.#modules);
+    return new ModuleGraph({ ...this.#counted, types: true }, this.#modules);
   }
 
   /** @returns {GraphModule[]} in the order in which they were added */
@@ -40,9 +48,15 @@ export class ModuleGraph {
     return [...this.#modules.values()];
   }
 
+  /** @returns {GraphModule[]} without those that are excluded */
+  get listed() {
+    return this.modules.filter(({ isExcluded }) => !isExcluded);
+  }
+
   /** @param {GraphModule} module */
   add(module) {
     this.#modules.set(module.specifier, module);
+    this.#edges.delete(module.specifier);
   }
 
   /**
@@ -59,8 +73,13 @@ export class ModuleGraph {
    * @returns {Edge[]}
    */
   edgesFrom(key) {
-    const edges = edgesOf(key, this.#modules.get(key)?.references ?? []);
-    return this.#types ? edges : edges.filter(({ kind }) => isRunKind(kind));
+    let edges = this.#edges.get(key);
+    if (!edges) {
+      const all = edgesOf(key, this.#modules.get(key)?.references ?? []);
+      edges = all.filter((each) => this.#counts(each));
+      this.#edges.set(key, edges);
+    }
+    return edges;
   }
 
   /**
@@ -107,18 +126,38 @@ export class ModuleGraph {
     const leads = (/** @type {GraphModule} */ { specifier }) => {
       return this.edgesFrom(specifier).some(({ to }) => to === target);
     };
-    return this.modules.filter(leads).map(({ specifier }) => specifier);
+    return this.listed.filter(leads).map(({ specifier }) => specifier);
   }
 
   /** @returns {Mention[]} the references to what isn't found, or isn't installed */
   missing() {
-    return this.modules.flatMap(({ specifier, references }) => {
+    return this.listed.flatMap(({ specifier, references }) => {
       return references.filter((each) => this.#counts(each) && isMissing(each))
         .map((reference) => ({ module: specifier, reference }));
     });
   }
 
-  /** @returns {{ cycles: NamedCycle[], typeCycles: NamedCycle[] }} the second need edges of types */
+  /**
+   * What keeps the reached modules from being known as a whole.
+   * @param {Set<string>} reached keys
+   * @returns {{ missing: number, faults: number }} the count of references to a path that isn't found, and of
+   *   modules that can't be read or parsed
+   */
+  gaps(reached) {
+    const modules = this.modules.filter(({ specifier }) => reached.has(specifier));
+    const isGap = (/** @type {Reference} */ each) => {
+      return this.#counts(each) && isMissing(each) && /^[./]/.test(each.specifier ?? "");
+    };
+    return {
+      missing: modules.reduce((count, { references }) => count + references.filter(isGap).length, 0),
+      faults: modules.filter(({ fault }) => fault).length,
+    };
+  }
+
+  /**
+   * @returns {{ cycles: NamedCycle[], typeCycles: NamedCycle[] }} the second need edges of types; cycles of
+   *   excluded modules alone are left out
+   */
   cycles() {
     const keys = [...this.#modules.keys()];
     const indexes = new Map(keys.map((key, index) => [key, index]));
@@ -126,12 +165,29 @@ export class ModuleGraph {
     const edges = this.edges().map(({ from, to, kind }) => {
       return { from: indexOf(from), to: indexOf(to), kind };
     });
-    const found = cyclesOf(keys.length, edges);
+    const found = cyclesOf(keys.length, edges)
+      .filter(({ modules }) => modules.some((each) => !this.#modules.get(keys[each])?.isExcluded));
     const named = (/** @type {boolean} */ isRunning) => found.filter(({ isRun }) => isRun === isRunning)
       .map(({ modules, path }) => ({
         modules: modules.map((each) => keys[each]), path: path.map((each) => keys[each]),
       }));
     return { cycles: named(true), typeCycles: named(false) };
+  }
+
+  /**
+   * Whether a cycle of what runs may be none: a compiler removes an import of TypeScript whose names are all
+   * types, which a `ModuleInfo` doesn't have.
+   * @param {NamedCycle} cycle
+   * @returns {boolean}
+   */
+  isPerhapsOfTypes({ modules }) {
+    const inside = new Set(modules);
+    const isRemovable = (/** @type {Reference} */ { kind, sideEffect, resolved }) => {
+      const { file } = /** @type {{ file?: string }} */ (resolved);
+      return kind === "static" && !sideEffect && file !== undefined && inside.has(file);
+    };
+    return modules.some((key) => isTypeScript(key) && !isDeclaration(key) &&
+      this.#modules.get(key)?.references.some(isRemovable));
   }
 
   /** @returns {Edge[]} between modules of the graph */
@@ -141,9 +197,22 @@ export class ModuleGraph {
     });
   }
 
-  /** @param {Reference} reference */
+  /**
+   * @param {Edge} edge that counts
+   * @returns {Mention} the first reference that makes it
+   */
+  mentionOf({ from, to }) {
+    const { references } = /** @type {GraphModule} */ (this.#modules.get(from));
+    const leads = (/** @type {Reference} */ each) => {
+      const { file, types } = /** @type {{ file?: string, types?: string }} */ (each.resolved);
+      return this.#counts(each) && (file === to || types === to);
+    };
+    return { module: from, reference: /** @type {Reference} */ (references.find(leads)) };
+  }
+
+  /** @param {{ kind: string }} reference or an edge */
   #counts({ kind }) {
-    return this.#types || isRunKind(kind);
+    return isRunKind(kind) ? kind !== "dynamic" || this.#counted.dynamic !== false : this.hasTypes;
   }
 
   /**
@@ -156,22 +225,9 @@ export class ModuleGraph {
     const steps = [];
     for (let key = /** @type {string | undefined} */ (target); key !== undefined; key = by.get(key)?.from) {
       const edge = by.get(key);
-      steps.push(edge ? { module: key, by: this.#mentionOf(edge) } : { module: key });
+      steps.push(edge ? { module: key, by: this.mentionOf(edge) } : { module: key });
     }
     return steps.reverse();
-  }
-
-  /**
-   * @param {Edge} edge
-   * @returns {Mention}
-   */
-  #mentionOf({ from, to }) {
-    const { references } = /** @type {GraphModule} */ (this.#modules.get(from));
-    const leads = (/** @type {Reference} */ each) => {
-      const { file, types } = /** @type {{ file?: string, types?: string }} */ (each.resolved);
-      return this.#counts(each) && (file === to || types === to);
-    };
-    return { module: from, reference: /** @type {Reference} */ (references.find(leads)) };
   }
 }
 

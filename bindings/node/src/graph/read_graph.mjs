@@ -16,6 +16,7 @@ import { Walk } from "./walk.mjs";
  * @typedef {import("../runtime/read_files.mjs").ReadFile} ReadFile
  * @typedef {import("./graph.mjs").GraphModule} GraphModule
  * @typedef {import("./graph.mjs").Reference} Reference
+ * @typedef {import("./graph.mjs").ResolveHook} ResolveHook
  *
  * @typedef {object} GraphOptions
  * @property {import("../runtime/read_files.mjs").Work} work
@@ -23,9 +24,12 @@ import { Walk } from "./walk.mjs";
  * @property {number} [timeout] for a file, in seconds
  * @property {import("../files/analysis_cache.mjs").AnalysisCache} [cache]
  * @property {boolean} [types] whether edges of types, JSDoc and references count
+ * @property {boolean} [dynamic] whether edges of `import(..)` count; true where it is missing
  * @property {boolean} [follow] whether files are read that the named ones lead to
  * @property {boolean} [all] whether those of installed packages are among them
- * @property {(path: string) => boolean} [isExcluded] whether a file isn't followed
+ * @property {(path: string) => boolean} [isExcluded] whether a module isn't listed
+ * @property {(path: string) => boolean} [isIgnored] whether a file isn't followed
+ * @property {ResolveHook} [resolve] is asked first what a name leads to
  * @property {(files: AsyncIterable<Found>) => AsyncIterable<Found>} [ahead] hands the files on, and may
  *   look them up ahead
  * @property {(result: ReadFile) => Promise<void>} [onRead] is called for each file in turn
@@ -37,17 +41,18 @@ import { Walk } from "./walk.mjs";
  * @returns {Promise<ModuleGraph>}
  */
 export async function readGraph(named, options) {
-  const { work, types, onRead = async () => {}, ...others } = options;
-  const graph = new ModuleGraph({ types });
+  const { types, dynamic, isExcluded = () => false, resolve, onRead = async () => {} } = options;
+  const graph = new ModuleGraph({ types, dynamic });
   const walk = new Walk(named);
-  const files = options.ahead?.(walk) ?? walk;
-  const results = readFiles(files, { ...others, work: { ...work, graph: true } });
-  for await (const result of results) {
+  for await (const result of readModules(options.ahead?.(walk) ?? walk, options)) {
     await onRead(result);
     if (result.isLeft) {
       walk.pass([]);
     } else {
-      const module = moduleOf(result);
+      const module = moduleOf(result, isExcluded);
+      if (resolve) {
+        await resolveBy(resolve, module);
+      }
       graph.add(module);
       walk.pass(pathsToFollow(module, options));
     }
@@ -56,15 +61,44 @@ export async function readGraph(named, options) {
 }
 
 /**
+ * Reads the modules of files, with what their names resolve to.
+ * @param {AsyncIterable<Found>} files
+ * @param {GraphOptions} options
+ * @returns {AsyncIterable<ReadFile>} in the order of the files
+ */
+function readModules(files, { jobs, timeout, cache, work }) {
+  return readFiles(files, { jobs, timeout, cache, work: { ...work, graph: true } });
+}
+
+/**
  * @param {ReadFile} result
+ * @param {(path: string) => boolean} isExcluded
  * @returns {GraphModule}
  */
-function moduleOf({ path, module, fault }) {
-  if (module) {
-    return module;
-  }
+function moduleOf({ path, module, fault }, isExcluded) {
   const kept = fault && withoutExcerpt(fault);
-  return { specifier: canonicalUrl(absolute(path)), references: [], ...(kept && { fault: kept }) };
+  const found = module ?? { specifier: canonicalUrl(absolute(path)), references: [], ...(kept && { fault: kept }) };
+  return isExcluded(absolute(path)) ? { ...found, isExcluded: true } : found;
+}
+
+/**
+ * Replaces what the names of a module lead to by what a hook returns.
+ * @param {ResolveHook} resolve
+ * @param {GraphModule} module
+ */
+async function resolveBy(resolve, { specifier: from, references }) {
+  for (const reference of references) {
+    const { specifier, kind } = reference;
+    const found = specifier === undefined ? undefined : await resolve(specifier, from, { kind });
+    if (found !== undefined) {
+      reference.resolved = found === null ? { class: "missing" } : { class: "file", file: canonicalUrl(pathOf(found)) };
+    }
+  }
+}
+
+/** @param {string | URL} found a path or the URL of a file */
+function pathOf(found) {
+  return found instanceof URL || found.startsWith("file:") ? fileURLToPath(found) : absolute(found);
 }
 
 /**
@@ -72,14 +106,15 @@ function moduleOf({ path, module, fault }) {
  * @param {GraphOptions} options
  * @returns {string[]}
  */
-function pathsToFollow({ references }, { follow, types, all, work, isExcluded = () => false }) {
+function pathsToFollow({ references }, { follow, types, dynamic, all, work, isIgnored = () => false }) {
   const isFollowed = (/** @type {Reference} */ { kind, resolved }) => {
-    return (types || isRunKind(kind)) && (resolved.class === "file" || (all && resolved.class === "package"));
+    const counts = isRunKind(kind) ? kind !== "dynamic" || dynamic !== false : types;
+    return counts && (resolved.class === "file" || (all && resolved.class === "package"));
   };
   const urls = (follow ? references.filter(isFollowed) : []).flatMap(({ resolved }) => {
     const found = /** @type {{ file?: string, types?: string }} */ (resolved);
     return [found.file ?? [], (types && found.types) || []].flat();
   });
   return urls.map((url) => fileURLToPath(url))
-    .filter((path) => work.mediaTypes.includes(mediaTypeOf(path) ?? "") && !isExcluded(path));
+    .filter((path) => work.mediaTypes.includes(mediaTypeOf(path) ?? "") && !isIgnored(path));
 }

@@ -6,6 +6,7 @@
  * @typedef {import("./graph.mjs").ReferenceKind} ReferenceKind
  * @typedef {import("./graph.mjs").Resolution} Resolution
  * @typedef {import("../document/module_info.mjs").DynamicDependencyKind} DynamicDependencyKind
+ * @typedef {import("../document/module_info.mjs").DynamicTemplatePart} DynamicTemplatePart
  * @typedef {import("../document/module_info.mjs").PositionRange} PositionRange
  * @typedef {import("../document/module_info.mjs").ResolutionMode} ResolutionMode
  * @typedef {import("../document/module_info.mjs").StaticDependencyKind} StaticDependencyKind
@@ -14,8 +15,10 @@
  * @property {any} node the object itself, which gets the member `resolved`
  * @property {ReferenceKind} kind
  * @property {string | undefined} specifier nothing where the text isn't known as a whole
+ * @property {DynamicTemplatePart[]} [argument] its parts, where only some are known
  * @property {PositionRange} range
  * @property {Syntax} syntax
+ * @property {true} [sideEffect] whether it is an import without names
  * @property {ResolutionMode} [mode] what an attribute or a comment asks for
  *
  * @typedef {"import" | "dynamic" | "require" | "types" | "path" | "jsx" | "augmentation"} Syntax
@@ -90,8 +93,11 @@ export function namedBy(info, { isDeclaration = false } = {}) {
  * @returns {Reference[]}
  */
 export function referencesOf(info, options) {
-  return namedBy(info, options).filter(isReference).map(({ node, kind, specifier, range }) => {
-    return { kind, specifier, range, resolved: node.resolved };
+  return namedBy(info, options).filter(isReference).map((named) => {
+    const { node, kind, specifier, argument, sideEffect, range } = named;
+    return {
+      kind, specifier, ...(argument && { argument }), ...(sideEffect && { sideEffect }), range, resolved: node.resolved,
+    };
   });
 }
 
@@ -133,10 +139,13 @@ function isReference({ syntax, node }) {
 function namedByDependency(node) {
   const { type, kind = "import", typesSpecifier, importAttributes } = node;
   const isStatic = type === "static";
+  const specifier = isStatic ? node.specifier : textOfArgument(node.argument);
   const dependency = {
     node,
     ...(BY_WORD.get(kind) ?? { kind: type, syntax: isStatic ? "import" : "dynamic" }),
-    specifier: isStatic ? node.specifier : textOfArgument(node.argument),
+    specifier,
+    ...(specifier === undefined && node.argument && { argument: node.argument }),
+    ...(node.sideEffect && { sideEffect: true }),
     range: isStatic ? node.specifierRange : node.argumentRange,
     mode: modeOf(importAttributes?.known?.["resolution-mode"]),
   };

@@ -1,72 +1,281 @@
 /**
- * Which modules no entry reaches, as `files.mjs --unreached` has it: by what runs.
+ * The modules that no entry reaches by what runs, in three classes: unreached, perhaps reached, and reached by
+ * types alone. A module is perhaps reached where something that isn't known as a whole may lead to it.
  *
- * @typedef {import("../report/project.mjs").Module} Module
+ * @typedef {import("./graph.mjs").Reason} Reason
+ * @typedef {import("./graph.mjs").Reference} Reference
+ * @typedef {import("./graph.mjs").Unreached} Unreached
+ * @typedef {import("./loose_references.mjs").LooseReference} LooseReference
+ * @typedef {import("./module_graph.mjs").ModuleGraph} ModuleGraph
+ *
+ * @typedef {object} Project
+ * @property {string} program the path of `modinfo`
+ * @property {string[]} entries keys
+ * @property {string[]} pages the paths of files that aren't parsed and have scripts
+ * @property {(path: string) => boolean} isIgnored whether a file isn't read as a module
+ * @property {(name: string, from: string) => Promise<string | undefined>} find the path that a name which isn't
+ *   a path leads to
  */
 
-import { resolve as absolute } from "node:path";
+import { dirname } from "node:path";
+import { fileURLToPath, pathToFileURL } from "node:url";
 
-import { isDeclaration } from "./file_kinds.mjs";
-import { canonicalUrl, reach } from "./reach.mjs";
+import { isPage } from "../files/find_files.mjs";
+import { readRegularFile } from "../files/regular_file.mjs";
+import { isDeclaration, javaScriptBeside } from "./file_kinds.mjs";
+import { looseCalls, looseImports } from "./loose_references.mjs";
+import { Candidates } from "./name_patterns.mjs";
 import { isRunKind } from "./references.mjs";
 
 /**
- * @param {Module[]} modules
- * @param {string[]} entries paths
- * @returns {number[]} the indexes of their modules
+ * @param {ModuleGraph} graph
+ * @param {string[]} listed the keys of the modules that are asked about
+ * @param {Project} project
+ * @returns {Promise<Unreached>} in the order of `listed`
  */
-export function entriesOf(modules, entries) {
-  const keys = new Set(entries.map((entry) => canonicalUrl(absolute(entry))));
-  return indexesOf(modules, ({ key }) => keys.has(key));
+export async function unreachedOf(graph, listed, project) {
+  const { program, entries } = project;
+  const reached = await graph.reached(entries, program);
+  const isReached = (/** @type {string} */ key) => [key, ...javaScriptBeside(key)].some((each) => reached.has(each));
+  const asked = [...new Set(listed)].filter((key) => {
+    return (graph.hasTypes || !isDeclaration(key)) && !isReached(key) && graph.module(key);
+  });
+  if (asked.length === 0) {
+    return { unreached: [], mayBeReached: [], byTypes: [] };
+  }
+  const reasons = await new Search(graph, reached, project).reasons();
+  const byTypes = await typeMentions(graph, [...entries, ...reasons.keys()], program);
+  const rest = asked.filter((key) => !reasons.has(key));
+  return {
+    unreached: rest.filter((key) => !byTypes.has(key)),
+    mayBeReached: asked.filter((key) => reasons.has(key))
+      .map((module) => ({ module, reason: /** @type {Reason} */ (reasons.get(module)) })),
+    byTypes: rest.filter((key) => byTypes.has(key))
+      .map((module) => ({ module, by: /** @type {any} */ (byTypes.get(module)) })),
+  };
 }
 
 /**
- * @param {Module[]} modules
- * @param {number[]} entries
- * @param {string} program the path of `modinfo`
- * @returns {Promise<number[]>} without entries the modules that no other one leads to, comments
- *   among what leads
- */
-export async function unreachedOf(modules, entries, program) {
-  const keys = entries.length > 0
-    ? await reachedFrom(entries.map((entry) => modules[entry].key), modules, program)
-    : new Set(modules.flatMap(allNames));
-  return indexesOf(modules, ({ key }) => !keys.has(key));
-}
-
-/**
- * @param {string[]} keys
- * @param {Module[]} modules
+ * The modules that are reached where types count too.
+ * @param {ModuleGraph} graph
+ * @param {string[]} starts keys
  * @param {string} program
+ * @returns {Promise<Map<string, import("./module_graph.mjs").Mention | undefined>>} what leads to each first
  */
-function reachedFrom(keys, modules, program) {
-  return reach(program, new Map(modules.map((each) => [each.key, dependencyNames(each)])), keys);
+async function typeMentions(graph, starts, program) {
+  const all = graph.withTypes();
+  const keys = await all.reached(starts, program);
+  /** @type {Map<string, import("./module_graph.mjs").Mention | undefined>} */
+  const found = new Map();
+  for (const key of keys) {
+    for (const edge of all.edgesFrom(key)) {
+      if (keys.has(edge.to) && !found.has(edge.to)) {
+        found.set(edge.to, all.mentionOf(edge));
+      }
+    }
+  }
+  return found;
 }
 
-/** @param {Module} module */
-function dependencyNames({ file, rows }) {
-  const runs = isDeclaration(file) ? [] : rows.filter(({ kind }) => isRunKind(kind));
-  return runs.flatMap(({ resolved }) => filesOf(resolved).slice(0, 1));
-}
+/** The search for what may lead to modules that aren't reached. */
+class Search {
+  #graph;
+  #reached;
+  #project;
+  #candidates;
+  /** @type {Map<string, Reason>} */
+  #found = new Map();
+  /**
+   * The keys of modules, and the paths of other files.
+   * @type {Set<string>}
+   */
+  #todo = new Set();
 
-/** @param {Module} module */
-function allNames({ key, rows }) {
-  const names = rows.flatMap(({ resolved, types }) => [...filesOf(resolved), ...filesOf(types?.resolved)]);
-  return names.filter((name) => name !== key);
+  /**
+   * @param {ModuleGraph} graph
+   * @param {Set<string>} reached keys
+   * @param {Project} project
+   */
+  constructor(graph, reached, project) {
+    this.#graph = graph;
+    this.#reached = reached;
+    this.#project = project;
+    const others = graph.modules.filter(({ specifier }) => !reached.has(specifier));
+    this.#candidates = new Candidates(others.map(({ specifier }) => fileURLToPath(specifier)));
+  }
+
+  /** @returns {Promise<Map<string, Reason>>} why each module may be reached, by their keys */
+  async reasons() {
+    this.#reached.forEach((key) => this.#todo.add(key));
+    this.#project.pages.forEach((path) => this.#todo.add(pathToFileURL(path).href));
+    for (const { specifier, isExcluded } of this.#graph.modules) {
+      if (isExcluded) {
+        this.#todo.add(specifier);
+      }
+    }
+    // Files that are added meanwhile follow.
+    for (const key of this.#todo) {
+      await this.#search(key);
+    }
+    return this.#found;
+  }
+
+  /** @param {string} key */
+  async #search(key) {
+    const module = this.#graph.module(key);
+    const { references = [], fault } = module ?? {};
+    if (module && !this.#reached.has(key)) {
+      this.#takeEdges(key);
+    }
+    references.forEach((reference) => this.#takeReference(key, reference));
+    const text = textOf(key);
+    if (text !== undefined) {
+      const loose = module && !fault ? looseCalls(text) : looseImports(text, kindOfText(key, fault));
+      for (const each of loose) {
+        await this.#takeLoose(key, text, each);
+      }
+    }
+  }
+
+  /**
+   * What a module names that isn't reached itself.
+   * @param {string} key
+   */
+  #takeEdges(key) {
+    for (const edge of this.#graph.edgesFrom(key)) {
+      const { reference: { range: [start], specifier } } = this.#graph.mentionOf(edge);
+      const kind = this.#graph.module(key)?.isExcluded ? "excluded" : "import";
+      this.#add(edge.to, { kind, module: key, position: start, ...(specifier !== undefined && { text: specifier }) });
+    }
+  }
+
+  /**
+   * The known parts of an argument; a page, or a file that isn't read as a module.
+   * @param {string} key
+   * @param {Reference} reference
+   */
+  #takeReference(key, { kind, argument, range: [position], resolved }) {
+    const { file } = /** @type {{ file?: string }} */ (resolved);
+    if (file && isRunKind(kind) && !this.#graph.module(file)) {
+      const path = fileURLToPath(file);
+      if (isPage(path) || this.#project.isIgnored(path)) {
+        this.#todo.add(file);
+      }
+    }
+    if (argument && isRunKind(kind)) {
+      const parts = argument.map((part) => (part.type === "string" ? part.value : undefined));
+      const text = parts.map((each) => each ?? "${..}").join("");
+      const paths = this.#candidates.matching(parts, dirname(fileURLToPath(key)));
+      paths.forEach((path) => this.#add(pathToFileURL(path).href, { kind: "template", module: key, position, text }));
+    }
+  }
+
+  /**
+   * @param {string} key of the module, or of the other file
+   * @param {string} text
+   * @param {LooseReference} loose
+   */
+  async #takeLoose(key, text, { kind, parts, form, offset }) {
+    const name = parts.map((each) => each ?? "${..}").join("");
+    for (const path of await this.#pathsOf(fileURLToPath(key), parts, { form, kind })) {
+      this.#add(pathToFileURL(path).href, { kind, module: key, position: positionIn(text, offset), text: name });
+    }
+  }
+
+  /**
+   * @param {string} from the path of the file that has the name
+   * @param {(string | undefined)[]} parts
+   * @param {{ form: LooseReference["form"], kind: string }} what
+   * @returns {Promise<string[]>}
+   */
+  async #pathsOf(from, parts, { form, kind }) {
+    const folders = foldersOf(from, parts[0], kind);
+    const [name = "", ...others] = parts;
+    if (form === "glob") {
+      return folders.flatMap((folder) => this.#candidates.globbed(name, folder));
+    }
+    if (form === "folder") {
+      return folders.flatMap((folder) => this.#candidates.below(name, folder));
+    }
+    if (parts.includes(undefined)) {
+      const relative = parts[0]?.startsWith("/") ? [`.${parts[0]}`, ...others] : parts;
+      return folders.flatMap((folder) => this.#candidates.matching(isOfFile(kind) ? atFolder(relative) : relative, folder));
+    }
+    const whole = parts.join("");
+    if (/^[./]/.test(whole) || isOfFile(kind)) {
+      return folders.flatMap((folder) => this.#candidates.named(whole.replace(/^\/+/, ""), folder));
+    }
+    const path = await this.#project.find(whole, from);
+    return path === undefined ? [] : [path];
+  }
+
+  /**
+   * @param {string} key
+   * @param {Reason} reason
+   */
+  #add(key, reason) {
+    if (!this.#reached.has(key) && !this.#found.has(key) && this.#graph.module(key)) {
+      this.#found.set(key, reason);
+      this.#todo.add(key);
+    }
+  }
 }
 
 /**
- * @param {any} resolved a `Resolution`
- * @returns {string[]} the URLs of the file that runs, and of the one that has the types
+ * Whether a name without a dot at its beginning is a path.
+ * @param {string} kind
  */
-function filesOf(resolved) {
-  return [resolved?.file, resolved?.types].filter((url) => url !== undefined);
+function isOfFile(kind) {
+  return ["new URL", "new Worker", "__dirname", "import.meta.glob", "require.context"].includes(kind);
+}
+
+/** @param {(string | undefined)[]} parts */
+function atFolder([first, ...others]) {
+  return first === undefined || /^\.{1,2}\//.test(first) ? [first, ...others] : [`./${first}`, ...others];
 }
 
 /**
- * @param {Module[]} modules
- * @param {(module: Module) => boolean} has
+ * The folders from which a name is looked for.
+ * @param {string} from the path of the file that has it
+ * @param {string | undefined} first its first part
+ * @param {string} kind
  */
-function indexesOf(modules, has) {
-  return modules.flatMap((module, index) => (has(module) ? [index] : []));
+function foldersOf(from, first, kind) {
+  const folder = dirname(from);
+  const isOfRoot = kind === "new Worker" || (first?.startsWith("/") && kind !== "__dirname");
+  return isOfRoot ? [...new Set([folder, process.cwd()])] : [folder];
+}
+
+/**
+ * @param {string} key
+ * @param {object} [fault] of the module
+ * @returns {import("./graph.mjs").ReasonKind}
+ */
+function kindOfText(key, fault) {
+  if (fault) {
+    return "fault";
+  }
+  return isPage(fileURLToPath(key)) ? "script" : "ignored";
+}
+
+/**
+ * @param {string} key
+ * @returns {string | undefined} nothing where the file can't be read
+ */
+function textOf(key) {
+  try {
+    return String(readRegularFile(fileURLToPath(key)));
+  } catch {
+    return undefined;
+  }
+}
+
+/**
+ * @param {string} text
+ * @param {number} offset
+ * @returns {[number, number]} line and character, from zero
+ */
+function positionIn(text, offset) {
+  const before = text.slice(0, offset).split("\n");
+  return [before.length - 1, [...before[before.length - 1]].length];
 }

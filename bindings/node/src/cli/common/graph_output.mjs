@@ -7,9 +7,10 @@ import { fileURLToPath } from "node:url";
 import { printable } from "../../runtime/printable.mjs";
 
 /**
- * @typedef {import("../../graph/module_graph.mjs").Mention} Mention
- * @typedef {import("../../graph/module_graph.mjs").NamedCycle} NamedCycle
- * @typedef {import("../../graph/module_graph.mjs").Step} Step
+ * @typedef {import("../../graph/graph.mjs").Cycle} NamedCycle
+ * @typedef {import("../../graph/graph.mjs").Mention} Mention
+ * @typedef {import("../../graph/graph.mjs").Step} Step
+ * @typedef {import("../../graph/graph.mjs").Unreached} Unreached
  */
 
 const folder = realpathSync(process.cwd());
@@ -66,6 +67,37 @@ export function stepLine({ module, by }) {
 }
 
 /**
+ * @param {Unreached["mayBeReached"][number]} found
+ * @returns {string} a line
+ */
+export function mayBeReachedLine({ module, reason: { kind, module: from, position, text } }) {
+  const what = text === undefined ? kind : `${kind} of ${text}`;
+  const place = position ? positioned(from, position) : shownPath(from);
+  return printable(`${shownPath(module)}: may be reached: ${what} at ${place}`);
+}
+
+/**
+ * @param {Unreached["byTypes"][number]} found
+ * @returns {string} a line
+ */
+export function byTypesLine({ module, by }) {
+  return printable(`${shownPath(module)}: reached by types alone: ${by.reference.specifier} at ${placeOf(by)}`);
+}
+
+/**
+ * What isn't known of reached modules.
+ * @param {{ missing: number, faults: number }} gaps
+ * @returns {string[]} a line or none
+ */
+export function gapsNote({ missing, faults }) {
+  const parts = [
+    ...(missing > 0 ? [`${missing} relative ${missing === 1 ? "name leads" : "names lead"} to no file (--missing prints them)`] : []),
+    ...(faults > 0 ? [`${faults} ${faults === 1 ? "file" : "files"} can't be read or parsed`] : []),
+  ];
+  return parts.length > 0 ? [`of what is reached ${parts.join(", and ")}: more may be reached than is known`] : [];
+}
+
+/**
  * A mention as JSON has it.
  * @param {Mention} mention
  */
@@ -77,6 +109,15 @@ export function mentionData({ module, reference }) {
  * @param {Mention} mention
  * @returns {string} as `FILE:LINE:COLUMN`, both counted from one
  */
-function placeOf({ module, reference: { range: [[line, character]] } }) {
+function placeOf({ module, reference: { range: [position] } }) {
+  return positioned(module, position);
+}
+
+/**
+ * @param {string} module
+ * @param {[number, number]} position line and character, from zero
+ * @returns {string}
+ */
+function positioned(module, [line, character]) {
   return `${shownPath(module)}:${line + 1}:${character + 1}`;
 }

@@ -2,14 +2,16 @@
 
 import { resolve as absolute } from "node:path";
 
-import { isDeclaration, javaScriptBeside } from "../../graph/file_kinds.mjs";
+import { EntryFault, entryPoints } from "../../graph/entry_points.mjs";
 import { dotText, mermaidText } from "../../graph/pictures.mjs";
 import { canonicalUrl } from "../../graph/reach.mjs";
 import { readGraph } from "../../graph/read_graph.mjs";
+import { unreachedOf } from "../../graph/unreached.mjs";
 import { printable } from "../../runtime/printable.mjs";
 import {
-  cycleLine, fileLines, mentionData, missingLine, shownPath, stepLine,
+  byTypesLine, cycleLine, fileLines, gapsNote, mayBeReachedLine, mentionData, missingLine, shownPath, stepLine,
 } from "./graph_output.mjs";
+import { UsageFault } from "./command_line.mjs";
 import { FileReporter, ahead, exclusionsFor, findNamed, readOptions, saveCache } from "./read_files.mjs";
 import { writeOutput } from "./standard_output.mjs";
 
@@ -22,6 +24,8 @@ import { writeOutput } from "./standard_output.mjs";
  * @property {ModuleGraph} graph
  * @property {string[]} entries keys
  * @property {string[]} named the keys of the files of PATH
+ * @property {string[]} pages the paths of the pages of PATH
+ * @property {(path: string) => boolean} isIgnored
  * @property {any} values those of the options
  * @property {string} program the path of `modinfo`
  *
@@ -29,8 +33,8 @@ import { writeOutput } from "./standard_output.mjs";
  * @property {string[]} [lines] as people read it
  * @property {string} [text] the same, where it has lines of its own
  * @property {object} data as JSON has it
- * @property {number} [status]
- * @property {string} [note] for the error output
+ * @property {boolean} [isFinding] whether the status is 1
+ * @property {string[]} [notes] lines of the error output
  */
 
 /** The options that ask a question. */
@@ -48,40 +52,50 @@ const ANSWERS = { reached, unreached, cycles, missing, why, dependents, dot, mer
 export async function answerQuestion(question, run) {
   const { values, work, name } = run;
   const reporter = new FileReporter(name, { isShown: true });
-  const { graph, named } = await readRun(run, reporter);
-  /** @type {string[]} */
-  const entries = (values.entry ?? []).map(keyOf);
-  if (entries.some((entry) => graph.module(entry)?.fault)) {
+  const points = await pointsOf(values.entry ?? [], work.mediaTypes);
+  points.absent.forEach((each) => reporter.warn(`${each}: an entry that isn't there`));
+  const read = await readRun(run, { reporter, entries: points.files, hasPages: question === "unreached" });
+  const entries = points.files.map(keyOf);
+  if (entries.some((entry) => read.graph.module(entry)?.fault)) {
     return 2;
   }
-  const context = { graph, entries, named, values, program: String(work.program) };
+  const context = { ...read, entries, values, program: String(work.program) };
   const asked = question ?? (values.json || entries.length === 0 ? "graph" : "reached");
-  const answer = await ANSWERS[asked](context);
+  const { notes = [], isFinding, ...answer } = await ANSWERS[asked](context);
   await print(answer, values);
-  if (answer.note) {
-    process.stderr.write(`${name}: ${printable(answer.note)}\n`);
+  notes.forEach((note) => process.stderr.write(`${name}: ${printable(note)}\n`));
+  return isFinding || points.absent.length > 0 ? 1 : reporter.status;
+}
+
+/**
+ * @param {string[]} paths
+ * @param {string[]} mediaTypes
+ */
+async function pointsOf(paths, mediaTypes) {
+  try {
+    return await entryPoints(paths, { mediaTypes, find: async () => undefined });
+  } catch (/** @type {any} */ error) {
+    throw error instanceof EntryFault ? new UsageFault(printable(error.message)) : error;
   }
-  return Math.max(reporter.status, answer.status ?? 0);
 }
 
 /**
  * @param {Run} run
- * @param {FileReporter} reporter
- * @returns {Promise<{ graph: ModuleGraph, named: string[] }>}
+ * @param {{ reporter: FileReporter, entries: string[], hasPages: boolean }} options
+ * @returns {Promise<{ graph: ModuleGraph, named: string[], pages: string[], isIgnored: (path: string) => boolean }>}
  */
-async function readRun(run, reporter) {
+async function readRun(run, { reporter, entries, hasPages }) {
   const { paths, values, ready } = run;
-  const { entry: entries = [], types, all } = values;
-  const isExcluded = await exclusionsFor(run);
-  /** @type {string[]} */
-  const named = [];
+  const { types, all, "no-dynamic": noDynamic } = values;
+  const exclusions = await exclusionsFor(run);
+  const { isExcluded, isIgnored } = exclusions;
+  const found = { named: /** @type {string[]} */ ([]), pages: /** @type {string[]} */ ([]) };
   const [fromPaths, fromEntries] = await Promise.all([
-    findNamed(run, isExcluded), findNamed({ ...run, paths: entries }, isExcluded),
+    findNamed(run, { ...exclusions, hasPages }), findNamed({ ...run, paths: entries }, exclusions),
   ]);
-  const files = both(fromPaths, fromEntries, (path) => named.push(keyOf(path)));
   const options = readOptions(run);
-  const graph = await readGraph(files, {
-    ...options, types, all, isExcluded, follow: entries.length > 0,
+  const graph = await readGraph(both(fromPaths, fromEntries, found), {
+    ...options, types, all, dynamic: !noDynamic, isExcluded, isIgnored, follow: entries.length > 0,
     ahead: (walked) => ahead(walked, reporter),
     onRead: async (result) => {
       await ready;
@@ -91,19 +105,23 @@ async function readRun(run, reporter) {
   await ready;
   reporter.end(paths);
   await saveCache(run, options.cache);
-  return { graph, named };
+  return { graph, ...found, isIgnored };
 }
 
 /**
  * @param {AsyncIterable<Found>} fromPaths
  * @param {AsyncIterable<Found>} fromEntries
- * @param {(path: string) => void} onNamed is called for each file of a PATH
+ * @param {{ named: string[], pages: string[] }} found gets the keys of the files of a PATH, and the paths of pages
  * @returns {AsyncGenerator<Found, void>}
  */
-async function* both(fromPaths, fromEntries, onNamed) {
+async function* both(fromPaths, fromEntries, { named, pages }) {
   for await (const file of fromPaths) {
-    if (!file.error && !file.isLeft) {
-      onNamed(file.path);
+    if (file.isPage) {
+      pages.push(absolute(file.path));
+      continue;
+    }
+    if (!file.error && !file.isLeft && !file.isExcluded) {
+      named.push(keyOf(file.path));
     }
     yield file;
   }
@@ -126,20 +144,25 @@ async function print({ lines = [], text, data }, { json, null: isNull }) {
 /** @param {Context} context */
 async function reached({ graph, entries, program }) {
   const keys = await graph.reached(entries, program);
-  const files = graph.modules.map(({ specifier }) => specifier).filter((key) => keys.has(key));
-  return { lines: fileLines(files), data: { entries, reached: files } };
+  const files = graph.listed.map(({ specifier }) => specifier).filter((key) => keys.has(key));
+  const note = gapsNote(graph.gaps(keys));
+  return { lines: fileLines(files), data: { entries, reached: files }, notes: note, isFinding: note.length > 0 };
 }
 
 /** @param {Context} context */
-async function unreached({ graph, entries, named, values: { types }, program }) {
-  const isListed = (/** @type {string} */ key) => types || !isDeclaration(key);
-  const keys = await graph.reached(entries, program);
-  const isReached = (/** @type {string} */ key) => [key, ...javaScriptBeside(key)].some((each) => keys.has(each));
-  const files = [...new Set(named)].filter((key) => isListed(key) && !isReached(key));
-  const byTypes = types ? keys : await graph.withTypes().reached(entries, program);
-  const count = files.filter((key) => byTypes.has(key)).length;
-  const note = count > 0 ? `${count} of these are reached by types alone: --types counts them` : undefined;
-  return { lines: fileLines(files), data: { entries, unreached: files }, note };
+async function unreached(context) {
+  const { graph, entries, named } = context;
+  const found = await unreachedOf(graph, named, { ...context, find: async () => undefined });
+  const lines = [
+    ...fileLines(found.unreached), ...found.mayBeReached.map(mayBeReachedLine), ...found.byTypes.map(byTypesLine),
+  ];
+  const notes = gapsNote(graph.gaps(await graph.reached(entries, context.program)));
+  return {
+    lines, notes, isFinding: found.unreached.length + notes.length > 0,
+    data: {
+      entries, ...found, byTypes: found.byTypes.map(({ module, by }) => ({ module, by: mentionData(by) })),
+    },
+  };
 }
 
 /** @param {Context} context */
@@ -148,21 +171,30 @@ function cycles({ graph, values: { types } }) {
   const lines = [
     ...run.map((cycle) => cycleLine(cycle, true)), ...typeCycles.map((cycle) => cycleLine(cycle, false)),
   ];
-  return { lines, data: { cycles: run, ...(types && { typeCycles }) }, status: run.length > 0 ? 1 : 0 };
+  const count = run.filter((cycle) => graph.isPerhapsOfTypes(cycle)).length;
+  const notes = count === 0 ? [] : [
+    `${count} of ${run.length} cycles: imports of TypeScript files among them, which a compiler removes where they name types alone`,
+  ];
+  return { lines, data: { cycles: run, ...(types && { typeCycles }) }, isFinding: run.length > 0, notes };
 }
 
 /** @param {Context} context */
 function missing({ graph }) {
   const found = graph.missing();
-  return { lines: found.map(missingLine), data: { missing: found.map(mentionData) } };
+  return {
+    lines: found.map(missingLine), data: { missing: found.map(mentionData) }, isFinding: found.length > 0,
+  };
 }
 
 /** @param {Context} context */
 function why({ graph, entries, values }) {
   const steps = graph.chain(entries, keyOf(values.why));
-  const note = steps.length > 0 ? undefined : `no entry reaches ${values.why}`;
+  const isReached = steps.length > 0;
   const data = steps.map(({ module, by }) => ({ module, ...(by && { by: mentionData(by) }) }));
-  return { lines: steps.map(stepLine), data: { why: data }, note, status: note ? 1 : 0 };
+  return {
+    lines: steps.map(stepLine), data: { why: data }, isFinding: !isReached,
+    notes: isReached ? [] : [`no entry reaches ${values.why}`],
+  };
 }
 
 /** @param {Context} context */
@@ -186,13 +218,15 @@ function mermaid(context) {
  * @param {Context} context
  */
 function drawn(draw, context) {
-  const keys = context.graph.modules.map(({ specifier }) => specifier);
-  return { text: draw(keys, context.graph.edges(), shownPath), ...whole(context) };
+  const keys = context.graph.listed.map(({ specifier }) => specifier);
+  const listed = new Set(keys);
+  const edges = context.graph.edges().filter(({ from, to }) => listed.has(from) && listed.has(to));
+  return { text: draw(keys, edges, shownPath), ...whole(context) };
 }
 
 /** @param {Context} context */
 function whole({ graph, entries }) {
-  return { data: { ...(entries.length > 0 && { entries }), modules: graph.modules } };
+  return { data: { ...(entries.length > 0 && { entries }), modules: graph.listed } };
 }
 
 /** @param {string} path */

@@ -7,6 +7,7 @@ import { describeFault, systemMessage } from "../../runtime/faults.mjs";
 import { AnalysisCache } from "../../files/analysis_cache.mjs";
 import { exclusionsOf } from "../../files/exclusions.mjs";
 import { findFiles, isFolder, readPaths } from "../../files/find_files.mjs";
+import { GlobFault } from "../../files/globs.mjs";
 import { MAX_BYTES } from "../../files/regular_file.mjs";
 import { writeOutput } from "./standard_output.mjs";
 import { printable } from "../../runtime/printable.mjs";
@@ -130,26 +131,59 @@ function openCache(path, { program = "" }) {
 /**
  * The files of the paths of a run.
  * @param {Run} run
- * @param {(path: string) => boolean} [isExcluded]
+ * @param {Exclusions & { hasPages?: boolean }} [exclusions] `hasPages`: whether pages and components are taken too,
+ *   and what globs exclude
  * @returns {Promise<AsyncGenerator<Found, void>>}
  */
-export async function findNamed({ paths, values, work }, isExcluded) {
+export async function findNamed({ paths, values, work }, exclusions) {
   const { all, follow } = values;
+  const { isExcluded, isIgnored, isKept, hasPages } = { hasPages: false, ...exclusions ?? await exclusionsFor({ paths, values }) };
   return findFiles(named(paths, values), {
-    mediaTypes: work.mediaTypes, all, follow,
+    mediaTypes: work.mediaTypes, all, follow, pages: hasPages,
     roots: paths.filter((path) => path !== "-"),
-    isExcluded: isExcluded ?? await exclusionsFor({ paths, values }),
+    isExcluded: (path) => isExcluded(path) || isIgnored(path),
+    isKept: hasPages ? isKept : undefined,
   });
 }
 
 /**
- * What the words `--exclude` and `--gitignore` leave out.
+ * @typedef {object} Exclusions functions of absolute paths
+ * @property {(path: string) => boolean} isExcluded by `--exclude` or `--gitignore`: whether a file isn't listed
+ * @property {(path: string) => boolean} isIgnored by `--ignore`: whether it isn't followed either
+ * @property {(path: string) => boolean} isKept whether it is excluded by `--exclude` alone
+ */
+
+/**
+ * What the words `--exclude`, `--ignore` and `--gitignore` leave out.
  * @param {{ paths: string[], values: any }} run
+ * @returns {Promise<Exclusions>} rejected with a `UsageFault` where a glob can't be read
+ */
+export async function exclusionsFor({ paths, values: { exclude, ignore, gitignore, entry = [] } }) {
+  const folders = [
+    ...paths.filter(isFolder), ...entry.map((/** @type {string} */ each) => (isFolder(each) ? each : dirname(each))),
+  ];
+  const [byGlob, byGit, isIgnored] = await Promise.all([
+    excluded("--exclude", { globs: exclude }),
+    exclusionsOf({ ignoredIn: gitignore ? [...new Set(folders)] : [] }),
+    excluded("--ignore", { globs: ignore }),
+  ]);
+  return {
+    isExcluded: (path) => byGlob(path) || byGit(path), isIgnored,
+    isKept: (path) => byGlob(path) && !byGit(path) && !isIgnored(path),
+  };
+}
+
+/**
+ * @param {string} option
+ * @param {{ globs?: string[] }} what
  * @returns {Promise<(path: string) => boolean>}
  */
-export function exclusionsFor({ paths, values: { exclude, gitignore, entry = [] } }) {
-  const folders = [...paths.filter(isFolder), ...entry.map((/** @type {string} */ each) => dirname(each))];
-  return exclusionsOf({ globs: exclude, ignoredIn: gitignore ? [...new Set(folders)] : [] });
+async function excluded(option, what) {
+  try {
+    return await exclusionsOf(what);
+  } catch (/** @type {any} */ error) {
+    throw error instanceof GlobFault ? new UsageFault(`${option} ${error.message}`) : error;
+  }
 }
 
 /**
@@ -244,6 +278,11 @@ export class FileReporter {
     if (this.#found === 0 && !paths.includes("-")) {
       throw new UsageFault(`${paths.join(", ")}: no file that can be read: no name ends as ${ENDINGS}`);
     }
+  }
+
+  /** @param {string} text */
+  warn(text) {
+    this.#print(`warning: ${printable(text)}`);
   }
 
   /** @param {FileResult} result */

@@ -1,0 +1,47 @@
+/** Globs, as `--exclude` takes them. */
+
+import assert from "node:assert/strict";
+import { test } from "node:test";
+
+import { GlobFault, globMatcher } from "../src/files/globs.mjs";
+import { folderOf, run } from "./run_commands.mjs";
+
+test("wildcards match names, folders and texts, and nothing else", () => {
+  /** @type {[glob: string, yes: string[], no: string[]][]} */
+  const expected = [
+    ["*.test.ts", ["a.test.ts", "src/a.test.ts", "../a.test.ts"], ["a.ts", "a.test.ts/b", "atest.ts"]],
+    ["dist", ["dist", "src/dist"], ["dist/a", "dists", "adist"]],
+    ["dist/", ["dist", "src/dist"], ["dist/a"]],
+    ["src/old/", ["src/old"], ["old", "a/src/old"]],
+    ["src/**/old", ["src/old", "src/a/old", "src/a/b/old"], ["src/aold", "old", "src/old/a"]],
+    ["src/**", ["src/a", "src/a/b"], ["src", "b/src/a"]],
+    ["{a,b}.js", ["a.js", "x/b.js"], ["c.js", "{a,b}.js"]],
+    ["./src/?.js", ["src/a.js"], ["src/ab.js", "src/.js", "src//.js"]],
+    ["./a.js", ["a.js"], ["b/a.js"]],
+    ["a[1]+(b).js", ["a[1]+(b).js"], ["a1b.js"]],
+    ["*", ["a", "b/c"], []],
+    ["./!x", ["!x"], ["x"]],
+    ["a/*/b", ["a/x/b"], ["a/b", "a/x/y/b"]],
+  ];
+  for (const [glob, yes, no] of expected) {
+    const matches = globMatcher(glob);
+    assert.deepEqual([yes, no].map((paths) => paths.filter(matches)), [yes, []], glob);
+  }
+});
+
+test("many wildcards take no long time", () => {
+  const begun = performance.now();
+  assert.equal(globMatcher(`${"*a".repeat(50)}*b`)("a".repeat(5000)), false);
+  assert.equal(globMatcher(`${"**/a".repeat(50)}b`)("a/".repeat(2500)), false);
+  assert.ok(performance.now() - begun < 5000);
+});
+
+test("a glob that would mean something else is refused", () => {
+  for (const glob of ["!x", "!src/a.js", "{a,{b,c}}", "{a", "{a,b}".repeat(20)]) {
+    assert.throws(() => globMatcher(glob), GlobFault, glob);
+  }
+  const { stderr, status } = run("files.mjs", ["--exclude", "!x", "."], { cwd: folderOf({ "a.js": "" }) });
+  assert.deepEqual([stderr, status], [
+    'modinfo-files: --exclude !x: a glob that begins with "!" takes nothing back; for a name that does, write ./!x\n', 2,
+  ]);
+});

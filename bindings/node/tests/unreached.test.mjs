@@ -1,0 +1,278 @@
+/** What no entry reaches, in its classes, as a user asks for it. */
+
+import assert from "node:assert/strict";
+import { execFileSync } from "node:child_process";
+import { join } from "node:path";
+import { test } from "node:test";
+
+import { folderOf, run, urlOf } from "./run_commands.mjs";
+
+const NAME = "modinfo-files";
+
+/**
+ * What `--unreached` prints in a folder for the entry main.js or main.ts: its lines, its error output and its status.
+ * @param {Record<string, string>} files
+ * @param {string[]} [words]
+ */
+function unreached(files, words = []) {
+  const entry = "main.ts" in files ? "main.ts" : "main.js";
+  const { stdout, stderr, status } = run("files.mjs", ["--entry", entry, "--unreached", ...words, "."], {
+    cwd: folderOf(files),
+  });
+  return { lines: stdout.split("\n").slice(0, -1), stderr, status };
+}
+
+/** @param {string[]} lines */
+function withStatus(lines, status = 0, stderr = "") {
+  return { lines, stderr, status };
+}
+
+/** `src/main.ts` reaches three modules, one of them by way of another folder. */
+const PROJECT = {
+  "src/main.ts": `import { b } from "./b.js";\nimport("./c.js");\nimport(name);\n`,
+  "src/b.ts": `import "../lib/d.js";\nimport type { T } from "./only_types.js";\nexport const b = 1;\n`,
+  "src/c.js": "export const c = 1;\n",
+  "src/only_types.ts": "export type T = 1;\n",
+  "src/lonely.js": `require("./c.js");\n`,
+  "src/node_modules/e/index.js": "",
+  "lib/d.js": `require("../src/from_lib");\n`,
+  "lib/d.d.ts": "export {};\n",
+  "src/from_lib.js": "",
+};
+
+/** @param {string[]} words */
+function ofProject(words) {
+  const { stdout, status, stderr } = run("files.mjs", words, { cwd: folderOf(PROJECT) });
+  return withStatus(stdout.split("\n").slice(0, -1), status ?? -1, stderr);
+}
+
+test("--unreached prints the files of the paths that no entry reaches, whatever lies between, and what types reach", () => {
+  const words = ["--entry", "src/main.ts", "--unreached", "src"];
+  assert.deepEqual(ofProject(words), withStatus([
+    "src/lonely.js", "src/only_types.ts: reached by types alone: ./only_types.js at src/b.ts:2:24",
+  ], 1));
+  assert.deepEqual(ofProject([...words, "--types"]), withStatus(["src/lonely.js"], 1));
+  const others = ["--entry", "src/lonely.js", "--unreached"];
+  assert.deepEqual(ofProject([...others, "lib"]), withStatus(["lib/d.js"], 1));
+  assert.deepEqual(ofProject([...others, "--types", "lib"]), withStatus(["lib/d.d.ts", "lib/d.js"], 1));
+  assert.deepEqual(ofProject([...others, "src/c.js"]), withStatus([]));
+});
+
+test("a file that types alone reach is no finding", () => {
+  assert.deepEqual(unreached({ "main.ts": `import type { T } from "./t";`, "t.ts": "export type T = 1;" }), withStatus([
+    "t.ts: reached by types alone: ./t at main.ts:1:24",
+  ]));
+});
+
+test("with --types a declaration file is reached with the JavaScript of which it has the types", () => {
+  const folder = folderOf({
+    "a.mjs": `import "./b.mjs";`, "a.d.mts": "", "b.mjs": "", "b.d.mts": "", "c.d.ts": "", "d.jsx": "", "d.d.ts": "",
+  });
+  const words = ["--entry", "a.mjs", "--entry", "d.jsx", "--unreached", "--types", "."];
+  const { stdout, status } = run("files.mjs", words, { cwd: folder });
+  assert.deepEqual([stdout, status], ["c.d.ts\n", 1]);
+});
+
+test("what the known parts of an argument match may be reached, and what that leads to", () => {
+  const files = {
+    "main.ts": "import(`./pages/${x}.js`);\nimport(`@/views/${x}/index`);\nrequire(\"./one/\" + x);\n",
+    "pages/a.ts": `import "../deep";`, "pages/sub/b.js": "", "pages/c.css.ts": "", "page.js": "", "deep.js": "",
+    "src/views/v/index.tsx": "", "src/views/v/other.tsx": "", "one/x.cjs": "",
+  };
+  const at = (/** @type {string} */ text, /** @type {string} */ place) => `: may be reached: template of ${text} at main.ts:${place}`;
+  const pages = at("./pages/${..}.js", "1:8");
+  assert.deepEqual(unreached(files), withStatus([
+    "page.js", "src/views/v/other.tsx",
+    "deep.js: may be reached: import of ../deep at pages/a.ts:1:8",
+    `one/x.cjs${at("./one/${..}", "3:9")}`, `pages/a.ts${pages}`, `pages/c.css.ts${pages}`, `pages/sub/b.js${pages}`,
+    `src/views/v/index.tsx${at("@/views/${..}/index", "2:8")}`,
+  ], 1));
+});
+
+test("an argument of which too little is known is no reason", () => {
+  const files = { "main.js": "import(x); import(`${x}.js`); import(`lodash/${x}`); import(`${a}/${b}`);", "a.js": "" };
+  assert.deepEqual(unreached(files), withStatus(["a.js"], 1));
+  assert.deepEqual(unreached({ "main.js": "import(`${x}/plugin.js`)", "a/plugin.ts": "", "a/other.ts": "" }), withStatus([
+    "a/other.ts", "a/plugin.ts: may be reached: template of ${..}/plugin.js at main.js:1:8",
+  ], 1));
+});
+
+/** Calls that name `./a.js` or a folder with it, and the kind of each. */
+const CALLS = {
+  'new URL("./a.js", import.meta.url)': "new URL of ./a.js",
+  'new URL("a.js", import.meta.url)': "new URL of a.js",
+  "new URL(`./${name}.js`, import.meta.url)": "new URL of ./${..}.js",
+  'new Worker("./a.js")': "new Worker of ./a.js",
+  'new SharedWorker( "/a.js" )': "new Worker of /a.js",
+  'require.resolve("./a")': "require.resolve of ./a",
+  'import.meta.resolve("./a.js")': "import.meta.resolve of ./a.js",
+  'import.meta.glob("./*.js")': "import.meta.glob of ./*.js",
+  'import.meta.glob<Module>(["!./b.js", "./*.js"], { eager: true })': "import.meta.glob of ./*.js",
+  'require.context("./", true, /\\.js$/)': "require.context of ./",
+  'jest.mock("./a", () => ({}))': "jest.mock of ./a",
+  'vi.mock("./a.js")': "jest.mock of ./a.js",
+  'fork(path.join(__dirname, "a.js"))': "__dirname of a.js",
+  'run(__dirname + "/a.js")': "__dirname of /a.js",
+};
+
+test("calls and names that a search finds are reasons", () => {
+  for (const [call, reason] of Object.entries(CALLS)) {
+    const { lines, status } = unreached({ "main.ts": `const x = 1;\n  ${call};\n`, "a.js": "", "b/c.md": "" });
+    assert.deepEqual([lines.map((line) => line.replace(/:\d+$/, "")), status], [
+      [`a.js: may be reached: ${reason} at main.ts:2`], 0,
+    ], call);
+  }
+});
+
+test("a call in a module that isn't reached is no reason", () => {
+  assert.deepEqual(unreached({ "main.js": "", "b.js": `new URL("./a.js", import.meta.url)`, "a.js": "" }), withStatus([
+    "a.js", "b.js",
+  ], 1));
+});
+
+test("scripts of pages and components are reasons", () => {
+  const files = {
+    "main.js": `import "./App.vue";`, "App.vue": `<script setup>\nimport A from "./a";\n</script>`, "a.ts": "",
+    "B.svelte": `<script>import("./b.js")</script>`, "b.js": "", "c.astro": `---\nimport "./c.js";\n---\n`, "c.js": "",
+    "d.html": `<script type="module" src="/d.js"></script>`, "d.js": "", "e.js": "",
+  };
+  assert.deepEqual(unreached(files), withStatus([
+    "e.js", "a.ts: may be reached: script of ./a at App.vue:2:10", "b.js: may be reached: script of ./b.js at B.svelte:1:9",
+    "c.js: may be reached: script of ./c.js at c.astro:2:1", "d.js: may be reached: script of /d.js at d.html:1:1",
+  ], 1));
+});
+
+test("what a reached file with a fault names may be reached, and the last line says that there is one", () => {
+  const { lines, stderr, status } = unreached({
+    "main.js": `import "./wrong.js";`, "wrong.js": `import "./a.js";\nlet = ;\n`, "a.js": "", "b.js": "",
+  });
+  assert.deepEqual(lines, ["b.js", "a.js: may be reached: fault of ./a.js at wrong.js:1:1"]);
+  assert.equal(status, 1);
+  assert.match(stderr, /\nmodinfo-files: of what is reached 1 file can't be read or parsed: more may be reached than is known\n$/);
+});
+
+test("a relative name of a reached module that leads nowhere is in the last line, and the status is 1", () => {
+  const files = { "main.js": `import "./none.js"; require("../no"); import "p";`, "a.js": "" };
+  const note = `${NAME}: of what is reached 2 relative names lead to no file (--missing prints them): more may be reached than is known\n`;
+  assert.deepEqual(unreached(files), withStatus(["a.js"], 1, note));
+  const { "a.js": _, ...main } = files;
+  assert.deepEqual(unreached(main), withStatus([], 1, note));
+  const listed = run("files.mjs", ["--entry", "main.js"], { cwd: folderOf(files) });
+  assert.deepEqual([listed.stdout, listed.stderr, listed.status], ["main.js\n", note, 1]);
+  assert.deepEqual(unreached({ ...files, "main.js": "", "b.js": files["main.js"] }), withStatus(["a.js", "b.js"], 1));
+});
+
+test("--exclude follows and doesn't list", () => {
+  const files = {
+    "main.js": `import "./gen/a.js";`, "gen/a.js": `import "../b.js";`, "b.js": "",
+    "x.test.js": `import "./helper.js";`, "helper.js": "",
+  };
+  assert.deepEqual(unreached(files, ["--exclude", "gen"]), withStatus(["helper.js", "x.test.js"], 1));
+  assert.deepEqual(unreached(files, ["--exclude", "gen", "--exclude", "*.test.js"]), withStatus([
+    "helper.js: may be reached: excluded of ./helper.js at x.test.js:1:8",
+  ]));
+  const listed = run("files.mjs", ["--entry", "main.js", "--exclude", "gen"], { cwd: folderOf(files) });
+  assert.deepEqual([listed.stdout, listed.status], ["main.js\nb.js\n", 0]);
+});
+
+test("--ignore doesn't follow, and what an ignored file that is reached names may be reached", () => {
+  const files = {
+    "main.js": `import "./gen/a.js";`, "gen/a.js": `import "../b.js";`, "b.js": "", "gen/c.js": `import "../d.js";`, "d.js": "",
+  };
+  assert.deepEqual(unreached(files, ["--ignore", "gen"]), withStatus([
+    "d.js", "b.js: may be reached: ignored of ../b.js at gen/a.js:1:1",
+  ], 1));
+  const listed = run("files.mjs", ["--entry", "main.js", "--ignore", "gen"], { cwd: folderOf(files) });
+  assert.deepEqual([listed.stdout, listed.status], ["main.js\n", 0]);
+});
+
+test("--gitignore follows and doesn't list", () => {
+  const folder = folderOf({ ".gitignore": "gen\n", "main.js": `import "./gen/a";`, "gen/a.js": `import "../b";`, "b.js": "" });
+  execFileSync("git", ["init", "--quiet", folder]);
+  const { stdout, status } = run("files.mjs", ["--entry", "main.js", "--unreached", "--gitignore", "."], { cwd: folder });
+  assert.deepEqual([stdout, status], ["", 0]);
+});
+
+test("--no-dynamic doesn't count import(..)", () => {
+  const files = { "main.js": `import("./a.js"); require("./b.js");`, "a.js": "", "b.js": "" };
+  assert.deepEqual(unreached(files), withStatus([]));
+  assert.deepEqual(unreached(files, ["--no-dynamic"]), withStatus(["a.js"], 1));
+  const folder = folderOf({ "a.js": `import("./b.js");`, "b.js": `import "./a.js";` });
+  const status = (/** @type {string[]} */ words) => run("files.mjs", ["--cycles", ...words, "."], { cwd: folder }).status;
+  assert.deepEqual([status([]), status(["--no-dynamic"])], [1, 0]);
+});
+
+test("the classes as JSON", () => {
+  const folder = folderOf({
+    "main.ts": `import type { T } from "./t";\nimport(\`./p/\${x}\`);`, "t.ts": "", "p/a.js": "", "dead.js": "",
+  });
+  const { stdout } = run("files.mjs", ["--entry", "main.ts", "--unreached", "--json", "."], { cwd: folder });
+  const url = (/** @type {string} */ path) => urlOf(folder, path);
+  assert.deepEqual(JSON.parse(stdout), {
+    entries: [url("main.ts")], unreached: [url("dead.js")],
+    mayBeReached: [{
+      module: url("p/a.js"), reason: { kind: "template", module: url("main.ts"), position: [1, 7], text: "./p/${..}" },
+    }],
+    byTypes: [{
+      module: url("t.ts"),
+      by: {
+        module: url("main.ts"), kind: "type", specifier: "./t", range: [[0, 23], [0, 28]],
+        resolved: { class: "file", file: url("t.ts") },
+      },
+    }],
+  });
+});
+
+/**
+ * What the entries of a folder reach.
+ * @param {string} folder
+ * @param {string} entry
+ */
+function reached(folder, entry) {
+  const { stdout, stderr, status } = run("files.mjs", ["--entry", entry], { cwd: folder });
+  return { lines: stdout.split("\n").slice(0, -1), stderr, status };
+}
+
+test("--entry takes a folder with a package.json, whose members name entries", () => {
+  const folder = folderOf({
+    "package.json": JSON.stringify({
+      exports: {
+        ".": { types: "./types.d.ts", import: "./src/index.mjs", require: ["./src/index.cjs"] }, "./x/*": "./src/x/*.js",
+        "./package.json": "./package.json", "./style": "./style.css", "./hidden": null,
+      },
+      main: "old", bin: { tool: "./bin/tool.js" }, browser: "./src/browser.js",
+    }),
+    "src/index.mjs": `import "./deep.mjs";`, "src/deep.mjs": "", "src/index.cjs": "", "src/x/a.js": "", "src/x/b.js": "",
+    "old/index.js": "", "bin/tool.js": "", "src/browser.js": "", "types.d.ts": "export {};", "dead.js": "",
+  });
+  const { lines, status, stderr } = reached(folder, ".");
+  assert.deepEqual([lines.sort(), stderr, status], [[
+    "bin/tool.js", "old/index.js", "src/browser.js", "src/deep.mjs", "src/index.cjs", "src/index.mjs", "src/x/a.js", "src/x/b.js",
+  ], "", 0]);
+  assert.deepEqual(reached(folderOf({ "package.json": "{}", "index.js": "" }), ".").lines, ["index.js"]);
+});
+
+test("an entry of a package.json that isn't there is said, and it is an error where there is no other", () => {
+  const some = folderOf({ "package.json": `{"main":"./a.js","bin":"./dist/b.js"}`, "a.js": "" });
+  assert.deepEqual(reached(some, "."), {
+    lines: ["a.js"], stderr: `${NAME}: warning: package.json: ./dist/b.js: an entry that isn't there\n`, status: 1,
+  });
+  for (const [files, message] of /** @type {[Record<string, string>, string][]} */ ([
+    [{ "package.json": `{"main":"./dist/b.js"}` }, "package.json: what it names isn't there: ./dist/b.js"],
+    [{ "package.json": "[" }, "package.json: Unexpected end of JSON input"],
+    [{ "a.js": "" }, "package.json: no such file: an entry is a file, or a folder with a package.json"],
+  ])) {
+    assert.deepEqual(reached(folderOf(files), "."), { lines: [], stderr: `${NAME}: ${message}\n`, status: 2 });
+  }
+});
+
+test("the scripts of a page are entries", () => {
+  const folder = folderOf({
+    "web/index.html": `<!-- <script src="./old.js"></script> -->\n<script type="module" src="/src/main.ts"></script>
+      <script src="https://example.org/x.js"></script><script type=module>import "./inline.js";</script>`,
+    "web/src/main.ts": `import "./a";`, "web/src/a.ts": "", "web/inline.js": "", "web/old.js": "",
+  });
+  assert.deepEqual(reached(folder, join("web", "index.html")).lines, [
+    "web/inline.js", "web/src/main.ts", "web/src/a.ts",
+  ]);
+});
