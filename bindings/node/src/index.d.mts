@@ -1,6 +1,6 @@
 import type { DocumentFault, FaultReport, Report } from "./runtime/check_report.mjs";
 import type { ModuleInfo } from "./document/module_info.mjs";
-import type { Graph, ResolvedModuleInfo } from "./graph/graph.mjs";
+import type { Graph, ResolvedModuleInfo, ResolveHook } from "./graph/graph.mjs";
 import type { MediaType, ModuleDocument } from "./document/module_document.mjs";
 import type { EstreeDocument } from "./parsers/estree/index.mjs";
 
@@ -111,6 +111,8 @@ export class Modinfo {
    * module that can't be read or parsed has a `fault`.
    * @throws {ProgramEnd} the program can't be started, or `close` was called before
    * @throws {TypeError} an option isn't what it has to be
+   * @throws {Error} a folder or a page names no entry, a glob can't be read, or git lists nothing. The cache can't be
+   *   read or written
    */
   graph(options: GraphOptions): Promise<Graph>;
 
@@ -151,16 +153,27 @@ export interface ResolveOptions extends CallOptions, ResolverOptions {
 export interface GraphOptions extends CallOptions, ResolverOptions {
   /** Files and folders, as paths or URLs. */
   paths?: (string | URL)[];
-  /** Files whose dependencies are followed, outside of `paths` too, but into no installed package. */
+  /**
+   * Files whose dependencies are followed, outside of `paths` too, but into no installed package; folders with a
+   * package.json that names such files; and HTML pages with scripts.
+   */
   entries?: (string | URL)[];
-  /** Globs of files and folders that are left out. */
+  /** Globs of files and folders that aren't listed, but followed. */
   exclude?: string[];
-  /** Whether to leave out what git ignores. */
+  /** Globs of files and folders that are neither listed nor followed. */
+  ignore?: string[];
+  /** Whether what git ignores isn't listed. */
   gitignore?: boolean;
   /** Whether to read what is in `node_modules` and in folders whose names begin with a dot. */
   all?: boolean;
   /** Whether to follow references of types, JSDoc and comments too. */
   types?: boolean;
+  /** Whether `import(..)` counts; true where it is missing. */
+  dynamic?: boolean;
+  /** A file that keeps results: only files that have changed are parsed. */
+  cache?: string | URL;
+  /** Is asked first what a name leads to. */
+  resolve?: ResolveHook;
   /** How many threads parse; else as many as the `Modinfo` has. */
   jobs?: number;
 }

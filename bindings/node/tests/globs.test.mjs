@@ -42,6 +42,6 @@ test("a glob that would mean something else is refused", () => {
   }
   const { stderr, status } = run("files.mjs", ["--exclude", "!x", "."], { cwd: folderOf({ "a.js": "" }) });
   assert.deepEqual([stderr, status], [
-    'modinfo-files: --exclude !x: a glob that begins with "!" takes nothing back; for a name that does, write ./!x\n', 2,
+    "modinfo-files: a glob can't be read: !x: a glob that begins with \"!\" takes nothing back; for a name that does, write ./!x\n", 2,
   ]);
 });

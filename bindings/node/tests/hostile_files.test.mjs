@@ -210,18 +210,28 @@ test("names are shown with their control characters escaped", () => {
   assert.match(stderr, /^modinfo-files: warning: .*tsconfig\.json: .*\\x1b\[32m/);
 });
 
-test("a report overwrites no file that it reads", () => {
-  const folder = folderOf({ "d/a.js": "1;", "e.js": "2;" });
+test("a report overwrites nothing but an earlier one", () => {
+  const files = { "d/a.js": "1;", "e.js": "2;", "package.json": "{}", "tsconfig.json": "{}", "index.html": "<!DOCTYPE html>" };
+  const folder = folderOf({ ...files, "d/empty.js": "" });
   symlinkSync("d", join(folder, "link"));
-  for (const words of [
-    ["-o", "d/a.js", "d"], ["-o", "link/a.js", "d"], ["--dot", "./d/a.js", "link"],
-    ["--entry", "e.js", "-o", "e.js", "d"],
-  ]) {
+  for (const [words, message] of /** @type {[string[], RegExp][]} */ ([
+    [["-o", "d/a.js", "d"], /a\.js is no page of modinfo-report, and would be overwritten\n$/],
+    [["-o", "link/a.js", "d"], /is no page/], [["--dot", "./d/a.js", "link"], /is no graph of modinfo-report/],
+    [["--entry", "e.js", "-o", "e.js", "d"], /is no page/], [["-o", "package.json", "d"], /is no page/],
+    [["-o", "tsconfig.json", "d"], /is no page/], [["--dot", "package.json", "d"], /is no graph/],
+    [["-o", "index.html", "d"], /is no page/],
+    [["-o", "d/empty.js", "d"], /empty\.js is a file of PATH, which the output would overwrite\n$/],
+  ])) {
     const { stderr, status } = run("report.mjs", words, folder);
-    assert.match(stderr, /^modinfo-report: .*(?:a|e)\.js is a file of PATH, which the output would overwrite\n$/);
+    assert.match(stderr, message);
     assert.equal(status, 2);
   }
-  assert.deepEqual(["d/a.js", "e.js"].map((name) => readFileSync(join(folder, name), "utf8")), ["1;", "2;"]);
+  for (const [name, text] of Object.entries(files)) {
+    assert.equal(readFileSync(join(folder, name), "utf8"), text);
+  }
+  for (const _ of [1, 2]) {
+    assert.equal(run("report.mjs", ["--dot", "graph.dot", "d"], folder).status, 0);
+  }
 });
 
 test("a report writes its two outputs to two files", () => {
@@ -236,11 +246,12 @@ test("a report writes its two outputs to two files", () => {
 });
 
 test("what is written is there as a whole or not at all", () => {
-  const folder = folderOf({ "d/a.js": "", "kept.html": "old", "target.html": "old" });
+  const old = `<!DOCTYPE html>\n<html lang="en">\n<title>Dependencies of d</title>`;
+  const folder = folderOf({ "d/a.js": "", "kept.html": old, "target.html": old });
   chmodSync(join(folder, "kept.html"), 0o640);
   symlinkSync("target.html", join(folder, "page.html"));
   run("report.mjs", ["-o", "page.html", "d"], folder);
-  assert.match(readFileSync(join(folder, "target.html"), "utf8"), /^<!doctype html>/i);
+  assert.match(readFileSync(join(folder, "target.html"), "utf8"), /<script type="module">/);
   // A file is full after 1 KiB, before the page ends.
   const line = `ulimit -f 1; exec "${process.execPath}" "${programOf("report.mjs")}" --jobs 1 -o kept.html d`;
   const { stderr, status } = spawnSync("bash", ["-c", line], {
@@ -248,6 +259,6 @@ test("what is written is there as a whole or not at all", () => {
   });
   assert.match(String(stderr), /kept\.html: EFBIG/);
   assert.equal(status, 1);
-  assert.equal(readFileSync(join(folder, "kept.html"), "utf8"), "old");
+  assert.equal(readFileSync(join(folder, "kept.html"), "utf8"), old);
   assert.deepEqual(readdirSync(folder).sort(), ["d", "kept.html", "page.html", "target.html"]);
 });

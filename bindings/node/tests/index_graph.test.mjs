@@ -53,6 +53,61 @@ test("a graph of entries has what they lead to", async () => {
   ]);
 });
 
+test("a graph answers questions, and has its modules as JSON", async () => {
+  const folder = folderOf({
+    "main.ts": "import './b';\nimport(`./p/${x}.js`);\nimport type { T } from './t';\nimport './none';\n",
+    "b.ts": `import "./main";`, "p/a.js": "", "t.ts": "", "dead.js": `import "./b";`, "dead.test.js": `import "./help";`, "help.js": "",
+  });
+  const url = (/** @type {string} */ path) => urlOf(folder, path);
+  const graph = await modinfo.graph({ paths: [folder], entries: [join(folder, "main.ts")], exclude: ["*.test.js"] });
+  assert.deepEqual(graph.cycles(), { cycles: [{ modules: [url("b.ts"), url("main.ts")], path: [url("b.ts"), url("main.ts")] }], typeCycles: [] });
+  const { unreached, mayBeReached, byTypes } = await graph.unreached();
+  assert.deepEqual(unreached, [url("dead.js")]);
+  assert.deepEqual(mayBeReached, [
+    { module: url("help.js"), reason: { kind: "excluded", module: url("dead.test.js"), position: [0, 7], text: "./help" } },
+    { module: url("p/a.js"), reason: { kind: "template", module: url("main.ts"), position: [1, 7], text: "./p/${..}.js" } },
+  ]);
+  assert.deepEqual(byTypes.map(({ module, by }) => [module, by.reference.specifier]), [[url("t.ts"), "./t"]]);
+  assert.deepEqual(graph.why(join(folder, "b.ts")).map(({ module }) => module), [url("main.ts"), url("b.ts")]);
+  assert.deepEqual(graph.why(url("dead.js")), []);
+  assert.deepEqual(graph.dependents(new URL(url("b.ts"))), [url("dead.js"), url("main.ts")]);
+  assert.deepEqual(graph.missing().map(({ module, reference }) => [module, reference.specifier]), [[url("main.ts"), "./none"]]);
+  assert.deepEqual(Object.keys(JSON.parse(JSON.stringify(graph))), ["entries", "modules"]);
+  assert.equal(graph.modules.length, 6);
+});
+
+test("without entries a graph has what no module leads to", async () => {
+  const folder = folderOf({ "a.js": `import "./b.js";`, "b.js": "new URL('./c.js', import.meta.url)", "c.js": "" });
+  const { unreached, mayBeReached } = await (await modinfo.graph({ paths: [folder] })).unreached();
+  assert.deepEqual([unreached, mayBeReached.map(({ module }) => module)], [[urlOf(folder, "a.js")], [urlOf(folder, "c.js")]]);
+});
+
+test("a hook says what names lead to, and undefined leaves that to the rules", async () => {
+  const folder = folderOf({ "a.ts": `import "virtual:x"; import "@/b"; import "./c"; import "./d";`, "src/b.ts": "", "c.ts": "", "d.ts": "" });
+  /** @type {unknown[]} */
+  const asked = [];
+  /** @type {import("../src/index.mjs").ResolveHook} */
+  const resolve = async (specifier, from, { kind }) => {
+    asked.push([specifier, from === urlOf(folder, "a.ts"), kind]);
+    const found = specifier.startsWith("@/") ? join(folder, "src", `${specifier.slice(2)}.ts`) : undefined;
+    return specifier === "./d" ? null : found;
+  };
+  const graph = await modinfo.graph({ entries: [join(folder, "a.ts")], resolve });
+  assert.deepEqual(pathsOf(folder, graph).map((each) => each.replace(/^.*\//, "")), ["a.ts", "b.ts", "c.ts"]);
+  assert.deepEqual(asked[1], ["@/b", true, "static"]);
+  assert.deepEqual(graph.missing().map(({ reference }) => reference.specifier), ["./d"]);
+});
+
+test("a cache keeps what is found, and a graph takes globs, packages and pages", async () => {
+  const folder = folderOf({ "package.json": `{"main":"./a.js"}`, "a.js": `import "./x/b.js";`, "x/b.js": `import "../c.js";`, "c.js": "" });
+  const cache = join(folder, "cache");
+  const graph = await modinfo.graph({ entries: [folder], exclude: ["x"], cache });
+  assert.deepEqual(graph.modules.map(({ specifier }) => specifier), [urlOf(folder, "a.js"), urlOf(folder, "c.js")]);
+  const ignoring = await modinfo.graph({ entries: [folder], ignore: ["x"], cache });
+  assert.deepEqual(ignoring.modules.map(({ specifier }) => specifier), [urlOf(folder, "a.js")]);
+  await assert.rejects(modinfo.graph({ paths: [folder], exclude: ["!x"] }), { message: /^!x: a glob that begins with "!"/ });
+});
+
 test("the specifiers of a ModuleInfo are resolved in a copy", async () => {
   const folder = folderOf(PROJECT);
   const specifier = new URL(urlOf(folder, "src/b.ts"));
@@ -122,8 +177,10 @@ test("options that there aren't, and values that they can't have, are refused", 
     [() => modinfo.graph(unchecked({ path: "." })), /^there is no option path: /],
     [() => modinfo.graph({}), /^paths or entries are needed/],
     [() => modinfo.graph(unchecked({ paths: [1] })), /^a path must be a path or the URL of a file, and is 1$/],
-    [() => modinfo.graph(unchecked({ paths: ["."], types: "no" })), /^gitignore, all and types must be true or false$/],
+    [() => modinfo.graph(unchecked({ paths: ["."], types: "no" })), /^gitignore, all, types and dynamic must be true or false$/],
     [() => modinfo.graph({ paths: ["."], jobs: 0 }), /^jobs must be a whole number/],
+    [() => modinfo.graph(unchecked({ paths: ["."], resolve: "x" })), /^resolve must be a function, and is x$/],
+    [() => modinfo.graph(unchecked({ paths: ["."], cache: 1 })), /^cache must be a path or the URL of a file, and is 1$/],
     [() => modinfo.resolve({}, { specifier: "a.ts" }), /^specifier must be the URL of a file, and is a\.ts$/],
     [() => modinfo.resolve(unchecked(null), { specifier }), /^a ModuleInfo must be an object, and is null$/],
     [() => modinfo.resolve({}, { specifier, conditions: ["a b"] }), /^conditions must be an array of names$/],

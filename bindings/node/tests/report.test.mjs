@@ -54,7 +54,8 @@ function pathsIn(modules) {
 test("the page has the modules, their edges and the lists", () => {
   const folder = folderOf(PROJECT);
   const result = make(folder, ["--entry", "src/main.ts", "src"]);
-  assert.deepEqual(result, { stdout: "", stderr: "", status: 0 });
+  const gaps = `${NAME}: of what is reached 1 relative name leads to no file: more may be reached than is known\n`;
+  assert.deepEqual(result, { stdout: "", stderr: gaps, status: 1 });
   const { title, modules, edges, edgeCount, entries, lists, bytes } = dataOf(join(folder, "report.html"));
   assert.deepEqual([title, edgeCount, entries, bytes], ["src", 1, [2], [20, 0, 51]]);
   assert.deepEqual(pathsIn(modules), ["b.ts", "lonely.js", "main.ts"]);
@@ -91,7 +92,8 @@ test("a file that is named twice is there once, and so is what is reported of it
   const words = ["src", "src/b.ts", "--entry", "src/wrong.ts"];
   const { stderr } = make(folder, words);
   const excerpt = "let b = ;\n        ^";
-  assert.equal(stderr, `${NAME}: src/wrong.ts:1:9: Expression expected.\n${excerpt}\n`);
+  const gaps = `${NAME}: of what is reached 1 file can't be read or parsed: more may be reached than is known\n`;
+  assert.equal(stderr, `${NAME}: src/wrong.ts:1:9: Expression expected.\n${excerpt}\n${gaps}`);
   const { modules, entries } = dataOf(join(folder, "report.html"));
   assert.deepEqual([modules.length, entries], [4, [3]]);
 });

@@ -159,7 +159,9 @@ test("a cycle has the lines that make it, those that run rather than those of ty
   const [a, b] = ["a.ts", "b.ts"].map((path) => ({ class: "file", file: `file:///project/${path}` }));
   const { modules, links } = projectWith([{ kind: "type", name: "./b.js", resolved: b }, { name: "./b.js", resolved: b }]);
   modules[1].rows = rowsWith({ name: "./a.js", resolved: a });
-  const { cycles } = listsOf(modules, links, edgesOf(modules, links), []);
+  const found = edgesOf(modules, links);
+  const none = { unreached: [], mayBeReached: [], byTypes: [] };
+  const { cycles } = listsOf(modules, links, found, { unreached: none, cycles: cyclesOf(modules.length, found) });
   assert.deepEqual(cycles.map(({ rows }) => rows), [[
     { module: 0, row: 1, line: 1, kind: "static", name: "./b.js" },
     { module: 1, row: 0, line: 0, kind: "static", name: "./a.js" },

@@ -153,7 +153,7 @@ test("what a reached file with a fault names may be reached, and the last line s
 
 test("a relative name of a reached module that leads nowhere is in the last line, and the status is 1", () => {
   const files = { "main.js": `import "./none.js"; require("../no"); import "p";`, "a.js": "" };
-  const note = `${NAME}: of what is reached 2 relative names lead to no file (--missing prints them): more may be reached than is known\n`;
+  const note = `${NAME}: of what is reached 2 relative names lead to no file: more may be reached than is known\n`;
   assert.deepEqual(unreached(files), withStatus(["a.js"], 1, note));
   const { "a.js": _, ...main } = files;
   assert.deepEqual(unreached(main), withStatus([], 1, note));

@@ -14,6 +14,7 @@ import { withoutExcerpt } from "../runtime/faults.mjs";
 import { PROGRAM_HELP, checkProgram, modinfoPath } from "../runtime/program.mjs";
 import { UsageFault, runProgram, usageOf } from "./common/command_line.mjs";
 import { QUESTIONS, answerQuestion } from "./common/graph_questions.mjs";
+import { CACHE_HELP, ENTRY_HELP, GRAPH_OPTIONS, RESOLUTION_HELP } from "./common/graph_run.mjs";
 import { LINE_HELP, LINE_OPTIONS, runLines } from "./common/read_files.mjs";
 import { writeOutput } from "./common/standard_output.mjs";
 
@@ -47,24 +48,11 @@ Questions, one at a time:
 
 Files, printed as paths from the current folder:
   PATH               a file, a folder, or - for paths from the standard input, one a line
-  --entry FILE       a file with which the program begins; a folder with a package.json, whose
-                     "exports", "main", "module", "bin" and "browser" name some; or an HTML page with
-                     scripts. Reads what it leads to, outside of PATH too, but not installed packages
-                     (without --all). May be repeated
-  --exclude GLOB     doesn't list files and folders, as "*.test.ts" or "src/**/old", but follows them.
-                     May be repeated
-  --ignore GLOB      neither lists them nor follows them. May be repeated
-  --gitignore        doesn't list what git ignores
-${LINE_HELP}  -0, --null         paths that are read and printed end with zero bytes
-  --cache FILE       keeps results in FILE, and parses only files that have changed
-
+${ENTRY_HELP}${LINE_HELP}  -0, --null         paths that are read and printed end with zero bytes
+${CACHE_HELP}
 Resolution:
   --resolve          adds a member "resolved" to all that names a module
-  --types            counts types, JSDoc and references too, and not only what runs
-  --no-dynamic       doesn't count import(..)
-  --tsconfig FILE    for all files, in place of the nearest tsconfig.json
-  --conditions NAME  a condition of "exports" and "imports", as browser. May be repeated
-  -h, --help, --version
+${RESOLUTION_HELP}  -h, --help, --version
 
 Status 0; 1 for a finding, which is an unreached file, a cycle of what runs, a name that leads nowhere,
 no chain of imports, or a gap in what an entry reaches; 1 also if a file can't be read or parsed, with a
@@ -150,16 +138,8 @@ await runProgram({
   help: HELP,
   options: {
     ...LINE_OPTIONS,
-    cache: { type: "string" },
-    entry: { type: "string", multiple: true },
-    exclude: { type: "string", multiple: true },
-    ignore: { type: "string", multiple: true },
-    "no-dynamic": { type: "boolean" },
-    gitignore: { type: "boolean" },
+    ...GRAPH_OPTIONS,
     resolve: { type: "boolean" },
-    types: { type: "boolean" },
-    tsconfig: { type: "string" },
-    conditions: { type: "string", multiple: true },
     unreached: { type: "boolean" },
     cycles: { type: "boolean" },
     missing: { type: "boolean" },

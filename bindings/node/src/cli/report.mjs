@@ -5,29 +5,31 @@
  *     node bindings/node/src/cli/report.mjs --entry src/main.ts src
  */
 
-import { basename } from "node:path";
+import { basename, resolve as absolute } from "node:path";
 import { setFlagsFromString } from "node:v8";
 
-import { isFolder } from "../files/find_files.mjs";
-import { placeOf, replaceFile } from "../files/replace_file.mjs";
-import { entriesOf, unreachedOf } from "../graph/unreached.mjs";
+import { isReplaceable, placeOf, replaceFile } from "../files/replace_file.mjs";
+import { unledOf, unreachedOf } from "../graph/unreached.mjs";
 import { TYPESCRIPT_MEDIA_TYPES } from "../parsers/typescript/parse.mjs";
 import { indexOf, partsOf } from "../report/data.mjs";
-import { dotOf } from "../report/dot.mjs";
+import { dotOf, isDot } from "../report/dot.mjs";
 import { readLibraries } from "../report/libraries.mjs";
 import { Links, edgesOf } from "../report/links.mjs";
-import { listsOf } from "../report/lists.mjs";
+import { listsOf, shownCycles, shownUnreached } from "../report/lists.mjs";
 import { outsideOf } from "../report/outside.mjs";
-import { pageOf } from "../report/page.mjs";
+import { isPage, pageOf } from "../report/page.mjs";
 import { Project } from "../report/project.mjs";
 import { systemMessage } from "../runtime/faults.mjs";
 import { printable, printableLines } from "../runtime/printable.mjs";
 import { PROGRAM_HELP, checkProgram, modinfoPath } from "../runtime/program.mjs";
 import { UsageFault, readJobs, readMaxBytes, runProgram, usageOf } from "./common/command_line.mjs";
-import { LINE_HELP, LINE_OPTIONS, runLines } from "./common/read_files.mjs";
+import { gapsNote } from "./common/graph_output.mjs";
+import { CACHE_HELP, ENTRY_HELP, GRAPH_OPTIONS, RESOLUTION_HELP, readRun } from "./common/graph_run.mjs";
+import { LINE_HELP, LINE_OPTIONS } from "./common/read_files.mjs";
 
 /**
  * @typedef {import("./common/command_line.mjs").Words} Words
+ * @typedef {import("./common/graph_run.mjs").GraphRun} GraphRun
  * @typedef {import("../report/project.mjs").Module} Module
  */
 
@@ -41,19 +43,19 @@ specifiers marked, and what is unresolved, unknown, unreached or in a cycle. Exa
 
   PATH               a file, a folder, or - for paths from the standard input, one a line. A file
                      that is named twice appears once
-  --entry FILE       lists the files that no entry reaches; without it, those that no module names,
-                     in comments either. May be repeated
   -o, --output FILE  the page; else report.html
   --dot FILE         also writes the graph of all modules for Graphviz
-${LINE_HELP}  -0, --null         paths from the standard input end with zero bytes
-  -h, --help, --version
+${ENTRY_HELP}${LINE_HELP}  -0, --null         paths from the standard input end with zero bytes
+${CACHE_HELP}${RESOLUTION_HELP}  -h, --help, --version
 
-The graph is laid out in the browser by dagre, and the picture of sizes by d3-hierarchy, which are
-written into the page. Without one of them the page is made without what it draws, with status 1.
+Without --entry the page lists the modules that no other one names, in comments either. The graph is
+laid out in the browser by dagre, and the picture of sizes by d3-hierarchy, which are written into the
+page. Without one of them the page is made without what it draws, with status 1.
 
-Status 0; 1 if a file can't be read or parsed, with a line on the error output for each, or there
-is no graph, and the page is written all the same; 1 also if it can't be written; 2 for a usage
-error, or an output that is an input or the other output.
+Status 0; 1 if a file can't be read or parsed, with a line on the error output for each, an entry or
+what it leads to isn't known as a whole, or there is no graph, and the page is written all the same; 1
+also if it can't be written; 2 for a usage error, or an output that would overwrite another file than an
+earlier one.
 
 ${PROGRAM_HELP}`;
 
@@ -65,29 +67,26 @@ async function main({ values, positionals }) {
   if (positionals.length === 0) {
     throw new UsageFault(usageOf(HELP));
   }
-  const { entry: entries = [], output = "report.html", dot } = values;
+  const { output = "report.html", dot } = values;
   readJobs(values.jobs);
-  const folder = entries.find(isFolder);
-  if (folder) {
-    throw new UsageFault(`an entry must be a file, and ${printable(folder)} is a folder`);
-  }
   checkOutputs(output, dot);
   // Less memory for the parser's threads, at the cost of some time.
   setFlagsFromString("--optimize-for-size");
   const program = modinfoPath();
   await checkProgram(program);
-  const words = [...positionals, ...entries];
-  const { status, ...project } = await readProject({ values, program, paths: words });
+  const { project, read } = await readProject({ values, program, paths: positionals });
   checkInputs([output, dot], project.modules);
   const links = new Links(project.folder, project.modules);
   const edges = edgesOf(project.modules, links);
   if (dot !== undefined) {
     await write(dot, dotOf(project.modules.map(({ path }) => path), edges));
   }
-  const found = await reachedOf(project.modules, links, edges, { entries, program });
+  const found = await listsFor(project, { links, edges, read });
   const libraries = readLibraries();
   await write(output, drawPage(project, { links, edges, ...found }, libraries));
-  return reportAbsent(libraries) ? 1 : status;
+  const notes = gapsNote(found.gaps);
+  notes.forEach((note) => process.stderr.write(`${NAME}: ${note}\n`));
+  return reportAbsent(libraries) || notes.length > 0 ? 1 : read.status;
 }
 
 /**
@@ -106,18 +105,24 @@ function drawPage({ folder, modules }, { links, ...found }, libraries) {
 /**
  * @param {string} output
  * @param {string | undefined} dot
- * @throws {UsageFault} both outputs are the same file
+ * @throws {UsageFault} both outputs are the same file, or one would overwrite another file than an earlier output
  */
 function checkOutputs(output, dot) {
   if (dot !== undefined && placeOf(output) === placeOf(dot)) {
     throw new UsageFault(`--output and --dot name the same file: ${printable(dot)}`);
+  }
+  if (!isReplaceable(output, isPage)) {
+    throw new UsageFault(`${printable(output)} is no page of ${NAME}, and would be overwritten`);
+  }
+  if (dot !== undefined && !isReplaceable(dot, isDot)) {
+    throw new UsageFault(`${printable(dot)} is no graph of ${NAME}, and would be overwritten`);
   }
 }
 
 /**
  * @param {(string | undefined)[]} outputs
  * @param {Module[]} modules
- * @throws {UsageFault} an output would overwrite a module
+ * @throws {UsageFault} an output would overwrite a module, which may be an empty file
  */
 function checkInputs(outputs, modules) {
   const inputs = new Set(modules.map(({ file }) => placeOf(file)));
@@ -129,37 +134,43 @@ function checkInputs(outputs, modules) {
 
 /**
  * @param {{ values: any, program: string, paths: string[] }} run
- * @returns {Promise<{ status: number, folder: string, modules: Module[] }>}
+ * @returns {Promise<{ project: { folder: string, modules: Module[] }, read: GraphRun }>}
  */
 async function readProject({ values, program, paths }) {
+  const { tsconfig, conditions } = values;
   /** @type {import("../runtime/file_worker.mjs").Work} */
   const work = {
     adapter: new URL("../parsers/typescript/index.mjs", import.meta.url).href,
     parser: "typescript",
     mediaTypes: TYPESCRIPT_MEDIA_TYPES,
     program,
-    resolve: { types: true },
+    resolve: { types: true, tsconfig: tsconfig && absolute(tsconfig), conditions },
   };
   const project = new Project(readMaxBytes(values["max-bytes"]));
-  const take = async (/** @type {import("./common/read_files.mjs").FileResult} */ result) => {
-    project.add(result);
+  const onRead = (/** @type {import("../graph/read_graph.mjs").ReadFile} */ result) => {
+    if (!result.isLeft) {
+      project.add(result);
+    }
   };
-  const run = { name: NAME, values, paths, work, isOnce: true, isQuiet: true, write: take };
-  const status = await runLines(run);
-  return { status, ...project.finish(paths) };
+  const read = await readRun({ name: NAME, values, paths, work }, { hasPages: true, onRead });
+  const isListed = (/** @type {string} */ key) => read.graph.module(key)?.isExcluded !== true;
+  return { project: project.finish(paths, isListed), read };
 }
 
 /**
- * @param {Module[]} modules
- * @param {Links} links
- * @param {import("../report/links.mjs").Edge[]} edges
- * @param {{ entries: string[], program: string }} run
+ * @param {{ folder: string, modules: Module[] }} project
+ * @param {{ links: Links, edges: import("../report/links.mjs").Edge[], read: GraphRun }} found
  */
-async function reachedOf(modules, links, edges, { entries: paths, program }) {
-  const entries = entriesOf(modules, paths);
-  const unreached = await unreachedOf(modules, entries, program);
-  const lists = listsOf(modules, links, edges, unreached);
-  return { entries, lists, outside: outsideOf(modules, links) };
+async function listsFor({ folder, modules }, { links, edges, read }) {
+  const { graph, entries: keys, named, program } = read;
+  const entries = keys.flatMap((key) => links.moduleAt(key) ?? []);
+  const unreached = await (keys.length > 0 ? unreachedOf : unledOf)(graph, [...new Set(named)], read);
+  const lists = listsOf(modules, links, edges, {
+    unreached: shownUnreached(unreached, { folder, links }),
+    cycles: shownCycles(graph, (key) => /** @type {number} */ (links.moduleAt(key))),
+  });
+  const gaps = keys.length > 0 ? graph.gaps(await graph.reached(keys, program)) : { missing: 0, faults: 0 };
+  return { entries, lists, outside: outsideOf(modules, links), gaps };
 }
 
 /**
@@ -193,7 +204,7 @@ await runProgram({
   help: HELP,
   options: {
     ...LINE_OPTIONS,
-    entry: { type: "string", multiple: true },
+    ...GRAPH_OPTIONS,
     output: { type: "string", short: "o" },
     dot: { type: "string" },
   },

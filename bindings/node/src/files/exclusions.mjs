@@ -10,33 +10,61 @@ import { globMatcher } from "./globs.mjs";
 export class GitFault extends Error {}
 
 /**
- * Returns a function that is true for a path to leave out: one that matches, or that lies in a
- * folder that matches.
- * @param {object} options
- * @param {string[]} [options.globs] as `globMatcher` takes them
- * @param {string[]} [options.ignoredIn] folders in whose repositories git decides what is ignored
- * @returns {Promise<(path: string) => boolean>} takes absolute paths; rejected with a `GlobFault` or a
- *   `GitFault`
+ * @typedef {(path: string) => boolean} IsOut of an absolute path: whether the path, or a folder around it, is left out
+ *
+ * @typedef {object} Exclusions
+ * @property {IsOut} isExcluded whether a file isn't listed
+ * @property {IsOut} isIgnored whether it isn't read either
+ * @property {IsOut} isKept whether it isn't listed by `exclude` alone
  */
-export async function exclusionsOf({ globs = [], ignoredIn = [] }) {
+
+/**
+ * @param {object} options
+ * @param {string[]} [options.exclude] globs of files that aren't listed, as `globMatcher` takes them
+ * @param {string[]} [options.ignore] globs of files that aren't read
+ * @param {string[]} [options.ignoredIn] folders in whose repositories git decides what isn't listed
+ * @returns {Promise<Exclusions>} rejected with a `GlobFault` or a `GitFault`
+ */
+export async function exclusionsOf({ exclude = [], ignore = [], ignoredIn = [] }) {
+  const byGit = new Set((await Promise.all(ignoredIn.map(ignoredBelow))).flat());
+  const isOfGit = withFolders((path) => byGit.has(path), byGit.size > 0);
+  const [isNamed, isIgnored] = [exclude, ignore].map(matcherOf);
+  return {
+    isExcluded: (path) => isNamed(path) || isOfGit(path), isIgnored,
+    isKept: (path) => isNamed(path) && !isOfGit(path) && !isIgnored(path),
+  };
+}
+
+/**
+ * @param {string[]} globs
+ * @returns {IsOut}
+ */
+function matcherOf(globs) {
   const matchers = globs.map(globMatcher);
-  const ignored = new Set((await Promise.all(ignoredIn.map(ignoredBelow))).flat());
-  const isNamed = (/** @type {string} */ path) => {
+  return withFolders((path) => {
     const from = relative(process.cwd(), path).replaceAll(sep, "/");
     return matchers.some((matches) => matches(from));
-  };
+  }, matchers.length > 0);
+}
+
+/**
+ * @param {IsOut} isNamed
+ * @param {boolean} isAny whether any path is
+ * @returns {IsOut} true for what is in such a folder too
+ */
+function withFolders(isNamed, isAny) {
   const known = new Map();
-  /** @type {(path: string) => boolean} */
+  /** @type {IsOut} */
   const isOut = (path) => {
     let found = known.get(path);
     if (found === undefined) {
       const folder = dirname(path);
-      found = ignored.has(path) || isNamed(path) || (folder !== path && isOut(folder));
+      found = isNamed(path) || (folder !== path && isOut(folder));
       known.set(path, found);
     }
     return found;
   };
-  return matchers.length + ignored.size > 0 ? isOut : () => false;
+  return isAny ? isOut : () => false;
 }
 
 /**

@@ -2,7 +2,7 @@
 
 import { realpathSync, statSync } from "node:fs";
 import { readdir } from "node:fs/promises";
-import { join, resolve as absolute, sep } from "node:path";
+import { dirname, join, resolve as absolute, sep } from "node:path";
 
 import { mediaTypeOf } from "../document/media_types.mjs";
 import { FileFault } from "../runtime/faults.mjs";
@@ -210,4 +210,14 @@ function isThere(path) {
  */
 export function isFolder(path) {
   return statusOf(path)?.isDirectory() ?? false;
+}
+
+/**
+ * The folders of some paths: a folder itself, and the folder of a file.
+ * @param {string[]} paths
+ * @returns {string[]} each once
+ */
+export function foldersOf(paths) {
+  const named = paths.filter((path) => path !== "-");
+  return [...new Set(named.map((path) => (isFolder(path) ? path : dirname(path))))];
 }

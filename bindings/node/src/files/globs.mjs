@@ -26,7 +26,8 @@ export class GlobFault extends Error {}
  */
 export function globMatcher(glob) {
   if (glob.startsWith("!")) {
-    throw new GlobFault(`${glob}: a glob that begins with "!" takes nothing back; for a name that does, write ./${glob}`);
+    const why = `a glob that begins with "!" takes nothing back; for a name that does, write ./${glob}`;
+    throw new GlobFault(`${glob}: ${why}`);
   }
   const path = glob.replace(/^\.\//, "").replace(/\/$/, "");
   const isPath = /\/(?!$)/.test(glob);
@@ -59,15 +60,22 @@ function spelledOut(path, glob) {
  * @returns {Token[]}
  */
 function tokensOf(glob) {
-  return (glob.match(/\*\*\/?|[^]/g) ?? []).flatMap((part) => {
-    switch (part) {
-      case "**/": return [FOLDERS, INSIDE];
-      case "**": return [ANY];
-      case "*": return [NAME];
-      case "?": return [ONE];
-      default: return [part];
-    }
-  });
+  const parts = glob.match(/\*\*\/?|[^]/g) ?? [];
+  return parts.flatMap(tokensOfPart);
+}
+
+/**
+ * @param {string} part a character or a wildcard
+ * @returns {Token[]}
+ */
+function tokensOfPart(part) {
+  switch (part) {
+    case "**/": return [FOLDERS, INSIDE];
+    case "**": return [ANY];
+    case "*": return [NAME];
+    case "?": return [ONE];
+    default: return [part];
+  }
 }
 
 /**

@@ -1,7 +1,7 @@
 /** Writes files that are there as a whole or not at all. */
 
 import { randomBytes } from "node:crypto";
-import { realpathSync, statSync } from "node:fs";
+import { closeSync, constants, openSync, readSync, realpathSync, statSync } from "node:fs";
 import { open, rename, rm, writeFile } from "node:fs/promises";
 import { basename, dirname, join, resolve as absolute } from "node:path";
 
@@ -26,6 +26,35 @@ export async function replaceFile(path, text) {
   } catch (error) {
     await rm(beside, { force: true });
     throw error;
+  }
+}
+
+/** The bytes by which a file is known for an earlier output. */
+const BEGINNING = 4096;
+
+/**
+ * Whether an output may replace what is at a path: nothing, an empty file, what is no regular file, or an earlier
+ * output.
+ * @param {string} path
+ * @param {(text: string) => boolean} isOutput whether a file that begins so is an earlier output
+ * @returns {boolean}
+ */
+export function isReplaceable(path, isOutput) {
+  const status = statSync(path, { throwIfNoEntry: false });
+  return !status?.isFile() || status.size === 0 || isOutput(beginningOf(path));
+}
+
+/**
+ * @param {string} path
+ * @returns {string}
+ */
+function beginningOf(path) {
+  const file = openSync(path, constants.O_RDONLY | constants.O_NONBLOCK | constants.O_NOCTTY);
+  try {
+    const bytes = Buffer.alloc(BEGINNING);
+    return bytes.toString("utf8", 0, readSync(file, bytes, 0, BEGINNING, 0));
+  } finally {
+    closeSync(file);
   }
 }
 

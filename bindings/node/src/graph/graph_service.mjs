@@ -1,32 +1,42 @@
 /** Reads files into a graph, for the service. */
 
-import { dirname } from "node:path";
-
+import { AnalysisCache } from "../files/analysis_cache.mjs";
 import { exclusionsOf } from "../files/exclusions.mjs";
-import { findFiles, isFolder } from "../files/find_files.mjs";
+import { findFiles, foldersOf } from "../files/find_files.mjs";
 import { TYPESCRIPT_MEDIA_TYPES } from "../parsers/typescript/parse.mjs";
 import { checkKnown } from "../runtime/call_options.mjs";
 import { checkProgram } from "../runtime/program.mjs";
 import { ProgramEnd } from "../runtime/service.mjs";
+import { entryPoints } from "./entry_points.mjs";
+import { NamedFiles } from "./named_files.mjs";
 import { canonicalUrl } from "./reach.mjs";
 import { readGraph } from "./read_graph.mjs";
 import { RESOLVER_OPTIONS, pathOf, readResolverOptions } from "./resolve_service.mjs";
+import { unledOf, unreachedOf } from "./unreached.mjs";
 
 /**
+ * @typedef {import("./graph.mjs").Graph} Graph
+ * @typedef {import("./module_graph.mjs").ModuleGraph} ModuleGraph
+ *
  * @typedef {object} GraphTask
  * @property {string[]} paths absolute
  * @property {string[]} entries absolute
- * @property {string[]} globs
+ * @property {string[]} exclude globs
+ * @property {string[]} ignore globs
  * @property {boolean} gitignore
  * @property {boolean} all
  * @property {boolean} types
+ * @property {boolean} dynamic
  * @property {number} jobs
- * @property {import("./resolver.mjs").ResolverOptions} resolve
+ * @property {string} [cache] its path
+ * @property {import("./resolver.mjs").ResolverOptions} resolver
+ * @property {import("./graph.mjs").ResolveHook} [resolve]
  * @property {string} program the path of `modinfo`
  */
 
 const OPTIONS = [
-  "paths", "entries", "exclude", "gitignore", "all", "types", "jobs", ...RESOLVER_OPTIONS, "signal",
+  "paths", "entries", "exclude", "ignore", "gitignore", "all", "types", "dynamic", "jobs", "cache", "resolve",
+  ...RESOLVER_OPTIONS, "signal",
 ];
 
 /**
@@ -37,23 +47,28 @@ const OPTIONS = [
  */
 export function readGraphOptions(options, standard) {
   checkKnown(options, OPTIONS);
-  const { gitignore = false, all = false, types = false, jobs = standard.jobs } = options ?? {};
-  /** @type {{ paths?: unknown[], entries?: unknown[], exclude?: unknown[] }} */
-  const { paths = [], entries = [], exclude = [] } = options ?? {};
-  if (![paths, entries, exclude].every(Array.isArray) || paths.length + entries.length === 0) {
-    throw new TypeError("paths or entries are needed, and with exclude must be arrays");
+  const { gitignore = false, all = false, types = false, dynamic = true } = options ?? {};
+  const { jobs = standard.jobs, cache, resolve } = options ?? {};
+  /** @type {Record<string, unknown[]>} */
+  const { paths = [], entries = [], exclude = [], ignore = [] } = options ?? {};
+  if (![paths, entries, exclude, ignore].every(Array.isArray) || paths.length + entries.length === 0) {
+    throw new TypeError("paths or entries are needed, and with exclude and ignore must be arrays");
   }
-  if (![gitignore, all, types].every((each) => typeof each === "boolean")) {
-    throw new TypeError("gitignore, all and types must be true or false");
+  if (![gitignore, all, types, dynamic].every((each) => typeof each === "boolean")) {
+    throw new TypeError("gitignore, all, types and dynamic must be true or false");
   }
   if (!Number.isInteger(jobs) || jobs < 1) {
     throw new TypeError(`jobs must be a whole number from 1 on, and is ${String(jobs)}`);
   }
+  if (resolve !== undefined && typeof resolve !== "function") {
+    throw new TypeError(`resolve must be a function, and is ${String(resolve)}`);
+  }
   return {
     paths: paths.map((path) => pathOf(path, "a path")),
     entries: entries.map((path) => pathOf(path, "an entry")),
-    globs: exclude.map(String), gitignore, all, types, jobs,
-    resolve: { types: true, ...readResolverOptions(options) },
+    exclude: exclude.map(String), ignore: ignore.map(String), gitignore, all, types, dynamic, jobs, resolve,
+    ...(cache !== undefined && { cache: pathOf(cache, "cache") }),
+    resolver: { types: true, ...readResolverOptions(options) },
     program: standard.program,
   };
 }
@@ -61,24 +76,99 @@ export function readGraphOptions(options, standard) {
 /**
  * @param {GraphTask} task
  * @param {AbortSignal} [signal] ends the reading
- * @returns {Promise<import("./graph.mjs").Graph>}
+ * @returns {Promise<Graph>} rejected with an `EntryFault`, a `GlobFault` or a `GitFault`
  */
 export async function graphOf(task, signal) {
-  const { paths, entries, globs, gitignore, all, types, jobs, resolve, program } = task;
+  const { paths, entries, types, dynamic, all, jobs, resolve, program } = task;
   await checkProgram(program).catch(({ message }) => {
     throw new ProgramEnd(message);
   });
-  const folders = [...paths.filter(isFolder), ...entries.map((each) => dirname(each))];
-  const isExcluded = await exclusionsOf({ globs, ignoredIn: gitignore ? folders : [] });
+  const { exclude, ignore, gitignore } = task;
+  const ignoredIn = gitignore ? foldersOf([...paths, ...entries]) : [];
+  const exclusions = await exclusionsOf({ exclude, ignore, ignoredIn });
   const work = {
     adapter: new URL("../parsers/by_media_type.mjs", import.meta.url).href,
-    mediaTypes: TYPESCRIPT_MEDIA_TYPES, program, resolve,
+    mediaTypes: TYPESCRIPT_MEDIA_TYPES, program, resolve: task.resolver,
   };
-  const named = findFiles([...paths, ...entries], {
-    mediaTypes: TYPESCRIPT_MEDIA_TYPES, all, isExcluded, roots: paths,
-  });
+  const find = async () => undefined;
+  const { files } = await entryPoints(entries, { mediaTypes: work.mediaTypes, find });
+  const { isExcluded, isIgnored, isKept } = exclusions;
+  const isLeft = (/** @type {string} */ path) => isExcluded(path) || isIgnored(path);
+  const search = { mediaTypes: work.mediaTypes, all, roots: paths };
+  const named = new NamedFiles(
+    findFiles(paths, { ...search, isExcluded: isLeft, isKept, pages: true }), findFiles(files, search),
+  );
+  const cache = task.cache === undefined ? undefined : new AnalysisCache(task.cache, program);
   const onRead = async () => signal?.throwIfAborted();
-  const follow = entries.length > 0;
-  const graph = await readGraph(named, { work, jobs, types, all, follow, isExcluded, onRead });
-  return { ...(follow && { entries: entries.map(canonicalUrl) }), modules: graph.modules };
+  const graph = await readGraph(named, {
+    work, jobs, types, dynamic, all, cache, resolve, follow: files.length > 0, onRead, isExcluded, isIgnored,
+  });
+  await cache?.save();
+  const { keys, pages } = named;
+  return new FileGraph(graph, keys, { entries: files.map(canonicalUrl), pages, isIgnored, find, program });
 }
+
+/**
+ * The graph as callers have it.
+ * @implements {Graph}
+ */
+class FileGraph {
+  #graph;
+  #named;
+  #project;
+
+  /**
+   * @param {ModuleGraph} graph
+   * @param {string[]} named the keys of the files of the paths
+   * @param {import("./unreached.mjs").Project} project
+   */
+  constructor(graph, named, project) {
+    this.#graph = graph;
+    this.#named = named;
+    this.#project = project;
+  }
+
+  get entries() {
+    const { entries } = this.#project;
+    return entries.length > 0 ? entries : undefined;
+  }
+
+  get modules() {
+    return this.#graph.listed;
+  }
+
+  cycles() {
+    return this.#graph.cycles();
+  }
+
+  /** @returns {Promise<import("./graph.mjs").Unreached>} */
+  unreached() {
+    const classesOf = this.entries ? unreachedOf : unledOf;
+    return classesOf(this.#graph, this.#named, this.#project);
+  }
+
+  /** @param {string | URL} file */
+  why(file) {
+    return this.#graph.chain(this.#project.entries, keyOf(file));
+  }
+
+  /** @param {string | URL} file */
+  dependents(file) {
+    return this.#graph.dependents(keyOf(file));
+  }
+
+  missing() {
+    return this.#graph.missing();
+  }
+
+  toJSON() {
+    const { entries, modules } = this;
+    return { ...(entries && { entries }), modules };
+  }
+}
+
+/** @param {string | URL} file */
+function keyOf(file) {
+  return canonicalUrl(pathOf(file, "a file"));
+}
+

@@ -155,18 +155,17 @@ export class ModuleGraph {
   }
 
   /**
-   * @returns {{ cycles: NamedCycle[], typeCycles: NamedCycle[] }} the second need edges of types; cycles of
-   *   excluded modules alone are left out
+   * The cycles of the modules that are listed.
+   * @returns {{ cycles: NamedCycle[], typeCycles: NamedCycle[] }} the second need edges of types
    */
   cycles() {
-    const keys = [...this.#modules.keys()];
+    const keys = this.listed.map(({ specifier }) => specifier);
     const indexes = new Map(keys.map((key, index) => [key, index]));
-    const indexOf = (/** @type {string} */ key) => /** @type {number} */ (indexes.get(key));
-    const edges = this.edges().map(({ from, to, kind }) => {
-      return { from: indexOf(from), to: indexOf(to), kind };
+    const edges = this.edges().flatMap(({ from, to, kind }) => {
+      const [start, end] = [indexes.get(from), indexes.get(to)];
+      return start === undefined || end === undefined ? [] : [{ from: start, to: end, kind }];
     });
-    const found = cyclesOf(keys.length, edges)
-      .filter(({ modules }) => modules.some((each) => !this.#modules.get(keys[each])?.isExcluded));
+    const found = cyclesOf(keys.length, edges);
     const named = (/** @type {boolean} */ isRunning) => found.filter(({ isRun }) => isRun === isRunning)
       .map(({ modules, path }) => ({
         modules: modules.map((each) => keys[each]), path: path.map((each) => keys[each]),

@@ -5,24 +5,22 @@ import { fileURLToPath } from "node:url";
 
 import { mediaTypeOf } from "../document/media_types.mjs";
 import { withoutExcerpt } from "../runtime/faults.mjs";
-import { readFiles } from "../runtime/read_files.mjs";
 import { ModuleGraph } from "./module_graph.mjs";
 import { canonicalUrl } from "./reach.mjs";
+import { readModules } from "./read_modules.mjs";
 import { isRunKind } from "./references.mjs";
 import { Walk } from "./walk.mjs";
 
 /**
  * @typedef {import("../files/find_files.mjs").Found} Found
- * @typedef {import("../runtime/read_files.mjs").ReadFile} ReadFile
+ * @typedef {import("./read_modules.mjs").ReadModule & import("../runtime/read_files.mjs").ReadFile} ReadFile
  * @typedef {import("./graph.mjs").GraphModule} GraphModule
  * @typedef {import("./graph.mjs").Reference} Reference
  * @typedef {import("./graph.mjs").ResolveHook} ResolveHook
  *
- * @typedef {object} GraphOptions
- * @property {import("../runtime/read_files.mjs").Work} work
- * @property {number} jobs
- * @property {number} [timeout] for a file, in seconds
- * @property {import("../files/analysis_cache.mjs").AnalysisCache} [cache]
+ * @typedef {import("./read_modules.mjs").ReadOptions & GraphWords} GraphOptions
+ *
+ * @typedef {object} GraphWords
  * @property {boolean} [types] whether edges of types, JSDoc and references count
  * @property {boolean} [dynamic] whether edges of `import(..)` count; true where it is missing
  * @property {boolean} [follow] whether files are read that the named ones lead to
@@ -61,23 +59,14 @@ export async function readGraph(named, options) {
 }
 
 /**
- * Reads the modules of files, with what their names resolve to.
- * @param {AsyncIterable<Found>} files
- * @param {GraphOptions} options
- * @returns {AsyncIterable<ReadFile>} in the order of the files
- */
-function readModules(files, { jobs, timeout, cache, work }) {
-  return readFiles(files, { jobs, timeout, cache, work: { ...work, graph: true } });
-}
-
-/**
  * @param {ReadFile} result
  * @param {(path: string) => boolean} isExcluded
  * @returns {GraphModule}
  */
 function moduleOf({ path, module, fault }, isExcluded) {
   const kept = fault && withoutExcerpt(fault);
-  const found = module ?? { specifier: canonicalUrl(absolute(path)), references: [], ...(kept && { fault: kept }) };
+  const specifier = canonicalUrl(absolute(path));
+  const found = module ?? { specifier, references: [], ...(kept && { fault: kept }) };
   return isExcluded(absolute(path)) ? { ...found, isExcluded: true } : found;
 }
 
@@ -91,7 +80,8 @@ async function resolveBy(resolve, { specifier: from, references }) {
     const { specifier, kind } = reference;
     const found = specifier === undefined ? undefined : await resolve(specifier, from, { kind });
     if (found !== undefined) {
-      reference.resolved = found === null ? { class: "missing" } : { class: "file", file: canonicalUrl(pathOf(found)) };
+      const file = found && canonicalUrl(pathOf(found));
+      reference.resolved = file ? { class: "file", file } : { class: "missing" };
     }
   }
 }

@@ -43,16 +43,46 @@ export async function unreachedOf(graph, listed, project) {
   if (asked.length === 0) {
     return { unreached: [], mayBeReached: [], byTypes: [] };
   }
-  const reasons = await new Search(graph, reached, project).reasons();
+  const reasons = await new Search(graph, reached, project).reasons([...reached]);
   const byTypes = await typeMentions(graph, [...entries, ...reasons.keys()], program);
   const rest = asked.filter((key) => !reasons.has(key));
   return {
     unreached: rest.filter((key) => !byTypes.has(key)),
-    mayBeReached: asked.filter((key) => reasons.has(key))
-      .map((module) => ({ module, reason: /** @type {Reason} */ (reasons.get(module)) })),
-    byTypes: rest.filter((key) => byTypes.has(key))
-      .map((module) => ({ module, by: /** @type {any} */ (byTypes.get(module)) })),
+    mayBeReached: withReasons(asked, reasons),
+    byTypes: rest.flatMap((module) => {
+      const by = byTypes.get(module);
+      return by ? [{ module, by }] : [];
+    }),
   };
+}
+
+/**
+ * The modules that no other one leads to, where there is no entry: types and comments among what leads.
+ * @param {ModuleGraph} graph
+ * @param {string[]} listed keys
+ * @param {Project} project
+ * @returns {Promise<Unreached>}
+ */
+export async function unledOf(graph, listed, project) {
+  const all = graph.withTypes();
+  const led = new Set(graph.modules.flatMap(({ specifier }) => {
+    return all.edgesFrom(specifier).filter(({ to }) => to !== specifier).map(({ to }) => to);
+  }));
+  const asked = listed.filter((key) => !led.has(key));
+  const reasons = await new Search(graph, led, project).reasons(graph.modules.map(({ specifier }) => specifier));
+  return { unreached: asked.filter((key) => !reasons.has(key)), mayBeReached: withReasons(asked, reasons), byTypes: [] };
+}
+
+/**
+ * @param {string[]} asked keys
+ * @param {Map<string, Reason>} reasons
+ * @returns {Unreached["mayBeReached"]}
+ */
+function withReasons(asked, reasons) {
+  return asked.flatMap((module) => {
+    const reason = reasons.get(module);
+    return reason ? [{ module, reason }] : [];
+  });
 }
 
 /**
@@ -104,9 +134,12 @@ class Search {
     this.#candidates = new Candidates(others.map(({ specifier }) => fileURLToPath(specifier)));
   }
 
-  /** @returns {Promise<Map<string, Reason>>} why each module may be reached, by their keys */
-  async reasons() {
-    this.#reached.forEach((key) => this.#todo.add(key));
+  /**
+   * @param {string[]} starts keys of modules that are taken for reached
+   * @returns {Promise<Map<string, Reason>>} why each other module may be reached, by their keys
+   */
+  async reasons(starts) {
+    starts.forEach((key) => this.#todo.add(key));
     this.#project.pages.forEach((path) => this.#todo.add(pathToFileURL(path).href));
     for (const { specifier, isExcluded } of this.#graph.modules) {
       if (isExcluded) {
@@ -123,7 +156,7 @@ class Search {
   /** @param {string} key */
   async #search(key) {
     const module = this.#graph.module(key);
-    const { references = [], fault } = module ?? {};
+    const { references, fault } = module ?? { references: /** @type {Reference[]} */ ([]) };
     if (module && !this.#reached.has(key)) {
       this.#takeEdges(key);
     }
@@ -142,7 +175,7 @@ class Search {
    * @param {string} key
    */
   #takeEdges(key) {
-    for (const edge of this.#graph.edgesFrom(key)) {
+    for (const edge of this.#graph.edgesFrom(key).filter(({ to }) => to !== key)) {
       const { reference: { range: [start], specifier } } = this.#graph.mentionOf(edge);
       const kind = this.#graph.module(key)?.isExcluded ? "excluded" : "import";
       this.#add(edge.to, { kind, module: key, position: start, ...(specifier !== undefined && { text: specifier }) });

@@ -28,6 +28,15 @@ export function dotOf(paths, edges) {
 }
 
 /**
+ * Whether a text begins as those of `dotOf` do.
+ * @param {string} text
+ * @returns {boolean}
+ */
+export function isDot(text) {
+  return text.startsWith(HEAD.slice(0, HEAD.indexOf("\n")));
+}
+
+/**
  * Quotes a text as a label, in which Graphviz reads backslashes and entities of HTML.
  * @param {string} text
  * @returns {string}

@@ -24,6 +24,7 @@
 import { relative } from "node:path";
 import { fileURLToPath } from "node:url";
 
+import { textOfArgument } from "../graph/arguments.mjs";
 import { isDeclaration } from "../graph/file_kinds.mjs";
 import { isRunKind } from "../graph/references.mjs";
 import { Manifests } from "./manifests.mjs";
@@ -70,9 +71,10 @@ export class Links {
   #targets(row, user) {
     let targets = this.#found.get(row);
     if (targets === undefined) {
-      const { name, kind, resolved, types } = row;
+      const { name, resolved, types } = row;
+      const isKnown = name !== null && textOfArgument(name) !== undefined;
       targets = {
-        name: typeof name === "string" ? this.#target(resolved, { user, runs: isRunKind(kind) }) : undefined,
+        name: isKnown ? this.#target(resolved, { user, runs: runs(row) }) : undefined,
         types: types && this.#target(types.resolved, { user, runs: false }),
       };
       this.#found.set(row, targets);
@@ -134,7 +136,7 @@ export function edgesOf(modules, links) {
  * @returns {[number, import("./kinds.mjs").Kind][]} the target and the kind of each
  */
 function edgesOfRow({ file }, row, links) {
-  const kind = isDeclaration(file) || row.kind === "pragma" ? "type" : row.kind;
+  const kind = isDeclaration(file) ? "type" : kindOfRow(row);
   const { file: ran, types } = /** @type {any} */ (row.resolved ?? {});
   const beside = isRunKind(kind) && ran !== undefined ? links.moduleAt(types) : undefined;
   /** @type {[number | undefined, import("./kinds.mjs").Kind][]} */
@@ -144,6 +146,25 @@ function edgesOfRow({ file }, row, links) {
     [links.typesTarget(row, file)?.module, "type"],
   ];
   return /** @type {any} */ (ends.filter(([to]) => to !== undefined));
+}
+
+/**
+ * @param {Row} row
+ * @returns {boolean} whether the row runs what it names
+ */
+function runs({ kind, word }) {
+  return isRunKind(kind) || word === "jsxImportSource";
+}
+
+/**
+ * @param {Row} row
+ * @returns {import("./kinds.mjs").Kind} the kind of its edge: a compiler imports what JSX is made by
+ */
+function kindOfRow(row) {
+  if (row.kind !== "pragma") {
+    return row.kind;
+  }
+  return runs(row) ? "static" : "type";
 }
 
 /**

@@ -8,14 +8,29 @@
  * @property {import("./kinds.mjs").Kind} kind
  * @property {import("./rows.mjs").Row["name"]} name
  *
- * @typedef {import("../graph/cycles.mjs").Cycle & { rows: Found[] }} ShownCycle each row leads from a module
- *   of the path to the next one
+ * @typedef {import("../graph/cycles.mjs").Cycle & { rows: Found[], isOfTypes?: boolean }} ShownCycle each row leads
+ *   from a module of the path to the next one; `isOfTypes`: whether a compiler may remove its imports
+ *
+ * @typedef {object} Unreached modules are indexes
+ * @property {number[]} unreached
+ * @property {MayBeReached[]} mayBeReached
+ * @property {{ module: number, by: number, line: number, text?: string }[]} byTypes `by` is the module that has the name
+ *
+ * @typedef {object} MayBeReached
+ * @property {number} module
+ * @property {import("../graph/graph.mjs").ReasonKind} kind
+ * @property {number} [by] the module that has the reason
+ * @property {string} [file] else the path of another file, from the report's folder
+ * @property {number} [line] from zero
+ * @property {string} [text]
  *
  * @typedef {object} Lists modules are indexes
  * @property {Found[]} missing
  * @property {Found[]} unknown arguments
  * @property {Found[]} partly known arguments
  * @property {number[]} unreached
+ * @property {MayBeReached[]} mayBeReached
+ * @property {Unreached["byTypes"]} byTypes
  * @property {ShownCycle[]} cycles
  * @property {number[]} faults
  *
@@ -25,17 +40,19 @@
  * @typedef {import("./project.mjs").Module} Module
  */
 
-import { cyclesOf } from "../graph/cycles.mjs";
+import { relative } from "node:path";
+import { fileURLToPath } from "node:url";
+
 import { isRunKind } from "../graph/references.mjs";
 
 /**
  * @param {Module[]} modules
  * @param {import("./links.mjs").Links} links
  * @param {Edge[]} edges
- * @param {number[]} unreached
+ * @param {{ unreached: Unreached, cycles: (import("../graph/cycles.mjs").Cycle & { isOfTypes?: boolean })[] }} found
  * @returns {Lists}
  */
-export function listsOf(modules, links, edges, unreached) {
+export function listsOf(modules, links, edges, { unreached, cycles }) {
   const isMissing = (/** @type {Target | undefined} */ target) => target?.class === "missing";
   /** @type {(has: (row: Row, file: string) => boolean) => Found[]} */
   const rowsThat = (has) => modules.flatMap(({ rows, file }, module) => {
@@ -51,11 +68,50 @@ export function listsOf(modules, links, edges, unreached) {
     missing: missing.sort((one, other) => one.module - other.module || one.row - other.row),
     unknown: rowsThat(({ name }) => name === null),
     partly: rowsThat(({ name }) => Array.isArray(name)),
-    unreached,
-    cycles: cyclesOf(modules.length, edges).map((cycle) => {
+    ...unreached,
+    cycles: cycles.map((cycle) => {
       return { ...cycle, rows: rowsOn(cycle, edges).map((edge) => foundRow(modules, edge)) };
     }),
     faults: modules.flatMap(({ fault }, module) => (fault ? [module] : [])),
+  };
+}
+
+/**
+ * The cycles of a graph, by the indexes of the report's modules.
+ * @param {import("../graph/module_graph.mjs").ModuleGraph} graph
+ * @param {(key: string) => number} indexOf
+ * @returns {(import("../graph/cycles.mjs").Cycle & { isOfTypes?: boolean })[]} by their first modules, those that run
+ *   before others
+ */
+export function shownCycles(graph, indexOf) {
+  const { cycles, typeCycles } = graph.withTypes().cycles();
+  /** @type {(isRun: boolean) => (cycle: import("../graph/graph.mjs").Cycle) => any} */
+  const shown = (isRun) => (cycle) => ({
+    modules: cycle.modules.map(indexOf), path: cycle.path.map(indexOf), isRun,
+    ...(isRun && graph.isPerhapsOfTypes(cycle) && { isOfTypes: true }),
+  });
+  return [...cycles.map(shown(true)), ...typeCycles.map(shown(false))]
+    .sort((one, other) => one.modules[0] - other.modules[0] || Number(other.isRun) - Number(one.isRun));
+}
+
+/**
+ * The classes of what no entry reaches, by the indexes of the report's modules.
+ * @param {import("../graph/graph.mjs").Unreached} found
+ * @param {{ folder: string, links: import("./links.mjs").Links }} report
+ * @returns {Unreached}
+ */
+export function shownUnreached({ unreached, mayBeReached, byTypes }, { folder, links }) {
+  const indexOf = (/** @type {string} */ key) => /** @type {number} */ (links.moduleAt(key));
+  return {
+    unreached: unreached.map(indexOf),
+    mayBeReached: mayBeReached.map(({ module, reason: { kind, module: from, position, text } }) => {
+      const by = links.moduleAt(from);
+      const file = by === undefined ? relative(folder, fileURLToPath(from)) : undefined;
+      return { module: indexOf(module), kind, by, file, line: position?.[0], text };
+    }),
+    byTypes: byTypes.map(({ module, by: { module: from, reference: { range: [[line]], specifier } } }) => {
+      return { module: indexOf(module), by: indexOf(from), line, text: specifier };
+    }),
   };
 }
 

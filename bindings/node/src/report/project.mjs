@@ -10,7 +10,7 @@
  * @property {import("./marks.mjs").Mark[]} marks
  * @property {import("../runtime/faults.mjs").Fault} [fault] why it wasn't analyzed
  *
- * @typedef {import("../runtime/file_worker.mjs").FileResult & { path: string }} FileResult
+ * @typedef {{ path: string, info?: any, fault?: import("../runtime/faults.mjs").Fault }} FileResult
  */
 
 import { dirname, relative, resolve as absolute } from "node:path";
@@ -34,20 +34,21 @@ export class Project {
     this.#maxBytes = maxBytes;
   }
 
-  /** @param {FileResult} result with its resolutions */
-  add({ path, line, fault }) {
+  /** @param {FileResult} result `info` with its resolutions */
+  add({ path, info, fault }) {
     const file = absolute(path);
     const module = { file, path: "", key: canonicalUrl(file), rows: [], marks: [] };
     this.#modules.push(module);
-    this.#read(module, line && JSON.parse(String(line)).info, fault && withoutExcerpt(fault));
+    this.#read(module, info, fault && withoutExcerpt(fault));
   }
 
   /**
    * @param {string[]} paths those of the words
+   * @param {(key: string) => boolean} isListed
    * @returns {{ folder: string, modules: Module[] }} the folder is the deepest one around all modules
    */
-  finish(paths) {
-    const modules = this.#modules;
+  finish(paths, isListed) {
+    const modules = this.#modules.filter(({ key }) => isListed(key));
     const folders = paths.filter(isFolder).map((path) => absolute(path));
     const folder = commonFolder([...folders, ...modules.map(({ file }) => dirname(file))]);
     for (const module of modules) {

@@ -4,6 +4,7 @@ import { writeFileSync } from "node:fs";
 import { join } from "node:path";
 import { pathToFileURL } from "node:url";
 
+import { cyclesOf } from "../../src/graph/cycles.mjs";
 import { indexOf, partsOf } from "../../src/report/data.mjs";
 import { readLibraries } from "../../src/report/libraries.mjs";
 import { Links, edgesOf } from "../../src/report/links.mjs";
@@ -87,7 +88,9 @@ export function madeReport(count) {
   const edges = edgesOf(modules, links);
   const led = new Set(edges.map(({ to }) => to));
   const unreached = [...modules.keys()].filter((module) => !led.has(module));
-  const lists = listsOf(modules, links, edges, unreached);
+  const lists = listsOf(modules, links, edges, {
+    unreached: { unreached, mayBeReached: [], byTypes: [] }, cycles: cyclesOf(modules.length, edges),
+  });
   const parts = [...partsOf(modules, links)];
   const found = { title: "made", modules, edges, entries: [], lists, outside: outsideOf(modules, links) };
   const index = indexOf(found, parts.map(({ start }) => start));

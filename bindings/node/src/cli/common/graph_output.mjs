@@ -90,10 +90,9 @@ export function byTypesLine({ module, by }) {
  * @returns {string[]} a line or none
  */
 export function gapsNote({ missing, faults }) {
-  const parts = [
-    ...(missing > 0 ? [`${missing} relative ${missing === 1 ? "name leads" : "names lead"} to no file (--missing prints them)`] : []),
-    ...(faults > 0 ? [`${faults} ${faults === 1 ? "file" : "files"} can't be read or parsed`] : []),
-  ];
+  const names = missing === 1 ? "1 relative name leads to no file" : `${missing} relative names lead to no file`;
+  const files = faults === 1 ? "1 file can't be read or parsed" : `${faults} files can't be read or parsed`;
+  const parts = [...(missing > 0 ? [names] : []), ...(faults > 0 ? [files] : [])];
   return parts.length > 0 ? [`of what is reached ${parts.join(", and ")}: more may be reached than is known`] : [];
 }
 

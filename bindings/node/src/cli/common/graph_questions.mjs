@@ -2,32 +2,20 @@
 
 import { resolve as absolute } from "node:path";
 
-import { EntryFault, entryPoints } from "../../graph/entry_points.mjs";
 import { dotText, mermaidText } from "../../graph/pictures.mjs";
 import { canonicalUrl } from "../../graph/reach.mjs";
-import { readGraph } from "../../graph/read_graph.mjs";
 import { unreachedOf } from "../../graph/unreached.mjs";
 import { printable } from "../../runtime/printable.mjs";
 import {
   byTypesLine, cycleLine, fileLines, gapsNote, mayBeReachedLine, mentionData, missingLine, shownPath, stepLine,
 } from "./graph_output.mjs";
-import { UsageFault } from "./command_line.mjs";
-import { FileReporter, ahead, exclusionsFor, findNamed, readOptions, saveCache } from "./read_files.mjs";
+import { readRun } from "./graph_run.mjs";
 import { writeOutput } from "./standard_output.mjs";
 
 /**
- * @typedef {import("../../files/find_files.mjs").Found} Found
- * @typedef {import("../../graph/module_graph.mjs").ModuleGraph} ModuleGraph
  * @typedef {import("./read_files.mjs").Run} Run
  *
- * @typedef {object} Context
- * @property {ModuleGraph} graph
- * @property {string[]} entries keys
- * @property {string[]} named the keys of the files of PATH
- * @property {string[]} pages the paths of the pages of PATH
- * @property {(path: string) => boolean} isIgnored
- * @property {any} values those of the options
- * @property {string} program the path of `modinfo`
+ * @typedef {import("./graph_run.mjs").GraphRun & { values: any }} Context
  *
  * @typedef {object} Answer
  * @property {string[]} [lines] as people read it
@@ -50,82 +38,17 @@ const ANSWERS = { reached, unreached, cycles, missing, why, dependents, dot, mer
  * @returns {Promise<number>} the status
  */
 export async function answerQuestion(question, run) {
-  const { values, work, name } = run;
-  const reporter = new FileReporter(name, { isShown: true });
-  const points = await pointsOf(values.entry ?? [], work.mediaTypes);
-  points.absent.forEach((each) => reporter.warn(`${each}: an entry that isn't there`));
-  const read = await readRun(run, { reporter, entries: points.files, hasPages: question === "unreached" });
-  const entries = points.files.map(keyOf);
-  if (entries.some((entry) => read.graph.module(entry)?.fault)) {
+  const { values, name } = run;
+  const read = await readRun(run, { hasPages: question === "unreached" });
+  const { graph, entries, status } = read;
+  if (entries.some((entry) => graph.module(entry)?.fault)) {
     return 2;
   }
-  const context = { ...read, entries, values, program: String(work.program) };
   const asked = question ?? (values.json || entries.length === 0 ? "graph" : "reached");
-  const { notes = [], isFinding, ...answer } = await ANSWERS[asked](context);
+  const { notes = [], isFinding, ...answer } = await ANSWERS[asked]({ ...read, values });
   await print(answer, values);
   notes.forEach((note) => process.stderr.write(`${name}: ${printable(note)}\n`));
-  return isFinding || points.absent.length > 0 ? 1 : reporter.status;
-}
-
-/**
- * @param {string[]} paths
- * @param {string[]} mediaTypes
- */
-async function pointsOf(paths, mediaTypes) {
-  try {
-    return await entryPoints(paths, { mediaTypes, find: async () => undefined });
-  } catch (/** @type {any} */ error) {
-    throw error instanceof EntryFault ? new UsageFault(printable(error.message)) : error;
-  }
-}
-
-/**
- * @param {Run} run
- * @param {{ reporter: FileReporter, entries: string[], hasPages: boolean }} options
- * @returns {Promise<{ graph: ModuleGraph, named: string[], pages: string[], isIgnored: (path: string) => boolean }>}
- */
-async function readRun(run, { reporter, entries, hasPages }) {
-  const { paths, values, ready } = run;
-  const { types, all, "no-dynamic": noDynamic } = values;
-  const exclusions = await exclusionsFor(run);
-  const { isExcluded, isIgnored } = exclusions;
-  const found = { named: /** @type {string[]} */ ([]), pages: /** @type {string[]} */ ([]) };
-  const [fromPaths, fromEntries] = await Promise.all([
-    findNamed(run, { ...exclusions, hasPages }), findNamed({ ...run, paths: entries }, exclusions),
-  ]);
-  const options = readOptions(run);
-  const graph = await readGraph(both(fromPaths, fromEntries, found), {
-    ...options, types, all, dynamic: !noDynamic, isExcluded, isIgnored, follow: entries.length > 0,
-    ahead: (walked) => ahead(walked, reporter),
-    onRead: async (result) => {
-      await ready;
-      reporter.report(result);
-    },
-  });
-  await ready;
-  reporter.end(paths);
-  await saveCache(run, options.cache);
-  return { graph, ...found, isIgnored };
-}
-
-/**
- * @param {AsyncIterable<Found>} fromPaths
- * @param {AsyncIterable<Found>} fromEntries
- * @param {{ named: string[], pages: string[] }} found gets the keys of the files of a PATH, and the paths of pages
- * @returns {AsyncGenerator<Found, void>}
- */
-async function* both(fromPaths, fromEntries, { named, pages }) {
-  for await (const file of fromPaths) {
-    if (file.isPage) {
-      pages.push(absolute(file.path));
-      continue;
-    }
-    if (!file.error && !file.isLeft && !file.isExcluded) {
-      named.push(keyOf(file.path));
-    }
-    yield file;
-  }
-  yield* fromEntries;
+  return isFinding ? 1 : status;
 }
 
 /**
@@ -152,7 +75,7 @@ async function reached({ graph, entries, program }) {
 /** @param {Context} context */
 async function unreached(context) {
   const { graph, entries, named } = context;
-  const found = await unreachedOf(graph, named, { ...context, find: async () => undefined });
+  const found = await unreachedOf(graph, named, context);
   const lines = [
     ...fileLines(found.unreached), ...found.mayBeReached.map(mayBeReachedLine), ...found.byTypes.map(byTypesLine),
   ];

@@ -1,12 +1,12 @@
 /** Reads many files at once, and writes a line for each. */
 
-import { dirname, resolve as absolute } from "node:path";
+import { resolve as absolute } from "node:path";
 import { Readable } from "node:stream";
 
 import { describeFault, systemMessage } from "../../runtime/faults.mjs";
 import { AnalysisCache } from "../../files/analysis_cache.mjs";
 import { exclusionsOf } from "../../files/exclusions.mjs";
-import { findFiles, isFolder, readPaths } from "../../files/find_files.mjs";
+import { findFiles, foldersOf, readPaths } from "../../files/find_files.mjs";
 import { GlobFault } from "../../files/globs.mjs";
 import { MAX_BYTES } from "../../files/regular_file.mjs";
 import { writeOutput } from "./standard_output.mjs";
@@ -19,6 +19,7 @@ import { canonicalUrl } from "../../graph/reach.mjs";
 /**
  * @typedef {import("../../runtime/read_files.mjs").ReadFile} FileResult
  * @typedef {import("../../runtime/file_worker.mjs").Work} Work
+ * @typedef {import("../../files/exclusions.mjs").Exclusions} Exclusions
  * @typedef {import("../../files/find_files.mjs").Found} Found
  */
 
@@ -137,7 +138,8 @@ function openCache(path, { program = "" }) {
  */
 export async function findNamed({ paths, values, work }, exclusions) {
   const { all, follow } = values;
-  const { isExcluded, isIgnored, isKept, hasPages } = { hasPages: false, ...exclusions ?? await exclusionsFor({ paths, values }) };
+  const { isExcluded, isIgnored, isKept } = exclusions ?? await exclusionsFor({ paths, values });
+  const hasPages = exclusions?.hasPages ?? false;
   return findFiles(named(paths, values), {
     mediaTypes: work.mediaTypes, all, follow, pages: hasPages,
     roots: paths.filter((path) => path !== "-"),
@@ -147,42 +149,15 @@ export async function findNamed({ paths, values, work }, exclusions) {
 }
 
 /**
- * @typedef {object} Exclusions functions of absolute paths
- * @property {(path: string) => boolean} isExcluded by `--exclude` or `--gitignore`: whether a file isn't listed
- * @property {(path: string) => boolean} isIgnored by `--ignore`: whether it isn't followed either
- * @property {(path: string) => boolean} isKept whether it is excluded by `--exclude` alone
- */
-
-/**
  * What the words `--exclude`, `--ignore` and `--gitignore` leave out.
  * @param {{ paths: string[], values: any }} run
  * @returns {Promise<Exclusions>} rejected with a `UsageFault` where a glob can't be read
  */
 export async function exclusionsFor({ paths, values: { exclude, ignore, gitignore, entry = [] } }) {
-  const folders = [
-    ...paths.filter(isFolder), ...entry.map((/** @type {string} */ each) => (isFolder(each) ? each : dirname(each))),
-  ];
-  const [byGlob, byGit, isIgnored] = await Promise.all([
-    excluded("--exclude", { globs: exclude }),
-    exclusionsOf({ ignoredIn: gitignore ? [...new Set(folders)] : [] }),
-    excluded("--ignore", { globs: ignore }),
-  ]);
-  return {
-    isExcluded: (path) => byGlob(path) || byGit(path), isIgnored,
-    isKept: (path) => byGlob(path) && !byGit(path) && !isIgnored(path),
-  };
-}
-
-/**
- * @param {string} option
- * @param {{ globs?: string[] }} what
- * @returns {Promise<(path: string) => boolean>}
- */
-async function excluded(option, what) {
   try {
-    return await exclusionsOf(what);
+    return await exclusionsOf({ exclude, ignore, ignoredIn: gitignore ? foldersOf([...paths, ...entry]) : [] });
   } catch (/** @type {any} */ error) {
-    throw error instanceof GlobFault ? new UsageFault(`${option} ${error.message}`) : error;
+    throw error instanceof GlobFault ? new UsageFault(`a glob can't be read: ${printable(error.message)}`) : error;
   }
 }
 

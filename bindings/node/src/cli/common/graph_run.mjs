@@ -1,0 +1,111 @@
+/** Reads the files of a command into a graph. */
+
+import { resolve as absolute } from "node:path";
+
+import { EntryFault, entryPoints } from "../../graph/entry_points.mjs";
+import { NamedFiles } from "../../graph/named_files.mjs";
+import { canonicalUrl } from "../../graph/reach.mjs";
+import { readGraph } from "../../graph/read_graph.mjs";
+import { printable } from "../../runtime/printable.mjs";
+import { UsageFault } from "./command_line.mjs";
+import { FileReporter, ahead, exclusionsFor, findNamed, readOptions, saveCache } from "./read_files.mjs";
+
+/**
+ * @typedef {import("../../graph/read_graph.mjs").ReadFile} ReadFile
+ * @typedef {import("./read_files.mjs").Run} Run
+ *
+ * @typedef {object} GraphRun
+ * @property {import("../../graph/module_graph.mjs").ModuleGraph} graph
+ * @property {string[]} entries keys
+ * @property {string[]} named the keys of the files of PATH
+ * @property {string[]} pages the paths of the pages of PATH
+ * @property {(path: string) => boolean} isIgnored
+ * @property {(name: string, from: string) => Promise<string | undefined>} find returns the path that a name leads to
+ * @property {string} program the path of `modinfo`
+ * @property {number} status 1 if a file can't be read, or an entry isn't there
+ */
+
+/** The options of a command that reads a graph, as node's `parseArgs` has them. */
+export const GRAPH_OPTIONS = {
+  cache: { type: "string" },
+  entry: { type: "string", multiple: true },
+  exclude: { type: "string", multiple: true },
+  ignore: { type: "string", multiple: true },
+  gitignore: { type: "boolean" },
+  types: { type: "boolean" },
+  "no-dynamic": { type: "boolean" },
+  tsconfig: { type: "string" },
+  conditions: { type: "string", multiple: true },
+};
+
+/** What these options mean, for the help of a command. */
+export const ENTRY_HELP = `  --entry FILE       a file with which the program begins; a folder with a package.json, whose
+                     "exports", "main", "module", "bin" and "browser" name some; or an HTML page with
+                     scripts. Reads what it leads to, outside of PATH too, but not installed packages
+                     (without --all). May be repeated
+  --exclude GLOB     doesn't list files and folders, as "*.test.ts" or "src/**/old", but follows them.
+                     May be repeated
+  --ignore GLOB      neither lists them nor follows them. May be repeated
+  --gitignore        doesn't list what git ignores
+`;
+export const RESOLUTION_HELP = `  --types            counts types, JSDoc and references too, and not only what runs
+  --no-dynamic       doesn't count import(..)
+  --tsconfig FILE    for all files, in place of the nearest tsconfig.json
+  --conditions NAME  a condition of "exports" and "imports", as browser. May be repeated
+`;
+export const CACHE_HELP = `  --cache FILE       keeps results in FILE, and parses only files that have changed
+`;
+
+/**
+ * @param {Run} run
+ * @param {{ hasPages: boolean, onRead?: (result: ReadFile) => void }} options `hasPages`: whether pages and
+ *   components are looked for too, and excluded files read
+ * @returns {Promise<GraphRun>}
+ */
+export async function readRun(run, { hasPages, onRead }) {
+  const { name, paths, values, work, ready } = run;
+  const { types, all, entry = [], "no-dynamic": noDynamic } = values;
+  const reporter = new FileReporter(name, { isShown: true });
+  const find = async () => undefined;
+  const points = await pointsOf(entry, { mediaTypes: work.mediaTypes, find });
+  points.absent.forEach((each) => reporter.warn(`${each}: an entry that isn't there`));
+  const exclusions = await exclusionsFor(run);
+  const { isExcluded, isIgnored } = exclusions;
+  const named = new NamedFiles(
+    await findNamed(run, { ...exclusions, hasPages }), await findNamed({ ...run, paths: points.files }, exclusions),
+  );
+  const options = readOptions(run);
+  const graph = await readGraph(named, {
+    ...options, types, all, dynamic: !noDynamic, isExcluded, isIgnored, follow: points.files.length > 0,
+    ahead: (walked) => ahead(walked, reporter),
+    onRead: async (result) => {
+      await ready;
+      reporter.report(result);
+      onRead?.(result);
+    },
+  });
+  await ready;
+  reporter.end(paths);
+  await saveCache(run, options.cache);
+  return {
+    graph, named: named.keys, pages: named.pages, isIgnored, find, entries: points.files.map(keyOf), program: String(work.program),
+    status: points.absent.length > 0 ? 1 : reporter.status,
+  };
+}
+
+/**
+ * @param {string[]} paths
+ * @param {{ mediaTypes: string[], find: import("../../graph/entry_points.mjs").Find }} options
+ */
+async function pointsOf(paths, options) {
+  try {
+    return await entryPoints(paths, options);
+  } catch (/** @type {any} */ error) {
+    throw error instanceof EntryFault ? new UsageFault(printable(error.message)) : error;
+  }
+}
+
+/** @param {string} path */
+function keyOf(path) {
+  return canonicalUrl(absolute(path));
+}

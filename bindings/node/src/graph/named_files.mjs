@@ -1,0 +1,50 @@
+/** The files with which the reading of a graph begins. */
+
+import { resolve as absolute } from "node:path";
+
+import { canonicalUrl } from "./reach.mjs";
+
+/** @typedef {import("../files/find_files.mjs").Found} Found */
+
+/**
+ * The files of paths, then the entries.
+ * @implements {AsyncIterable<Found>}
+ */
+export class NamedFiles {
+  /**
+   * The keys of the files of paths that are listed.
+   * @type {string[]}
+   */
+  keys = [];
+  /**
+   * The absolute paths of pages and components, which aren't read as modules.
+   * @type {string[]}
+   */
+  pages = [];
+  #paths;
+  #entries;
+
+  /**
+   * @param {AsyncIterable<Found>} paths the files of paths
+   * @param {AsyncIterable<Found>} entries
+   */
+  constructor(paths, entries) {
+    this.#paths = paths;
+    this.#entries = entries;
+  }
+
+  /** @returns {AsyncGenerator<Found, void>} */
+  async *[Symbol.asyncIterator]() {
+    for await (const file of this.#paths) {
+      if (file.isPage) {
+        this.pages.push(absolute(file.path));
+        continue;
+      }
+      if (!file.error && !file.isLeft && !file.isExcluded) {
+        this.keys.push(canonicalUrl(absolute(file.path)));
+      }
+      yield file;
+    }
+    yield* this.#entries;
+  }
+}
