@@ -217,7 +217,7 @@ test("the classes as JSON", () => {
       module: url("t.ts"),
       by: {
         module: url("main.ts"), kind: "type", specifier: "./t", range: [[0, 23], [0, 28]],
-        resolved: { class: "file", file: url("t.ts") },
+        resolved: { class: "file", file: url("t.ts"), by: "bundler" },
       },
     }],
   });

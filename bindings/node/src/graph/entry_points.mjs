@@ -15,7 +15,7 @@ export class EntryFault extends Error {}
  * @property {string[]} files paths
  * @property {string[]} absent what a package.json or a page names that isn't there
  *
- * @typedef {(name: string, from: string) => Promise<string | undefined>} Find returns the path that a name leads to
+ * @typedef {(name: string, from: string) => string | undefined} Find returns the path that a name leads to
  *   from a file
  */
 
@@ -47,9 +47,9 @@ export async function entryPoints(paths, { mediaTypes, find }) {
 /**
  * @param {string} path
  * @param {Find} find
- * @returns {Promise<EntryPoints>}
+ * @returns {EntryPoints}
  */
-async function ofFile(path, find) {
+function ofFile(path, find) {
   if (!isPage(path)) {
     return { files: [path], absent: [] };
   }
@@ -76,7 +76,7 @@ async function ofPackage(folder, { mediaTypes, find }) {
     files.push(...await filesOfPattern(folder, pattern, mediaTypes));
   }
   const plain = modules.filter((name) => !name.includes("*"));
-  const direct = await found(manifest, plain.length + files.length > 0 ? plain : ["./index"], find, files.length > 0);
+  const direct = found(manifest, plain.length + files.length > 0 ? plain : ["./index"], find, files.length > 0);
   return { files: [...direct.files, ...files], absent: direct.absent };
 }
 
@@ -137,14 +137,14 @@ async function filesOfPattern(folder, pattern, mediaTypes) {
  * @param {string[]} names
  * @param {Find} find
  * @param {boolean} [hasOthers] whether there are other entries
- * @returns {Promise<EntryPoints>}
+ * @returns {EntryPoints}
  */
-async function found(from, names, find, hasOthers = false) {
+function found(from, names, find, hasOthers = false) {
   /** @type {EntryPoints} */
   const points = { files: [], absent: [] };
   for (const name of names) {
     const path = fileAt(join(dirname(from), name)) ?? (name.startsWith("/") ? fileAt(`.${name}`) : undefined) ??
-      await find(name, from);
+      find(name, from);
     if (path !== undefined && MODULE.test(path)) {
       points.files.push(path);
     } else if (path === undefined) {

@@ -12,7 +12,8 @@ import { NamedFiles } from "./named_files.mjs";
 import { canonicalUrl } from "./reach.mjs";
 import { readGraph } from "./read_graph.mjs";
 import { RESOLVER_OPTIONS, pathOf, readResolverOptions } from "./resolve_service.mjs";
-import { unledOf, unreachedOf } from "./unreached.mjs";
+import { createResolver } from "./resolver.mjs";
+import { finderOf, unledOf, unreachedOf } from "./unreached.mjs";
 
 /**
  * @typedef {import("./graph.mjs").Graph} Graph
@@ -88,9 +89,10 @@ export async function graphOf(task, signal) {
   const exclusions = await exclusionsOf({ exclude, ignore, ignoredIn });
   const work = {
     adapter: new URL("../parsers/by_media_type.mjs", import.meta.url).href,
-    mediaTypes: TYPESCRIPT_MEDIA_TYPES, program, resolve: task.resolver,
+    mediaTypes: TYPESCRIPT_MEDIA_TYPES, program,
   };
-  const find = async () => undefined;
+  const resolver = createResolver(task.resolver);
+  const find = finderOf(resolver);
   const { files } = await entryPoints(entries, { mediaTypes: work.mediaTypes, find });
   const { isExcluded, isIgnored, isKept } = exclusions;
   const isLeft = (/** @type {string} */ path) => isExcluded(path) || isIgnored(path);
@@ -101,7 +103,7 @@ export async function graphOf(task, signal) {
   const cache = task.cache === undefined ? undefined : new AnalysisCache(task.cache, program);
   const onRead = async () => signal?.throwIfAborted();
   const graph = await readGraph(named, {
-    work, jobs, types, dynamic, all, cache, resolve, follow: files.length > 0, onRead, isExcluded, isIgnored,
+    work, resolver, jobs, types, dynamic, all, cache, resolve, follow: files.length > 0, onRead, isExcluded, isIgnored,
   });
   await cache?.save();
   const { keys, pages } = named;

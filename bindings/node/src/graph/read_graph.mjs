@@ -42,7 +42,9 @@ export async function readGraph(named, options) {
   const { types, dynamic, isExcluded = () => false, resolve, onRead = async () => {} } = options;
   const graph = new ModuleGraph({ types, dynamic });
   const walk = new Walk(named);
-  for await (const result of readModules(options.ahead?.(walk) ?? walk, options)) {
+  const { work, resolver, jobs, timeout, cache } = options;
+  const files = options.ahead?.(walk) ?? walk;
+  for await (const result of readModules(files, { work, resolver, jobs, timeout, cache })) {
     await onRead(result);
     if (result.isLeft) {
       walk.pass([]);

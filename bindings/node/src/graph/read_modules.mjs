@@ -11,8 +11,11 @@ import { referencesOf } from "./references.mjs";
  * @typedef {import("../files/find_files.mjs").Found} Found
  * @typedef {import("../runtime/read_files.mjs").ReadFile} ReadFile
  *
+ * @typedef {import("./resolver.mjs").Resolver} Resolver
+ *
  * @typedef {object} ReadOptions
  * @property {import("../runtime/read_files.mjs").Work} work
+ * @property {Resolver} resolver
  * @property {number} jobs
  * @property {number} [timeout] for a file, in seconds
  * @property {import("../files/analysis_cache.mjs").AnalysisCache} [cache]
@@ -28,19 +31,25 @@ import { referencesOf } from "./references.mjs";
  * @param {ReadOptions} options
  * @returns {AsyncGenerator<ReadFile & ReadModule, void>} in the order of the files
  */
-export async function* readModules(files, { work, jobs, timeout, cache }) {
-  for await (const { line, ...result } of readFiles(files, { work, jobs, timeout, cache })) {
-    yield line === undefined ? result : { ...result, ...moduleOf(result.path, JSON.parse(String(line)).info) };
+export async function* readModules(files, { resolver, ...options }) {
+  for await (const { line, ...result } of readFiles(files, options)) {
+    if (line === undefined) {
+      yield result;
+    } else {
+      const { info } = JSON.parse(String(line));
+      yield { ...result, ...moduleOf(absolute(result.path), info, resolver), notices: resolver.takeNotices() };
+    }
   }
 }
 
 /**
- * @param {string} path
+ * @param {string} file
  * @param {any} info
+ * @param {Resolver} resolver
  * @returns {ReadModule}
  */
-function moduleOf(path, info) {
-  const file = absolute(path);
+function moduleOf(file, info, resolver) {
+  resolver.resolveInfo(info, file);
   const references = referencesOf(info, { isDeclaration: isDeclaration(file) });
   return { info, module: { specifier: canonicalUrl(file), references } };
 }

@@ -13,7 +13,7 @@
  * @property {string[]} entries keys
  * @property {string[]} pages the paths of files that aren't parsed and have scripts
  * @property {(path: string) => boolean} isIgnored whether a file isn't read as a module
- * @property {(name: string, from: string) => Promise<string | undefined>} find the path that a name which isn't
+ * @property {(name: string, from: string) => string | undefined} find the path that a name which isn't
  *   a path leads to
  */
 
@@ -26,6 +26,17 @@ import { isDeclaration, javaScriptBeside } from "./file_kinds.mjs";
 import { looseCalls, looseImports } from "./loose_references.mjs";
 import { Candidates } from "./name_patterns.mjs";
 import { isRunKind } from "./references.mjs";
+
+/**
+ * @param {import("./resolver.mjs").Resolver} resolver
+ * @returns {Project["find"]}
+ */
+export function finderOf(resolver) {
+  return (name, from) => {
+    const { file } = /** @type {{ file?: string }} */ (resolver.resolve(name, from));
+    return file && fileURLToPath(file);
+  };
+}
 
 /**
  * @param {ModuleGraph} graph
@@ -43,7 +54,7 @@ export async function unreachedOf(graph, listed, project) {
   if (asked.length === 0) {
     return { unreached: [], mayBeReached: [], byTypes: [] };
   }
-  const reasons = await new Search(graph, reached, project).reasons([...reached]);
+  const reasons = new Search(graph, reached, project).reasons([...reached]);
   const byTypes = await typeMentions(graph, [...entries, ...reasons.keys()], program);
   const rest = asked.filter((key) => !reasons.has(key));
   return {
@@ -69,7 +80,7 @@ export async function unledOf(graph, listed, project) {
     return all.edgesFrom(specifier).filter(({ to }) => to !== specifier).map(({ to }) => to);
   }));
   const asked = listed.filter((key) => !led.has(key));
-  const reasons = await new Search(graph, led, project).reasons(graph.modules.map(({ specifier }) => specifier));
+  const reasons = new Search(graph, led, project).reasons(graph.modules.map(({ specifier }) => specifier));
   return { unreached: asked.filter((key) => !reasons.has(key)), mayBeReached: withReasons(asked, reasons), byTypes: [] };
 }
 
@@ -136,9 +147,9 @@ class Search {
 
   /**
    * @param {string[]} starts keys of modules that are taken for reached
-   * @returns {Promise<Map<string, Reason>>} why each other module may be reached, by their keys
+   * @returns {Map<string, Reason>} why each other module may be reached, by their keys
    */
-  async reasons(starts) {
+  reasons(starts) {
     starts.forEach((key) => this.#todo.add(key));
     this.#project.pages.forEach((path) => this.#todo.add(pathToFileURL(path).href));
     for (const { specifier, isExcluded } of this.#graph.modules) {
@@ -148,13 +159,13 @@ class Search {
     }
     // Files that are added meanwhile follow.
     for (const key of this.#todo) {
-      await this.#search(key);
+      this.#search(key);
     }
     return this.#found;
   }
 
   /** @param {string} key */
-  async #search(key) {
+  #search(key) {
     const module = this.#graph.module(key);
     const { references, fault } = module ?? { references: /** @type {Reference[]} */ ([]) };
     if (module && !this.#reached.has(key)) {
@@ -165,7 +176,7 @@ class Search {
     if (text !== undefined) {
       const loose = module && !fault ? looseCalls(text) : looseImports(text, kindOfText(key, fault));
       for (const each of loose) {
-        await this.#takeLoose(key, text, each);
+        this.#takeLoose(key, text, each);
       }
     }
   }
@@ -208,9 +219,9 @@ class Search {
    * @param {string} text
    * @param {LooseReference} loose
    */
-  async #takeLoose(key, text, { kind, parts, form, offset }) {
+  #takeLoose(key, text, { kind, parts, form, offset }) {
     const name = parts.map((each) => each ?? "${..}").join("");
-    for (const path of await this.#pathsOf(fileURLToPath(key), parts, { form, kind })) {
+    for (const path of this.#pathsOf(fileURLToPath(key), parts, { form, kind })) {
       this.#add(pathToFileURL(path).href, { kind, module: key, position: positionIn(text, offset), text: name });
     }
   }
@@ -219,9 +230,9 @@ class Search {
    * @param {string} from the path of the file that has the name
    * @param {(string | undefined)[]} parts
    * @param {{ form: LooseReference["form"], kind: string }} what
-   * @returns {Promise<string[]>}
+   * @returns {string[]}
    */
-  async #pathsOf(from, parts, { form, kind }) {
+  #pathsOf(from, parts, { form, kind }) {
     const folders = foldersOf(from, parts[0], kind);
     const [name = "", ...others] = parts;
     if (form === "glob") {
@@ -238,7 +249,7 @@ class Search {
     if (/^[./]/.test(whole) || isOfFile(kind)) {
       return folders.flatMap((folder) => this.#candidates.named(whole.replace(/^\/+/, ""), folder));
     }
-    const path = await this.#project.find(whole, from);
+    const path = this.#project.find(whole, from);
     return path === undefined ? [] : [path];
   }
 

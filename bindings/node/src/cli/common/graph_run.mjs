@@ -6,6 +6,8 @@ import { EntryFault, entryPoints } from "../../graph/entry_points.mjs";
 import { NamedFiles } from "../../graph/named_files.mjs";
 import { canonicalUrl } from "../../graph/reach.mjs";
 import { readGraph } from "../../graph/read_graph.mjs";
+import { createResolver } from "../../graph/resolver.mjs";
+import { finderOf } from "../../graph/unreached.mjs";
 import { printable } from "../../runtime/printable.mjs";
 import { UsageFault } from "./command_line.mjs";
 import { FileReporter, ahead, exclusionsFor, findNamed, readOptions, saveCache } from "./read_files.mjs";
@@ -20,7 +22,7 @@ import { FileReporter, ahead, exclusionsFor, findNamed, readOptions, saveCache }
  * @property {string[]} named the keys of the files of PATH
  * @property {string[]} pages the paths of the pages of PATH
  * @property {(path: string) => boolean} isIgnored
- * @property {(name: string, from: string) => Promise<string | undefined>} find returns the path that a name leads to
+ * @property {(name: string, from: string) => string | undefined} find returns the path that a name leads to
  * @property {string} program the path of `modinfo`
  * @property {number} status 1 if a file can't be read, or an entry isn't there
  */
@@ -66,7 +68,8 @@ export async function readRun(run, { hasPages, onRead }) {
   const { name, paths, values, work, ready } = run;
   const { types, all, entry = [], "no-dynamic": noDynamic } = values;
   const reporter = new FileReporter(name, { isShown: true });
-  const find = async () => undefined;
+  const resolver = createResolver(work.resolve);
+  const find = finderOf(resolver);
   const points = await pointsOf(entry, { mediaTypes: work.mediaTypes, find });
   points.absent.forEach((each) => reporter.warn(`${each}: an entry that isn't there`));
   const exclusions = await exclusionsFor(run);
@@ -76,7 +79,7 @@ export async function readRun(run, { hasPages, onRead }) {
   );
   const options = readOptions(run);
   const graph = await readGraph(named, {
-    ...options, types, all, dynamic: !noDynamic, isExcluded, isIgnored, follow: points.files.length > 0,
+    ...options, work: { ...options.work, resolve: undefined }, resolver, types, all, dynamic: !noDynamic, isExcluded, isIgnored, follow: points.files.length > 0,
     ahead: (walked) => ahead(walked, reporter),
     onRead: async (result) => {
       await ready;
