@@ -65,7 +65,7 @@ test("a cycle of what runs is one, whatever declarations lie beside", () => {
   assert.deepEqual(lines(["--cycles", "."], folder, { status: 1 }), ["a.js -> b.js -> a.js"]);
   const [{ references: [edge] }] = modulesOf(["a.js"], folder);
   assert.deepEqual(edge.resolved, {
-    class: "file", file: urlOf(folder, "b.js"), types: urlOf(folder, "b.d.ts"),
+    class: "file", file: urlOf(folder, "b.js"), types: urlOf(folder, "b.d.ts"), by: "node",
   });
 });
 
@@ -119,7 +119,7 @@ test("JSON and arguments whose parts are known lead to their files", () => {
   });
   assert.deepEqual(lines(["--entry", "a.js"], folder), ["a.js", "b.js"]);
   const [{ references }] = modulesOf(["a.js"], folder);
-  const file = (/** @type {string} */ path) => ({ class: "file", file: urlOf(folder, path) });
+  const file = (/** @type {string} */ path) => ({ class: "file", file: urlOf(folder, path), by: "node" });
   assert.deepEqual(references.map(({ specifier, resolved }) => [specifier, resolved]), [
     ["./package.json", file("package.json")], ["./b.js", file("b.js")],
   ]);

@@ -34,7 +34,7 @@ test("a graph of paths has the modules and what each names", async () => {
   assert.deepEqual(pathsOf(folder, graph), ["src/a.ts", "src/b.ts", "src/t.ts", "src/wrong.ts"]);
   assert.deepEqual(graph.modules[0].references, [{
     kind: "static", specifier: "./b.js", range: [[0, 18], [0, 26]],
-    resolved: { class: "file", file: urlOf(folder, "src/b.ts") },
+    resolved: { class: "file", file: urlOf(folder, "src/b.ts"), by: "bundler" },
   }]);
   const wrong = graph.modules[3].fault;
   assert.deepEqual([wrong?.fault, wrong?.line, wrong?.column, graph.entries], ["Syntax", 1, 7, undefined]);
@@ -117,9 +117,11 @@ test("the specifiers of a ModuleInfo are resolved in a copy", async () => {
     const { dependencies } = await modinfo.resolve(info, { specifier, ...options });
     return dependencies?.map(({ resolved }) => resolved);
   };
-  const file = { class: "file", file: urlOf(folder, "src/t.ts") };
+  const file = { class: "file", file: urlOf(folder, "src/t.ts"), by: "bundler" };
   /** @param {string} name */
-  const inPackage = (name) => ({ class: "package", package: "p", file: urlOf(folder, `node_modules/p/${name}`) });
+  const inPackage = (name) => {
+    return { class: "package", package: "p", file: urlOf(folder, `node_modules/p/${name}`), by: "node" };
+  };
   assert.deepEqual(await classes(), [inPackage("d.js"), file]);
   assert.deepEqual(await classes({ conditions: ["special"] }), [inPackage("s.js"), file]);
   assert.equal(info.dependencies?.some((each) => "resolved" in each), false);

@@ -112,7 +112,9 @@ export class NodeRules {
     const folder = dirname(importer);
     const scope = this.#manifests.scopeOf(folder);
     if (specifier.startsWith("#") && isSet(scope?.imports)) {
-      return this.#byImports(specifier, /** @type {Manifest} */ (scope), "require");
+      const found = this.#byImports(specifier, /** @type {Manifest} */ (scope), "require");
+      // Node takes a name of `imports` for that of a file here, also where it leads to its own module.
+      return found.kind === "builtin" ? NONE : found;
     }
     if (scope?.name !== undefined && isSet(scope.exports) && `${specifier}/`.startsWith(`${scope.name}/`)) {
       return this.#byExports(`.${specifier.slice(scope.name.length)}`, scope, "require");
