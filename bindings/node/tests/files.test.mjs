@@ -191,22 +191,27 @@ test("--resolve adds what names resolve to, wherever a module is named", () => {
   const folder = project();
   const found = answers(["--resolve", "src/main.ts", "src/b.ts", "src/only_types.ts"], folder);
   const resolved = found.map((each) => dependenciesOf(each)?.map(({ resolved: to }) => to));
-  /** @param {string} path */
-  const file = (path) => ({ class: "file", file: urlOf(folder, path) });
+  /**
+   * @param {string} path
+   * @param {string} [by]
+   */
+  const file = (path, by = "node") => ({ class: "file", file: urlOf(folder, path), by });
   assert.deepEqual(resolved, [
-    [file("src/b.ts"), file("src/c.js"), { class: "unknown" }],
+    [file("src/b.ts", "bundler"), file("src/c.js"), { class: "unknown" }],
     [{ ...file("lib/d.js"), types: urlOf(folder, "lib/d.d.ts") }],
     undefined,
   ]);
   const inCommonJs = folderOf({ "a.cts": `import b = require("./b");`, "b/index.ts": "" });
   const [{ info }] = answers(["--resolve", "a.cts"], inCommonJs);
-  assert.deepEqual(info.dependencies[0].resolved, { class: "file", file: urlOf(inCommonJs, "b/index.ts") });
+  const index = urlOf(inCommonJs, "b/index.ts");
+  assert.deepEqual(info.dependencies[0].resolved, { class: "file", file: index, by: "bundler" });
 });
 
 test("what is wrong with a configuration is reported once", () => {
   const folder = folderOf({ "tsconfig.json": "{", "a.ts": "", "b.ts": "", "c.ts": "" });
   const { stderr, status } = run("files.mjs", ["--resolve", "--jobs", "3", "."], { cwd: folder });
-  assert.equal(stderr, `${NAME}: warning: ${folder}/tsconfig.json: '}' expected.\n`);
+  const warning = `${NAME}: warning: ${folder}/tsconfig.json: passed over: `;
+  assert.ok(stderr.startsWith(warning) && stderr.split("\n").length === 2, stderr);
   assert.equal(status, 0);
 });
 

@@ -41,6 +41,7 @@ export class RegularFiles {
   #entries = new Map([["/", { kind: "folder", path: "/", links: 0 }]]);
   /** @type {Set<string>} */
   #roots = new Set();
+  #hasAll = false;
   /** Folders above a root: their own package.json and configurations count. @type {Set<string>} */
   #above = new Set();
 
@@ -93,12 +94,20 @@ export class RegularFiles {
     return entry;
   }
 
+  /** Takes all that no link leads to for inside. */
+  addAllWithoutLinks() {
+    this.#hasAll = true;
+  }
+
   /**
-   * Whether a path without links is in no folder that was added.
-   * @param {string} path
+   * Whether what a path leads to is in no folder that was added.
+   * @param {Entry} entry
    * @returns {boolean}
    */
-  isOutside(path) {
+  isOutside({ path, links }) {
+    if (this.#hasAll && links === 0) {
+      return false;
+    }
     for (let folder = path; ; folder = dirname(folder)) {
       if (this.#roots.has(folder)) {
         return false;
@@ -118,11 +127,12 @@ export class RegularFiles {
    * @throws {Error} the system's, where it can't be read
    */
   read(path) {
-    const { kind, path: real } = this.at(path);
+    const entry = this.at(path);
+    const { kind, path: real } = entry;
     if (kind !== "file") {
       throw new FileFault("Input", kind === "none" ? "no such file" : "not a regular file");
     }
-    if (this.isOutside(real) && !this.#above.has(dirname(real))) {
+    if (this.isOutside(entry) && !this.#above.has(dirname(real))) {
       throw new FileFault("Input", `outside of the project, in ${dirname(real)}`);
     }
     const file = this.#system.openSync(real, READ_HERE);
@@ -139,13 +149,13 @@ export class RegularFiles {
    * @returns {string[]} their names, sorted; none where the folder can't be read
    */
   foldersIn(path) {
-    const { kind, path: real } = this.at(path);
-    if (kind !== "folder" || this.isOutside(real)) {
+    const entry = this.at(path);
+    if (entry.kind !== "folder" || this.isOutside(entry)) {
       return [];
     }
     try {
-      const entries = this.#system.readdirSync(real, { withFileTypes: true });
-      return entries.filter((entry) => entry.isDirectory()).map(({ name }) => name).sort();
+      const items = this.#system.readdirSync(entry.path, { withFileTypes: true });
+      return items.filter((item) => item.isDirectory()).map(({ name }) => name).sort();
     } catch {
       return [];
     }

@@ -126,9 +126,9 @@ export class BundlerRules {
    */
   #firstFile(paths) {
     for (const path of paths) {
-      const { kind, path: real } = this.#files.at(path);
-      if (kind === "file") {
-        return { kind: this.#files.isOutside(real) ? "outside" : "file", path: real };
+      const entry = this.#files.at(path);
+      if (entry.kind === "file") {
+        return { kind: this.#files.isOutside(entry) ? "outside" : "file", path: entry.path };
       }
     }
     return undefined;
@@ -140,11 +140,11 @@ export class BundlerRules {
    * @returns {Found | undefined}
    */
   #asFolder(folder, { isTypeScript, suffixes = [""] }) {
-    const { kind, path } = this.#files.at(folder);
-    if (kind !== "folder") {
+    const entry = this.#files.at(folder);
+    if (entry.kind !== "folder") {
       return undefined;
     }
-    const { members = {} } = this.#files.isOutside(path) ? {} : this.#manifests.of(folder) ?? {};
+    const { members = {} } = this.#files.isOutside(entry) ? {} : this.#manifests.of(folder) ?? {};
     const mains = [...this.#mainFields, ...MAIN_FIELDS, ...TYPES_FIELDS].flatMap((name) => {
       const main = members[name];
       return typeof main === "string" ? [absolute(folder, main)] : [];

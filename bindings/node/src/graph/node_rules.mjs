@@ -163,11 +163,10 @@ export class NodeRules {
    * @returns {Found}
    */
   #file(path) {
-    const { kind, path: real } = this.#files.at(path);
-    if (kind !== "file") {
-      return { kind: "none", wanted: path };
-    }
-    return { kind: this.#files.isOutside(real) ? "outside" : "file", path: real };
+    const entry = this.#files.at(path);
+    return entry.kind === "file"
+      ? { kind: this.#files.isOutside(entry) ? "outside" : "file", path: entry.path }
+      : { kind: "none", wanted: path };
   }
 
   /**
@@ -249,9 +248,9 @@ export class NodeRules {
    * @returns {Found}
    */
   ofPackage(folder, rest, mode) {
-    const { path } = this.#files.at(folder);
-    if (this.#files.isOutside(path)) {
-      return { kind: "outside", path };
+    const entry = this.#files.at(folder);
+    if (this.#files.isOutside(entry)) {
+      return { kind: "outside", path: entry.path };
     }
     const manifest = this.#manifests.of(folder);
     if (manifest && isSet(manifest.exports)) {
@@ -346,12 +345,12 @@ export class NodeRules {
   #inFolder(modules, specifier) {
     const [, name, rest = ""] = REQUIRED.exec(specifier) ?? [];
     const own = name === undefined ? undefined : absolute(modules, name);
-    const { kind, path } = own === undefined ? { kind: "none", path: "" } : this.#files.at(own);
-    if (own === undefined || kind !== "folder") {
+    const entry = own === undefined ? undefined : this.#files.at(own);
+    if (own === undefined || entry?.kind !== "folder") {
       return this.#fileOrFolder(absolute(modules, specifier), FOLDER.test(specifier));
     }
-    if (this.#files.isOutside(path)) {
-      return { kind: "outside", path };
+    if (this.#files.isOutside(entry)) {
+      return { kind: "outside", path: entry.path };
     }
     const manifest = this.#manifests.of(own);
     if (manifest && isSet(manifest.exports)) {

@@ -5,23 +5,23 @@ import { dirname, join } from "node:path";
 /** What the folder of a project may have; that of a repository is never passed. */
 const MARKS = ["package.json", "deno.json", "deno.jsonc", "tsconfig.json", "jsconfig.json", "pnpm-workspace.yaml"];
 const REPOSITORY = [".git", ".hg"];
+const PACKAGES = ["node_modules"];
 
 /**
  * The folder of the repository that a folder is in; else the uppermost one with a package.json or a
- * configuration; else the current one, where it is above the folder; else the folder itself.
+ * configuration; else the nearest one with packages.
  * @param {string} folder absolute and normal
  * @param {import("../files/regular_files.mjs").RegularFiles} files
- * @param {string} [current]
- * @returns {string}
+ * @returns {string | undefined} nothing where there is none
  */
-export function projectOf(folder, files, current = process.cwd()) {
+export function projectOf(folder, files) {
   const has = (/** @type {string} */ each, /** @type {string[]} */ names) => {
     return names.some((name) => files.at(join(each, name)).kind !== "none");
   };
   const above = foldersFrom(folder);
-  const repository = above.find((each) => has(each, REPOSITORY));
-  const uppermost = repository ?? above.filter((each) => has(each, MARKS)).at(-1);
-  return uppermost ?? (above.includes(current) ? current : folder);
+  return above.find((each) => has(each, REPOSITORY)) ??
+    above.filter((each) => has(each, MARKS)).at(-1) ??
+    above.find((each) => has(each, PACKAGES));
 }
 
 /**

@@ -6,9 +6,9 @@ import type { System } from "../files/regular_files.mjs";
 export interface ResolverOptions {
   /**
    * The folders of the project, as paths. What is in none of them, in no `node_modules` above one and
-   * in no folder of `globalFolders` is `outside`. Without it, it is decided for each module: the
-   * folder of its repository, else the uppermost one with a package.json or a configuration, else the
-   * current one, where it is above the module, else the module's.
+   * in no folder of `globalFolders` is `outside`. Without it, each module is in the project of its
+   * repository, else of the uppermost folder with a package.json or a configuration, else of the
+   * nearest one with a `node_modules`; without these, all that no link leads to is inside.
    */
   root?: string | readonly string[];
   /** Conditions of `exports` and `imports`, besides those that node sets. With `browser` that member counts. */

@@ -164,7 +164,12 @@ class Resolver {
   #addProject(folder) {
     if (!this.#projects.has(folder)) {
       this.#projects.add(folder);
-      this.#files.addProject(projectOf(folder, this.#files));
+      const project = projectOf(folder, this.#files);
+      if (project === undefined) {
+        this.#files.addAllWithoutLinks();
+      } else {
+        this.#files.addProject(project);
+      }
     }
   }
 
@@ -212,7 +217,7 @@ class Resolver {
     if (found.kind !== "file") {
       return { class: "missing" };
     }
-    return this.#files.isOutside(found.path)
+    return this.#files.isOutside(found)
       ? { class: "outside", target: urlOf(found.path) }
       : { class: "file", file: urlOf(found.path) };
   }

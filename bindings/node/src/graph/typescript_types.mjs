@@ -54,8 +54,9 @@ export class TypeScriptTypes {
     const settings = this.#settingsOf(importer);
     const directive = syntax === "types" ? this.#findDirective(specifier, importer, settings, mode) : undefined;
     const path = directive ?? this.#findModule(specifier, importer, settings, mode);
-    const { kind, path: real } = path === undefined ? { kind: "none", path: "" } : this.#files.at(absolute(path));
-    return kind === "file" && isTypeScript(real) && !this.#files.isOutside(real) ? real : undefined;
+    const entry = path === undefined ? undefined : this.#files.at(absolute(path));
+    const isFound = entry?.kind === "file" && isTypeScript(entry.path) && !this.#files.isOutside(entry);
+    return isFound ? entry.path : undefined;
   }
 
   /**
