@@ -18,7 +18,8 @@ NAMES = "crates/modinfo_document/src/names.rt"
 
 @pytest.fixture
 def formats(repository: Repository) -> Repository:
-    sources = ["bindings/node/src", "bindings/python/src", "bindings/rust/src", "crates/modinfo_document/src"]
+    sources = ["bindings/node/src", "bindings/python/src", "bindings/rust/src"]
+    sources += ["crates/deno_graph_source/src", "crates/modinfo_document/src"]
     copy_tracked(repository, "docs", "include", "packaging", "tools", *sources)
     return repository
 

@@ -5,7 +5,7 @@ import { test } from "node:test";
 import { join } from "node:path";
 import { pathToFileURL } from "node:url";
 
-import { mediaTypeOf } from "../src/document/media_types.mjs";
+import { endingOf, mediaTypeOf } from "../src/document/media_types.mjs";
 import { folderOf, linesOf, run, shell } from "./run_commands.mjs";
 
 const FOLDER = folderOf({
@@ -142,7 +142,19 @@ test("media types by the name", () => {
     "a.ts": "TypeScript", "a.d.ts": "Dts", "a.d.mts": "Dmts", "a.d.cts": "Dcts", "a.mts": "Mts",
     "a.cts": "Cts", "a.tsx": "Tsx", "a.js": "JavaScript", "a.JSX": "Jsx", "a.mjs": "Mjs",
     "a.cjs": "Cjs", "https://a/b.ts?c.js": "TypeScript", "a.json": undefined, a: undefined,
+    "a.d.css.ts": "Dts", "a.d.css.mts": "Mts", "d.css.ts": "TypeScript", "d.ts": "TypeScript",
+    ".d.ts": "Dts", ".ts": undefined, "b/.ts": undefined, "a.ts/": undefined, "b.js/a": undefined,
+    "a#b.ts": "TypeScript", "https://a/b#c.ts": undefined, "data:text/javascript,a.ts": "JavaScript",
+    "data:TEXT/TSX ;base64,YQ": "Tsx", "data:text/jsx": undefined, "data:,a.ts": undefined,
   })) {
     assert.equal(mediaTypeOf(name), mediaType, name);
+  }
+});
+
+test("the ending of a media type", () => {
+  for (const [mediaType, ending] of Object.entries({
+    JavaScript: ".js", Tsx: ".tsx", Mts: ".mts", Dts: ".d.ts", Dcts: ".d.cts", Json: undefined, Other: undefined,
+  })) {
+    assert.equal(endingOf(mediaType), ending, mediaType);
   }
 });

@@ -9,6 +9,7 @@ pub mod jsdoc;
 pub mod modules;
 pub mod parts;
 pub mod serve;
+pub mod specifiers;
 pub mod texts;
 
 use crate::case_error::CaseError;
@@ -25,6 +26,7 @@ pub fn answer_of(alloc: Global, words: &[&str], input: &[u8]) -> Result<String, 
     match *name {
         "serve" => serve::serve(alloc, words, input),
         "beginnings" => serve::beginnings(alloc, words, input),
+        "from_specifier" => specifiers::from_specifier(alloc, text_of(input)?),
         name => of_json(alloc, name, words, input),
     }
 }

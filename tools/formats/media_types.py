@@ -1,0 +1,33 @@
+"""The tables of docs/media-types.json in Rattle, in node and in docs/FORMATS.md: media types of files by the endings of
+their names, and of `data:` URLs by MIME types."""
+
+import json
+from collections.abc import Iterator
+
+from formats.blocks import Block
+from formats.pages import PAGE, table
+from formats.schema import ROOT, Format
+
+CRATE = "crates/deno_graph_source/src/tree/media_type"
+NODE = "bindings/node/src/document/media_types.mjs"
+
+
+def blocks(_: Format, __: Format, ___: Format) -> Iterator[Block]:
+    tables: dict[str, dict[str, str]] = json.loads((ROOT / "docs/media-types.json").read_text())
+    endings, declarations, mime_types = (tables[name] for name in ("endings", "declarations", "mimeTypes"))
+    yield f"{CRATE}/file_name.rt", f"ENDINGS: [(&str, MediaType); {len(endings)}] =", in_rattle(endings)
+    yield f"{CRATE}/data_url.rt", f"MIME_TYPES: [(&str, MediaType); {len(mime_types)}] =", in_rattle(mime_types)
+    for name, found in ("endings", endings), ("declarations", declarations), ("MIME types", mime_types):
+        yield NODE, name, [f'  ["{key}", "{found[key]}"],' for key in found if found[key] != "Json"]
+    rows = [[f"`{key}`", f"`{endings[key]}`", *declared(endings[key], declarations)] for key in endings]
+    yield PAGE, "endings", table("Ending | Media type | Of declarations", rows)
+
+
+def in_rattle(found: dict[str, str]) -> list[str]:
+    """An array of pairs."""
+    return ["[", *(f'    ("{key}", MediaType::{found[key]}),' for key in found), "]"]
+
+
+def declared(media_type: str, declarations: dict[str, str]) -> list[str]:
+    """The cell of the media type of declaration files; empty if there are none."""
+    return [f"`{declarations[media_type]}`" if media_type in declarations else ""]
