@@ -77,7 +77,8 @@ def test_a_program_that_is_not_linked(repository: Repository) -> None:
     repository.change("modinfo_cli/src/main.rt")
     repository.put_program(repository.bin / "rattle-link", "#!/bin/sh\necho no such file >&2\nexit 1\n")
     step = "modinfo: building crate 6 of 6, modinfo_cli\n"
-    expect_failure(repository, f"{step}modinfo: the program isn't linked: no such file\n")
+    errors = f"{step}modinfo: the program isn't linked: no such file\n"
+    assert repository.run("./modinfo", "--prove") == (1, "", errors)
 
 
 @pytest.mark.parametrize(
@@ -169,5 +170,5 @@ def test_another_processor(repository: Repository) -> None:
     made = MADE.replace("build/", "build/aarch64/")
     step = "modinfo: building crate 6 of 6, modinfo_cli\n"
     assert repository.run("tools/prove_modinfo", *target) == (0, "", step + made)
-    assert repository.run("build/aarch64/modinfo", "analyze") == (7, "proved: analyze\n", "modinfo: Tree\n")
+    assert repository.run("build/aarch64/modinfo", "analyze") == (7, "ran: analyze\n", "modinfo: Tree\n")
     assert not repository.is_proved()
