@@ -60,11 +60,11 @@ class Target:
         return "cc" if name == "gcc" and not self.prefix else self.prefix + name
 
     def compiled(self, *names: str) -> list[Path]:
-        """Compiles C files of tools/, and returns the object files. The kit has their functions for x86-64 alone."""
+        """Compiles C files of packaging/aarch64. The kit has their functions for x86-64 alone."""
         objects = []
         for name in names:
             objects.append(STAGE / f"{name}.o")
-            run(self.tool("gcc"), "-O2", "-fPIC", "-c", "-o", objects[-1], ROOT / f"tools/{name}.c")
+            run(self.tool("gcc"), "-O2", "-fPIC", "-c", "-o", objects[-1], ROOT / f"packaging/aarch64/{name}.c")
         return objects
 
 
@@ -134,11 +134,35 @@ def staged() -> Iterator[None]:
 
 def keep(made: Path, name: str, closure: Closure) -> None:
     """Puts a built file into build/, with the time at which the build began."""
+    (ROOT / "build" / name).parent.mkdir(exist_ok=True)
     (STAGE / "sources").write_bytes(closure.listing())
     shutil.copy(made, STAGE / "made")
     set_time(STAGE / "made", STAGE / "start")
     os.replace(STAGE / "sources", ROOT / f"build/{name}.sources")
     os.replace(STAGE / "made", ROOT / f"build/{name}")
+
+
+def make_current(
+    script: str, closure: Closure, names: list[str], tools: list[str], make: Callable[[Kit], list[Path]]
+) -> bool:
+    """Makes files of build/ where one is missing or older than the sources of a closure. Returns whether it did. `make`
+    returns the files, in the order of the names."""
+
+    def is_current() -> bool:
+        return all(closure.is_current(name) for name in names)
+
+    if is_current():
+        return False
+    need(*tools)
+    kit = Kit.find()
+    with locked(script):
+        # Another run may have made them meanwhile.
+        if is_current():
+            return False
+        with staged():
+            for name, file in zip(names, make(kit)):
+                keep(file, name, closure)
+    return True
 
 
 def inputs(kit: Kit, closure: Closure, crate: Crate, built: Path = BUILT) -> list[str]:
@@ -160,18 +184,12 @@ def prover(
 ) -> list[str]:
     """The command that builds a crate, in its folder. `target` is that of a program or a static library."""
     words = [str(kit.folder / "bin/rattle"), "build", *inputs(kit, closure, crate, built), "--jobs", str(jobs)]
-    compiled = [
-        *(["--target", target] if target else []),
-        "--toolchain",
-        f"{kit.folder}/toolchain",
-        "--backend",
-        "llvm",
-    ]
-    if crate.is_program:
-        return [*words, *compiled, "-o", str(object_of(crate.name, target, built))]
-    if crate.is_static_library:
-        return [*words, *compiled, "-o", str(archive_of(crate.name, target, built))]
-    return [*words, "--statements", "-o", f"{built}/{crate.name}.rlib"]
+    if not crate.is_program and not crate.is_static_library:
+        return [*words, "--statements", "-o", f"{built}/{crate.name}.rlib"]
+    words += ["--target", target] if target else []
+    words += ["--toolchain", f"{kit.folder}/toolchain", "--backend", "llvm"]
+    made = object_of if crate.is_program else archive_of
+    return [*words, "-o", str(made(crate.name, target, built))]
 
 
 def archive_of(name: str, target: str | None, built: Path = BUILT) -> Path:
@@ -247,11 +265,8 @@ class Build:
 
     def _start(self, crate: Crate, niceness: int, jobs: int) -> None:
         self._state[crate.name] = "running"
-        print(
-            f"{self._script}: building crate {len(self._state)} of {len(self._crates)}, {crate.name}",
-            file=sys.stderr,
-            flush=True,
-        )
+        step = f"crate {len(self._state)} of {len(self._crates)}, {crate.name}"
+        print(f"{self._script}: building {step}", file=sys.stderr, flush=True)
         stamp_of(crate).unlink(missing_ok=True)
         command = ["nice", "-n", str(niceness), *prover(self._kit, self._closure, crate, jobs, target=self._target)]
         with open(log_of(crate), "wb") as log:
@@ -262,7 +277,8 @@ class Build:
     def _end_crate(self) -> None:
         """Waits for a crate. Its stamp is written only where its sources, and those below, didn't change meanwhile."""
         if not self._running:
-            raise BuildError(f"crates.txt has crates that need one another, among {', '.join(self._left())}")
+            left = sorted(crate.name for crate in self._crates if crate.name not in self._state)
+            raise BuildError(f"crates.txt has crates that need one another, among {', '.join(left)}")
         ended = os.waitid(os.P_ALL, 0, os.WEXITED | os.WNOWAIT)
         assert ended is not None
         crate, process, jobs = self._running.pop(ended.si_pid)
@@ -279,9 +295,6 @@ class Build:
             written = STAGE / f"{crate.name}.stamp"
             written.write_text(self._stamp(crate))
             os.replace(written, stamp_of(crate))
-
-    def _left(self) -> list[str]:
-        return sorted(crate.name for crate in self._crates if crate.name not in self._state)
 
     def not_built(self) -> list[Crate]:
         """The crates that aren't built, or whose sources have changed since."""

@@ -59,7 +59,7 @@ def with_or_without(setup: str, command: str) -> str:
     return f"{{ flock build/test {setup} || [[ $? -eq {UNAVAILABLE} ]]; }} && {command}"
 
 
-PYTEST = "exec /usr/bin/python3 -B -m pytest"
+PYTEST = "exec /usr/bin/python3 -B -m pytest -q -p no:cacheprovider -r s"
 NODE = "cd bindings/node && exec node --test"
 BROWSER = after("bindings/node/setup", f"{NODE} tests/browser/*.test.mjs")
 HAS_BROWSER = f"{{ command -v chromium && command -v chromedriver || exit {UNAVAILABLE}; }}"
@@ -71,7 +71,7 @@ QUICK = [
     Part("python", after("bindings/setup python", "exec bindings/python/run_tests"), ("libmodinfo",)),
     Part(
         "formats",
-        after("bindings/node/setup", after("bindings/setup python", "exec tools/tests/formats")),
+        after("bindings/node/setup", after("bindings/setup python", f"{PYTEST} bindings/tests/test_formats.py")),
         ("modinfo",),
     ),
     Part(
@@ -82,7 +82,8 @@ QUICK = [
     Part("examples", 'exec python3 -B tools/examples.py "$MODINFO"', ("modinfo",)),
     Part("files", "tools/copy_examples --check && tools/generate_formats --check && tools/set_version --check"),
     Part("scripts", after("bindings/setup python", f"{PYTEST} tools/tests -m 'not slow'")),
-    Part("manual", "exec tools/tests/manual"),
+    Part("header", after("bindings/setup python", f"{PYTEST} packaging/tests/test_header.py")),
+    Part("manual", after("bindings/setup python", f"{PYTEST} packaging/tests/test_manual.py"), ("modinfo",)),
 ]
 UNCHECKED_PARTS = [Part("browser", f"{HAS_BROWSER} && {BROWSER}", ("modinfo",)), *QUICK]
 # Other parts take long, or test what is installed and packed, which is the proved program alone.
@@ -91,20 +92,23 @@ PROVED_PARTS = [
     Part("browser", after("bindings/node/setup_report", BROWSER), ("modinfo",)),
     *QUICK,
     Part("fresh_clone", after("bindings/setup python", f"{PYTEST} tools/tests -m slow")),
-    Part("library", "exec tools/tests/library", ("libmodinfo",)),
-    Part(
-        "aarch64",
-        after("packaging/setup aarch64", "tools/build_library --target aarch64 && exec tools/tests/aarch64"),
-        ("modinfo", "libmodinfo"),
-    ),
-    Part("embed", "exec examples/embed", ("libmodinfo",)),
+    Part("library", after("bindings/setup python", f"{PYTEST} packaging/tests/test_library.py"), ("libmodinfo",)),
     *(
         Part(
             name,
-            with_or_without("packaging/setup", with_or_without("bindings/setup python", f"exec tools/tests/{name}")),
+            with_or_without(
+                "packaging/setup", after("bindings/setup python", f"{PYTEST} packaging/tests/test_{name}.py")
+            ),
             ("modinfo", "libmodinfo"),
         )
-        for name in ("install", "package", "interfaces")
+        for name in ("install", "package")
     ),
+    Part(
+        "aarch64",
+        after("packaging/setup aarch64", "tools/build_library --target aarch64 && exec packaging/aarch64/test"),
+        ("modinfo", "libmodinfo"),
+    ),
+    Part("embed", "exec examples/embed", ("libmodinfo",)),
+    Part("pages", after("bindings/setup python", f"{PYTEST} bindings/tests/test_pages.py"), ("modinfo", "libmodinfo")),
     Part("cluster", after("examples/cluster/setup", "exec examples/cluster/test"), ("modinfo", "libmodinfo")),
 ]

@@ -8,6 +8,7 @@ exits with status 0 where build/NAME was made from the current sources of the cr
 import hashlib
 import os
 import re
+import subprocess
 import sys
 from collections.abc import Iterable, Iterator
 from contextlib import suppress
@@ -70,6 +71,13 @@ def walk(part: str) -> Iterator[str]:
     for folder, folders, files in os.walk(ROOT / part):
         below = os.path.relpath(folder, ROOT)
         yield from (f"{below}/{name}" for name in [*folders, *files])
+
+
+def tracked(*patterns: str) -> list[str]:
+    """The names of the files of the repository that git knows or doesn't ignore: all, or those of some patterns."""
+    listing = ["git", "-C", str(ROOT), "ls-files", "--cached", "--others", "--exclude-standard", *patterns]
+    names = subprocess.run(listing, stdout=subprocess.PIPE, text=True, check=True).stdout.splitlines()
+    return [name for name in names if (ROOT / name).is_file()]
 
 
 def is_file(path: str) -> bool:

@@ -5,7 +5,8 @@ import subprocess
 from pathlib import Path
 
 import pytest
-from conftest import ROOT, Repository
+from conftest import Repository
+from sources import ROOT
 
 
 def test_the_proved_program(repository: Repository) -> None:

@@ -1,4 +1,4 @@
-"""Tests the help of each script, tools/mutations, tools/set_version and the header for C."""
+"""Tests the help of each script, tools/mutations and tools/set_version."""
 
 import os
 import re
@@ -7,7 +7,8 @@ import subprocess
 from pathlib import Path
 
 import pytest
-from conftest import ROOT, Repository, copy_tracked, tracked
+from conftest import Repository, copy_tracked
+from sources import ROOT, tracked
 
 VERSION = (ROOT / "VERSION").read_text().strip()
 
@@ -98,50 +99,3 @@ def test_a_new_version(repository: Repository) -> None:
     assert old in repository.run(*command, "--check")[1]
     repository.write("bindings/rust/Cargo.toml", "")
     assert 'bindings/rust/Cargo.toml doesn\'t have name = "modinfo"' in repository.run(*command, "--check")[1]
-
-
-# Calls each function and uses each constant, so that a macro that isn't an expression is an error too.
-CALLS = "".join(
-    f"    if (modinfo_{name}(document, length, answer, room, written) == MODINFO_{status}) return MODINFO_FAULT;\n"
-    for name, status in [
-        ("analyze", "TOO_SMALL"),
-        ("analyze_estree", "ANSWERED"),
-        ("convert", "ANSWERED"),
-        ("reach", "ANSWERED"),
-        ("check", "ANSWERED"),
-        ("check_estree", "ANSWERED"),
-        ("check_convert", "ANSWERED"),
-        ("check_reach", "ANSWERED"),
-    ]
-)
-ARGUMENTS = "const uint8_t *document, size_t length, uint8_t *answer, size_t room, size_t *written"
-PROGRAM = f"""#include "modinfo.h"
-int use({ARGUMENTS});
-int use({ARGUMENTS})
-{{
-    static const char version[] = MODINFO_VERSION_STRING;
-    if (modinfo_version() != MODINFO_VERSION || sizeof version < 2) return MODINFO_FAULT;
-{CALLS}    return modinfo_lines(MODINFO_CHECK_ESTREE, document, length, answer, room, written);
-}}
-"""
-
-
-def compiled(folder: Path, source: str, compiler: str, *options: str) -> "subprocess.CompletedProcess[str]":
-    file = folder / ("program.cc" if compiler == "c++" else "program.c")
-    file.write_text(source)
-    warnings = ["-Wall", "-Wextra", "-Werror"]
-    words = [compiler, *options, *warnings, f"-I{ROOT}/include", "-c", "-o", folder / "made.o", file]
-    return subprocess.run(words, capture_output=True, text=True)
-
-
-@pytest.mark.parametrize("standard", "c89 c99 c11 c17 c++98 c++11 c++17 c++20".split())
-def test_the_header_by_each_standard(tmp_path: Path, standard: str) -> None:
-    run = compiled(tmp_path, PROGRAM, "c++" if "+" in standard else "cc", f"-std={standard}", "-pedantic-errors")
-    assert run.returncode == 0, run.stderr
-
-
-def test_a_null_pointer_that_the_compiler_sees(tmp_path: Path) -> None:
-    function = "int use(uint8_t *answer, size_t *written)"
-    call = "return modinfo_analyze(NULL, 1, answer, 1, written);"
-    run = compiled(tmp_path, f'#include "modinfo.h"\n{function};\n{function} {{ {call} }}\n', "cc")
-    assert run.returncode != 0 and "nonnull" in run.stderr

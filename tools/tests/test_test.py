@@ -3,7 +3,7 @@
 import re
 
 import pytest
-from conftest import ROOT, Repository
+from conftest import Repository
 
 PARTS = """
 from dataclasses import dataclass, field
@@ -93,9 +93,6 @@ def test_what_a_part_has_started_ends(parts: Repository) -> None:
 
 def test_the_parts_of_the_repository() -> None:
     """Each name stands once, and each build that a part needs is known."""
-    import sys
-
-    sys.path.append(str(ROOT / "tools"))
     from parts import PROVED, PROVED_PARTS, UNCHECKED, UNCHECKED_PARTS
 
     for parts, programs in (UNCHECKED_PARTS, UNCHECKED), (PROVED_PARTS, PROVED):

@@ -56,7 +56,7 @@ fn each_test_case_is_read_and_written_back() {
 #[test]
 fn generated_documents_are_read_and_written_back() {
     let generated = Command::new("/usr/bin/python3")
-        .arg(root().join("tools/tests/generated_documents.py"))
+        .arg(root().join("bindings/tests/generated_documents.py"))
         .arg("1000")
         .output()
         .expect("python3");

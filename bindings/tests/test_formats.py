@@ -1,34 +1,22 @@
-#!/usr/bin/python3
 """Checks documents, what is found in them and reports against the schemas, and against the types of each language.
 
-The documents are those of examples/ and 1,000 that are generated. The program that the environment variable MODINFO
-names, else build/modinfo, analyzes and checks them. Debian's python3-jsonschema reads the schemas. TypeScript in its
-strict mode and mypy --strict check the types; those of Rust have a test in bindings/rust/tests. Each of the three also
-has to refuse some wrong values. Where one of them isn't installed, nothing is tested.
+The documents are those of examples/ and 1,000 that are generated. The program that MODINFO names, else build/modinfo,
+analyzes and checks them. Debian's python3-jsonschema reads the schemas. TypeScript in its strict mode and mypy --strict
+check the types; those of Rust have a test in bindings/rust/tests. Each of the three also has to refuse wrong values.
 """
 
 import json
 import os
 import re
 import subprocess
-import sys
-import tempfile
 from collections.abc import Iterator
 from copy import deepcopy
 from pathlib import Path
 from typing import Any
 
+import pytest
 from generated_documents import documents, lines
-
-try:
-    import mypy  # noqa: F401
-    from jsonschema import Draft202012Validator
-
-    if not Path("/usr/share/nodejs/typescript").exists():
-        raise ImportError(name="typescript")
-except ImportError as error:
-    print(f"formats: {error.name} isn't installed, so nothing is tested")
-    sys.exit()
+from jsonschema import Draft202012Validator
 
 ROOT = Path(__file__).resolve().parents[2]
 MODINFO = os.environ.get("MODINFO", f"{ROOT}/build/modinfo")
@@ -45,16 +33,15 @@ Values = dict[str, list[dict[str, Any]]]
 
 def run(*command: str, text: str = "", **environment: str) -> str:
     """What a command prints; status 1 means that it refuses something."""
-    done = subprocess.run(
-        command, input=text, capture_output=True, text=True, check=False, env={**os.environ, **environment}
-    )
-    if done.returncode not in (0, 1) or done.stderr:
-        sys.exit(f"formats: {' '.join(command)}: {done.stdout}{done.stderr}")
+    environment = {**os.environ, **environment}
+    done = subprocess.run(command, input=text, capture_output=True, text=True, env=environment)
+    assert done.returncode in (0, 1) and not done.stderr, done.stdout + done.stderr
     return done.stdout
 
 
-def read_lines(text: str) -> list[dict[str, Any]]:
-    return [json.loads(line) for line in text.split("\n")[:-1]]
+def printed(*words: str, documents: list[dict[str, Any]]) -> list[dict[str, Any]]:
+    """The line that the program prints for each document."""
+    return [json.loads(line) for line in run(MODINFO, *words, "--lines", text=lines(documents)).splitlines()]
 
 
 def broken(document: dict[str, Any], number: int) -> dict[str, Any]:
@@ -71,22 +58,22 @@ def broken(document: dict[str, Any], number: int) -> dict[str, Any]:
     return document
 
 
-def collected() -> Values:
+@pytest.fixture(scope="module")
+def values() -> Values:
     """The values of each format."""
     answers = sorted(EXAMPLES.glob("*.out.json"))
     examples = [json.loads(path.with_name(path.name.replace(".out.json", ".json")).read_text()) for path in answers]
     generated = documents(COUNT)
-    printed = read_lines(run(MODINFO, "analyze", "--lines", text=lines(generated)))
-    faults = [line for line in printed if "answer" not in line]
-    assert len(printed) == COUNT and not faults, faults
-    infos = [json.loads(path.read_text()) for path in answers] + [line["answer"] for line in printed]
-    checked = generated + [broken(each, number) for number, each in enumerate(generated[:100])]
-    reports = read_lines(run(MODINFO, "check", "--lines", text=lines(checked)))
+    found = printed("analyze", documents=generated)
+    infos = [json.loads(path.read_text()) for path in answers] + [line["answer"] for line in found]
+    wrong = [broken(each, number) for number, each in enumerate(generated[:100])]
+    reports = printed("check", documents=generated + wrong)
     assert [report.get("valid", False) for report in reports] == [True] * COUNT + [False] * 100
     return {"document": examples + generated, "module-info": infos, "report": reports}
 
 
-def wrong_values() -> Values:
+@pytest.fixture(scope="module")
+def wrong() -> Values:
     """Values of each format with one error, which every check has to refuse."""
     places = [[0, 0], [0, 1]]
     program = {"range": [0, 0], "body": []}
@@ -106,37 +93,28 @@ def annotated(schema: Any) -> Iterator[tuple[Any, Any]]:
     if isinstance(schema, dict):
         for value in schema.get("examples", []) + ([schema["default"]] if "default" in schema else []):
             yield schema, value
-        for part in schema.values():
-            yield from annotated(part)
-    elif isinstance(schema, list):
-        for part in schema:
-            yield from annotated(part)
+    for part in schema.values() if isinstance(schema, dict) else schema if isinstance(schema, list) else []:
+        yield from annotated(part)
 
 
-def test_schemas(values: Values, wrong: Values) -> None:
-    for name in TYPES:
-        schema = json.loads((ROOT / f"docs/{name}.schema.json").read_text())
-        Draft202012Validator.check_schema(schema)
-        validator = Draft202012Validator(schema)
-        for value in values[name]:
-            validator.validate(value)
-        for value in wrong[name]:
-            assert not validator.is_valid(value), value
-        for part, value in annotated(schema):
-            Draft202012Validator({**part, "$defs": schema["$defs"]}).validate(value)
+@pytest.mark.parametrize("name", TYPES)
+def test_schema(name: str, values: Values, wrong: Values) -> None:
+    schema = json.loads((ROOT / f"docs/{name}.schema.json").read_text())
+    Draft202012Validator.check_schema(schema)
+    validator = Draft202012Validator(schema)
+    assert [value for value in values[name] if not validator.is_valid(value)] == []
+    assert [value for value in wrong[name] if validator.is_valid(value)] == []
+    for part, value in annotated(schema):
+        Draft202012Validator({**part, "$defs": schema["$defs"]}).validate(value)
 
 
 def expect_errors(printed: str, wrong: Values) -> None:
     """Each wrong value is refused, in a line of a file of its own, and no other value is."""
     errors = [line for line in printed.splitlines() if re.search(r"\berror\b", line)]
-    others = [line for line in errors if not re.match(r"\S*\bwrong_", line)]
-    if others:
-        sys.exit("formats: " + "\n".join(others)[:2000])
+    assert [line for line in errors if not re.match(r"\S*\bwrong_", line)] == []
     for name, values in wrong.items():
         file = re.compile(rf"\S*\bwrong_{TYPES[name][1]}\.\w+[(:](\d+)")
-        refused = {found[1] for found in map(file.match, errors) if found}
-        if len(refused) != len(values):
-            sys.exit(f"formats: {len(refused)} of {len(values)} wrong values of {name} are refused:\n{printed[:2000]}")
+        assert len({found[1] for found in map(file.match, errors) if found}) == len(values), printed
 
 
 def in_typescript(name: str, values: list[dict[str, Any]]) -> str:
@@ -145,22 +123,19 @@ def in_typescript(name: str, values: list[dict[str, Any]]) -> str:
     return "\n".join([f'import type {{ {kind} }} from "{ROOT}/bindings/node/src/{module}.mjs";', *lines, ""])
 
 
-def test_typescript(values: Values, wrong: Values, folder: Path) -> None:
+def test_typescript(values: Values, wrong: Values, tmp_path: Path) -> None:
     files = {f"{TYPES[name][1]}.mts": in_typescript(name, each) for name, each in values.items()}
     files |= {f"wrong_{TYPES[name][1]}.mts": in_typescript(name, each) for name, each in wrong.items()}
     program = f"""
         import {{ compile }} from "{ROOT}/bindings/node/tests/compile.mjs";
         import {{ readFileSync }} from "node:fs";
         const files = JSON.parse(readFileSync(0, "utf8"));
-        process.stdout.write(compile("{folder}", files, {{ lib: ["es2022"] }}));"""
+        process.stdout.write(compile("{tmp_path}", files, {{ lib: ["es2022"] }}));"""
     expect_errors(run("node", "--input-type=module", "--eval", program, text=json.dumps(files)), wrong)
 
 
 # Makes a list of nodes in Python. mypy takes long to find the type of a literal with nodes.
-LISTED = """\
-def listed(*nodes: document.Node) -> list[document.Node]:
-    return list(nodes)
-"""
+LISTED = "def listed(*nodes: document.Node) -> list[document.Node]:\n    return list(nodes)"
 
 
 def literal(value: Any, statements: list[str]) -> str:
@@ -194,24 +169,11 @@ def in_python(name: str, values: list[dict[str, Any]]) -> str:
     return "\n".join(statements) + "\n"
 
 
-def test_python(values: Values, wrong: Values, folder: Path) -> None:
+def test_python(values: Values, wrong: Values, tmp_path: Path) -> None:
     paths = []
     for before, some in ("", values), ("wrong_", wrong):
         for name, each in some.items():
-            paths.append(folder / f"{before}{TYPES[name][1]}.py")
+            paths.append(tmp_path / f"{before}{TYPES[name][1]}.py")
             paths[-1].write_text(in_python(name, each))
-    words = ["--strict", "--no-error-summary", "--cache-dir", f"{folder}/cache", *map(str, paths)]
+    words = ["--strict", "--no-error-summary", "--cache-dir", f"{tmp_path}/cache", *map(str, paths)]
     expect_errors(run("/usr/bin/python3", "-m", "mypy", *words, MYPYPATH=f"{ROOT}/bindings/python/src"), wrong)
-
-
-def main() -> None:
-    values, wrong = collected(), wrong_values()
-    test_schemas(values, wrong)
-    with tempfile.TemporaryDirectory() as folder:
-        test_typescript(values, wrong, Path(folder))
-        test_python(values, wrong, Path(folder))
-    counts = ", ".join(f"{len(each)} of {name}" for name, each in values.items())
-    print(f"formats: {counts} keep the schemas and the types")
-
-
-main()

@@ -1,6 +1,6 @@
 """Module documents that are generated from their schema, and valid. The same number makes the same document.
 
-    python3 tools/tests/generated_documents.py COUNT
+    python3 bindings/tests/generated_documents.py COUNT
 
 prints one a line.
 """
@@ -11,7 +11,7 @@ from pathlib import Path
 from random import Random
 from typing import Any
 
-sys.path.append(str(Path(__file__).resolve().parents[1]))
+sys.path.append(str(Path(__file__).resolve().parents[2] / "tools"))
 
 from formats.schema import Format, Schema, choices, literals
 

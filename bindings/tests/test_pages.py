@@ -1,50 +1,50 @@
-#!/usr/bin/env python3
-"""Runs the programs that the pages show for JavaScript, C, Python, Rust and the shell.
+"""Runs the programs that pages show for JavaScript, C, Python, Rust and the shell.
 
-    tools/tests/interfaces [FILE ..]
-
-The pages are README.md, include/README.md and docs/ESTREE.md, or the named files. Of each page the section SECTION
-is read, or all where it has no such section. Each block in one of these languages is a whole program, and the next
-block is its output. The program runs in an empty folder, with what `tools/install` and the packages for its language
-install. It has to print that output, nothing on the error output, and end with status 0. Where what a language needs
-isn't installed, its programs are passed over, with a message. Needs the program and the library in build/.
+Each block in one of these languages is a whole program, and the next block is its output. Of README.md only one section
+is read. A program runs in an empty folder, with what `tools/install` and the packages for its language install.
+It has to print that output, and end with status 0. Where what a language needs isn't installed, its programs are
+skipped. Needs the program and the library in build/.
 """
 
 import os
 import re
 import shutil
 import subprocess
-import sys
-import tempfile
 from collections.abc import Callable
 from pathlib import Path
 
+import pytest
+
 ROOT = Path(__file__).resolve().parents[2]
-SECTION = "From JavaScript, C, Python and Rust"
-DOCUMENTS = ["README.md", "include/README.md", "docs/ESTREE.md"]
+SECTION = "### From JavaScript, C, Python and Rust\n"
+PAGES = ["README.md", "include/README.md", "docs/ESTREE.md"]
 ACORN = Path("/usr/share/nodejs/acorn")
 FENCE = re.compile(r"^```(\w*)\n(.*?)^```$", re.DOTALL | re.MULTILINE)
+MANIFEST = f"""\
+[package]
+name = "program"
+version = "0.1.0"
+edition = "2021"
 
-
-class Unavailable(Exception):
-    """What the programs of a language need isn't here."""
+[dependencies]
+modinfo = {{ path = "{ROOT}/bindings/rust" }}
+"""
 
 
 def run(*command: str | Path, folder: Path, **environment: str) -> str:
-    """Returns what a command prints on both outputs. Ends the test where it fails."""
-    words = [str(word) for word in command]
-    finished = subprocess.run(
-        words, cwd=folder, env=os.environ | environment, stdout=subprocess.PIPE, stderr=subprocess.STDOUT, text=True
+    """What a command prints on both outputs."""
+    environment = {**os.environ, **environment}
+    done = subprocess.run(
+        command, cwd=folder, env=environment, stdout=subprocess.PIPE, stderr=subprocess.STDOUT, text=True
     )
-    if finished.returncode != 0:
-        sys.exit(f"interfaces: status {finished.returncode} of {' '.join(words)}\n{finished.stdout}")
-    return finished.stdout
+    assert done.returncode == 0, done.stdout
+    return done.stdout
 
 
 def need(*programs: str) -> None:
     for program in programs:
         if not shutil.which(program):
-            raise Unavailable(f"{program} isn't on the path")
+            pytest.skip(f"{program} isn't on the path")
 
 
 class Machine:
@@ -68,7 +68,7 @@ class Machine:
         if "acorn" in source.read_text():
             need("node")
             if not ACORN.exists():
-                raise Unavailable(f"{ACORN} isn't installed")
+                pytest.skip(f"{ACORN} isn't installed")
         return self.run("sh", "-eu", source, folder=source.parent)
 
     def run_c(self, source: Path) -> str:
@@ -85,7 +85,7 @@ class Machine:
 
     def install_wheel(self, python: Path) -> None:
         if subprocess.run([ROOT / "bindings/setup", "python"], check=False).returncode != 0:
-            raise Unavailable("what makes a wheel can't be had here")
+            pytest.skip("what makes a wheel can't be installed")
         run(ROOT / "bindings/python/make_wheel", self.room, folder=self.room, MODINFO_LIB_DIR=f"{self.prefix}/lib")
         run("/usr/bin/python3", "-m", "venv", python.parents[1], folder=self.room)
         run(python, "-m", "pip", "install", "--quiet", "--no-index", *self.room.glob("modinfo-*.whl"), folder=self.room)
@@ -94,9 +94,7 @@ class Machine:
         need("cargo")
         (source.parent / "src").mkdir()
         source.rename(source.parent / "src/main.rs")
-        package = '[package]\nname = "program"\nversion = "0.1.0"\nedition = "2021"\n\n'
-        manifest = f'{package}[dependencies]\nmodinfo = {{ path = "{ROOT}/bindings/rust" }}\n'
-        (source.parent / "Cargo.toml").write_text(manifest)
+        (source.parent / "Cargo.toml").write_text(MANIFEST)
         return run("cargo", "run", "--offline", "--quiet", folder=source.parent, MODINFO_LIB_DIR=f"{self.prefix}/lib")
 
     def run_javascript(self, source: Path) -> str:
@@ -122,61 +120,35 @@ LANGUAGES: dict[str, tuple[str, Callable[[Machine, Path], str]]] = {
 
 
 def section_of(text: str) -> str:
-    """Returns the text from the section's heading to the next heading, or all where there is no such section."""
-    _, found, rest = text.partition(f"### {SECTION}\n")
-    if not found:
-        return text
+    """The text from the section's heading to the next heading, or all where there is no such section."""
+    rest = text.partition(SECTION)[2] or text
     in_block = False
     for mark in re.finditer(r"^```|^#{1,3} ", rest, re.MULTILINE):
         if mark[0] == "```":
             in_block = not in_block
-        elif not in_block:
+        elif not in_block and rest != text:
             return rest[: mark.start()]
     return rest
 
 
-def programs(text: str) -> list[tuple[str, str, str]]:
-    """The language, source and output of each program of the section."""
-    blocks = FENCE.findall(section_of(text))
-    shown = []
-    for number, (language, source) in enumerate(blocks):
-        if language in LANGUAGES:
-            if number + 1 == len(blocks) or blocks[number + 1][0] in LANGUAGES:
-                sys.exit(f"interfaces: no block has the output of this:\n{source}")
-            shown.append((language, source, blocks[number + 1][1]))
+def programs(page: str) -> list[tuple[str, str, str]]:
+    """The language, source and output of each program of a page."""
+    blocks = [*FENCE.findall(section_of((ROOT / page).read_text())), ("", "")]
+    shown = [(*block, following[1]) for block, following in zip(blocks, blocks[1:]) if block[0] in LANGUAGES]
+    assert shown, f"{page} has no program"
     return shown
 
 
-def prints(machine: Machine, language: str, source: str) -> str:
-    folder = Path(tempfile.mkdtemp(dir=machine.room))
+@pytest.fixture(scope="module")
+def machine(tmp_path_factory: pytest.TempPathFactory) -> Machine:
+    return Machine(tmp_path_factory.mktemp("machine"))
+
+
+@pytest.mark.parametrize(
+    ("language", "source", "output"),
+    [pytest.param(*program, id=f"{page}: {program[0]}") for page in PAGES for program in programs(page)],
+)
+def test_program(machine: Machine, tmp_path: Path, language: str, source: str, output: str) -> None:
     name, method = LANGUAGES[language]
-    (folder / name).write_text(source)
-    return method(machine, folder / name)
-
-
-def ran(machine: Machine, document: Path) -> list[str]:
-    """Runs the programs of a page, and returns their languages."""
-    languages = []
-    for language, source, wanted in programs(document.read_text()):
-        try:
-            printed = prints(machine, language, source)
-        except Unavailable as reason:
-            print(f"interfaces: {language} is passed over: {reason}")
-            continue
-        if printed != wanted:
-            sys.exit(f"interfaces: {document}: this {language} program prints\n{printed}and not\n{wanted}")
-        languages.append(language)
-    return languages
-
-
-def main() -> None:
-    documents = [Path(name) for name in sys.argv[1:]] or [ROOT / name for name in DOCUMENTS]
-    with tempfile.TemporaryDirectory() as room:
-        machine = Machine(Path(room))
-        for document in documents:
-            if not programs(document.read_text()):
-                sys.exit(f"interfaces: {document} has no program")
-            print(f"interfaces: {document}: {', '.join(ran(machine, document)) or 'none'} passed")
-
-
-main()
+    (tmp_path / name).write_text(source)
+    assert method(machine, tmp_path / name) == output
