@@ -1,14 +1,15 @@
 """Links programs and the library for C from what the prover, or a build without proofs, has compiled."""
 
+import json
 import subprocess
 from pathlib import Path
 
 from building import Kit, Target, run
-from sources import BuildError
+from sources import ROOT, BuildError
 
-COMMANDS = ("analyze", "analyze_estree", "convert", "reach")
-CHECKS = ("check", "check_estree", "check_convert", "check_reach")
-EXPORTED = [f"modinfo_{function}" for function in (*COMMANDS, *CHECKS, "lines", "version")]
+TABLE = ROOT / "docs/commands.json"
+COMMANDS = [row[kind]["function"] for row in json.loads(TABLE.read_text())["commands"] for kind in ("answer", "check")]
+EXPORTED = [f"modinfo_{function}" for function in (*COMMANDS, "run", "run_lines", "lines", "version")]
 
 
 def link_program(target: Target, kit: Kit, main: Path, program: Path) -> None:

@@ -59,7 +59,7 @@ def test_names(help_text: str) -> None:
     named = {name for names, _ in ENTRY.findall(help_text) for name in names.replace(",", "").split()}
     tags = " ".join(re.findall(r"^\.T[PQ]\n\.BR? (.*)", PAGE.read_text(), re.MULTILINE))
     on_page = {name for name in tags.replace("\\-", "-").replace("\\", "").replace(",", "").split()}
-    assert {name for name in on_page if not name.isdigit()} == named | {"-h", "--help", "--version"}
+    assert {name for name in on_page if not name.isdigit()} == named | {"-h", "--help", "-V", "--version"}
 
 
 def test_example() -> None:

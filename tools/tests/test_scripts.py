@@ -88,7 +88,7 @@ def test_a_new_version(repository: Repository) -> None:
     command = ["python3", "tools/set_version"]
     assert repository.run(*command, "--check")[:2] == (0, f"version: {VERSION} in every file that has it\n")
     repository.write("VERSION", "12.3.45\n")
-    sources = ["crates/modinfo/src/command_line.rt", "crates/modinfo_c/src/lib.rt"]
+    sources = ["crates/modinfo/src/help.rt", "crates/modinfo_c/src/lib.rt"]
     named = [f"{source} doesn't have the version 12.3.45: change it by hand" for source in sources]
     status, output, _ = repository.run(*command)
     assert (status, output.splitlines()) == (1, named)

@@ -9,23 +9,25 @@ pub const VERSION: &str = "modinfo 0.1.0\n";
 /// The output of `--help`.
 pub const HELP: &str = r#"modinfo: what one JavaScript or TypeScript module depends on
 
-usage: modinfo analyze [--estree] | convert | reach [--lines]
+usage: modinfo analyze [--estree] [--lines]
+       modinfo convert | reach [--lines]
        modinfo check [analyze] [--estree] [--lines] [--strict]
        modinfo check convert | reach [--lines] [--strict]
-       modinfo -h | --help | --version
+       modinfo -h | --help | COMMAND --help | -V | --version
 
 Each command reads one JSON document from the standard input, and prints its result as one line of
-JSON.
+JSON. The words after a command come in any order.
 
-  analyze   reads {"specifier":URL,"mediaType":NAME,"source":TEXT,"program":TREE,..}, a parsed module;
-            prints its ModuleInfo
+  analyze   reads {"specifier":URL,"mediaType":NAME,"source":TEXT,"program":TREE,..}, a parsed
+            module; prints its ModuleInfo
   convert   reads the ModuleInfo of one module as version 1 stored it; prints that of version 2
   reach     reads {"root":KEY,"modules":{KEY:MODULEINFO,..}}; prints the keys that the root reaches,
             ascending
   check     reads a document of that command, of analyze where none is named; prints {"valid":true}
             with warnings where there are any, or {"fault":NAME,"pointer":..,"expected":..}, where
             the pointer leads to the value with the fault
-  --estree  of analyze: "program" is the tree of a parser, as ESTree describes it, with its "comments"
+  --estree  of analyze: "program" is the tree of a parser, as ESTree describes it, with its
+            "comments"
   --lines   each line of the input is a document, and each line of the output the result of one, in
             the same order: {"answer":RESULT} or {"fault":NAME}, of check the report alone
   --strict  a warning counts as a fault does

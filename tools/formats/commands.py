@@ -1,0 +1,231 @@
+"""What is written from docs/commands.json: --help, the manual pages, the completions of shells, the header for C, and
+the tables of commands for Python and Rust."""
+
+import json
+import re
+from collections.abc import Iterator
+from textwrap import wrap
+from typing import Any
+
+from sources import ROOT, BuildError
+
+from formats.blocks import Block
+from formats.language import GENERATED, filled
+
+PATH = "docs/commands.json"
+HELP = "crates/modinfo/src/help.rt"
+PAGE = "packaging/module-info.1"
+COMPLETIONS = "packaging/completions"
+WIDTH = 100
+COLUMN = 12
+
+Entry = dict[str, Any]
+COMMANDS: Entry = json.loads((ROOT / PATH).read_text())
+
+
+def functions() -> list[Entry]:
+    """The functions for C that run one command: those that answer, and then those that check."""
+    return [row[kind] for kind in ("answer", "check") for row in COMMANDS["commands"]]
+
+
+def by_number() -> list[Entry]:
+    return sorted(functions(), key=lambda function: int(function["number"]))
+
+
+def lines_of(name: str, text: str, column: int) -> list[str]:
+    """A name and a text that begins in a column, on the next line where the name is too long."""
+    if len(name) + 3 > column:
+        return [f"  {name}", *lines_of("", text, column)]
+    return filled(text, f"  {name}".ljust(column), WIDTH, " " * column)
+
+
+def wrapped(text: str) -> list[str]:
+    """The lines of a text, with no break inside backquotes."""
+    kept = re.sub("`.*?`", lambda found: found[0].replace(" ", "\0"), text)
+    return [line.replace("\0", " ") for line in wrap(kept, WIDTH)]
+
+
+def help_text() -> str:
+    usage = [f"{'usage:' if number == 0 else '      '} {line}" for number, line in enumerate(COMMANDS["usage"])]
+    entries = [lines_of(each["name"], each["text"], COLUMN) for each in (*COMMANDS["names"], *COMMANDS["flags"])]
+    faults = [lines_of(names, text, 19) for names, text in COMMANDS["faults"].items()]
+    parts = [
+        [COMMANDS["title"]],
+        usage,
+        wrap(COMMANDS["introduction"], WIDTH),
+        sum(entries, []),
+        wrapped(COMMANDS["status"]),
+        sum(faults, []),
+        ["Example:"],
+        [f"  {line}" for line in COMMANDS["example"]],
+    ]
+    return "\n\n".join("\n".join(part) for part in parts) + "\n"
+
+
+def in_troff(text: str) -> str:
+    escaped = text.replace("\\", r"\e").replace("-", r"\-")
+    return re.sub(r"(?m)^([.'])", r"\\&\1", escaped)
+
+
+def synopsis() -> Iterator[str]:
+    """The usage, in which words of the command line are bold, and others and the brackets are not."""
+    for number, line in enumerate(COMMANDS["usage"]):
+        if number:
+            yield ".br"
+        words = re.sub(r"(-V|[a-z-]+)", r"\\fB\1\\fP", line.replace("modinfo ", "module-info ", 1))
+        yield words.replace("-", r"\-")
+
+
+def entries_of_page(entries: list[Entry]) -> Iterator[str]:
+    """Each part of a sentence is on a line of its own, as troff has it."""
+    for each in entries:
+        yield from (".TP", f".B {in_troff(each['name'])}")
+        for part in re.split(r"(?<=[;,]) ", each["text"]):
+            yield in_troff(part)
+
+
+def prototype(name: str, first: str, document: str) -> list[str]:
+    """The lines of a declaration in C. `first` is the parameter before the document, if there is one."""
+    indent = " " * (len("uint8_t ") + len(name) + 1)
+    return [
+        f"uint8_t {name}({first}const uint8_t *{document}, size_t {document}_length,",
+        f"{indent}uint8_t *answer, size_t room, size_t *length)",
+    ]
+
+
+def in_header() -> Iterator[str]:
+    for function in functions():
+        lines = wrap(f"/* {function['text']} */", 110, subsequent_indent=" * ")
+        first, second = prototype(f"modinfo_{function['function']}", "", "document")
+        yield from ("", *lines, first, f"{second} MODINFO_NONNULL;")
+
+
+def in_manual() -> Iterator[str]:
+    parameters = r"\b(document_length|document|answer|room|length)\b"
+    for function in functions():
+        for line in prototype(f"modinfo_{function['function']}", "", "document"):
+            parts = [part for part in re.split(parameters, line + (";" if line.endswith(")") else "")) if part]
+            yield ".BI " + " ".join(f'"{part}"' for part in parts)
+
+
+def in_prose(names: list[str]) -> list[str]:
+    """Names in bold, with commas between all but the last two."""
+    *first, last = names
+    return [*(f".BR {name} ," for name in first[:-1]), f".B {first[-1]}", "and", f".BR {last} ."]
+
+
+def blocks(*_formats: object) -> Iterator[Block]:
+    numbers = [f"    MODINFO_{function['function'].upper()} = {function['number']}" for function in by_number()]
+    yield "include/modinfo.h", "commands", ",\n".join(numbers).split("\n")
+    yield "include/modinfo.h", "functions", list(in_header())
+    yield "packaging/modinfo.3", "functions", list(in_manual())
+    yield "packaging/modinfo.3", "names", wrap(", ".join(f"modinfo_{each['function']}" for each in functions()) + ",", 79)
+    yield "packaging/modinfo.3", "commands", in_prose([f"MODINFO_{each['function'].upper()}" for each in by_number()])
+    yield PAGE, "synopsis", list(synopsis())
+    yield PAGE, "commands", list(entries_of_page(COMMANDS["names"]))
+    yield PAGE, "flags", list(entries_of_page(COMMANDS["flags"]))
+    yield "bindings/python/src/modinfo/_library.py", "commands", [
+        f'    "{row["answer"]["function"]}": _command("{row["answer"]["function"]}", {row["answer"]["number"]}, '
+        f'"{row["check"]["function"]}", {row["check"]["number"]}),'
+        for row in COMMANDS["commands"]
+    ]
+    yield "bindings/rust/src/command.rs", "commands", [
+        line
+        for function in by_number()
+        for line in (
+            f"    /// [`{function['function']}`](crate::{function['function']})",
+            f"    {camel_case(function['function'])} = {function['number']},",
+        )
+    ]
+    names = [function["function"] for function in functions()]
+    yield "bindings/rust/src/ffi.rs", "functions", [f"    modinfo_{name}" for name in names]
+    yield "bindings/rust/src/ffi.rs", "constants", [
+        f"pub const {name.upper()}: Function = Function::Document(modinfo_{name});" for name in names
+    ]
+
+
+def camel_case(name: str) -> str:
+    return "".join(word.capitalize() for word in name.split("_"))
+
+
+def with_help(text: str) -> str:
+    """The text of the file with --help, with the help as it is."""
+    pattern = r'(pub const HELP: &str = r#").*?("#;)'
+    if not re.search(pattern, text, re.DOTALL):
+        raise BuildError(f"{HELP} has no help")
+    return re.sub(pattern, lambda found: found[1] + help_text() + found[2], text, flags=re.DOTALL)
+
+
+def files() -> dict[str, str]:
+    return {
+        HELP: with_help((ROOT / HELP).read_text()),
+        f"{COMPLETIONS}/module-info.bash": in_bash(),
+        f"{COMPLETIONS}/_module-info": in_zsh(),
+        f"{COMPLETIONS}/module-info.fish": in_fish(),
+    }
+
+
+GLOBAL_FLAGS = {"--help": "prints the help", "--version": "prints the version"}
+
+
+def in_bash() -> str:
+    arms = [f"            {each['name']}) words=\"{' '.join(each['words'])} --help\" ;;" for each in COMMANDS["names"]]
+    names = " ".join(each["name"] for each in COMMANDS["names"])
+    return f"""# Completion of module-info in bash.
+# {GENERATED} from {PATH}.
+_module_info() {{
+    local words=""
+    if [[ $COMP_CWORD -eq 1 ]]; then
+        words="{names} {' '.join(GLOBAL_FLAGS)}"
+    else
+        case ${{COMP_WORDS[1]}} in
+{chr(10).join(arms)}
+        esac
+    fi
+    mapfile -t COMPREPLY < <(compgen -W "$words" -- "${{COMP_WORDS[COMP_CWORD]}}")
+}}
+complete -F _module_info module-info
+"""
+
+
+def descriptions() -> dict[str, str]:
+    """The brief description of each word."""
+    entries = [*COMMANDS["names"], *COMMANDS["flags"]]
+    return {each["name"]: each["brief"] for each in entries} | GLOBAL_FLAGS
+
+
+def in_zsh() -> str:
+    brief = descriptions()
+
+    def listed(words: list[str]) -> str:
+        return " ".join(f"'{word}:{brief[word]}'" for word in words)
+
+    arms = [
+        f"        {each['name']}) candidates=({listed([*each['words'], '--help'])}) ;;" for each in COMMANDS["names"]
+    ]
+    names = listed([*(each["name"] for each in COMMANDS["names"]), *GLOBAL_FLAGS])
+    return f"""#compdef module-info
+# Completion of module-info in zsh.
+# {GENERATED} from {PATH}.
+local -a candidates
+if (( CURRENT == 2 )); then
+    candidates=({names})
+else
+    case ${{words[2]}} in
+{chr(10).join(arms)}
+    esac
+fi
+_describe 'word' candidates
+"""
+
+
+def in_fish() -> str:
+    brief = descriptions()
+    lines = ["# Completion of module-info in fish.", f"# {GENERATED} from {PATH}.", "complete -c module-info -f"]
+    for word in (*(each["name"] for each in COMMANDS["names"]), *GLOBAL_FLAGS):
+        lines.append(f"complete -c module-info -n __fish_use_subcommand -a '{word}' -d '{brief[word]}'")
+    for each in COMMANDS["names"]:
+        for word in (*each["words"], "--help"):
+            condition = f"contains -- {each['name']} (commandline -opc)[2]"
+            lines.append(f"complete -c module-info -n '{condition}' -a '{word}' -d '{brief[word]}'")
+    return "\n".join(lines) + "\n"
