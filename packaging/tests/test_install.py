@@ -44,6 +44,9 @@ def wanted(libraries: str) -> set[str]:
         *(f"{libraries}/{name}" for name in names),
         *(f"share/doc/modinfo/{name}" for name in documents),
         *(f"share/man/{name}" for name in manuals),
+        "share/bash-completion/completions/module-info",
+        "share/fish/vendor_completions.d/module-info.fish",
+        "share/zsh/site-functions/_module-info",
     }
 
 

@@ -104,7 +104,11 @@ asked_command_is : (command : Command) (words : List (List ℕ)) → Words comma
 asked_command_is (Answer Module) words w =
     rw (lacks w (codes "convert") refl, lacks w (codes "reach") refl, lacks w (codes "--estree") refl) refl
 asked_command_is (Answer Estree) words w =
-    rw (lacks w (codes "convert") refl, lacks w (codes "reach") refl, needs (codes "--estree") words w.needed) refl
+    rw (
+      lacks w (codes "convert") refl,
+      lacks w (codes "reach") refl,
+      needs (codes "--estree") words w.needed,
+    ) refl
 asked_command_is (Answer Stored) words w = refl
 asked_command_is (Answer Modules) words w = rw (lacks w (codes "convert") refl) refl
 asked_command_is (Check Module is_strict) words w =
@@ -124,7 +128,11 @@ asked_command_is (Check Estree is_strict) words w =
 asked_command_is (Check Stored is_strict) words w =
     rw (needs (codes "convert") words w.needed, strictness Stored is_strict words w.strict) refl
 asked_command_is (Check Modules is_strict) words w =
-    rw (lacks w (codes "convert") refl, needs (codes "reach") words w.needed, strictness Modules is_strict words w.strict) refl
+    rw (
+      lacks w (codes "convert") refl,
+      needs (codes "reach") words w.needed,
+      strictness Modules is_strict words w.strict,
+    ) refl
 
 -- No command is named `--help`, `-h`, `--version` or `-V`, and none allows `--help` after its name.
 abbrev IsApart : Command → Type 0
@@ -156,8 +164,10 @@ neither command (word ∷ []) w =
 neither command (first ∷ second ∷ words) w = (refl, refl)
 
 -- The command line of a command is the one that is asked for.
-asked_lines_is : (command : Command) (name : List ℕ) (words : List (List ℕ)) → has_words command name words ≡ true
-    → asked_line (name ∷ words) ≡ (if is_among (codes "--lines") words then Lines command else Document command)
+asked_lines_is : (command : Command) (name : List ℕ) (words : List (List ℕ))
+    → has_words command name words ≡ true
+    → asked_line (name ∷ words)
+    ≡ (if is_among (codes "--lines") words then Lines command else Document command)
 asked_lines_is command name words is =
     let (named, w) = words_of command name words is in
     subst (λ each. asked_line (each ∷ words)

@@ -338,24 +338,25 @@ pub PrintsLine-out_of_memory : (command : Command) (line : List ℕ)
 PrintsLine-out_of_memory command line = with_fault OutOfMemory (run_without_memory command line)
 
 -- A text of which a part was written.
-pub PrintsLines-written : (command : Command) (lines : List (List ℕ)) (passes : Bool) (sent waiting written left
-    : List ℕ)
+pub PrintsLines-written : (command : Command) (lines : List (List ℕ)) (passes : Bool)
+    (sent waiting written left : List ℕ)
     → PrintsLines command lines passes (sent ++ waiting) → waiting ≡ written ++ left
     → PrintsLines command lines passes ((sent ++ written) ++ left)
 PrintsLines-written command lines passes sent waiting written left all is =
-    subst (PrintsLines command lines passes) (ap (λ l. sent ++ l) is ∙ sym (append_assoc sent written left)) all
+    subst (PrintsLines command lines passes) (ap (λ l. sent ++ l) is ∙ sym (append_assoc sent written left))
+    all
 
 -- A run that fails after some lines.
-pub LeavesFirstLines-at : (command : Command) (input now before after : Option (List ℕ)) (lines : List (List ℕ))
-    (passes : Bool) (printed : List ℕ) (fault : Fault) → IsFailure fault → TakesLines input now lines
+pub LeavesFirstLines-at : (command : Command) (input now before after : Option (List ℕ))
+    (lines : List (List ℕ)) (passes : Bool) (printed : List ℕ) (fault : Fault) → IsFailure fault → TakesLines input now lines
     → PrintsLines command lines passes printed → AppendsFront before after printed
     → LeavesFirstLines command input before after fault
 LeavesFirstLines-at command input now before after lines passes printed fault failure taken prints front =
     (failure, lines, TakesLines-first input now lines taken, passes, printed, prints, front)
 
 -- A run that fails before the first line.
-pub LeavesFirstLines-none : (command : Command) (input output : Option (List ℕ)) (fault : Fault) → IsFailure fault
-    → LeavesFirstLines command input output output fault
+pub LeavesFirstLines-none : (command : Command) (input output : Option (List ℕ)) (fault : Fault)
+    → IsFailure fault → LeavesFirstLines command input output output fault
 LeavesFirstLines-none command input output fault failure =
     LeavesFirstLines-at command input input output output [] true [] fault failure (TakesLines-nil input) none
     (0, Appends-nil output)
@@ -374,7 +375,8 @@ pub refused_after : (r : Result Bool Fault) (command : Command) (line old kept n
     (λ fault. fault ≡ OutOfMemory)
 refused_after (Ok passes) command line old kept new same h = (
   fault_line OutOfMemory,
-  subst (λ b. PrintsLine command line b (fault_line OutOfMemory)) (sym h.0) (PrintsLine-out_of_memory command line),
+  subst (λ b. PrintsLine command line b (fault_line OutOfMemory)) (sym h.0)
+      (PrintsLine-out_of_memory command line),
   h.1 ∙ ap (λ l. l ++ fault_line OutOfMemory) same,
 )
 refused_after (Err fault) command line old kept new same h = h

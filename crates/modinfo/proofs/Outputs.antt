@@ -6,8 +6,8 @@ use Rattle.modinfo.specs.declared.fault.Fault.{Fault}
 use Rattle.modinfo.specs.declared.fault.Fault.TheVariants.{Output}
 
 -- No write failed, and the output is unchanged.
-pub nothing_left : (Prints : Bool → List ℕ → Type 0) (output : Option (List ℕ)) (fault : Fault) → fault ≢ Output
-    → LeavesFront Prints output output fault
+pub nothing_left : (Prints : Bool → List ℕ → Type 0) (output : Option (List ℕ)) (fault : Fault)
+    → fault ≢ Output → LeavesFront Prints output output fault
 nothing_left Prints output fault apart = record {
   unchanged = λ is_apart. Keeps-refl output;
   front = λ same. absurd (apart same);

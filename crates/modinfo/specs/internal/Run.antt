@@ -9,6 +9,6 @@ abbrev pub Leaves : (Bool → List ℕ → Type 0) → Option (List ℕ) → Opt
 Leaves Prints before after passes = (line : List ℕ) × Prints passes line × Appends before after line
 
 -- There was a fault.
-abbrev pub LeavesFault : (Bool → List ℕ → Type 0) → (Fault → Type 0) → Option (List ℕ) → Option (List ℕ) → Fault
-    → Type 0
+abbrev pub LeavesFault : (Bool → List ℕ → Type 0) → (Fault → Type 0) → Option (List ℕ) → Option (List ℕ)
+    → Fault → Type 0
 LeavesFault Prints Fails before after fault = Fails fault × LeavesFront Prints before after fault

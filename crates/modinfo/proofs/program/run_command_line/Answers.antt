@@ -26,5 +26,6 @@ lines_command other Version = other
 
 pub returns-in-Lines-clause-lines : goal.returns-in-Lines-clause-lines
 returns-in-Lines-clause-lines g c command is =
-    let same : c.in-Lines.command ≡ command = ap (lines_command c.in-Lines.command) (sym c.in-Lines.is ∙ is) in
+    let same : c.in-Lines.command ≡ command =
+    ap (lines_command c.in-Lines.command) (sym c.in-Lines.is ∙ is) in
     rw (sym same) c.run_lines.ensures

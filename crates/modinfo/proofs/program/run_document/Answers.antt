@@ -3,7 +3,14 @@ use Rattle.std.proofs.lemmas.Result.{err_from_is_err_and}
 use Rattle.std.specs.String.{string_bytes}
 use Rattle.modinfo.specs.Run.{PrintsResult}
 use Rattle.modinfo.specs.declared.fault.Fault.TheVariants.{OutOfMemory}
-use Rattle.modinfo.proofs.Faults.{failed_read, read_apart, result_apart, run_fault, run_without_memory, write_fault}
+use Rattle.modinfo.proofs.Faults.{
+  failed_read,
+  read_apart,
+  result_apart,
+  run_fault,
+  run_without_memory,
+  write_fault,
+}
 use Rattle.modinfo.proofs.Outputs.{front_left, nothing_left}
 use Rattle.modinfo.proofs.Written.{known_or_none}
 use Rattle.modinfo.proofs.program.run_document.Goals as goal
@@ -19,7 +26,8 @@ returns-in_err-document g c =
       known_or_none known,
       rw (is.1, is.2) (
         failed_read c.args.command document fault c.in_err-document.ensures,
-        nothing_left (PrintsResult c.args.command document) _ fault (read_apart fault c.in_err-document.ensures),
+        nothing_left (PrintsResult c.args.command document) _ fault
+            (read_apart fault c.in_err-document.ensures),
       ),
     )
 
@@ -63,7 +71,8 @@ returns-in_err-print g c =
       rw (is.1, is.2) (
         write_fault c.args.command document fault failed.0,
         front_left (PrintsResult c.args.command document) _ _ fault c.in_ok-line.field-0.is_passed
-            c.as_bytes.result.now (string_bytes c.in_ok-line.field-0.line, c.in_ok-line.ensures, search rules) failed.0 failed.1,
+            c.as_bytes.result.now (string_bytes c.in_ok-line.field-0.line, c.in_ok-line.ensures, search rules)
+            failed.0 failed.1,
       ),
     )
 

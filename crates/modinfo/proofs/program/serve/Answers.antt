@@ -9,7 +9,8 @@ use Rattle.modinfo.proofs.program.serve.Goals as goal
 -- Words that ask for no command line.
 
 pub returns-in_default-clause-help : goal.returns-in_default-clause-help
-returns-in_default-clause-help g c asks = absurd (none-some _ (sym c.in_default.is ∙ (c.from_words.ensures Help).1 asks))
+returns-in_default-clause-help g c asks =
+    absurd (none-some _ (sym c.in_default.is ∙ (c.from_words.ensures Help).1 asks))
 
 pub returns-in_default-clause-version : goal.returns-in_default-clause-version
 returns-in_default-clause-version g c asks =
