@@ -8,7 +8,9 @@ from pathlib import Path
 import pytest
 from conftest import ROOT, VERSION, analyzed, run
 
-FUNCTIONS = "analyze analyze_estree check check_convert check_estree check_reach convert lines reach version".split()
+FUNCTIONS = (
+    "analyze analyze_estree check check_convert check_estree check_reach convert lines reach run run_lines version"
+).split()
 CMAKE = """\
 cmake_minimum_required(VERSION 3.16)
 project(example C)

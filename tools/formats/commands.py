@@ -1,5 +1,5 @@
-"""What is written from docs/commands.json: --help, the manual pages, the completions of shells, the header for C, and
-the tables of commands for Python and Rust."""
+"""What is written from docs/commands.json: --help, the manual pages, the header for C, and the tables of commands for
+Python and Rust. completions.py writes the completions of shells."""
 
 import json
 import re
@@ -10,12 +10,12 @@ from typing import Any
 from sources import ROOT, BuildError
 
 from formats.blocks import Block
-from formats.language import GENERATED, filled
+from formats.language import filled
+from formats.schema import Format
 
 PATH = "docs/commands.json"
 HELP = "crates/modinfo/src/help.rt"
 PAGE = "packaging/module-info.1"
-COMPLETIONS = "packaging/completions"
 WIDTH = 100
 COLUMN = 12
 
@@ -49,7 +49,7 @@ def help_text() -> str:
     usage = [f"{'usage:' if number == 0 else '      '} {line}" for number, line in enumerate(COMMANDS["usage"])]
     entries = [lines_of(each["name"], each["text"], COLUMN) for each in (*COMMANDS["names"], *COMMANDS["flags"])]
     faults = [lines_of(names, text, 19) for names, text in COMMANDS["faults"].items()]
-    parts = [
+    parts: list[list[str]] = [
         [COMMANDS["title"]],
         usage,
         wrap(COMMANDS["introduction"], WIDTH),
@@ -114,12 +114,13 @@ def in_prose(names: list[str]) -> list[str]:
     return [*(f".BR {name} ," for name in first[:-1]), f".B {first[-1]}", "and", f".BR {last} ."]
 
 
-def blocks(*_formats: object) -> Iterator[Block]:
+def blocks(_document: Format, _info: Format, _report: Format) -> Iterator[Block]:
     numbers = [f"    MODINFO_{function['function'].upper()} = {function['number']}" for function in by_number()]
     yield "include/modinfo.h", "commands", ",\n".join(numbers).split("\n")
     yield "include/modinfo.h", "functions", list(in_header())
     yield "packaging/modinfo.3", "functions", list(in_manual())
-    yield "packaging/modinfo.3", "names", wrap(", ".join(f"modinfo_{each['function']}" for each in functions()) + ",", 79)
+    names = [function["function"] for function in functions()]
+    yield "packaging/modinfo.3", "names", wrap(", ".join(f"modinfo_{name}" for name in names) + ",", 79)
     yield "packaging/modinfo.3", "commands", in_prose([f"MODINFO_{each['function'].upper()}" for each in by_number()])
     yield PAGE, "synopsis", list(synopsis())
     yield PAGE, "commands", list(entries_of_page(COMMANDS["names"]))
@@ -137,7 +138,6 @@ def blocks(*_formats: object) -> Iterator[Block]:
             f"    {camel_case(function['function'])} = {function['number']},",
         )
     ]
-    names = [function["function"] for function in functions()]
     yield "bindings/rust/src/ffi.rs", "functions", [f"    modinfo_{name}" for name in names]
     yield "bindings/rust/src/ffi.rs", "constants", [
         f"pub const {name.upper()}: Function = Function::Document(modinfo_{name});" for name in names
@@ -157,75 +157,4 @@ def with_help(text: str) -> str:
 
 
 def files() -> dict[str, str]:
-    return {
-        HELP: with_help((ROOT / HELP).read_text()),
-        f"{COMPLETIONS}/module-info.bash": in_bash(),
-        f"{COMPLETIONS}/_module-info": in_zsh(),
-        f"{COMPLETIONS}/module-info.fish": in_fish(),
-    }
-
-
-GLOBAL_FLAGS = {"--help": "prints the help", "--version": "prints the version"}
-
-
-def in_bash() -> str:
-    arms = [f"            {each['name']}) words=\"{' '.join(each['words'])} --help\" ;;" for each in COMMANDS["names"]]
-    names = " ".join(each["name"] for each in COMMANDS["names"])
-    return f"""# Completion of module-info in bash.
-# {GENERATED} from {PATH}.
-_module_info() {{
-    local words=""
-    if [[ $COMP_CWORD -eq 1 ]]; then
-        words="{names} {' '.join(GLOBAL_FLAGS)}"
-    else
-        case ${{COMP_WORDS[1]}} in
-{chr(10).join(arms)}
-        esac
-    fi
-    mapfile -t COMPREPLY < <(compgen -W "$words" -- "${{COMP_WORDS[COMP_CWORD]}}")
-}}
-complete -F _module_info module-info
-"""
-
-
-def descriptions() -> dict[str, str]:
-    """The brief description of each word."""
-    entries = [*COMMANDS["names"], *COMMANDS["flags"]]
-    return {each["name"]: each["brief"] for each in entries} | GLOBAL_FLAGS
-
-
-def in_zsh() -> str:
-    brief = descriptions()
-
-    def listed(words: list[str]) -> str:
-        return " ".join(f"'{word}:{brief[word]}'" for word in words)
-
-    arms = [
-        f"        {each['name']}) candidates=({listed([*each['words'], '--help'])}) ;;" for each in COMMANDS["names"]
-    ]
-    names = listed([*(each["name"] for each in COMMANDS["names"]), *GLOBAL_FLAGS])
-    return f"""#compdef module-info
-# Completion of module-info in zsh.
-# {GENERATED} from {PATH}.
-local -a candidates
-if (( CURRENT == 2 )); then
-    candidates=({names})
-else
-    case ${{words[2]}} in
-{chr(10).join(arms)}
-    esac
-fi
-_describe 'word' candidates
-"""
-
-
-def in_fish() -> str:
-    brief = descriptions()
-    lines = ["# Completion of module-info in fish.", f"# {GENERATED} from {PATH}.", "complete -c module-info -f"]
-    for word in (*(each["name"] for each in COMMANDS["names"]), *GLOBAL_FLAGS):
-        lines.append(f"complete -c module-info -n __fish_use_subcommand -a '{word}' -d '{brief[word]}'")
-    for each in COMMANDS["names"]:
-        for word in (*each["words"], "--help"):
-            condition = f"contains -- {each['name']} (commandline -opc)[2]"
-            lines.append(f"complete -c module-info -n '{condition}' -a '{word}' -d '{brief[word]}'")
-    return "\n".join(lines) + "\n"
+    return {HELP: with_help((ROOT / HELP).read_text())}

@@ -348,7 +348,8 @@ PrintsLines-written command lines passes sent waiting written left all is =
 
 -- A run that fails after some lines.
 pub LeavesFirstLines-at : (command : Command) (input now before after : Option (List ℕ))
-    (lines : List (List ℕ)) (passes : Bool) (printed : List ℕ) (fault : Fault) → IsFailure fault → TakesLines input now lines
+    (lines : List (List ℕ)) (passes : Bool) (printed : List ℕ)
+    (fault : Fault) → IsFailure fault → TakesLines input now lines
     → PrintsLines command lines passes printed → AppendsFront before after printed
     → LeavesFirstLines command input before after fault
 LeavesFirstLines-at command input now before after lines passes printed fault failure taken prints front =
