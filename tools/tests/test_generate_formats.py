@@ -14,13 +14,27 @@ TYPES = [
     "bindings/rust/src/module_info.rs",
 ]
 NAMES = "crates/modinfo_document/src/names.rt"
+COMMANDS = "docs/commands.json"
+NUMBERS = {"answer": 8, "check": 9}
+WITH_COMMANDS = [
+    "bindings/python/src/modinfo/_library.py",
+    "bindings/rust/src/command.rs",
+    "bindings/rust/src/ffi.rs",
+    "crates/modinfo/src/help.rt",
+    "include/modinfo.h",
+    "packaging/completions/_module-info",
+    "packaging/completions/module-info.bash",
+    "packaging/completions/module-info.fish",
+    "packaging/modinfo.3",
+    "packaging/module-info.1",
+]
 
 
 @pytest.fixture
 def formats(repository: Repository) -> Repository:
     sources = ["bindings/node/src", "bindings/python/src", "bindings/rust/src"]
-    sources += ["crates/deno_graph_source/src", "crates/modinfo_document/src"]
-    copy_tracked(repository, "docs", "include", "packaging", "tools", *sources)
+    crates = ["crates/deno_graph_source/src", "crates/modinfo/src", "crates/modinfo_document/src"]
+    copy_tracked(repository, "docs", "include", "packaging", "tools", *sources, *crates)
     return repository
 
 
@@ -42,6 +56,19 @@ def test_a_new_member_is_written_to_each_language(formats: Repository) -> None:
     for path, name in zip(["docs/FORMATS.md", *TYPES], ["newMember"] * 3 + ["new_member"]):
         assert name in (formats.folder / path).read_text()
     assert stale(formats) == []
+
+
+def test_a_new_command_is_written_to_each_file(formats: Repository) -> None:
+    table = json.loads((formats.folder / COMMANDS).read_text())
+    table["names"].append({"name": "serve", "brief": "New.", "text": "New.", "words": ["--lines"]})
+    calls = {kind: {"function": f"{kind}_serve", "number": number, "text": "New."} for kind, number in NUMBERS.items()}
+    table["commands"].append({"words": ["serve"], **calls})
+    formats.write(COMMANDS, json.dumps(table))
+    assert sorted(stale(formats)) == WITH_COMMANDS
+    assert formats.run(*COMMAND)[0] == 0
+    assert stale(formats) == []
+    assert "    MODINFO_CHECK_SERVE = 9\n" in (formats.folder / "include/modinfo.h").read_text()
+    assert "serve) words=" in (formats.folder / "packaging/completions/module-info.bash").read_text()
 
 
 def test_a_file_that_is_missing_or_changed(formats: Repository) -> None:
