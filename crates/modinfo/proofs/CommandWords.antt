@@ -1,7 +1,6 @@
 -- Words ask for one command line at most.
 use Rattle.std.proofs.Common.{
   ◌≡◌,
-  ◌≢◌,
   ◌&&◌,
   ◌||◌,
   ℕ,
@@ -24,8 +23,8 @@ use Rattle.std.specs.Str.{bytes_eq}
 use Rattle.std.proofs.lemmas.Slice.Eq.{bytes_eq-Decides}
 use Rattle.modinfo.specs.CommandLine.{asks_for, asks_for_help, asks_for_version}
 use Rattle.modinfo.specs.Commands.{allowed_words, has_strictness, has_words, name_of, needed_words}
-use Rattle.modinfo.specs.Words.{are_among, are_distinct, is_among}
-use Rattle.modinfo.specs.internal.Commands.{asked_command, asked_format, asked_line}
+use Rattle.modinfo.specs.Words.{are_among, is_among}
+use Rattle.modinfo.specs.internal.Commands.{asked_command, asked_line}
 use Rattle.modinfo.specs.declared.command.Command.{Command}
 use Rattle.modinfo.specs.declared.command.Command.TheVariants.{Answer, Check}
 use Rattle.modinfo.specs.declared.command_line.CommandLine.{CommandLine}

@@ -20,7 +20,6 @@ use Rattle.std.proofs.Common.{
   take,
   drop,
   cond,
-  eqb,
   get_or,
   refl,
   sym,

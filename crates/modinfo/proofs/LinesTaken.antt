@@ -35,7 +35,6 @@ use Rattle.std.proofs.Common.{
   eqb-true,
   ltb-true,
   true≢false,
-  IsTrue,
   eq-eqb,
   lt-ltb,
   zero-add,
@@ -79,7 +78,6 @@ use Rattle.modinfo.specs.declared.fault.Fault.{Fault}
 use Rattle.modinfo.specs.declared.fault.Fault.TheVariants.{OutOfMemory}
 use Rattle.modinfo.specs.declared.command.Printed.{Printed}
 use Rattle.modinfo.specs.declared.command.Command.{Command}
-use Rattle.modinfo.specs.declared.command.Command.TheVariants.{Answer, Check}
 
 -- The last byte of a longer list.
 ends_with_byte-cons : (byte x : ℕ) (xs : List ℕ) → 0 < length xs

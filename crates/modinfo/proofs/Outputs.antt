@@ -1,5 +1,5 @@
 -- What a run leaves in the output after a fault.
-use Rattle.std.proofs.Common.{◌≡◌, ◌≢◌, ℕ, List, Bool, Option, refl}
+use Rattle.std.proofs.Common.{◌≡◌, ◌≢◌, ℕ, List, Bool, Option}
 use Rattle.std.proofs.KnownBytes.{Keeps-refl}
 use Rattle.modinfo.specs.Run.{AppendsFront, LeavesFront}
 use Rattle.modinfo.specs.declared.fault.Fault.{Fault}

@@ -20,7 +20,6 @@ use Rattle.std.specs.Str.{bytes_eq}
 use Rattle.modinfo.specs.Words.{are_among, are_distinct, is_among}
 use Rattle.modinfo.specs.declared.command.Command.{Command}
 use Rattle.modinfo.specs.declared.command.Command.TheVariants.{Answer, Check}
-use Rattle.modinfo.specs.declared.format.Format.{Format}
 use Rattle.modinfo.specs.declared.format.Format.TheVariants.{Module, Estree, Stored, Modules}
 
 -- The first word of a command.

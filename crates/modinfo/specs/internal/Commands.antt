@@ -1,5 +1,5 @@
 -- The only command line that words may ask for.
-use Rattle.std.specs.Prelude.{ℕ, List, [], ◌∷◌, codes, Bool, ◌||◌, if◌then◌else◌}
+use Rattle.std.specs.Prelude.{ℕ, List, [], ◌∷◌, codes, ◌||◌, if◌then◌else◌}
 use Rattle.std.specs.Str.{bytes_eq}
 use Rattle.modinfo.specs.CommandLine.{asks_for_help, asks_for_version}
 use Rattle.modinfo.specs.Words.{is_among}
