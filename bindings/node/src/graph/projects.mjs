@@ -9,19 +9,20 @@ const PACKAGES = ["node_modules"];
 
 /**
  * The folder of the repository that a folder is in; else the uppermost one with a package.json or a
- * configuration; else the nearest one with packages.
+ * configuration; else the nearest one with packages, above which more of the project may be.
  * @param {string} folder absolute and normal
  * @param {import("../files/regular_files.mjs").RegularFiles} files
- * @returns {string | undefined} nothing where there is none
+ * @returns {{ project?: string, isWhole: boolean }}
  */
 export function projectOf(folder, files) {
   const has = (/** @type {string} */ each, /** @type {string[]} */ names) => {
     return names.some((name) => files.at(join(each, name)).kind !== "none");
   };
   const above = foldersFrom(folder);
-  return above.find((each) => has(each, REPOSITORY)) ??
-    above.filter((each) => has(each, MARKS)).at(-1) ??
-    above.find((each) => has(each, PACKAGES));
+  const project = above.find((each) => has(each, REPOSITORY)) ?? above.filter((each) => has(each, MARKS)).at(-1);
+  return project === undefined
+    ? { project: above.find((each) => has(each, PACKAGES)), isWhole: false }
+    : { project, isWhole: true };
 }
 
 /**

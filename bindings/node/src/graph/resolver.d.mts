@@ -7,8 +7,8 @@ export interface ResolverOptions {
   /**
    * The folders of the project, as paths. What is in none of them, in no `node_modules` above one and
    * in no folder of `globalFolders` is `outside`. Without it, each module is in the project of its
-   * repository, else of the uppermost folder with a package.json or a configuration, else of the
-   * nearest one with a `node_modules`; without these, all that no link leads to is inside.
+   * repository, else of the uppermost folder with a package.json or a configuration; without these,
+   * all that no link leads to is inside, and the nearest folder with a `node_modules`.
    */
   root?: string | readonly string[];
   /** Conditions of `exports` and `imports`, besides those that node sets. With `browser` that member counts. */

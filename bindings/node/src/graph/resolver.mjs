@@ -164,11 +164,12 @@ class Resolver {
   #addProject(folder) {
     if (!this.#projects.has(folder)) {
       this.#projects.add(folder);
-      const project = projectOf(folder, this.#files);
-      if (project === undefined) {
-        this.#files.addAllWithoutLinks();
-      } else {
+      const { project, isWhole } = projectOf(folder, this.#files);
+      if (project !== undefined) {
         this.#files.addProject(project);
+      }
+      if (!isWhole) {
+        this.#files.addAllWithoutLinks();
       }
     }
   }
