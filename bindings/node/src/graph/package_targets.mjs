@@ -198,7 +198,8 @@ function targetOfText(target, { match, isImport }, { folder }) {
  * @returns {Target}
  */
 function invalid(target) {
-  return { kind: "invalid", why: `${JSON.stringify(target)} leads out of the package` };
+  const text = JSON.stringify(target);
+  return { kind: "invalid", why: `${text} is no target: it leads out of the package, or begins without "./"` };
 }
 
 /** @param {string} key */

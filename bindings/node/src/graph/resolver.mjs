@@ -58,6 +58,9 @@ const MODULES = "/node_modules/";
 /** What a package that isn't installed may be called. */
 const PACKAGE_NAME = /^(?:@[^/!]+\/)?[^.@/!][^/!]*$/;
 
+/** The names of folders with what is compiled or bundled. */
+const OUTPUTS = new Set(["dist", "build", "out", "output", "lib", "es", "esm", "cjs", "umd", "types", "typings"]);
+
 /** @type {Found} */
 const NONE = { kind: "none" };
 
@@ -500,7 +503,7 @@ class Resolver {
       return [];
     }
     const parts = relative(folder, path).replace(/(?:\.d)?\.[cm]?[jt]sx?$/, "").split("/");
-    if (parts.length < 2 || this.#files.at(absolute(folder, parts[0])).kind !== "none") {
+    if (!OUTPUTS.has(parts[0]) || this.#files.at(absolute(folder, parts[0])).kind !== "none") {
       return [];
     }
     return parts.slice(1).flatMap((_, at) => {

@@ -1,0 +1,284 @@
+/** What names lead to besides node's rules: those of configurations, compilers and bundlers, and refusals. */
+
+import assert from "node:assert/strict";
+import { symlinkSync } from "node:fs";
+import { join, relative } from "node:path";
+import { test } from "node:test";
+import { fileURLToPath } from "node:url";
+
+import { matchesName, matchesPath } from "../src/files/wildcards.mjs";
+import { parseWithComments } from "../src/graph/json_with_comments.mjs";
+import { createResolver } from "../src/graph/resolver.mjs";
+import { folderOf } from "./run_commands.mjs";
+
+/** @typedef {import("../src/graph/resolver.mjs").NameKind} NameKind */
+
+/**
+ * What some names in a module lead to: the class unless it is `file` or `package`, the path in the
+ * folder, and the rules unless they are node's.
+ * @param {string} folder
+ * @param {string} module its path in the folder
+ * @param {string[]} names
+ * @param {{ kind?: NameKind, conditions?: string[], notices?: string[] }} [options] notices are those
+ *   that there have to be
+ */
+function found(folder, module, names, { kind, conditions, notices = [] } = {}) {
+  const resolver = createResolver({ root: folder, conditions });
+  const all = names.map((name) => {
+    const resolved = /** @type {any} */ (resolver.resolve(name, join(folder, module), { kind }));
+    const { class: word, file, types, by = "node" } = resolved;
+    const url = file ?? types;
+    const path = url === undefined ? word : `${file ? "" : "types "}${relative(folder, fileURLToPath(url))}`;
+    return `${path}${by === "node" ? "" : ` by ${by}`}`;
+  });
+  const noticed = resolver.takeNotices().map((each) => each.replace(`${folder}/`, ""));
+  assert.deepEqual(noticed, notices);
+  return all;
+}
+
+test("a plain Vite project: names without endings, with queries, and from the folder of the project", () => {
+  const folder = folderOf({
+    "package.json": `{"type":"module"}`, "index.html": "", "src/main.tsx": "", "src/App.tsx": "", "src/util/index.ts": "",
+    "src/store.js": "", "src/worker.ts": "", "src/logo.svg": "", "src/data.json": "", "src/App.vue": "", "src/only.vue": "",
+    "src/x.mjs": "", "src/style.module.css": "",
+  });
+  const names = [
+    "./App", "./util", "./store", "./worker?worker", "./logo.svg?url", "./logo.svg#a", "./data", "./App.vue", "./only", "./x",
+    "/src/main.tsx", "./style.module.css", "!raw-loader!./store.js", "./none", "./App?x?y",
+  ];
+  assert.deepEqual(found(folder, "src/main.tsx", names), [
+    "src/App.tsx by bundler", "src/util/index.ts by bundler", "src/store.js by bundler", "src/worker.ts by bundler",
+    "src/logo.svg", "src/logo.svg", "src/data.json by bundler", "src/App.vue", "src/only.vue by bundler", "src/x.mjs by bundler",
+    "src/main.tsx by bundler", "src/style.module.css", "src/store.js by bundler", "missing", "src/App.tsx by bundler",
+  ]);
+});
+
+test("in TypeScript a TypeScript file comes first, in JavaScript a file of JavaScript", () => {
+  const folder = folderOf({
+    "package.json": `{"type":"module"}`, "a.ts": "", "a.js": "", "b.ts": "", "b.js": "", "c.mts": "", "d.cts": "", "e.d.ts": "",
+    "f.tsx": "", "g.d.mts": "", "h/index.d.ts": "",
+  });
+  const names = ["./b", "./b.js", "./b.ts", "./c.mjs", "./d.cjs", "./e", "./e.js", "./f.js", "./f.jsx", "./g.mjs", "./h"];
+  const others = [
+    "b.ts", "c.mts by bundler", "d.cts by bundler", "types e.d.ts by bundler", "types e.d.ts by bundler", "f.tsx by bundler",
+    "f.tsx by bundler", "types g.d.mts by bundler", "types h/index.d.ts by bundler",
+  ];
+  assert.deepEqual(found(folder, "a.ts", names), ["b.ts by bundler", "b.ts by bundler", ...others]);
+  assert.deepEqual(found(folder, "a.js", names), ["b.js by bundler", "b.js", ...others]);
+});
+
+test("what bundlers find of a package: files without endings, module, and other conditions", () => {
+  const folder = folderOf({
+    "package.json": `{"type":"module"}`, "a.js": "",
+    "node_modules/p/package.json": `{"module":"es/main.js"}`, "node_modules/p/es/main.js": "", "node_modules/p/map.js": "",
+    "node_modules/q/package.json": `{"exports":{".":{"development":"./d.js"},"./t":{"types":"./t.d.ts"}}}`,
+    "node_modules/q/d.js": "", "node_modules/q/t.d.ts": "", "node_modules/q/hidden.js": "",
+    "node_modules/t/package.json": `{"types":"t.d.ts"}`, "node_modules/t/t.d.ts": "",
+  });
+  assert.deepEqual(found(folder, "a.js", ["p", "p/map", "p/map?x", "q", "q/t", "q/hidden.js", "t", "none"]), [
+    "node_modules/p/es/main.js by bundler", "node_modules/p/map.js by bundler", "node_modules/p/map.js by bundler",
+    "node_modules/q/d.js by bundler", "types node_modules/q/t.d.ts by bundler", "missing",
+    "types node_modules/t/t.d.ts by bundler", "package",
+  ]);
+});
+
+test("browser counts with its condition: other files, other packages, and nothing", () => {
+  const browser = {
+    "./node.js": "./web.js", "./gone.js": false, fs: false, path: "path-web", "./dir/index.js": "./web.js", "./short": "./web",
+  };
+  const folder = folderOf({
+    "package.json": JSON.stringify({ browser }), "a.js": "", "node.js": "", "web.js": "", "gone.js": "", "dir/index.js": "", "short.js": "",
+    "node_modules/path-web/index.js": "",
+    "node_modules/p/package.json": `{"main":"m.js","browser":"b.js"}`, "node_modules/p/m.js": "", "node_modules/p/b.js": "",
+  });
+  const names = ["./node", "./node.js", "./gone.js", "fs", "path", "./dir", "./short", "p", "os"];
+  assert.deepEqual(found(folder, "a.js", names, { kind: "require", conditions: ["browser"] }), [
+    "web.js by bundler", "web.js by bundler", "disabled", "disabled", "node_modules/path-web/index.js by bundler",
+    "web.js by bundler", "web.js by bundler", "node_modules/p/b.js by bundler", "builtin",
+  ]);
+  assert.deepEqual(found(folder, "a.js", names, { kind: "require" }), [
+    "node.js", "node.js", "gone.js", "builtin", "builtin", "dir/index.js", "short.js", "node_modules/p/m.js", "builtin",
+  ]);
+});
+
+test("paths, baseUrl and rootDirs, also of what a configuration extends", () => {
+  const folder = folderOf({
+    "tsconfig.json": `{ // comments, and commas at the end
+      "extends": ["./base.json", "shared"], /* the second one is a package */
+      "compilerOptions": { "rootDirs": ["src", "gen"], }, }`,
+    "base.json": JSON.stringify({
+      compilerOptions: { baseUrl: "src", paths: { "@/*": ["*"], "@/sub/*": ["none/*", "sub/*"], exact: ["a.ts"], "x*y": ["*"] } },
+    }),
+    "node_modules/shared/tsconfig.json": `{"compilerOptions":{"outDir":"../../dist"}}`,
+    "src/a.ts": "", "src/sub/b.ts": "", "src/lib/index.ts": "", "gen/c.ts": "", "src/m.ts": "", "dist/a.js": "",
+  });
+  const names = ["@/a", "@/sub/b", "exact", "xmy", "lib", "./c", "sub/b", "@/none", "../dist/sub/b.js"];
+  assert.deepEqual(found(folder, "src/a.ts", names), [
+    "src/a.ts by tsconfig", "src/sub/b.ts by tsconfig", "src/a.ts by tsconfig", "src/m.ts by tsconfig",
+    "src/lib/index.ts by tsconfig", "gen/c.ts by tsconfig", "src/sub/b.ts by tsconfig", "missing", "src/sub/b.ts by tsconfig",
+  ]);
+});
+
+test("packages of a workspace whose files aren't built, or that aren't installed", () => {
+  const folder = folderOf({
+    "package.json": `{"workspaces":["packages/*","tools/one"]}`, "packages/app/src/main.ts": "", "packages/app/package.json": "{}",
+    "packages/built/package.json": `{"name":"@w/built","exports":{".":"./dist/index.js","./sub":"./dist/sub/x.js"}}`,
+    "packages/built/tsconfig.json": `{"compilerOptions":{"outDir":"dist","rootDir":"src"}}`,
+    "packages/built/src/index.ts": "", "packages/built/src/sub/x.tsx": "",
+    "packages/plain/package.json": `{"name":"plain","main":"lib/cjs/index.js","module":"lib/esm/index.js"}`, "packages/plain/src/index.js": "",
+    "packages/app/src/util.ts": "", "packages/there/package.json": `{"name":"there","main":"dist/m.js"}`, "packages/there/dist/other.js": "", "packages/there/src/m.ts": "",
+    "tools/one/package.json": `{"name":"one"}`, "tools/one/index.ts": "", "tools/two/package.json": `{"name":"two"}`, "tools/two/index.js": "",
+  });
+  const names = ["@w/built", "@w/built/sub", "plain", "one", "two", "there", "../other/util.js"];
+  const sources = [
+    "packages/built/src/index.ts by tsconfig", "packages/built/src/sub/x.tsx by tsconfig", "packages/plain/src/index.js by bundler",
+    "tools/one/index.ts by bundler", "package", "missing", "missing",
+  ];
+  assert.deepEqual(found(folder, "packages/app/src/main.ts", names), sources);
+  const linked = folderOf({
+    "pnpm-workspace.yaml": "packages:\n  # all\n  - 'libs/*'\n  - \"tools/*\" # more\n\nother: 1\n",
+    "libs/a/package.json": `{"name":"a","main":"dist/index.js"}`, "libs/a/src/index.ts": "", "libs/b/package.json": `{"name":"b"}`,
+    "libs/b/main.ts": "", "tools/c/package.json": `{"name":"c"}`, "tools/c/index.js": "", "libs/b/node_modules/x/index.js": "",
+  });
+  symlinkSync("../../a", join(linked, "libs/b/node_modules/a"));
+  assert.deepEqual(found(linked, "libs/b/main.ts", ["a", "c"]), ["libs/a/src/index.ts by bundler", "tools/c/index.js by bundler"]);
+});
+
+test("references between projects lead to sources", () => {
+  const folder = folderOf({
+    "tsconfig.json": `{"files":[],"references":[{"path":"./core"},{"path":"./app/tsconfig.app.json"}]}`,
+    "core/tsconfig.json": `{"compilerOptions":{"composite":true,"outDir":"../out/core","rootDir":"."},"include":["**/*.ts"]}`, "core/a.ts": "",
+    "app/tsconfig.app.json": `{"compilerOptions":{"paths":{"~/*":["./*"]}},"include":["."],"exclude":["**/*.test.ts"]}`,
+    "app/b.ts": "", "app/c.ts": "", "app/d.test.ts": "",
+  });
+  assert.deepEqual(found(folder, "app/b.ts", ["~/c", "../out/core/a.js"]), ["app/c.ts by tsconfig", "core/a.ts by tsconfig"]);
+  assert.deepEqual(found(folder, "app/d.test.ts", ["~/c"]), ["package"]);
+});
+
+test("a deno.json: its import map, scopes, workspace, and files as ES modules", () => {
+  const folder = folderOf({
+    "deno.json": `{
+      // as JSON with comments
+      "imports": { "@std/": "jsr:/@std/", "@std/path": "jsr:@std/path@1", "chalk": "npm:chalk@5", "~/": "./src/", "r": "https://x.test/r.ts",
+        "./src/old.ts": "./src/new.ts", "node": "node:fs", "bad": 5, },
+      "scopes": { "./scoped/": { "~/": "./scoped/own/" } },
+      "workspace": ["./member"],
+    }`,
+    "member/deno.jsonc": `{"name":"@m/member","exports":{".":"./mod.ts","./sub":"./sub.ts"},"imports":{"own":"./mod.ts"}}`,
+    "member/mod.ts": "", "member/sub.ts": "", "src/main.ts": "", "src/new.ts": "", "src/b.ts": "", "scoped/a.ts": "", "scoped/own/b.ts": "",
+  });
+  const notices = [`deno.json: "bad" of "imports" is passed over: it is no text`];
+  const names = [
+    "@std/fs", "@std/path", "@std/path/posix", "chalk", "~/b.ts", "r", "./old.ts", "node", "@m/member", "@m/member/sub", "./b.ts", "own", "bad",
+  ];
+  assert.deepEqual(found(folder, "src/main.ts", names, { notices }), [
+    "jsr", "jsr", "jsr", "npm", "src/b.ts by importmap", "url", "src/new.ts by importmap", "builtin", "member/mod.ts by importmap",
+    "member/sub.ts by importmap", "src/b.ts", "package", "package",
+  ]);
+  assert.deepEqual(found(folder, "scoped/a.ts", ["~/b.ts"], { notices }), ["scoped/own/b.ts by importmap"]);
+  assert.deepEqual(found(folder, "member/mod.ts", ["own", "~/b.ts"], { notices }), ["member/mod.ts by importmap", "src/b.ts by importmap"]);
+});
+
+test("names that can be none are missing before any rule, and URLs have their classes", () => {
+  const folder = folderOf({ "a.js": "", "b.js": "", "package.json": `{"type":"module","imports":{"#fs":"fs/promises","#p":"path"}}` });
+  const long = `./${"a/".repeat(2046)}b`;
+  const names = [
+    "", "./a\0.js", "./\0/../b.js", `${long}${"b".repeat(4096 - long.length)}`, `./${"./".repeat(3000)}b.js`, "./b%2ejs", "./%62.js", "./x%2fb.js", "./x%5cb.js",
+    "./\tb.js", "data:,x", "node:fs", "node:none", "npm:x", "JSR:x", "https://x.test", "virtual:x", "#fs", "#p", "file:///none.js",
+    new URL(`file://${folder}/b.js`).href, "//x.test/a.js",
+  ];
+  const common = [
+    "data", "builtin", "missing", "npm", "jsr", "url", "url", "builtin", "builtin",
+  ];
+  assert.deepEqual(found(folder, "a.js", names), [
+    ...Array(5).fill("missing"), "b.js", "b.js", "missing", "missing", "b.js", ...common, "missing", "b.js", "missing",
+  ]);
+  assert.deepEqual(found(folder, "a.js", names, { kind: "require" }), [
+    ...Array(10).fill("missing"), ...common.slice(0, -2), "builtin by bundler", "builtin by bundler", "missing", "missing", "missing",
+  ].map((each) => each.replace("builtin by bundler", "builtin")));
+});
+
+test("what is wrong with a manifest is a notice that names it, and leaves what else there is", () => {
+  const deep = (/** @type {number} */ depth) => `${`{"node":`.repeat(depth)}"./b.js"${"}".repeat(depth)}`;
+  /** @type {[manifest: string, notice: RegExp | undefined, name: string][]} */
+  const manifests = [
+    [`{"imports":{"__proto__":"./b.js","#a":"./b.js"},"__proto__":{"name":"x"}}`, undefined, "b.js"],
+    [`{"imports":{"#a":{"__proto__":"./c.js","default":"./b.js"}}}`, undefined, "b.js"],
+    [`{"imports":["#a"]}`, /"imports" is no object$/, "missing"],
+    [`{"imports":5}`, /"imports" is no object$/, "missing"],
+    [`{"imports":{"#a":5}}`, /5 is no target$/, "missing"],
+    [`{"imports":{"#a":["#a",5]}}`, undefined, "missing"],
+    [`{"imports":{"#a":"#b","#b":"#a"}}`, undefined, "missing"],
+    [`{"imports":{"#a":"../b.js"}}`, /"\.\.\/b\.js" is no target: it leads out of the package, or begins without "\.\/"$/, "missing"],
+    [`{"imports":{"#a":{"0":"./b.js"}}}`, /a number is no condition$/, "missing"],
+    [`{"imports":{"#a":${deep(900)}}}`, undefined, "b.js"],
+    [`{"imports":{"#a":${deep(100_000)}}}`, /more than 1000 conditions or lists are in each other$/, "missing"],
+    [`{"imports":{"#a":${"[".repeat(100_000)}${"]".repeat(100_000)}}}`, /more than 1000 conditions or lists/, "missing"],
+    [`[]`, /passed over: it is no object$/, "missing"],
+    [`null`, /passed over: it is no object$/, "missing"],
+    [`{"imports":`, /passed over: .*JSON/, "missing"],
+    ["", /passed over: .*JSON/, "missing"],
+    [`{"name":{},"main":[],"type":5,"exports":5,"browser":[5],"workspaces":{"packages":5},"imports":{"#a":"./b.js"}}`, undefined, "b.js"],
+  ];
+  for (const [manifest, notice, expected] of manifests) {
+    const folder = folderOf({ "package.json": manifest, "a.js": "", "b.js": "" });
+    const resolver = createResolver({ root: folder, conditions: ["browser"] });
+    for (const kind of /** @type {const} */ (["import", "require"])) {
+      const resolved = /** @type {any} */ (resolver.resolve("#a", join(folder, "a.js"), { kind }));
+      const path = resolved.file === undefined ? resolved.class : relative(folder, fileURLToPath(resolved.file));
+      assert.equal(path, expected, manifest.slice(0, 100));
+      assert.equal(resolver.resolve("./b.js", join(folder, "a.js"), { kind }).class, "file");
+    }
+    const notices = resolver.takeNotices();
+    assert.equal(notices.length, notice ? 1 : 0, `${manifest.slice(0, 100)}: ${notices.join("\n").slice(0, 500)}`);
+    assert.ok(!notice || (notices[0].startsWith(join(folder, "package.json: ")) && notice.test(notices[0])), notices[0]);
+  }
+});
+
+test("what is wrong with a tsconfig.json is a notice, and the rest of it counts", () => {
+  /** @type {[configuration: string, notice: string | undefined][]} */
+  const configurations = [
+    [`{"compilerOptions":{"paths":{"a":5,"@/*":["./*"]}}}`, `"a" of "paths" is passed over: it is no list of texts`],
+    [`{"compilerOptions":{"paths":{"a":"./b.ts","@/*":["./*"]}}}`, `"a" of "paths" is passed over: it is no list of texts`],
+    [`{"compilerOptions":{"baseUrl":5,"paths":{"@/*":["./*"]}}}`, `"baseUrl" is passed over: it is no text`],
+    [`{"compilerOptions":{"rootDirs":{},"paths":{"@/*":["./*"]}}}`, `"rootDirs" is passed over: it is no list of texts`],
+    [`{"references":5,"compilerOptions":{"paths":{"@/*":["./*"]}}}`, `"references" has more than objects with a "path"`],
+    [`{"extends":"./tsconfig.json","compilerOptions":{"paths":{"@/*":["./*"]}}}`,
+      `"extends" has "./tsconfig.json", which isn't there, or extends this one`],
+    [`{"extends":"none","compilerOptions":{"paths":{"@/*":["./*"]}}}`, `"extends" has "none", which isn't there, or extends this one`],
+    [`{"include":5,"files":{},"exclude":[5],"compilerOptions":{"paths":{"@/*":["./*"],"__proto__":["./x"]}}}`, undefined],
+  ];
+  for (const [configuration, notice] of configurations) {
+    const folder = folderOf({ "tsconfig.json": configuration, "a.ts": "", "b.ts": "" });
+    const notices = notice === undefined ? [] : [`tsconfig.json: ${notice}`];
+    assert.deepEqual(found(folder, "a.ts", ["@/b", "__proto__"], { notices })[0], "b.ts by tsconfig", configuration);
+  }
+  const folder = folderOf({ "tsconfig.json": `{"compilerOptions":5}`, "a.ts": "" });
+  found(folder, "a.ts", ["./a"], { notices: [`tsconfig.json: "compilerOptions" is no object`] });
+});
+
+test("wildcards take time that grows as pattern times path", () => {
+  for (const [pattern, path, expected] of /** @type {[string, string, boolean][]} */ ([
+    ["/a/**/*.ts", "/a/b/c/d.ts", true], ["/a/**/*.ts", "/a/d.ts", true], ["/a/*.ts", "/a/b/d.ts", false], ["/a/**", "/a", true],
+    ["/**/b/**/d", "/a/b/c/b/d", true], ["/a/?.ts", "/a/b.ts", true], ["/a/?.ts", "/a/bb.ts", false], ["/a/**/b", "/a/c", false],
+  ])) {
+    assert.equal(matchesPath(pattern, path), expected, `${pattern} ${path}`);
+  }
+  assert.ok(matchesName("*a*b?", "xxaxxbc"));
+  const begin = process.cpuUsage().user;
+  assert.ok(!matchesName(`${"*a".repeat(40)}*b`, "a".repeat(4000)));
+  assert.ok(!matchesPath(`/${"**/a/".repeat(40)}**/b`, "/a".repeat(2000)));
+  assert.ok(process.cpuUsage(/** @type {any} */ ({ user: begin, system: 0 })).user < 5e6);
+});
+
+test("JSON with comments is read in time that grows as its length", () => {
+  assert.deepEqual(parseWithComments(`{ // a, }\n "a//b": ["/*", 1, ], /* , } */ "c\\"": {"d": 1,}, }`), { "a//b": ["/*", 1], "c\"": { d: 1 } });
+  for (const text of ["{ /* ", "[1,,]", "[/]", `["a]`, "// only"]) {
+    assert.throws(() => parseWithComments(text), { name: "SyntaxError" }, text);
+  }
+  const begin = process.cpuUsage().user;
+  for (const part of ["/*", "/*/", `"`, ",", ", ", "//", "\\", `"\\`]) {
+    assert.throws(() => parseWithComments(part.repeat(300_000)), { name: "SyntaxError" }, part);
+  }
+  assert.ok(process.cpuUsage(/** @type {any} */ ({ user: begin, system: 0 })).user < 5e6);
+});
