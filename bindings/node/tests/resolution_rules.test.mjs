@@ -22,7 +22,8 @@ import { folderOf } from "./run_commands.mjs";
  * @param {{ kind?: NameKind, conditions?: string[], notices?: string[] }} [options] notices are those
  *   that there have to be
  */
-function found(folder, module, names, { kind, conditions, notices = [] } = {}) {
+function found(folder, module, names, options = {}) {
+  const { kind, conditions, notices = [] } = options;
   const resolver = createResolver({ root: folder, conditions });
   const all = names.map((name) => {
     const resolved = /** @type {any} */ (resolver.resolve(name, join(folder, module), { kind }));
@@ -194,8 +195,8 @@ test("names that can be none are missing before any rule, and URLs have their cl
     ...Array(5).fill("missing"), "b.js", "b.js", "missing", "missing", "b.js", ...common, "missing", "b.js", "missing",
   ]);
   assert.deepEqual(found(folder, "a.js", names, { kind: "require" }), [
-    ...Array(10).fill("missing"), ...common.slice(0, -2), "builtin by bundler", "builtin by bundler", "missing", "missing", "missing",
-  ].map((each) => each.replace("builtin by bundler", "builtin")));
+    ...Array(10).fill("missing"), ...common.slice(0, -2), "builtin", "builtin", "missing", "b.js by bundler", "missing",
+  ]);
 });
 
 test("what is wrong with a manifest is a notice that names it, and leaves what else there is", () => {
