@@ -1,11 +1,9 @@
 /** Finds the parsers that are installed. */
 
-import { createRequire } from "node:module";
+import { ownRequire as require } from "../files/own_files.mjs";
 
 /** Where Debian's packages put modules. Debian's node looks there without this, others don't. */
 const DEBIAN_MODULES = "/usr/share/nodejs";
-
-const require = createRequire(import.meta.url);
 
 /** @typedef {"acorn" | "typescript"} Parser */
 

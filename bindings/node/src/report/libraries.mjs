@@ -1,13 +1,11 @@
 /** The libraries that are written into the page: they lay out the graph and the picture of sizes. */
 
-import { readFileSync } from "node:fs";
-import { createRequire } from "node:module";
 import { join } from "node:path";
+
+import { ownRequire, readOwnFile } from "../files/own_files.mjs";
 
 /** The folder of Debian's packages. Debian's node looks for modules there, others don't. */
 const DEBIAN_MODULES = "/usr/share/nodejs";
-
-const require = createRequire(import.meta.url);
 
 /**
  * The libraries: of each the file that a browser can run, and what the library draws.
@@ -43,13 +41,13 @@ export function readLibraries(folders = foldersOfPackages()) {
 
 /** @returns {string[]} the folders in which node looks for packages from here, and Debian's */
 function foldersOfPackages() {
-  return [...require.resolve.paths("dagre") ?? [], DEBIAN_MODULES];
+  return [...ownRequire.resolve.paths("dagre") ?? [], DEBIAN_MODULES];
 }
 
 /** @param {string} path */
 function read(path) {
   try {
-    return readFileSync(path, "utf8");
+    return readOwnFile(path);
   } catch {
     return undefined;
   }

@@ -1,9 +1,9 @@
 /** The page, in one file that loads nothing. */
 
 import { createHash } from "node:crypto";
-import { readFileSync } from "node:fs";
 import { deflateSync } from "node:zlib";
 
+import { readOwnFile } from "../files/own_files.mjs";
 import { KINDS } from "./kinds.mjs";
 
 /** The page's own modules; a module is after those that it imports. */
@@ -113,7 +113,7 @@ ${classes}
 
 /** @param {string} name */
 function read(name) {
-  return readFileSync(new URL(`./page/${name}`, import.meta.url), "utf8");
+  return readOwnFile(new URL(`./page/${name}`, import.meta.url));
 }
 
 /** @param {string} text */

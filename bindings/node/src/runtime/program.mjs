@@ -3,10 +3,10 @@
 import { spawn } from "node:child_process";
 import { once } from "node:events";
 import { existsSync } from "node:fs";
-import { createRequire } from "node:module";
 import { resolve as absolute } from "node:path";
 import { fileURLToPath } from "node:url";
 
+import { ownRequire } from "../files/own_files.mjs";
 import { ProgramEnd } from "./service.mjs";
 
 /** The package that has the program for this system, where there is one. */
@@ -41,7 +41,7 @@ export function modinfoPath() {
 
 function installedPath() {
   try {
-    return createRequire(import.meta.url).resolve(`${PACKAGE}/modinfo`);
+    return ownRequire.resolve(`${PACKAGE}/modinfo`);
   } catch {
     return undefined;
   }

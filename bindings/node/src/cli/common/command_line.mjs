@@ -1,9 +1,9 @@
 /** What the commands share: their words, and how they end. */
 
-import { readFileSync } from "node:fs";
 import os from "node:os";
 import { parseArgs } from "node:util";
 
+import { readOwnFile } from "../../files/own_files.mjs";
 import { MAX_BYTES } from "../../files/regular_file.mjs";
 import { parserVersion } from "../../parsers/installed_parsers.mjs";
 import { printableLines } from "../../runtime/printable.mjs";
@@ -82,7 +82,7 @@ async function printHelp({ name, parser, help }, { values }) {
     await writeOutput(help);
   } else if (values.version) {
     const own = new URL("../../../package.json", import.meta.url);
-    const { version } = JSON.parse(readFileSync(own, "utf8"));
+    const { version } = JSON.parse(readOwnFile(own));
     await writeOutput(`${name} ${version}, ${parser} ${parserVersion(parser)}\n`);
   }
   return Boolean(values.help || values.version);
