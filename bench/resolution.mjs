@@ -1,65 +1,61 @@
 #!/usr/bin/env node
 /**
- * Compares what `modinfo-files` resolves with what node itself does, in real packages.
+ * Compares what names lead to with what node and esbuild find, in real packages, and how fast.
  *
- * usage: node bench/resolution.mjs [--files N] [--folder PATH] [--list]
- * example: node bench/resolution.mjs --files 500
+ * usage: node bench/resolution.mjs [--files N] [--entries N] [--folder PATH] [--list]
+ * example: node bench/resolution.mjs --files 500 --entries 50
  *
  *   --files N      how many files of JavaScript, evenly spread over all of the folder; else 5000
+ *   --entries N    how many packages esbuild bundles, evenly spread; else all
  *   --folder PATH  a folder of packages; else /usr/share/nodejs, where Debian's packages are
- *   --list         prints each specifier that is resolved otherwise
+ *   --list         prints each name that bundlers' rules find, and node doesn't
  *
- * Each specifier that is known is resolved by `modinfo-files --resolve`, and by a node that runs
- * nothing of the packages (resolution_by_node.mjs). The folder is read as `node_modules`, so that
- * packages find each other.
- *
- * Then it compares the cycles of some packages with those that a textbook's search finds, over
- * node's resolution of what acorn finds (resolution_cycles.mjs). Status 1 where anything differs.
+ * Each name that `modinfo-files` finds in a file is resolved, and by a node that runs nothing of the
+ * packages. Then the cycles of some packages are compared with those that a textbook's search finds
+ * over node's resolution of what acorn finds (resolution_cycles.mjs), and the names in what esbuild
+ * bundles with where esbuild has them lead (resolution_by_esbuild.mjs). Status 1 where anything
+ * differs.
  */
 
 import { spawnSync } from "node:child_process";
-import { mkdtempSync, realpathSync, rmSync, symlinkSync } from "node:fs";
+import { realpathSync } from "node:fs";
 import { readdir } from "node:fs/promises";
-import { tmpdir } from "node:os";
 import { join } from "node:path";
-import { fileURLToPath, pathToFileURL } from "node:url";
+import { fileURLToPath } from "node:url";
 import { parseArgs } from "node:util";
 
 import { textOfArgument } from "../bindings/node/src/graph/arguments.mjs";
+import { createResolver } from "../bindings/node/src/graph/resolver.mjs";
+import { askNode } from "../bindings/node/tests/by_node.mjs";
 import { printHelp } from "./help.mjs";
+import { compareEntries } from "./resolution_by_esbuild.mjs";
 import { compareCycles } from "./resolution_cycles.mjs";
 
 printHelp(import.meta.url);
 
 const FILES = fileURLToPath(new URL("../bindings/node/src/cli/files.mjs", import.meta.url));
-const BY_NODE = fileURLToPath(new URL("./resolution_by_node.mjs", import.meta.url));
 const PACKAGES = ["@babel", "undici", "core-js", "eslint"];
 
 const { values } = parseArgs({
   options: {
     files: { type: "string", default: "5000" },
+    entries: { type: "string", default: "Infinity" },
     folder: { type: "string", default: "/usr/share/nodejs" },
     list: { type: "boolean" },
   },
 });
-const root = mkdtempSync(join(tmpdir(), "resolution-"));
-const modules = join(root, "node_modules");
-try {
-  symlinkSync(realpathSync(values.folder), modules);
-  const files = spread(await javaScriptFiles(modules), Number(values.files));
-  const isSame = compare(specifiersOf(files));
-  const haveSame = PACKAGES.map((name) => compareCycles(join(values.folder, name), FILES));
-  process.exitCode = isSame && haveSame.every(Boolean) ? 0 : 1;
-} finally {
-  rmSync(root, { recursive: true });
-}
+const folder = realpathSync(values.folder);
+const isSame = compare(namesOf(spread(await javaScriptFiles(folder), Number(values.files))));
+const haveSame = PACKAGES.map((name) => compareCycles(join(folder, name), FILES));
+const bundlesSame = compareEntries(folder, Number(values.entries));
+process.exitCode = isSame && bundlesSame && haveSame.every(Boolean) ? 0 : 1;
 
 /**
- * @param {string} folder
+ * @param {string} root
  * @returns {Promise<string[]>}
  */
-async function javaScriptFiles(folder) {
-  const entries = await readdir(folder, { recursive: true, withFileTypes: true });
+async function javaScriptFiles(root) {
+  const entries = await readdir(root, { recursive: true, withFileTypes: true });
   const files = entries.filter((entry) => entry.isFile() && /\.[cm]?js$/.test(entry.name));
   return files.map((entry) => join(entry.path, entry.name)).sort();
 }
@@ -74,53 +70,62 @@ function spread(all, count) {
 }
 
 /**
- * The specifiers of files, with what `modinfo-files` prints of each.
+ * The names in files that are known.
  * @param {string[]} files
  */
-function specifiersOf(files) {
-  const words = [FILES, "--resolve", "--jobs", "2", "-0", "-"];
-  const { stdout } = spawnSync(process.execPath, words, {
+function namesOf(files) {
+  const { stdout } = spawnSync(process.execPath, [FILES, "--jobs", "2", "-0", "-"], {
     input: files.join("\0"), maxBuffer: 1 << 30, stdio: ["pipe", "pipe", "inherit"],
   });
   const lines = stdout.toString().split("\n").slice(0, -1).map((line) => JSON.parse(line));
-  return lines.flatMap(({ specifier: file, info }) => {
-    return (info?.dependencies ?? []).flatMap((each) => {
-      const specifier = each.specifier ?? textOfArgument(each.argument);
-      const mode = each.kind === "require" ? "require" : "import";
-      return specifier === undefined ? [] : [{ file, specifier, mode, resolved: each.resolved }];
+  return lines.flatMap(({ specifier: url, info }) => {
+    return (info?.dependencies ?? []).flatMap(({ type, kind: word, specifier, argument }) => {
+      const name = specifier ?? textOfArgument(argument);
+      const kind = word === "require" ? word : type === "dynamic" ? "dynamic" : "import";
+      return name === undefined ? [] : [{ file: fileURLToPath(url), name, kind, isScript: info.script }];
     });
   });
 }
 
 /**
- * @param {{ file: string, specifier: string, mode: string, resolved: any }[]} specifiers
- * @returns {boolean} whether all are the same
+ * @param {{ file: string, name: string, kind: any, isScript?: boolean }[]} names
+ * @returns {boolean} whether all that node finds is the same
  */
-function compare(specifiers) {
-  const { stdout } = spawnSync(process.execPath, ["--no-warnings", BY_NODE], {
-    input: JSON.stringify(specifiers), maxBuffer: 1 << 30, stdio: ["pipe", "pipe", "inherit"],
-  });
-  const byNode = JSON.parse(stdout.toString());
+function compare(names) {
+  const resolver = createResolver({ root: "/" });
+  const begin = process.hrtime.bigint();
+  const own = names.map(({ file, name, ...options }) => resolver.resolve(name, file, options));
+  const seconds = Number(process.hrtime.bigint() - begin) / 1e9;
+  const byNode = askNode(names.map(({ file, name }) => [file, name]));
   const counts = { same: 0, "found, where node finds nothing": 0, different: 0 };
-  const byMode = { import: 0, require: 0 };
-  specifiers.forEach((each, at) => {
-    const own = shown(each.resolved);
-    const isSame = own === byNode[at];
-    // What node can't run as it is, a compiler or bundler resolves by more rules.
-    const isMore = !isSame && byNode[at] === "none" && each.mode === "import";
-    counts[isSame ? "same" : isMore ? "found, where node finds nothing" : "different"]++;
-    byMode[each.mode]++;
-    if (!isSame && (!isMore || values.list)) {
-      console.log(`${each.file}: ${each.mode} ${each.specifier}: ${own}, node: ${byNode[at]}`);
+  let found = 0;
+  names.forEach(({ file, name, kind }, at) => {
+    const expected = byNode[at][kind === "require" ? kind : "import"];
+    const shown = shownOf(own[at]);
+    const isMore = expected === "none" && own[at].by !== "node";
+    found += Number(expected !== "none");
+    const word = shown === expected ? "same" : isMore ? "found, where node finds nothing" : "different";
+    counts[word]++;
+    if (word === "different" || (values.list && word !== "same")) {
+      console.log(`${file}: ${kind} ${name}: ${shown}, node: ${expected}`);
     }
   });
-  const found = byNode.filter((each) => each !== "none").length;
-  console.log(`${specifiers.length} specifiers (${byMode.require} of require, ${byMode.import} of import), ` +
-    `of which node finds ${found}: ${Object.entries(counts).map(([name, count]) => `${count} ${name}`).join(", ")}`);
+  const words = Object.entries(counts).map(([word, count]) => `${count} ${word}`).join(", ");
+  console.log(`${names.length} names, ${Math.round(names.length / seconds)} a second, of which node finds ${found}: ${words}`);
   return counts.different === 0;
 }
 
 /** @param {any} resolved */
-function shown({ class: name, file }) {
-  return name === "builtin" ? name : file ?? "none";
+function shownOf({ class: word, file }) {
+  switch (word) {
+    case "builtin":
+      return word;
+    case "data":
+    case "npm":
+    case "jsr":
+    case "url":
+      return "url";
+    default:
+      return file === undefined ? "none" : fileURLToPath(file);
+  }
 }

@@ -74,10 +74,12 @@ test("what bundlers find of a package: files without endings, module, and other 
     "node_modules/p/package.json": `{"module":"es/main.js"}`, "node_modules/p/es/main.js": "", "node_modules/p/map.js": "",
     "node_modules/q/package.json": `{"exports":{".":{"development":"./d.js"},"./t":{"types":"./t.d.ts"}}}`,
     "node_modules/q/d.js": "", "node_modules/q/t.d.ts": "", "node_modules/q/hidden.js": "",
+    "node_modules/r/package.json": `{"exports":{"./x":{"import":"./i.js","require":"./r.js"}}}`,
+    "node_modules/r/i.js": "", "node_modules/r/r.js": "",
     "node_modules/t/package.json": `{"types":"t.d.ts"}`, "node_modules/t/t.d.ts": "",
   });
-  assert.deepEqual(found(folder, "a.js", ["p", "p/map", "p/map?x", "q", "q/t", "q/hidden.js", "t", "none"]), [
-    "node_modules/p/es/main.js by bundler", "node_modules/p/map.js by bundler", "node_modules/p/map.js by bundler",
+  assert.deepEqual(found(folder, "a.js", ["p", "p/map", "p/map?x", "r/x?y", "q", "q/t", "q/hidden.js", "t", "none"]), [
+    "node_modules/p/es/main.js by bundler", "node_modules/p/map.js by bundler", "node_modules/p/map.js by bundler", "node_modules/r/i.js by bundler",
     "node_modules/q/d.js by bundler", "types node_modules/q/t.d.ts by bundler", "missing",
     "types node_modules/t/t.d.ts by bundler", "package",
   ]);

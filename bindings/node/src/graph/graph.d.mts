@@ -10,7 +10,7 @@ import type {
  *
  * - `importmap`: a deno.json, or the import map that it names;
  * - `tsconfig`: `paths`, `baseUrl`, `rootDirs` or `outDir` of a tsconfig.json or jsconfig.json;
- * - `node`: those of an import, or of a `require`, as node 20.19, 22.12 and later have them;
+ * - `node`: those of an import, or of a `require`, as node 20.20 has them;
  * - `bundler`: those of TypeScript's compiler and of bundlers, where node as it is finds nothing:
  *   names without an ending, an index, `./a.js` for `./a.ts`, queries, `browser` and `module` of a
  *   package.json, packages of a workspace.

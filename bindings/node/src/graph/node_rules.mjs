@@ -2,7 +2,7 @@
  * What node loads for a name: ESM_RESOLVE
  * (https://nodejs.org/api/esm.html#resolution-algorithm-specification) for an import, and
  * `require(X) from module at path Y` (https://nodejs.org/api/modules.html#all-together) for a
- * `require`, as node 20.19, 22.12 and later have them.
+ * `require`, as node 20.20 has them.
  *
  * Other than node's own, these rules find regular files alone, and go on where a package.json is no
  * JSON.

@@ -78,6 +78,8 @@ class Resolver {
   #manifests;
   #names;
   #node;
+  /** Node's rules where an import is looked for as a `require`, and where any condition holds. */
+  #importAsRequire;
   #anyCondition;
   #bundler;
   #workspaces;
@@ -94,8 +96,8 @@ class Resolver {
     const globals = (options.globalFolders ?? globalFolders).map((each) => absolute(each));
     const files = new RegularFiles(system);
     const manifests = new PackageManifests(files);
-    const rules = (/** @type {readonly string[]} */ all) => {
-      const own = { import: new Set([...all, "import"]), require: new Set([...all, "require"]) };
+    const rules = (/** @type {readonly string[]} */ all, /** @type {Mode} */ ofRequire = "require") => {
+      const own = { import: new Set([...all, "import"]), require: new Set([...all, ofRequire]) };
       return new NodeRules(files, manifests, { conditions: own, globalFolders: globals });
     };
     [root].flat().forEach((each) => files.addProject(absolute(each)));
@@ -108,6 +110,7 @@ class Resolver {
     this.#isBrowser = conditions.includes("browser");
     this.#bundler = new BundlerRules(files, manifests, this.#isBrowser ? ["browser"] : []);
     this.#node = rules([...NODE_CONDITIONS, ...conditions]);
+    this.#importAsRequire = rules([...NODE_CONDITIONS, ...conditions], "import");
     this.#anyCondition = rules([...BUNDLER_CONDITIONS, ...conditions]);
     this.#types = types ? new TypeScriptTypes(files, this.#names, conditions) : undefined;
   }
@@ -391,7 +394,7 @@ class Resolver {
     for (const name of plainNames(specifier)) {
       const found = PATH.test(name)
         ? this.#pathByBundler(name, importer)
-        : this.#nameByBundler(name, importer, results);
+        : this.#nameByBundler({ ...named, specifier: name }, importer, results);
       if (found.kind !== "none") {
         return { found, by: "bundler" };
       }
@@ -415,13 +418,15 @@ class Resolver {
   }
 
   /**
-   * @param {string} name
+   * @param {Pick<Named, "syntax" | "mode"> & { specifier: string }} named
    * @param {Importer} importer
    * @param {Found[]} results to which those that aren't found are added
    * @returns {Found}
    */
-  #nameByBundler(name, importer, results) {
+  #nameByBundler({ specifier: name, syntax, mode }, importer, results) {
+    const isRequire = (mode ?? syntax) === "require";
     const tries = [
+      () => (isRequire ? NONE : this.#importAsRequire.require(name, importer.path)),
       () => this.#node.require(name, importer.path),
       () => this.#anyCondition.import(name, importer.path),
       () => this.#inPackage(name, importer),
