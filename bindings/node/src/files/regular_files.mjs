@@ -166,11 +166,12 @@ export class RegularFiles {
    * @returns {Entry}
    */
   #look(path) {
-    const parent = this.at(dirname(path));
+    const slash = path.lastIndexOf("/");
+    const parent = this.at(path.slice(0, slash) || "/");
     if (parent.kind !== "folder") {
       return NONE;
     }
-    const real = join(parent.path, path.slice(path.lastIndexOf("/") + 1));
+    const real = (parent.path === "/" ? "" : parent.path) + path.slice(slash);
     if (real !== path) {
       return behind(parent.links, this.at(real));
     }

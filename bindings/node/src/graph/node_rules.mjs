@@ -64,6 +64,8 @@ export class NodeRules {
    * @type {Map<string, string | undefined>}
    */
   #packages = new Map();
+  /** @type {Map<string, string[]>} */
+  #modules = new Map();
 
   /**
    * @param {import("../files/regular_files.mjs").RegularFiles} files
@@ -126,20 +128,28 @@ export class NodeRules {
   }
 
   /**
-   * The folder of the package of a name.
-   * @param {string} specifier
+   * @param {string} name of a package
    * @param {string} importer the path of a file, without links
-   * @returns {{ name: string, rest: string, folder: string | undefined } | undefined} with what
-   *   follows the package's name; nothing where no package can have the name
+   * @returns {string | undefined} the package's folder, by the rules of a `require`
    */
-  packageOf(specifier, importer) {
-    const [, name = "", rest = ""] = PACKAGE.exec(specifier) ?? [];
-    if (name === "" || NO_PACKAGE.test(name)) {
-      return undefined;
+  packageFolder(name, importer) {
+    return this.#modulesFrom(dirname(importer)).map((each) => absolute(each, name))
+      .find((each) => this.#files.at(each).kind === "folder");
+  }
+
+  /**
+   * The folders of packages in which a `require` looks, of those that are there.
+   * @param {string} folder
+   * @returns {string[]}
+   */
+  #modulesFrom(folder) {
+    let modules = this.#modules.get(folder);
+    if (!modules) {
+      const all = [...modulesAbove(folder), ...this.#globalFolders];
+      modules = all.filter((each) => this.#files.at(each).kind === "folder");
+      this.#modules.set(folder, modules);
     }
-    const modules = [...modulesAbove(dirname(importer)), ...this.#globalFolders];
-    const folders = modules.map((each) => absolute(each, name));
-    return { name, rest, folder: folders.find((each) => this.#files.at(each).kind === "folder") };
+    return modules;
   }
 
   /**
@@ -228,15 +238,15 @@ export class NodeRules {
     if (isBuiltin(specifier)) {
       return { kind: "builtin" };
     }
-    const [, name = "", rest = ""] = PACKAGE.exec(specifier) ?? [];
-    if (name === "" || NO_PACKAGE.test(name)) {
+    const { name, rest } = packageName(specifier) ?? {};
+    if (name === undefined || rest === undefined) {
       return NONE;
     }
     const scope = this.#manifests.scopeOf(folder);
     if (scope && isSet(scope.exports) && scope.name === name) {
       return this.#byExports(`.${rest}`, scope, mode);
     }
-    const own = this.#packageFolder(name, folder);
+    const own = this.#nearestPackage(name, folder);
     return own === undefined ? NONE : this.ofPackage(own, rest, mode);
   }
 
@@ -267,7 +277,7 @@ export class NodeRules {
    * @param {string} folder the importer's
    * @returns {string | undefined} its path, with links
    */
-  #packageFolder(name, folder) {
+  #nearestPackage(name, folder) {
     const key = `${folder}/\0${name}`;
     if (!this.#packages.has(key)) {
       this.#packages.set(key, this.#findPackage(name, folder));
@@ -325,14 +335,12 @@ export class NodeRules {
   #inModules(specifier, folder) {
     /** @type {Missing} */
     let missing = NONE;
-    for (const modules of [...modulesAbove(folder), ...this.#globalFolders]) {
-      if (this.#files.at(modules).kind === "folder") {
-        const found = this.#inFolder(modules, specifier);
-        if (found.kind !== "none" || found.isFinal) {
-          return found;
-        }
-        missing = missing.package === undefined ? found : missing;
+    for (const modules of this.#modulesFrom(folder)) {
+      const found = this.#inFolder(modules, specifier);
+      if (found.kind !== "none" || found.isFinal) {
+        return found;
       }
+      missing = missing.package === undefined ? found : missing;
     }
     return missing;
   }
@@ -399,9 +407,18 @@ export class NodeRules {
 }
 
 /**
- * The folders of packages in which a `require` looks.
+ * The name of the package in which a name is looked for, and what follows it.
+ * @param {string} specifier no path, no URL, and no name of `imports`
+ * @returns {{ name: string, rest: string } | undefined} nothing where no package can have the name
+ */
+export function packageName(specifier) {
+  const [, name = "", rest = ""] = PACKAGE.exec(specifier) ?? [];
+  return name === "" || NO_PACKAGE.test(name) ? undefined : { name, rest };
+}
+
+/**
  * @param {string} folder
- * @returns {string[]}
+ * @returns {string[]} each `node_modules` that may be above a folder
  */
 function modulesAbove(folder) {
   const parent = dirname(folder);

@@ -32,7 +32,7 @@ import { RegularFiles } from "../files/regular_files.mjs";
 import { BundlerRules, plainNames } from "./bundler_rules.mjs";
 import { ConfiguredNames } from "./configured_names.mjs";
 import { globalFolders, isAsset, isDeclaration, isInstalled, isTypeScript } from "./file_kinds.mjs";
-import { NodeRules } from "./node_rules.mjs";
+import { NodeRules, packageName } from "./node_rules.mjs";
 import { PackageManifests } from "./package_manifests.mjs";
 import { projectOf } from "./projects.mjs";
 import { namedBy } from "./references.mjs";
@@ -243,7 +243,7 @@ class Resolver {
     if (found.kind !== "file" && found.kind !== "none") {
       return { class: found.kind };
     }
-    const { name } = this.#packageOf(specifier, importer) ?? {};
+    const { name } = packageOf(specifier) ?? {};
     const path = found.kind === "file" ? found.path : undefined;
     const files = filesOf(path, types, by);
     const first = path ?? types;
@@ -259,22 +259,13 @@ class Resolver {
   }
 
   /**
-   * @param {string} specifier
-   * @param {Importer} importer
-   */
-  #packageOf(specifier, { path }) {
-    const isOther = SCHEME.test(specifier) || specifier.startsWith("#") || PATH.test(specifier);
-    return isOther ? undefined : this.#node.packageOf(specifier, path);
-  }
-
-  /**
    * Whether a package is there, with or without the file that is looked for.
    * @param {string} name
    * @param {Importer} importer
    */
   #isThere(name, { path }) {
     return name === this.#manifests.scopeOf(dirname(path))?.name ||
-      this.#node.packageOf(name, path)?.folder !== undefined ||
+      this.#node.packageFolder(name, path) !== undefined ||
       this.#workspaces.folderOf(name, path) !== undefined;
   }
 
@@ -307,7 +298,8 @@ class Resolver {
     if (other !== undefined) {
       return this.#instead(other, importer.path, importer);
     }
-    const { folder, rest } = this.#node.packageOf(specifier, importer.path) ?? {};
+    const { name, rest } = packageOf(specifier) ?? {};
+    const folder = name === undefined ? undefined : this.#node.packageFolder(name, importer.path);
     const manifest = folder === undefined ? undefined : this.#manifests.of(folder);
     const hasMain = rest === "" && typeof manifest?.members.browser === "string" && !manifest.exports;
     return hasMain ? { found: this.#bundler.inPackage(manifest.folder, "", importer), by: "bundler" } : undefined;
@@ -447,11 +439,11 @@ class Resolver {
    * @returns {Found}
    */
   #inPackage(specifier, importer) {
-    const { name, rest, folder } = this.#node.packageOf(specifier, importer.path) ?? {};
+    const { name, rest } = packageOf(specifier) ?? {};
     if (name === undefined || rest === undefined) {
       return NONE;
     }
-    const workspace = folder ?? this.#workspaces.folderOf(name, importer.path);
+    const workspace = this.#node.packageFolder(name, importer.path) ?? this.#workspaces.folderOf(name, importer.path);
     const found = workspace === undefined ? NONE : this.#anyCondition.ofPackage(workspace, rest, "import");
     if (workspace === undefined || found.kind !== "none" || this.#manifests.of(workspace)?.exports) {
       return found;
@@ -516,6 +508,16 @@ class Resolver {
       return [absolute(folder, "src", ...rest), absolute(folder, ...rest)];
     });
   }
+}
+
+/**
+ * The name of the package in which a name is looked for, and what follows it.
+ * @param {string} specifier
+ * @returns {{ name: string, rest: string } | undefined} nothing for what no package's name is
+ */
+function packageOf(specifier) {
+  const isOther = SCHEME.test(specifier) || specifier.startsWith("#") || PATH.test(specifier);
+  return isOther ? undefined : packageName(specifier);
 }
 
 /**
