@@ -11,14 +11,15 @@ export function matchesName(pattern, text) {
 }
 
 /**
- * Whether a path is what a pattern has: `**` as a part is any parts, and `*` and `?` in one are
- * characters of a part.
+ * Whether a path is what a pattern has: `**` as a part is any folders, and at the end all in a
+ * folder; `*` and `?` are characters of a part.
  * @param {string} pattern
  * @param {string} path
  * @returns {boolean}
  */
 export function matchesPath(pattern, path) {
-  return matches(pattern.split("/"), path.split("/"), "**", matchesName);
+  const whole = pattern.replace(/(^|\/)\*\*$/, "$1**/*");
+  return matches(whole.split("/"), path.split("/"), "**", matchesName);
 }
 
 /**
