@@ -8,7 +8,8 @@ import { KINDS } from "./kinds.mjs";
 
 /** The page's own modules; a module is after those that it imports. */
 const SCRIPTS = [
-  "elements.js", "controls.js", "report.js", "folders.js", "details.js", "pieces.js", "reveal.js",
+  "elements.js", "controls.js", "report.js", "weights.js", "folders.js", "details.js", "pieces.js", "reveal.js",
+  "cycles.js", "labels.js",
   "segments.js", "source_view.js", "table_view.js", "ways.js", "way_view.js", "module_view.js",
   "outside_view.js", "lists_view.js",
   "graph_kinds.js", "graph_tree.js", "graph_edges.js", "graph_scene.js", "graph_layers.js",
@@ -48,6 +49,7 @@ ${layout.text ? `<script type="text/plain" id="layout">${layoutScript(layout.tex
 ${[...parts].map((part, at) => partElement(part, at)).join("\n")}
 </head>
 <body>
+<p class="waiting">Drawing …</p>
 <noscript>This report is drawn by its script, which is switched off here.</noscript>
 <script type="module">${script}</script>
 </body>

@@ -7,7 +7,12 @@ import { askLayout, sizeOfLabel } from "./graph_layout.js";
 import { moduleLook } from "./graph_nodes.js";
 import { graphFrame, roomIn, showFault, showPlan } from "./graph_view.js";
 import { counted, kindLabel, moduleLink, nameLabel } from "./pieces.js";
-import { paths, report } from "./report.js";
+import { labelsOf } from "./labels.js";
+import { report } from "./report.js";
+
+/** What isn't known of some cycles. */
+export const OF_TYPES = "It has imports of TypeScript files; a compiler removes those that name types alone, and then " +
+  "it may be no cycle of what runs.";
 
 /** The most modules of a cycle that are drawn; of a larger cycle, the modules of its shortest path. */
 const MOST_DRAWN = 40;
@@ -18,9 +23,10 @@ const MOST_DRAWN = 40;
  */
 export function cycleView(number) {
   const cycle = report.lists.cycles[number];
-  const { modules, path, isRun, rows } = cycle;
+  const { modules, path, isRun, rows, isOfTypes } = cycle;
   const frame = graphFrame([`Cycle of ${counted(modules.length, "module")}`]);
-  const kinds = isRun ? "" : " Types or comments close it: its code doesn't run in a circle.";
+  const ran = isOfTypes ? ` ${OF_TYPES}` : "";
+  const kinds = isRun ? ran : " Types or comments close it: its code doesn't run in a circle.";
   const note = `The marked edges are a shortest path around it.${kinds}`;
   frame.bar.after(element("p", { class: "hint" }, note));
   const steps = element("ol", { class: "steps" }, ...rows.map(rowStep));
@@ -39,7 +45,8 @@ function rowStep({ module, row, line, kind, name }) {
 }
 
 async function drawCycle(frame, modules, path) {
-  const looks = new Map(modules.map((module) => [`m${module}`, moduleLook(module, paths[module])]));
+  const label = labelsOf(modules);
+  const looks = new Map(modules.map((module) => [`m${module}`, moduleLook(module, label(module))]));
   const edges = edgesAmong(modules, path);
   const items = [...looks].map(([id, { label }]) => ({ id, size: sizeOfLabel(label) }));
   const given = edges.map(({ from, to }) => ({ from, to, count: 1 }));

@@ -7,6 +7,7 @@
  * @property {PlannedNode[]} nodes
  * @property {PlannedNode[]} frames the boxes around nodes, the outermost first
  * @property {PlannedEdge[]} edges
+ * @property {boolean} [isWhole] whether all of it is shown at first, however small its labels are
  *
  * @typedef {object} PlannedNode
  * @property {string} id
@@ -24,6 +25,7 @@
  * @property {number} count
  * @property {import("./graph_kinds.js").KindCounts} kinds
  * @property {boolean} [isMarked]
+ * @property {"run" | "types"} [cycle] of which the edge is a part
  */
 
 import { drawn } from "./elements.js";
@@ -39,10 +41,9 @@ export function draw({ nodes, frames, edges }) {
   const scene = drawn(
     "g", { class: "scene" },
     drawn("g", {}, ...frames.map(frameView)),
-    drawn("g", { class: "edges" }, ...edges.map((edge) => edgeView(edge, names))),
+    drawn("g", { class: "edges" }, ...edges.flatMap((edge) => [...haloOf(edge), edgeView(edge, names)])),
     drawn("g", { class: "nodes" }, ...nodes.map(nodeView)),
     drawn("g", { class: "counts" }, ...edges.filter(({ label }) => label).map(countView)),
-    drawn("g", { class: "near-edges" }),
   );
   const drawing = drawn(
     "svg", { role: "group", "aria-label": "graph of modules", class: "modules" },
@@ -60,20 +61,20 @@ function arrow(kind) {
   return drawn("marker", { id: `arrow-${kind}`, ...size, ...attach }, tip);
 }
 
+/** Returns the colour of the cycle of an edge, which is drawn below the edge. */
+function haloOf({ from, to, path, kinds, cycle }) {
+  const ends = { "data-from": from, "data-to": to, "data-kinds": [...kinds.keys()].join(" ") };
+  return cycle ? [drawn("path", { d: path, class: `halo in-${cycle}`, ...ends })] : [];
+}
+
 function edgeView({ from, to, path, kinds, isMarked }, names) {
   const title = `${names.get(from)} → ${names.get(to)}: ${kindsText(kinds)}`;
   const attributes = { "data-from": from, "data-to": to, class: isMarked ? "marked" : undefined };
   return edgeLine(path, kinds, attributes, drawn("title", {}, title));
 }
 
-/**
- * @param {string} path
- * @param {import("./graph_kinds.js").KindCounts} kinds
- * @param {Record<string, any>} [more] attributes
- * @param {...SVGElement} children
- * @returns {SVGElement}
- */
-export function edgeLine(path, kinds, { class: name = "", ...more } = {}, ...children) {
+/** Makes the line of an edge, with other attributes and children. */
+function edgeLine(path, kinds, { class: name = "", ...more } = {}, ...children) {
   const kind = strongestKind(kinds);
   const { dash } = kindNamed(kind);
   return drawn(
@@ -117,7 +118,7 @@ function nodeView({ id, rectangle: [x, y, width, height], look, module, inside, 
       href: look.href, class: `node ${look.classes}`.trim(), "data-id": id, "data-module": module,
       "data-inside": inside, "data-folders": folders?.join(" "), tabindex: "-1", "aria-label": look.description,
     },
-    drawn("title", {}, look.description),
+    drawn("title", {}, look.title ?? look.description),
     drawn("rect", { x, y, width, height, rx: look.classes.includes("folder-node") ? 2 : 7 }),
     labelText(look, { x: x + width / 2, y: y + height / 2 + 4 }),
   );

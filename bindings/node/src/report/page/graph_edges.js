@@ -7,10 +7,12 @@
  * @property {string} to
  * @property {import("./graph_kinds.js").KindCounts} kinds
  * @property {number} count of the edges between modules
+ * @property {"run" | "types"} [cycle] of which one of them is a part
  *
  * @typedef {import("./graph_tree.js").Item} Item
  */
 
+import { cycleOfEdge, strongerCycle } from "./cycles.js";
 import { eachModuleBelow } from "./folders.js";
 import { countKind } from "./graph_kinds.js";
 import { eachEdge, report } from "./report.js";
@@ -48,7 +50,11 @@ export function edgesIn(top, leaves) {
   for (let module = 0; module < leaves.length; module++) {
     const from = leaves[module];
     if (from !== undefined) {
-      eachPair(module, (to, kind) => leaves[to] && addEdge(byBox, from, leaves[to], kind));
+      eachPair(module, (to, kind) => {
+        if (leaves[to]) {
+          addEdge(byBox, [from, leaves[to]], kind, cycleOfEdge(module, to, kind));
+        }
+      });
     }
   }
   return new Map([...byBox].map(([box, edges]) => [box, [...edges.values()]]));
@@ -70,7 +76,7 @@ export function eachPair(module, act) {
   });
 }
 
-function addEdge(byBox, from, to, kind) {
+function addEdge(byBox, [from, to], kind, cycle) {
   const ends = from === to ? undefined : siblings(from, to);
   if (ends === undefined) {
     return;
@@ -83,6 +89,18 @@ function addEdge(byBox, from, to, kind) {
   edges.set(key, edge);
   countKind(edge.kinds, kind);
   edge.count++;
+  edge.cycle = strongerCycle(edge.cycle, cycle);
+}
+
+/**
+ * The items between which the edge of two items is drawn.
+ * @param {Item} from
+ * @param {Item} to
+ * @returns {[Item, Item]} the items themselves, or boxes around them that are side by side
+ */
+export function drawnEnds(from, to) {
+  const [, first = from, second = to] = siblings(from, to) ?? [];
+  return [first, second];
 }
 
 /** Returns the innermost box around two items, and its items around each of them. */

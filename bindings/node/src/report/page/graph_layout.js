@@ -8,7 +8,7 @@ const MARGIN = 18;
 export const NODE_HEIGHT = 24;
 
 /** The longest label, in characters. */
-const LONGEST = 40;
+export const LONGEST = 40;
 
 /** @type {Worker | undefined} */
 let worker;
@@ -68,10 +68,11 @@ const pen = document.createElement("canvas").getContext("2d");
 
 /**
  * @param {string} label
+ * @param {number} [weight] of the font
  * @returns {number}
  */
-export function widthOf(label) {
-  pen.font = `${FONT_SIZE}px ${getComputedStyle(document.documentElement).fontFamily}`;
+export function widthOf(label, weight = 400) {
+  pen.font = `${weight} ${FONT_SIZE}px ${getComputedStyle(document.documentElement).fontFamily}`;
   return Math.ceil(pen.measureText(label).width);
 }
 
@@ -86,12 +87,13 @@ export function sizeOfLabel(label) {
 /**
  * Shortens a label that is too long to its start and its end.
  * @param {string} label
+ * @param {number} [most] characters
  * @returns {string}
  */
-export function shortLabel(label) {
+export function shortLabel(label, most = LONGEST) {
   const characters = [...label];
-  const half = (LONGEST - 1) / 2;
-  return characters.length <= LONGEST
+  const half = (most - 1) / 2;
+  return characters.length <= most
     ? label
     : `${characters.slice(0, Math.ceil(half)).join("")}…${characters.slice(-Math.floor(half)).join("")}`;
 }

@@ -1,11 +1,15 @@
 /** The legend of a graph: its kinds of edges, of which a click hides one, and its states of modules. */
 
+import { CYCLES } from "./cycles.js";
 import { drawn, element } from "./elements.js";
 import { hiddenKinds } from "./graph_kinds.js";
 import { moduleStates, report, stateTitle } from "./report.js";
 
 /** The states of modules that are drawn, in the order of the legend. */
-const STATES = ["entry", "unreached", "faulty"];
+const STATES = ["entry", "unreached", "may-be-reached", "by-types", "faulty"];
+
+/** The cycles, and their words. */
+const CYCLE_WORDS = { run: "cycle", types: "cycle of types" };
 
 /**
  * @param {import("./graph_drawing.js").Plan} plan
@@ -19,10 +23,13 @@ export function legend({ nodes, edges }, drawing) {
   const states = STATES.filter((state) => found.has(state)).map((state) => {
     return element("li", {}, element("span", { class: `swatch ${state}` }), stateTitle(state));
   });
+  const cycles = CYCLES.filter((each) => edges.some(({ cycle }) => cycle === each)).map((each) => {
+    return element("li", {}, element("span", { class: `swatch in-${each}` }), CYCLE_WORDS[each]);
+  });
   const attributes = { class: "legend", "aria-label": "legend" };
   const kinds = report.kinds.filter(({ kind }) => drawnKinds.has(kind));
   hideEdges(drawing);
-  return element("ul", attributes, ...kinds.map((kind) => kindItem(kind, drawing)), ...states);
+  return element("ul", attributes, ...kinds.map((kind) => kindItem(kind, drawing)), ...cycles, ...states);
 }
 
 function kindItem({ kind, title, syntax, dash }, drawing) {

@@ -6,10 +6,11 @@
  * @property {string} label
  * @property {string} [count] after the label
  * @property {string} description its whole name, for a pointer and for screen readers
+ * @property {string} [title] for a pointer, if that is more
  * @property {string} classes
  */
 
-import { counted, hashOf } from "./pieces.js";
+import { counted, hashOf, weightText } from "./pieces.js";
 import { shortLabel } from "./graph_layout.js";
 import { moduleStates, paths, report, visible } from "./report.js";
 
@@ -29,12 +30,14 @@ export function lookOf(item) {
 /**
  * @param {number} module
  * @param {string} label
+ * @param {number} [most] the most characters of the label
  * @returns {Look}
  */
-export function moduleLook(module, label) {
+export function moduleLook(module, label, most) {
+  const description = visible(paths[module]);
   return {
-    href: hashOf(module), label: shortLabel(visible(label)), description: visible(paths[module]),
-    classes: moduleStates(module).join(" "),
+    href: hashOf(module), label: shortLabel(visible(label), most), description,
+    title: `${description}: ${weightText(module)}`, classes: moduleStates(module).join(" "),
   };
 }
 

@@ -16,8 +16,8 @@ import { report } from "./report.js";
 /** The least scale at which labels can be read: their letters have 12 pixels at the scale 1, and 11 then. */
 export const READABLE_SCALE = 11 / 12;
 
-/** A title is wider than a label by this factor, since it is bold. */
-const TITLE_SCALE = 1.12;
+/** The weight of the font of a box's title, as in the style. */
+const TITLE_WEIGHT = 600;
 
 /** After this many layouts in which labels are too small, none with more items is tried. */
 const MOST_FAILED = 2;
@@ -36,7 +36,8 @@ const BESIDE = 50;
  */
 export function graphFrame(title) {
   const label = "graph; arrows, +, - and 0 move it";
-  const box = element("div", { class: "drawing", tabindex: "0", role: "group", "aria-label": label });
+  const word = element("p", { class: "waiting", role: "status" }, "Drawing …");
+  const box = element("div", { class: "drawing", tabindex: "0", role: "group", "aria-label": label }, word);
   const bar = element("div", { class: "bar" }, element("h2", {}, ...title));
   return { view: element("section", { class: "graph" }, bar, box), box, bar };
 }
@@ -54,7 +55,7 @@ export function roomIn(box) {
 }
 
 /**
- * Shows a plan in its box.
+ * Shows a plan in its box: all of it, or if the labels would be too small then, its middle.
  * @param {{ view: HTMLElement, box: HTMLElement, bar: HTMLElement }} frame
  * @param {import("./graph_drawing.js").Plan} plan
  * @param {import("./graph_scene.js").Scene} scene
@@ -66,12 +67,12 @@ export function showPlan({ view, box, bar }, plan, scene) {
   box.replaceChildren(drawing);
   const mover = new Mover(box, group, plan);
   mover.fit();
-  if (mover.scale < READABLE_SCALE) {
+  if (mover.scale < READABLE_SCALE && !plan.isWhole) {
     mover.zoom(READABLE_SCALE / mover.scale);
   }
   bar.append(mover.buttons());
   box.before(legend(plan, drawing));
-  followPointer(drawing, scene, new Map(plan.nodes.map(({ id, rectangle }) => [id, rectangle])));
+  followPointer(drawing, scene);
   listenInGraph(box, mover);
   view.mover = mover;
   view.dispatchEvent(new CustomEvent("drawn", { bubbles: true }));
@@ -160,7 +161,7 @@ function givenOf(item, edges) {
   }
   return {
     id: item.id,
-    title: TITLE_SCALE * widthOf(text),
+    title: widthOf(text, TITLE_WEIGHT),
     items: item.items.map((each) => givenOf(each, edges)),
     edges: (edges.get(item) ?? []).map((edge) => ({ from: edge.from, to: edge.to, count: edge.count })),
   };

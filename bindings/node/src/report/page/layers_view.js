@@ -1,20 +1,27 @@
 /** The graph of one module: the layers of what it leads to, and of what leads to it. */
 
 import { element } from "./elements.js";
+import { cycleOfEdge, strongerCycle } from "./cycles.js";
 import { folderOf } from "./folders.js";
 import { eachPair } from "./graph_edges.js";
 import { countKind } from "./graph_kinds.js";
 import { layersOf, orderedLayers } from "./graph_layers.js";
-import { NODE_HEIGHT, shortLabel, sizeOfLabel } from "./graph_layout.js";
+import { LONGEST, NODE_HEIGHT, shortLabel, sizeOfLabel } from "./graph_layout.js";
 import { moduleLook } from "./graph_nodes.js";
+import { fitScale } from "./graph_move.js";
 import { READABLE_SCALE, crumbs, graphFrame, roomIn, showPlan } from "./graph_view.js";
+import { labelsOf } from "./labels.js";
 import { counted, hashOf, nameText } from "./pieces.js";
 import { paths, report, visible } from "./report.js";
 import { longList } from "./reveal.js";
 
 /** Lengths in a drawing: between layers and between nodes. */
 const BETWEEN = 90;
+const LEAST_BETWEEN = 30;
 const GAP_BELOW = 6;
+
+/** The shortest label, in characters. */
+const SHORTEST = 12;
 
 /** Count of layers that are shown at first, and at most. */
 export const DEPTHS = { into: 2, from: 1 };
@@ -31,9 +38,10 @@ export function layersView(module, depths, before = []) {
   frame.bar.after(element("p", { class: "hint" }, ...before, ...depthLinks(module, depths)));
   requestAnimationFrame(() => {
     if (frame.view.isConnected) {
-      const leaves = [];
-      const layers = layersOf(module, { ...depths, most: mostInLayer(roomIn(frame.box)) });
-      showPlan(frame, planOfLayers(layers, leaves), { leaves });
+      const room = roomIn(frame.box);
+      const layers = layersOf(module, { ...depths, most: mostInLayer(room) });
+      const { plan, leaves } = fittingPlan(layers, room);
+      showPlan(frame, plan, { leaves });
     }
   });
   return frame.view;
@@ -65,11 +73,25 @@ function depthLinks(module, { into, from }) {
   ];
 }
 
+/** Returns the plan with the longest labels with which all layers can be read at once, else that with the shortest. */
+function fittingPlan(layers, room) {
+  let most = LONGEST;
+  for (;;) {
+    const part = (most - SHORTEST) / (LONGEST - SHORTEST);
+    const leaves = [];
+    const plan = planOfLayers(layers, leaves, { most, between: LEAST_BETWEEN + part * (BETWEEN - LEAST_BETWEEN) });
+    if (most <= SHORTEST || fitScale(plan, room) >= READABLE_SCALE) {
+      return { plan: { ...plan, isWhole: true }, leaves };
+    }
+    most -= 4;
+  }
+}
+
 /** Puts the modules of each layer below one another, and the layers side by side. */
-function planOfLayers(layers, leaves) {
+function planOfLayers(layers, leaves, { most, between }) {
   const ordered = orderedLayers(layers);
   const label = labelsOf(ordered.flat());
-  const columns = layers.map((layer, at) => columnOf(layer, ordered[at], label));
+  const columns = layers.map((layer, at) => columnOf(layer, ordered[at], { label, most }));
   const height = Math.max(...columns.map((column) => column.height));
   const nodes = [];
   let left = 0;
@@ -82,22 +104,15 @@ function planOfLayers(layers, leaves) {
         leaves[module] = { id, type: "module", module };
       }
     }
-    left += column.width + BETWEEN;
+    left += column.width + between;
   }
   const edges = layerEdges(ordered, nodes);
-  return { width: left - BETWEEN, height, nodes, frames: [], edges };
+  return { width: left - between, height, nodes, frames: [], edges };
 }
 
-/** Returns the function of labels: names if all modules are of one folder, else paths. */
-function labelsOf(modules) {
-  const folder = folderOf[modules[0]];
-  const isOne = modules.every((module) => folderOf[module] === folder);
-  return (module) => (isOne ? report.modules[module] : paths[module]);
-}
-
-function columnOf({ distance, left }, modules, label) {
+function columnOf({ distance, left }, modules, { label, most }) {
   const items = modules.map((module) => {
-    const look = moduleLook(module, label(module));
+    const look = moduleLook(module, label(module), most);
     const chosen = distance === 0 ? "chosen-node" : "";
     const href = distance === 0 ? look.href : `#layers-${module}`;
     return { id: `m${module}`, module, look: { ...look, href, classes: `${look.classes} ${chosen}`.trim() } };
@@ -130,6 +145,7 @@ function layerEdges(ordered, nodes) {
         const path = across(rectangles.get(from), rectangles.get(end));
         const edge = edges.get(key) ?? { from, to: end, kinds: new Map(), count: 1, path };
         edges.set(key, edge);
+        edge.cycle = strongerCycle(edge.cycle, cycleOfEdge(module, to, kind));
         countKind(edge.kinds, kind);
       }
     });

@@ -28,8 +28,8 @@ const GAP = 14;
 /** The preferred width of a box for a height of 1. */
 const BOX_ASPECT = 1.8;
 
-/** The size of a count on an edge. */
-const LABEL = { width: 18, height: 12 };
+/** The size of a count on an edge: of its border, and of a digit. */
+const LABEL = { border: 5, digit: 7, height: 12 };
 
 /**
  * @param {Given} top the outermost box, which has no title
@@ -137,7 +137,9 @@ function drawGroup({ nodes, edges }, direction) {
   graph.setGraph({ rankdir: direction, nodesep: 8, ranksep: 30, edgesep: 6 });
   nodes.forEach(({ id, width, height }) => graph.setNode(id, { width, height }));
   edges.forEach(({ from, to, count }) => {
-    graph.setEdge(from, to, count > 1 ? { ...LABEL, labelpos: "c" } : { width: 0, height: 0 });
+    const { border, digit, height } = LABEL;
+    const width = border + digit * String(count).length;
+    graph.setEdge(from, to, count > 1 ? { width, height, labelpos: "c" } : { width: 0, height: 0 });
   });
   dagre.layout(graph);
   const parts = nodes.map((item) => {

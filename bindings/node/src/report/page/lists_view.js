@@ -2,12 +2,19 @@
 
 import { element } from "./elements.js";
 import { CLASSES, outsideItem, outsideItems } from "./outside_view.js";
-import { counted, kindLabel, moduleLink, nameLabel } from "./pieces.js";
+import { counted, kindLabel, moduleLink, nameLabel, pathLabel } from "./pieces.js";
 import { importers, report } from "./report.js";
 import { longList } from "./reveal.js";
 
 /** The most modules of a cycle in its item. */
 const MOST_STEPS = 8;
+
+/** The words of reasons that aren't the text of a call. */
+const REASONS = {
+  template: "a partly known argument", script: "a script of a page", fault: "in a file that isn't analyzed",
+  excluded: "imported by an excluded file", ignored: "in an ignored file",
+  import: "imported by a module that may be reached",
+};
 
 /** The lists: their titles, the words of the summary for one item and for more, and the view of an item. */
 const LISTS = [
@@ -24,6 +31,13 @@ const LISTS = [
     note: "Only a part of their text is known.", view: rowItem,
   },
   { id: "unreached", ...unreachedWords(), view: unreachedItem },
+  {
+    id: "mayBeReached", title: "May be reached", one: "may be reached",
+    note: "No import leads to them for certain, but something that isn't known as a whole may.", view: mayBeReachedItem,
+  },
+  {
+    id: "byTypes", title: "Reached by types alone", one: "by types alone", note: "Nothing runs them.", view: byTypesItem,
+  },
   {
     id: "cycles", title: "Cycles", one: "cycle", many: "cycles",
     note: "Each module of a cycle leads to each other one.", view: cycleItem,
@@ -46,8 +60,7 @@ function unreachedWords() {
   return report.entries.length > 0
     ? {
       title: "Unreached from the entries", one: "unreached",
-      note: "No entry leads to them by imports that run. Types and comments aren't followed, nor are " +
-        "arguments of which only a part is known.",
+      note: "No entry leads to them by imports that run, nor by types, and nothing is known that may.",
     }
     : {
       title: "Imported by no module", one: "imported by no module",
@@ -99,19 +112,33 @@ function unreachedItem(module) {
   return [moduleLink(module), element("span", { class: "note" }, note)];
 }
 
+function mayBeReachedItem({ module, kind, by, file, line, text = "" }) {
+  const place = line === undefined ? "" : `:${line + 1}`;
+  const from = by === undefined ? pathLabel(file) : moduleLink(by);
+  const reason = element("span", {}, `${REASONS[kind] ?? kind} `, element("code", { class: "name" }, text));
+  return [moduleLink(module), reason, element("span", {}, from, element("span", { class: "place" }, place))];
+}
+
+function byTypesItem({ module, by, line, text = "" }) {
+  const place = element("span", { class: "place" }, `:${line + 1}`);
+  return [moduleLink(module), element("code", { class: "name" }, text), element("span", {}, moduleLink(by), place)];
+}
+
 function cycleItem(cycle) {
-  const { modules, path, isRun } = cycle;
+  const { modules, path, isRun, isOfTypes } = cycle;
   const arrow = () => element("span", { class: "arrow" }, " → ");
   const steps = path.slice(0, MOST_STEPS).flatMap((module) => [moduleLink(module), arrow()]);
   const left = path.length - MOST_STEPS;
   const gap = left > 0 ? [`${counted(left, "module")} more`, arrow()] : [];
   const more = modules.length > path.length ? `, ${modules.length} modules in all` : "";
   const number = report.lists.cycles.indexOf(cycle);
+  const colour = element("span", { class: `swatch in-${isRun ? "run" : "types"}` });
   const link = element("a", { href: `#cycle-${number}`, class: "show" }, "show in the graph");
-  const note = isRun ? "" : "by types or JSDoc only";
+  const ran = isOfTypes ? "perhaps by types alone" : "";
+  const note = isRun ? ran : "by types or JSDoc only";
   return [
     element("span", { class: "way" }, ...steps, ...gap, moduleLink(path[0]), more),
-    element("span", { class: "note" }, link, note && ` ${note}`),
+    element("span", { class: "note" }, colour, link, note && ` ${note}`),
   ];
 }
 

@@ -2,7 +2,7 @@
 
 import { detailsOf } from "./details.js";
 import { element } from "./elements.js";
-import { counted, pathLabel, sizeText } from "./pieces.js";
+import { counted, pathLabel, weightText } from "./pieces.js";
 import { moduleStates, paths, report, stateTitle } from "./report.js";
 import { sourceView } from "./source_view.js";
 import { importersView, tableView } from "./table_view.js";
@@ -17,7 +17,7 @@ export function moduleView(index) {
   const beside = element("div", { class: "beside" });
   const links = element(
     "span", { class: "links" },
-    element("span", { class: "count" }, sizeText(report.bytes[index])),
+    element("span", { class: "count" }, weightText(index)),
     element("a", { href: `#layers-${index}` }, "graph of what it leads to"),
   );
   const view = element(

@@ -2,7 +2,8 @@
 
 import { nameParts } from "./controls.js";
 import { element } from "./elements.js";
-import { kindNamed, partsOf, paths } from "./report.js";
+import { kindNamed, partsOf, paths, report } from "./report.js";
+import { weightOf } from "./weights.js";
 
 /**
  * Makes a path whose name is darker than its folder.
@@ -118,6 +119,16 @@ export function sizeText(count) {
     value /= 1000;
   }
   return `${unit > 0 && value < 10 ? value.toFixed(1) : Math.round(value)} ${units[unit]}`;
+}
+
+/**
+ * @param {number} module
+ * @returns {string} its size and that with all that it runs, as "1.2 kB, 34 kB with the 5 modules that it runs"
+ */
+export function weightText(module) {
+  const { bytes, count } = weightOf(module);
+  const own = sizeText(report.bytes[module]);
+  return count === 1 ? own : `${own}, ${sizeText(bytes)} with the ${counted(count - 1, "module")} that it runs`;
 }
 
 /**

@@ -16,7 +16,13 @@ export const paths = report.modules.map((name, module) => {
 
 const entries = new Set(report.entries);
 const unreached = new Set(report.lists.unreached);
-const cyclic = new Set(report.lists.cycles.flatMap(({ modules }) => modules));
+const mayBeReached = new Set(report.lists.mayBeReached.map(({ module }) => module));
+const byTypes = new Set(report.lists.byTypes.map(({ module }) => module));
+const modulesOfCycles = (ran) => {
+  return new Set(report.lists.cycles.filter(({ isRun }) => isRun === ran).flatMap(({ modules }) => modules));
+};
+const cyclic = modulesOfCycles(true);
+const typeCyclic = modulesOfCycles(false);
 
 /** The kinds whose edges run code; the others are of types and comments. */
 const RUNS = new Set(["static", "dynamic", "require"]);
@@ -69,7 +75,7 @@ export function importers(module) {
 }
 
 /**
- * Returns the states of a module: whether it is an entry, unreached, in a cycle, or has a fault.
+ * Returns the states of a module: whether it is an entry, in a class of the unreached, in a cycle, or has a fault.
  * @param {number} module
  * @returns {string[]}
  */
@@ -77,7 +83,10 @@ export function moduleStates(module) {
   const states = [
     [entries.has(module), "entry"],
     [unreached.has(module), "unreached"],
+    [mayBeReached.has(module), "may-be-reached"],
+    [byTypes.has(module), "by-types"],
     [cyclic.has(module), "cyclic"],
+    [typeCyclic.has(module), "type-cyclic"],
     [module in report.faults, "faulty"],
   ];
   return states.filter(([has]) => has).map(([, name]) => name);
@@ -89,7 +98,10 @@ export function moduleStates(module) {
  */
 export function stateTitle(state) {
   const notReached = report.entries.length > 0 ? "unreached" : "imported by no module";
-  return { entry: "entry", unreached: notReached, cyclic: "in a cycle", faulty: "not analyzed" }[state];
+  return {
+    entry: "entry", unreached: notReached, "may-be-reached": "may be reached", "by-types": "reached by types alone",
+    cyclic: "in a cycle", "type-cyclic": "in a cycle of types", faulty: "not analyzed",
+  }[state];
 }
 
 /**

@@ -2,7 +2,7 @@
 
 import { element } from "./elements.js";
 import { crumbs } from "./graph_view.js";
-import { counted, hashOf, sizeText } from "./pieces.js";
+import { counted, hashOf, sizeText, weightText } from "./pieces.js";
 import { paths, report, visible } from "./report.js";
 
 /** The depth of folders in folders that is drawn, and the most areas side by side. */
@@ -86,7 +86,7 @@ function areaView({ x0, x1, y0, y1, depth, data, isOpen, value }, measure) {
   const [width, height] = [x1 - x0, y1 - y0];
   const { name, path, href } = areaName(data);
   const size = measure === MEASURES.bytes ? sizeText(value) : counted(value, "module");
-  const title = `${path}: ${size}`;
+  const title = `${path}: ${data.module === undefined || data.rest !== undefined ? size : weightText(data.module)}`;
   const isNamed = width >= NAMED.width && height >= NAMED.height;
   const kind = `area${data.module === undefined ? " folder-area" : ""}${isNamed ? " named" : ""}`;
   const isTall = !isOpen && height >= 2 * NAMED.height;

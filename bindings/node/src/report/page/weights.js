@@ -1,0 +1,26 @@
+/** Sizes of modules with all that they run. */
+
+import { eachEdge, kindRuns, report } from "./report.js";
+
+/** @type {Map<number, { bytes: number, count: number }>} */
+const weights = new Map();
+
+/**
+ * @param {number} module
+ * @returns {{ bytes: number, count: number }} the bytes of a module and of all that it runs, and how many modules
+ *   these are
+ */
+export function weightOf(module) {
+  let weight = weights.get(module);
+  if (weight === undefined) {
+    const seen = new Set([module]);
+    let bytes = 0;
+    for (const each of seen) {
+      bytes += report.bytes[each];
+      eachEdge(each, (to, kind) => kindRuns[kind] && seen.add(to));
+    }
+    weight = { bytes, count: seen.size };
+    weights.set(module, weight);
+  }
+  return weight;
+}
