@@ -232,13 +232,18 @@ shown("on a node the arrows go to the nearest one, and Enter opens it", async ()
   await untilModule(second);
 });
 
-shown("a node that has the focus shows each edge of its modules, and the others fade", async () => {
+shown("a node that has the focus marks the edges of its modules that are drawn, and the others fade", async () => {
   await open(example);
   await browser.run(`document.querySelector('.node[aria-label="src/legacy/archive_types.d.ts"]').focus()`);
-  await browser.until(`return document.querySelector(".near-edges .edge") !== null`);
+  await browser.until(`return document.querySelector(".edge.near") !== null`);
   const near = await browser.run(`return [...document.querySelectorAll(".node.near")].map((each) => each.getAttribute("aria-label")).sort()`);
   assert.deepEqual(near, ["src/legacy/archive_types.d.ts", "src/main.ts", "src/report.ts"]);
-  assert.equal(await browser.run(`return document.querySelectorAll(".near-edges .edge").length`), 2);
+  const marked = await browser.run(`
+    return [...document.querySelectorAll(".edge.near")].map(({ dataset, firstChild }) => firstChild.textContent).sort();
+  `);
+  assert.deepEqual(marked, [
+    "src/legacy/: 3 modules → src/report.ts: type", "src/main.ts → src/legacy/: 3 modules: static (1), type (1)",
+  ]);
   const faded = await browser.run(`return getComputedStyle(document.querySelector('.node[aria-label="src/page.tsx"]')).opacity`);
   assert.ok(Number(faded) < 0.5);
 });
@@ -258,8 +263,8 @@ shown("the filter filters the list, fades the graph, and counts in its folders",
   assert.deepEqual(await listed(), ["f3/m11.js"]);
   const found = await folders();
   assert.ok(found.length > 5);
-  assert.deepEqual(found.filter(([, isFaded]) => !isFaded), [["f3/1 of 30", false]]);
-  assert.ok(found.some(([text]) => text === "f4/0 of 30"));
+  assert.deepEqual(found.filter(([, isFaded]) => !isFaded), [["f3/1", false]]);
+  assert.ok(found.some(([text]) => text === "f4/0"));
   assert.deepEqual(await texts(".rows .heading"), ["f3/1 of 30"]);
   await browser.type(KEYS.escape);
   await browser.until(`return document.querySelector(".shown").textContent === "361 modules"`);

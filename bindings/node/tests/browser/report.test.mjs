@@ -98,12 +98,12 @@ shown("the lists have what they have to", async () => {
   assert.deepEqual(await items("partly"), [
     "./years/${…}.cjs require src/legacy/archive.cjs:7", "./messages/${…}.js dynamic src/main.ts:14",
   ]);
-  assert.deepEqual(await items("unreached"), [
-    "src/globals.d.ts named by 1 place", "src/legacy/archive_types.d.ts named by 1 place",
-    "src/messages/de.js", "src/messages/en.js", "src/old_forecast.js",
-    // It has types alone, which run nothing.
-    `src/report.ts named by ${hasProgram ? 8 : 6} places`,
-  ]);
+  assert.deepEqual(await items("unreached"), ["src/old_forecast.js"]);
+  assert.deepEqual(await items("mayBeReached"), ["de", "en"].map((name) => {
+    return `src/messages/${name}.js a partly known argument ./messages/\${..}.js src/main.ts:14`;
+  }));
+  // It has types alone, which run nothing.
+  assert.deepEqual((await items("byTypes")).map((text) => text.split(" ")[0]), ["src/report.ts"]);
   assert.deepEqual(await items("cycles"), ["src/forecast.ts → src/station.ts → src/forecast.ts show in the graph"]);
   assert.deepEqual(await items("faults"), []);
 });

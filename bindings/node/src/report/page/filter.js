@@ -50,7 +50,8 @@ export function fadeGraph(view, matches) {
     const number = node.querySelector(".number");
     if (number) {
       const { all } = number.dataset;
-      number.textContent = matches.isAll ? all : `${count.toLocaleString("en")} of ${all}`;
+      // Not longer than the count of all, for which the box has room.
+      number.textContent = matches.isAll ? all : count.toLocaleString("en");
     }
   }
 }

@@ -10,6 +10,7 @@ const STATES = ["entry", "unreached", "may-be-reached", "by-types", "faulty"];
 
 /** The cycles, and their words. */
 const CYCLE_WORDS = { run: "cycle", types: "cycle of types" };
+const CYCLE_STATES = { run: "cyclic", types: "type-cyclic" };
 
 /**
  * @param {import("./graph_drawing.js").Plan} plan
@@ -23,7 +24,9 @@ export function legend({ nodes, edges }, drawing) {
   const states = STATES.filter((state) => found.has(state)).map((state) => {
     return element("li", {}, element("span", { class: `swatch ${state}` }), stateTitle(state));
   });
-  const cycles = CYCLES.filter((each) => edges.some(({ cycle }) => cycle === each)).map((each) => {
+  const isDrawn = (each) => edges.some(({ cycle }) => cycle === each) ||
+    nodes.some(({ look }) => look.classes.split(" ").includes(CYCLE_STATES[each]));
+  const cycles = CYCLES.filter(isDrawn).map((each) => {
     return element("li", {}, element("span", { class: `swatch in-${each}` }), CYCLE_WORDS[each]);
   });
   const attributes = { class: "legend", "aria-label": "legend" };

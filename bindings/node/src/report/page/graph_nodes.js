@@ -10,6 +10,8 @@
  * @property {string} classes
  */
 
+import { cycleOf } from "./cycles.js";
+import { eachModuleBelow } from "./folders.js";
 import { counted, hashOf, weightText } from "./pieces.js";
 import { shortLabel } from "./graph_layout.js";
 import { moduleStates, paths, report, visible } from "./report.js";
@@ -41,6 +43,19 @@ export function moduleLook(module, label, most) {
   };
 }
 
+/** Returns the states of folders that have modules in a cycle. */
+function cyclesBelow(folders) {
+  const modules = [];
+  folders.forEach((folder) => eachModuleBelow(folder, (module) => modules.push(module)));
+  return cyclesOf(modules);
+}
+
+function cyclesOf(modules) {
+  const found = new Set(modules.map(cycleOf));
+  return [["run", "cyclic"], ["types", "type-cyclic"]].filter(([cycle]) => found.has(cycle))
+    .map(([, state]) => state).join(" ");
+}
+
 function folderLook({ type, folder, parent }) {
   const above = parent?.folder?.path ?? "";
   const name = above === "" ? folder.path : folder.path.slice(above.length + 1);
@@ -48,14 +63,14 @@ function folderLook({ type, folder, parent }) {
   return {
     href: `#folder-${folder.index}`, label: `${shortLabel(visible(name))}/`,
     count: folder.count.toLocaleString("en"), description: `${path}/: ${counted(folder.count, "module")}`,
-    classes: type === "box" ? "" : "folder-node",
+    classes: type === "box" ? "" : `folder-node ${cyclesBelow([folder])}`.trim(),
   };
 }
 
 function flatLook({ folder, count }) {
   const label = counted(count, "module");
   return {
-    href: `#flat-${folder.index}`, label, classes: "folder-node flat",
+    href: `#flat-${folder.index}`, label, classes: `folder-node flat ${cyclesOf(folder.modules)}`.trim(),
     description: `${visible(folder.path)}/: ${label} that are directly in it`,
   };
 }
@@ -63,7 +78,8 @@ function flatLook({ folder, count }) {
 function moreLook({ folder, folders, count }) {
   const label = counted(folders.length, "more folder");
   return {
-    href: `#more-${folder.index}`, label, count: count.toLocaleString("en"), classes: "folder-node more",
+    href: `#more-${folder.index}`, label, count: count.toLocaleString("en"),
+    classes: `folder-node more ${cyclesBelow(folders)}`.trim(),
     description: `${label} with ${counted(count, "module")}`,
   };
 }

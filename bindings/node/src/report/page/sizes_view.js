@@ -86,7 +86,8 @@ function areaView({ x0, x1, y0, y1, depth, data, isOpen, value }, measure) {
   const [width, height] = [x1 - x0, y1 - y0];
   const { name, path, href } = areaName(data);
   const size = measure === MEASURES.bytes ? sizeText(value) : counted(value, "module");
-  const title = `${path}: ${data.module === undefined || data.rest !== undefined ? size : weightText(data.module)}`;
+  const isOneModule = data.module !== undefined && measure === MEASURES.bytes;
+  const title = `${path}: ${isOneModule ? weightText(data.module) : size}`;
   const isNamed = width >= NAMED.width && height >= NAMED.height;
   const kind = `area${data.module === undefined ? " folder-area" : ""}${isNamed ? " named" : ""}`;
   const isTall = !isOpen && height >= 2 * NAMED.height;
