@@ -1,9 +1,11 @@
 /** A cache of what was found in files. */
 
 import assert from "node:assert/strict";
-import { chmodSync, existsSync, mkdirSync, readFileSync, utimesSync, writeFileSync } from "node:fs";
+import { createHash } from "node:crypto";
+import { chmodSync, existsSync, mkdirSync, readFileSync, renameSync, utimesSync, writeFileSync } from "node:fs";
 import { join } from "node:path";
 import { test } from "node:test";
+import { setTimeout as wait } from "node:timers/promises";
 
 import { AnalysisCache } from "../src/files/analysis_cache.mjs";
 import { STAND_IN, folderOf, linesOf, run } from "./run_commands.mjs";
@@ -12,17 +14,20 @@ const PROJECT = {
   "src/a.js": `import "./b.js";\n`, "src/b.js": `require("a" +${" b +".repeat(60)} c);\n`, "src/wrong.js": "let = ;",
 };
 
-/** A change long ago, since what was changed a moment ago isn't kept. */
 const LONG_AGO = new Date("2020-01-01");
 
+/** Waits until files that were changed are kept: those that were changed a moment ago aren't. */
+const settle = () => wait(2100);
+
 /** A project, and a program that counts the documents which it is asked for. */
-function project() {
+async function project() {
   const folder = folderOf({ ...PROJECT, modinfo: `#!/bin/sh
 test "$1 $2" = "analyze --lines" && exec 3>&1 && tee -a "$COUNTED" | "$NODE" "${STAND_IN}" "$@"
 test "$1 $2" = "analyze --lines" || exec "$NODE" "${STAND_IN}" "$@"
 ` });
   chmodSync(join(folder, "modinfo"), 0o755);
   Object.keys(PROJECT).forEach((file) => utimesSync(join(folder, file), LONG_AGO, LONG_AGO));
+  await settle();
   return folder;
 }
 
@@ -40,8 +45,8 @@ function runIn(folder, words) {
   return { ...result, asked: readFileSync(counted, "utf8").split("\n").length - 1 };
 }
 
-test("a second run over the same files prints the same, and parses nothing", () => {
-  const folder = project();
+test("a second run over the same files prints the same, and parses nothing", async () => {
+  const folder = await project();
   const without = runIn(folder, ["src"]);
   assert.equal(without.asked, 2);
   const words = ["--cache", "cache", "src"];
@@ -53,16 +58,18 @@ test("a second run over the same files prints the same, and parses nothing", () 
   }
 });
 
-test("a file that has changed is parsed again, and so is each by another program", () => {
-  const folder = project();
+test("a file that has changed is parsed again, and so is each by another program", async () => {
+  const folder = await project();
   const words = ["--cache", "cache", "src"];
   runIn(folder, words);
   writeFileSync(join(folder, "src/a.js"), `import "./c.js";\n`);
   utimesSync(join(folder, "src/a.js"), LONG_AGO, new Date("2020-01-02"));
+  await settle();
   const changed = runIn(folder, words);
   assert.deepEqual([changed.asked, linesOf(changed.stdout)[0].info.dependencies[0].specifier], [1, "./c.js"]);
   writeFileSync(join(folder, "src/a.js"), "// shorter");
   utimesSync(join(folder, "src/a.js"), LONG_AGO, new Date("2020-01-02"));
+  await settle();
   assert.equal(runIn(folder, words).asked, 1);
   assert.equal(runIn(folder, words).asked, 0);
   writeFileSync(join(folder, "modinfo"), `${readFileSync(join(folder, "modinfo"))}# another version\n`);
@@ -70,8 +77,25 @@ test("a file that has changed is parsed again, and so is each by another program
   assert.equal(runIn(folder, words).asked, 0);
 });
 
-test("a file that was changed a moment ago isn't kept", () => {
-  const folder = project();
+test("another content of the same size and time is read, in the same file and in another one", async () => {
+  const folder = await project();
+  const path = join(folder, "src/a.js");
+  const words = ["--cache", "cache", "src/a.js"];
+  const named = () => linesOf(runIn(folder, words).stdout)[0].info.dependencies[0].specifier;
+  assert.equal(named(), "./b.js");
+  writeFileSync(path, `import "./c.js";\n`);
+  utimesSync(path, LONG_AGO, LONG_AGO);
+  assert.equal(named(), "./c.js");
+  await settle();
+  assert.equal(named(), "./c.js");
+  writeFileSync(join(folder, "new.js"), `import "./d.js";\n`);
+  utimesSync(join(folder, "new.js"), LONG_AGO, LONG_AGO);
+  renameSync(join(folder, "new.js"), path);
+  assert.equal(named(), "./d.js");
+});
+
+test("a file that was changed a moment ago isn't kept", async () => {
+  const folder = await project();
   const soon = new Date(Date.now() + 3_600_000);
   utimesSync(join(folder, "src/a.js"), soon, soon);
   const words = ["--cache", "cache", "src/a.js"];
@@ -101,7 +125,7 @@ function cachedIn(folder) {
 }
 
 test("lines of a cache that are broken are passed over", async () => {
-  const folder = project();
+  const folder = await project();
   await cacheOf(folder);
   const [first, second] = ["a", "b"].map((name) => `{"script":true,"name":"${name}"}`);
   assert.deepEqual(cachedIn(folder), [first, second]);
@@ -120,8 +144,25 @@ test("lines of a cache that are broken are passed over", async () => {
   }
 });
 
-test("a cache that can't be read is an error, one that can't be written a warning", () => {
-  const folder = project();
+test("a line that is whole, but has something else in it, is passed over", async () => {
+  const folder = await project();
+  await cacheOf(folder);
+  const [first, second] = readFileSync(join(folder, "cache"), "utf8").trimEnd().split("\n");
+  const kept = `{"script":true,"name":"b"}`;
+  for (const at of [2, 5, 6]) {
+    for (const wrong of ["{", "null", "1", ""]) {
+      const parts = first.split("\t");
+      parts[at] = wrong;
+      const rest = parts.slice(1).join("\t");
+      const checksum = createHash("sha256").update(rest).digest("base64url").slice(0, 16);
+      writeFileSync(join(folder, "cache"), `${checksum}\t${rest}\n${second}\n`);
+      assert.deepEqual(cachedIn(folder), [undefined, kept], `${at} ${wrong}`);
+    }
+  }
+});
+
+test("a cache that can't be read is an error, one that can't be written a warning", async () => {
+  const folder = await project();
   mkdirSync(join(folder, "folder"));
   const unread = runIn(folder, ["--cache", "folder", "src"]);
   assert.deepEqual([unread.stdout, unread.status], ["", 1]);
@@ -132,14 +173,14 @@ test("a cache that can't be read is an error, one that can't be written a warnin
 });
 
 test("of two runs at once nothing is lost", async () => {
-  const folder = project();
+  const folder = await project();
   const caches = ["a", "b"].map((name) => {
     const cache = new AnalysisCache(join(folder, "cache"), STAND_IN);
     const path = join(folder, `src/${name}.js`);
-    cache.add(path, cache.find(path).state, { info: `"${name}"` });
+    cache.add(path, cache.find(path).state, { info: `{"name":"${name}"}` });
     return cache;
   });
   await Promise.all(caches.map((cache) => cache.save()));
-  assert.deepEqual(cachedIn(folder), [`"a"`, `"b"`]);
+  assert.deepEqual(cachedIn(folder), [`{"name":"a"}`, `{"name":"b"}`]);
   assert.equal(existsSync(join(folder, "cache.lock")), false);
 });

@@ -60,7 +60,7 @@ function answers(words, cwd, { stderr = "", status = 0, ...options } = {}) {
 }
 
 /** @param {string} path */
-const wrongLine = (path) => `${NAME}: ${path}:2:9: Expression expected.\nlet b = ;\n        ^\n`;
+const wrongLine = (path) => `${NAME}: ${path}:2:9: Expression expected.\n  | let b = ;\n  |         ^\n`;
 
 test("each file's answer, in the order of the files, a fault among them", () => {
   const folder = project();

@@ -103,7 +103,7 @@ test("an entry that can't be read or parsed is an error, and nothing is listed",
   const folder = folderOf({ ...PROJECT, "wrong.js": "let = ;", "text.txt": "" });
   const errors = {
     "none.js": "none.js: no such file or folder",
-    "wrong.js": "wrong.js:1:7: Expression expected.\nlet = ;\n      ^",
+    "wrong.js": "wrong.js:1:7: Expression expected.\n  | let = ;\n  |       ^",
     "text.txt": "text.txt: files with this ending are not read",
   };
   for (const [entry, message] of Object.entries(errors)) {

@@ -120,7 +120,7 @@ test("a link out of the given paths is followed only with --follow", () => {
   assert.deepEqual(sources(run("estree.mjs", ["--lines", "a/to_out.js"], folder).stdout), [`"out";`]);
   const follow = run("estree.mjs", ["--lines", "--follow", "a"], folder);
   assert.deepEqual(sources(follow.stdout), [`"in";`, `"in";`, `"out";`]);
-  assert.match(follow.stderr, /^modinfo-estree: a\/to_secret\.js:1:\d+: .*\nroot:x:0:0\n/);
+  assert.match(follow.stderr, /^modinfo-estree: a\/to_secret\.js:1:\d+: .*\n {2}\| root:x:0:0\n/);
 });
 
 test("what a link out of the folder leads to is not in the report", () => {
@@ -208,6 +208,18 @@ test("names are shown with their control characters escaped", () => {
   const { stderr } = run("files.mjs", ["--resolve", "b.js"], folder);
   isClean(stderr);
   assert.match(stderr, /^modinfo-files: warning: .*tsconfig\.json: .*\\x1b\[32m/);
+});
+
+test("the excerpt of a syntax error can't be taken for a line of output, and turns no direction", () => {
+  const forged = "modinfo-files: src/a.js: nothing is wrong";
+  const folder = folderOf({ "a.js": `let a = 1;\n${forged} \u202e\u0007 ^\n` });
+  const { stderr, status } = run("files.mjs", ["a.js"], folder);
+  assert.equal(status, 1);
+  const [message, ...excerpt] = stderr.split("\n").slice(0, -1);
+  assert.match(message, /^modinfo-files: a\.js:2:\d+: /);
+  assert.ok(excerpt.length === 2 && excerpt.every((line) => line.startsWith("  | ")), stderr);
+  assert.doesNotMatch(stderr, /[^\P{Cc}\n]|\u202e/u);
+  assert.ok(stderr.includes(`${forged} \\u{202e}\\x07`), stderr);
 });
 
 test("a report overwrites nothing but an earlier one", () => {

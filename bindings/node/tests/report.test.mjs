@@ -91,7 +91,7 @@ test("a file that is named twice is there once, and so is what is reported of it
   const folder = folderOf({ ...PROJECT, "src/wrong.ts": "let b = ;\n" });
   const words = ["src", "src/b.ts", "--entry", "src/wrong.ts"];
   const { stderr } = make(folder, words);
-  const excerpt = "let b = ;\n        ^";
+  const excerpt = "  | let b = ;\n  |         ^";
   const gaps = `${NAME}: of what is reached 1 file can't be read or parsed: more may be reached than is known\n`;
   assert.equal(stderr, `${NAME}: src/wrong.ts:1:9: Expression expected.\n${excerpt}\n${gaps}`);
   const { modules, entries } = dataOf(join(folder, "report.html"));
@@ -109,7 +109,7 @@ test("the page is the same each time", () => {
 test("a file without an answer is reported, is in the page with its position, and the status is 1", () => {
   const folder = folderOf({ "a.ts": "let a = 1;\nlet b = ;\n", "b.ts": Buffer.of(0xff), "c.ts": "" });
   const { stderr, status } = make(folder, ["."]);
-  const excerpt = "let b = ;\n        ^";
+  const excerpt = "  | let b = ;\n  |         ^";
   assert.equal(
     stderr, `${NAME}: a.ts:2:9: Expression expected.\n${excerpt}\n${NAME}: b.ts: the file is not UTF-8\n`,
   );

@@ -2,8 +2,8 @@
  * Keeps what was found in files, so that files which haven't changed needn't be parsed again.
  *
  * The cache is a file of lines, one for each file that was read. A line counts only where
- * its checksum is right, the versions are those of now, and size and time of change of the file are
- * those of the line. Any other line is passed over.
+ * its checksum is right, it has what it has to, the versions are those of now, and size, inode and both times
+ * of change of the file are those of the line. Any other line is passed over.
  *
  * @typedef {import("../document/write_document.mjs").Warning} Warning
  *
@@ -13,7 +13,7 @@
  *
  * @typedef {object} State of a file, when it was looked at
  * @property {string} size
- * @property {string} changed
+ * @property {string} changed its inode, when its content was changed, and when its inode was
  * @property {boolean} isSettled whether a later change would have another time
  */
 
@@ -107,8 +107,9 @@ export class AnalysisCache {
     for (const line of linesOf(this.#path)) {
       const [checksum, version, path] = line.split("\t", 3);
       const rest = line.slice(checksum.length + 1);
-      if (version === this.#version && path && checksum === checksumOf(rest)) {
-        found.set(JSON.parse(path), rest);
+      const key = path && checksum === checksumOf(rest) ? jsonOf(path) : undefined;
+      if (version === this.#version && typeof key === "string") {
+        found.set(key, rest);
       }
     }
     return found;
@@ -136,9 +137,24 @@ function linesOf(path) {
  * @returns {Analysis | undefined}
  */
 function analysisOf(line, state) {
-  const [, , size, changed, warnings, info] = line.split("\t");
-  const isSame = size === state.size && changed === state.changed;
-  return isSame ? { info, warnings: JSON.parse(warnings) } : undefined;
+  const [, , size, changed, warnings = "", info = ""] = line.split("\t");
+  if (size !== state.size || changed !== state.changed) {
+    return undefined;
+  }
+  const [known, found] = [jsonOf(warnings), jsonOf(info)];
+  return Array.isArray(known) && typeof found === "object" && found !== null ? { info, warnings: known } : undefined;
+}
+
+/**
+ * @param {string} text
+ * @returns {any} nothing where the text is no JSON
+ */
+function jsonOf(text) {
+  try {
+    return JSON.parse(text);
+  } catch {
+    return undefined;
+  }
 }
 
 /**
@@ -147,9 +163,10 @@ function analysisOf(line, state) {
  */
 function stateOf(path) {
   try {
-    const { size, mtimeNs, mtimeMs } = statSync(path, { bigint: true });
+    const { size, ino, mtimeNs, mtimeMs, ctimeNs, ctimeMs } = statSync(path, { bigint: true });
+    const last = Math.max(Number(mtimeMs), Number(ctimeMs));
     return {
-      size: String(size), changed: String(mtimeNs), isSettled: Date.now() - Number(mtimeMs) > SETTLING,
+      size: String(size), changed: `${ino} ${mtimeNs} ${ctimeNs}`, isSettled: Date.now() - last > SETTLING,
     };
   } catch {
     return undefined;

@@ -5,7 +5,7 @@ import assert from "node:assert/strict";
 import { folderOf } from "../run_commands.mjs";
 import { KEYS } from "./browser.mjs";
 import {
-  browser, exampleReport, go, hasProgram, listed, open, place, report, shown, texts, untilModule,
+  browser, exampleReport, go, hasProgram, listed, nodeNames, open, place, report, shown, texts, untilModule,
   untilMoved, untilPlace,
 } from "./session.mjs";
 
@@ -13,9 +13,6 @@ const example = exampleReport();
 
 /** The least height of a label's letters, in pixels. */
 const READABLE = 11;
-
-/** @type {() => Promise<string[]>} the names of the nodes that are drawn */
-const nodes = () => browser.run(`return [...document.querySelectorAll(".node")].map((each) => each.getAttribute("aria-label"))`);
 
 /** How high the letters of the graph's labels are in the window. */
 const labelSizes = () => browser.run(`
@@ -53,7 +50,7 @@ function chained(folders, modules) {
 
 shown("the graph has each module of a small project, with a box around those of a folder", async () => {
   await open(example);
-  const paths = (await nodes()).sort();
+  const paths = (await nodeNames()).sort();
   assert.deepEqual(paths, (await listed()).sort());
   assert.deepEqual((await texts(".frame-title text")).sort(), ["format/2", "legacy/3", "messages/2"]);
   const inside = await browser.run(`
@@ -148,7 +145,7 @@ shown("a folder opens on a click, with what is around it, and its path leads bac
     "f2/: 8 modules → f3/: 8 modules: static (8)",
   ]);
   await browser.click(".crumbs a");
-  await browser.until(`return document.querySelector('.node[aria-label="f10/: 8 modules"]') !== null`);
+  await browser.until(`return document.querySelector('.node[aria-label="f3/: 8 modules"]') !== null`);
 });
 
 shown("modules without edges are in a grid below the others, by name", async () => {
@@ -282,7 +279,7 @@ shown("a cycle is shown in the graph, its edges marked, with the lines that make
   await open(report(folderOf(files)));
   await browser.click("#list-cycles .show");
   await browser.until(`return document.querySelectorAll(".edge.marked").length > 0`);
-  assert.deepEqual((await nodes()).sort(), ["a.js", "b.js", "c.js", "d.js"]);
+  assert.deepEqual((await nodeNames()).sort(), ["a.js", "b.js", "c.js", "d.js"]);
   assert.deepEqual((await texts(".edge.marked title")).sort(), [
     "a.js → b.js: static", "b.js → c.js: static", "c.js → a.js: static",
   ]);

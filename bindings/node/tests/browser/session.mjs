@@ -110,6 +110,13 @@ export function texts(selector) {
   return browser.run(`return [...document.querySelectorAll(arguments[0])].map((each) => each.textContent)`, selector);
 }
 
+/** @returns {Promise<string[]>} the names of the nodes that are drawn */
+export function nodeNames() {
+  return browser.run(`
+    return [...document.querySelectorAll(".node")].map((each) => each.getAttribute("aria-label"));
+  `);
+}
+
 /**
  * Opens a module by its path in the list, and waits until it is there.
  * @param {string} path

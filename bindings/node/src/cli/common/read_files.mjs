@@ -273,7 +273,8 @@ export class FileReporter {
       this.#print(describeFault(path, { message: LEFT }));
     }
     if (fault) {
-      this.#print(describeFault(path, fault));
+      const { excerpt, ...line } = fault;
+      this.#print([describeFault(path, line), ...excerptLines(excerpt)].join("\n"));
       this.status = 1;
       process.exitCode = 1;
     }
@@ -284,4 +285,19 @@ export class FileReporter {
   #print(text) {
     this.#progress.print(`${this.#name}: ${text}`);
   }
+}
+
+/**
+ * The line of a syntax error with a mark below, behind a bar: so that it can't be taken for a line of the output.
+ * @param {string} [excerpt]
+ * @returns {string[]} none where there is no excerpt
+ */
+function excerptLines(excerpt) {
+  if (excerpt === undefined) {
+    return [];
+  }
+  const at = excerpt.lastIndexOf("\n");
+  const [line, mark] = [excerpt.slice(0, at), excerpt.slice(at + 1)];
+  const before = printable(line.slice(0, mark.length - 1));
+  return [`  | ${printable(line)}`, `  | ${before.replace(/[^\t]/g, " ")}^`];
 }
