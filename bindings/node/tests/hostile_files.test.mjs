@@ -212,14 +212,14 @@ test("names are shown with their control characters escaped", () => {
 
 test("the excerpt of a syntax error can't be taken for a line of output, and turns no direction", () => {
   const forged = "modinfo-files: src/a.js: nothing is wrong";
-  const folder = folderOf({ "a.js": `let a = 1;\n${forged} \u202e\u0007 ^\n` });
+  const folder = folderOf({ "a.js": `let a = 1;\n${forged} \u202e ^\n` });
   const { stderr, status } = run("files.mjs", ["a.js"], folder);
   assert.equal(status, 1);
   const [message, ...excerpt] = stderr.split("\n").slice(0, -1);
   assert.match(message, /^modinfo-files: a\.js:2:\d+: /);
   assert.ok(excerpt.length === 2 && excerpt.every((line) => line.startsWith("  | ")), stderr);
   assert.doesNotMatch(stderr, /[^\P{Cc}\n]|\u202e/u);
-  assert.ok(stderr.includes(`${forged} \\u{202e}\\x07`), stderr);
+  assert.ok(stderr.includes(`  | ${forged} \\u{202e}`), stderr);
 });
 
 test("a report overwrites nothing but an earlier one", () => {

@@ -298,6 +298,6 @@ function excerptLines(excerpt) {
   }
   const at = excerpt.lastIndexOf("\n");
   const [line, mark] = [excerpt.slice(0, at), excerpt.slice(at + 1)];
-  const before = printable(line.slice(0, mark.length - 1));
+  const before = printable([...line].slice(0, mark.length - 1).join(""));
   return [`  | ${printable(line)}`, `  | ${before.replace(/[^\t]/g, " ")}^`];
 }
