@@ -2,9 +2,12 @@
 
 import assert from "node:assert/strict";
 import { execFileSync } from "node:child_process";
+import { readFileSync } from "node:fs";
 import { join } from "node:path";
 import { test } from "node:test";
+import { fileURLToPath } from "node:url";
 
+import { looseImports } from "../src/graph/loose_references.mjs";
 import { folderOf, run, urlOf } from "./run_commands.mjs";
 
 const NAME = "modinfo-files";
@@ -275,4 +278,110 @@ test("the scripts of a page are entries", () => {
   assert.deepEqual(reached(folder, join("web", "index.html")).lines, [
     "web/inline.js", "web/src/main.ts", "web/src/a.ts",
   ]);
+});
+
+/**
+ * Projects whose every module is in use, by names that node itself doesn't find; each with its entry.
+ * @type {Record<string, { files: Record<string, string>, words?: string[] }>}
+ */
+const BUNDLED = {
+  "names without an ending in ES modules, as Vite has them": {
+    files: {
+      "package.json": `{"type":"module"}`, "main.ts": `import App from "./App"; import "./lib"; import "./style.css";`,
+      "App.tsx": `import { a } from "./lib/a.js";`, "lib/index.ts": "", "lib/a.ts": "", "style.css": "",
+    },
+  },
+  "paths of a configuration for bundlers": {
+    files: {
+      "tsconfig.json": `{"compilerOptions":{"module":"ESNext","moduleResolution":"bundler","paths":{"@/*":["./src/*"]}}}`,
+      "main.ts": `import "@/a";`, "src/a.ts": `import "@/b/c";`, "src/b/c.ts": "",
+    },
+  },
+  "workspaces whose output isn't built": {
+    files: {
+      "package.json": `{"workspaces":["packages/*"]}`, "main.ts": `import "w";`,
+      "packages/w/package.json": `{"name":"w","main":"./dist/index.js"}`,
+      "packages/w/tsconfig.json": `{"compilerOptions":{"outDir":"dist","rootDir":"src"}}`,
+      "packages/w/src/index.ts": `import "./deep";`, "packages/w/src/deep.ts": "",
+    },
+  },
+  "what browser has in place of a module": {
+    files: {
+      "package.json": `{"browser":{"./node.js":"./browser.js"}}`, "main.js": `import "./node.js";`, "browser.js": "",
+    },
+    words: ["--conditions", "browser"],
+  },
+  "import maps of Deno": {
+    files: { "deno.json": `{"imports":{"~/":"./src/"}}`, "main.ts": `import "~/a.ts";`, "src/a.ts": "" },
+  },
+  "queries of bundlers": { files: { "main.ts": `import W from "./w?worker"; import "./x.ts?raw";`, "w.ts": "", "x.ts": "" } },
+};
+
+test("what bundlers' rules and configurations find counts as reached", () => {
+  for (const [name, { files, words = [] }] of Object.entries(BUNDLED)) {
+    const { lines, stderr } = unreached(files, words);
+    assert.deepEqual([lines, stderr], [[], ""], name);
+  }
+});
+
+test("the scripts of the package itself are all in use", () => {
+  const folder = fileURLToPath(new URL("..", import.meta.url));
+  const words = ["--entry", ".", "--unreached", "src"];
+  const { stdout, status } = run("files.mjs", words, { cwd: folder });
+  assert.deepEqual([stdout.split("\n").filter((line) => line !== "" && !line.includes(": ")), status], [[], 0]);
+});
+
+test("the page of a report has the classes and the cycles that the command has", () => {
+  const folder = folderOf({
+    "main.tsx": `/** @jsxImportSource ./jsx */\nimport "./a"; import type { T } from "./t"; import(\`./p/\${x}\`); require("./" + "b");`,
+    "jsx/jsx-runtime.ts": `import "../main";`, "a.ts": `import { b } from "./b";`, "b.ts": `import { a } from "./a";`,
+    "t.ts": `import type { U } from "./u";`, "u.ts": `import { T } from "./t";`, "p/one.ts": "", "dead.ts": "",
+  });
+  const ask = (/** @type {string[]} */ words) => {
+    return JSON.parse(run("files.mjs", ["--json", "--entry", "main.tsx", ...words, "."], { cwd: folder }).stdout);
+  };
+  run("report.mjs", ["--entry", "main.tsx", "."], { cwd: folder });
+  const page = readFileSync(join(folder, "report.html"), "utf8");
+  const index = JSON.parse(/id="data">(.*?)<\/script>/s.exec(page)?.[1] ?? "");
+  const keyOf = (/** @type {number} */ at) => {
+    const inFolder = index.folders[index.inFolder[at]];
+    return urlOf(folder, inFolder === "." ? index.modules[at] : `${inFolder}/${index.modules[at]}`);
+  };
+  const { cycles, typeCycles } = ask(["--cycles", "--types"]);
+  const sorted = (/** @type {any[]} */ each) => each.map(({ modules }) => modules.map(String).sort()).sort();
+  const shown = (/** @type {boolean} */ ran) => index.lists.cycles.filter((/** @type {any} */ { isRun }) => isRun === ran)
+    .map((/** @type {any} */ { modules }) => ({ modules: modules.map(keyOf) }));
+  assert.deepEqual([sorted(shown(true)), sorted(shown(false))], [sorted(cycles), sorted(typeCycles)]);
+  assert.ok(cycles.length >= 1 && typeCycles.length >= 1);
+  const classes = ask(["--unreached"]);
+  const { unreached: dead, mayBeReached, byTypes } = index.lists;
+  const keysOf = (/** @type {any[]} */ list) => list.map(({ module }) => (typeof module === "number" ? keyOf(module) : module));
+  assert.deepEqual(
+    [dead.map(keyOf), keysOf(mayBeReached), keysOf(byTypes)],
+    [classes.unreached, keysOf(classes.mayBeReached), keysOf(classes.byTypes)],
+  );
+  assert.deepEqual(classes.unreached, [urlOf(folder, "dead.ts")]);
+});
+
+test("a cycle of TypeScript files may be of types alone, and the last line says so", () => {
+  const files = { "a.ts": `import { B } from "./b";`, "b.ts": `import { A } from "./a";` };
+  const cycles = (/** @type {Record<string, string>} */ each) => run("files.mjs", ["--cycles", "."], { cwd: folderOf(each) });
+  const why = "a compiler removes imports of TypeScript whose names are types";
+  assert.deepEqual(cycles(files), {
+    stdout: "a.ts -> b.ts -> a.ts\n", stderr: `${NAME}: 1 of 1 cycles may be of types alone: ${why}\n`, status: 1,
+  });
+  assert.equal(cycles({ "a.ts": `import "./b";`, "b.ts": `import "./a";` }).stderr, "");
+  assert.equal(cycles({ "a.js": `import { b } from "./b.js";`, "b.js": `import { a } from "./a.js";` }).stderr, "");
+  const { stdout, status } = cycles({ ...files, "b.ts": `import type { A } from "./a";` });
+  assert.deepEqual([stdout, status], ["", 0]);
+});
+
+test("texts that are made to take long are searched in a moment", () => {
+  const parts = ["new ", "import . meta", "import.meta.glob<", "jest.mock<", "`${", "<script ", "require ", "__dirname,\"a\"", "from "];
+  const begun = performance.now();
+  for (const part of parts) {
+    looseImports(part.repeat(200_000 / part.length), "script");
+    looseImports(`${part}${" ".repeat(200_000)}`, "script");
+  }
+  assert.ok(performance.now() - begun < 20_000);
 });

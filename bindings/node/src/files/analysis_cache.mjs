@@ -142,7 +142,8 @@ function analysisOf(line, state) {
     return undefined;
   }
   const [known, found] = [jsonOf(warnings), jsonOf(info)];
-  return Array.isArray(known) && typeof found === "object" && found !== null ? { info, warnings: known } : undefined;
+  const isWhole = Array.isArray(known) && typeof found === "object" && found !== null;
+  return isWhole ? { info, warnings: known } : undefined;
 }
 
 /**

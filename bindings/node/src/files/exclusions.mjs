@@ -10,7 +10,8 @@ import { globMatcher } from "./globs.mjs";
 export class GitFault extends Error {}
 
 /**
- * @typedef {(path: string) => boolean} IsOut of an absolute path: whether the path, or a folder around it, is left out
+ * @typedef {(path: string) => boolean} IsOut takes an absolute path: whether the path, or a folder around it, is
+ *   left out
  *
  * @typedef {object} Exclusions
  * @property {IsOut} isExcluded whether a file isn't listed

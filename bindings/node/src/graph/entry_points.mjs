@@ -29,7 +29,8 @@ const MEMBERS = ["exports", "main", "module", "bin", "browser"];
 
 /**
  * @param {string[]} paths of modules, of folders with a package.json, and of pages with scripts
- * @param {{ mediaTypes: string[], find: Find }} options `mediaTypes`: those of the files that `*` in `exports` takes
+ * @param {{ mediaTypes: string[], find: Find }} options `mediaTypes`: those of the files for which `*` in
+ *   `exports` stands
  * @returns {Promise<EntryPoints>} each file once
  * @throws {EntryFault} a folder or a page names no entry that is there
  */
@@ -37,7 +38,8 @@ export async function entryPoints(paths, { mediaTypes, find }) {
   /** @type {EntryPoints} */
   const all = { files: [], absent: [] };
   for (const path of paths) {
-    const { files, absent } = isFolder(path) ? await ofPackage(path, { mediaTypes, find }) : await ofFile(path, find);
+    const points = isFolder(path) ? await ofPackage(path, { mediaTypes, find }) : ofFile(path, find);
+    const { files, absent } = points;
     all.files.push(...files);
     all.absent.push(...absent);
   }
@@ -89,8 +91,8 @@ function readManifest(path) {
   try {
     values = JSON.parse(String(readRegularFile(path)));
   } catch (/** @type {any} */ error) {
-    throw new EntryFault(error.code === "ENOENT" ? `${path}: no such file: an entry is a file, or a folder with a package.json`
-      : `${path}: ${error.message}`);
+    const none = "no such file: an entry is a file, or a folder with a package.json";
+    throw new EntryFault(`${path}: ${error.code === "ENOENT" ? none : error.message}`);
   }
   return typeof values === "object" && values !== null ? values : {};
 }
@@ -107,7 +109,8 @@ function targetsOf(value) {
     if (typeof next === "string") {
       texts.push(next);
     } else if (typeof next === "object" && next !== null) {
-      todo.push(...Object.entries(next).flatMap(([key, each]) => (key.startsWith("types") ? [] : [each ?? false])));
+      const members = Object.entries(next).filter(([key]) => !key.startsWith("types"));
+      todo.push(...members.map(([, each]) => each ?? false));
     }
   }
   return texts;
@@ -125,7 +128,8 @@ async function filesOfPattern(folder, pattern, mediaTypes) {
   const files = [];
   for await (const { path } of findFiles(isFolder(base) ? [base] : [], { mediaTypes })) {
     const name = `./${relative(folder, path)}`;
-    if (name.startsWith(start) && name.replace(MODULE, "").endsWith(end.replace(MODULE, "")) && !DECLARATION.test(path)) {
+    const isMatch = name.startsWith(start) && name.replace(MODULE, "").endsWith(end.replace(MODULE, ""));
+    if (isMatch && !DECLARATION.test(path)) {
       files.push(path);
     }
   }
@@ -152,7 +156,8 @@ function found(from, names, find, hasOthers = false) {
     }
   }
   if (points.files.length === 0 && !hasOthers) {
-    const what = points.absent.length > 0 ? `what it names isn't there: ${names.join(", ")}` : "it names no module";
+    const isAbsent = points.absent.length > 0;
+    const what = isAbsent ? `what it names isn't there: ${names.join(", ")}` : "it names no module";
     throw new EntryFault(`${from}: ${what}`);
   }
   return points;

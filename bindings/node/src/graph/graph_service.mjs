@@ -103,7 +103,8 @@ export async function graphOf(task, signal) {
   const cache = task.cache === undefined ? undefined : new AnalysisCache(task.cache, program);
   const onRead = async () => signal?.throwIfAborted();
   const graph = await readGraph(named, {
-    work, resolver, jobs, types, dynamic, all, cache, resolve, follow: files.length > 0, onRead, isExcluded, isIgnored,
+    work, resolver, jobs, types, dynamic, all, cache, resolve, onRead, isExcluded, isIgnored,
+    follow: files.length > 0,
   });
   await cache?.save();
   const { keys, pages } = named;

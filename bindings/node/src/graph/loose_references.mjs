@@ -15,28 +15,40 @@
 /** The most characters that are searched for type arguments and after a call. */
 const NEAR = 300;
 
+/** The beginning of a member of `import.meta`. */
+const META = String.raw`\bimport\s*\.\s*meta\s*\.\s*`;
+
+/** The beginning of a call of the functions that mock modules. */
+const MOCKS = String.raw`\b(?:jest|vi|vitest)\s*\.\s*(?:(?:do)?[mM]ock|(?:require|import)(?:Actual|Mock))`;
+
+/** The parenthesis of a call, with type arguments before. */
+const TYPED_CALL = String.raw`\s*(?:<[^;]{0,300}?>\s*)?\(`;
+
 /** @type {{ call: RegExp, kind: ReasonKind, form?: LooseReference["form"] }[]} */
 const CALLS = [
   { call: /\bnew\s+URL\s*\(/g, kind: "new URL" },
   { call: /\bnew\s+(?:Shared)?Worker\s*\(/g, kind: "new Worker" },
   { call: /\brequire\s*\.\s*resolve\s*\(/g, kind: "require.resolve" },
-  { call: /\bimport\s*\.\s*meta\s*\.\s*resolve\s*\(/g, kind: "import.meta.resolve" },
-  { call: /\bimport\s*\.\s*meta\s*\.\s*glob(?:Eager)?\s*(?:<[^(]{0,300}>\s*)?\(\s*\[?/g, kind: "import.meta.glob", form: "glob" },
+  { call: pattern(META, String.raw`resolve\s*\(`), kind: "import.meta.resolve" },
+  { call: pattern(META, "glob(?:Eager)?", TYPED_CALL, "\\s*\\[?"), kind: "import.meta.glob", form: "glob" },
   { call: /\brequire\s*\.\s*context\s*\(/g, kind: "require.context", form: "folder" },
-  {
-    call: /\b(?:jest|vi|vitest)\s*\.\s*(?:(?:do)?[mM]ock|requireActual|requireMock|importActual|importMock)\s*(?:<[^(]{0,300}>\s*)?\(/g,
-    kind: "jest.mock",
-  },
-  { call: /\b(?:__dirname|import\s*\.\s*meta\s*\.\s*dirname)\s*[,+]/g, kind: "__dirname" },
+  { call: pattern(MOCKS, TYPED_CALL), kind: "jest.mock" },
+  { call: pattern(String.raw`(?:\b__dirname|`, META, String.raw`dirname)\s*[,+]`), kind: "__dirname" },
 ];
 
 /** What leads to a module in a text that isn't parsed. */
 const IMPORTS = [
-  /\bfrom\s*(?=["'])/g, /\bimport\s*(?=["'])/g, /\b(?:import|require)\s*\(/g, /<script\b[^>]{0,300}?\bsrc\s*=\s*(?=["'])/gi,
+  /\bfrom\s*(?=["'])/g, /\bimport\s*(?=["'])/g, /\b(?:import|require)\s*\(/g,
+  /<script\b[^>]{0,300}?\bsrc\s*=\s*(?=["'])/gi,
 ];
 
 /** Whether a text may have any of the calls: most have none. */
-const ANY_CALL = /\bnew\s+(?:URL|Worker|SharedWorker)\b|\bimport\s*\.\s*meta\b|\brequire\s*\.\s*(?:resolve|context)\b|\b(?:jest|vi|vitest)\s*\.|\b__dirname\b/;
+const ANY_CALL = /\b(?:URL|Worker|SharedWorker|meta|resolve|context|jest|vi|vitest|__dirname)\b/;
+
+/** @param {...string} parts of a regular expression */
+function pattern(...parts) {
+  return new RegExp(parts.join(""), "g");
+}
 
 /**
  * @param {string} text

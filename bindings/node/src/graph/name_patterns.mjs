@@ -132,14 +132,15 @@ function patternOf(parts, folder) {
   // Of a name that a configuration replaces at its beginning, what follows the first slash is in the path.
   const rest = first.includes("/") ? first.slice(first.indexOf("/")) : "";
   const isKnown = [rest, ...others].some((text) => /[\p{L}\p{N}_$]/u.test(text.replace(ENDING, "")));
-  return isKnown ? ["", rest, ...others].filter((each, at, all) => each !== "" || at === 0 || at === all.length - 1) : undefined;
+  const all = ["", rest, ...others];
+  return isKnown ? all.filter((each, at) => each !== "" || at === 0 || at === all.length - 1) : undefined;
 }
 
 /**
  * @param {string} text
  * @param {string[]} pattern
- * @returns {boolean} whether the text has the pattern's texts in their order, the first at its beginning and the last at
- *   its end
+ * @returns {boolean} whether the text has the pattern's texts in their order, the first at its beginning and the
+ *   last at its end
  */
 function fits(text, pattern) {
   const [first, ...others] = pattern;

@@ -94,10 +94,9 @@ export function namedBy(info, { isDeclaration = false } = {}) {
  */
 export function referencesOf(info, options) {
   return namedBy(info, options).filter(isReference).map((named) => {
-    const { node, kind, specifier, argument, sideEffect, range } = named;
-    return {
-      kind, specifier, ...(argument && { argument }), ...(sideEffect && { sideEffect }), range, resolved: node.resolved,
-    };
+    const { node: { resolved }, kind, specifier, argument, sideEffect, range } = named;
+    const more = { ...(argument && { argument }), ...(sideEffect && { sideEffect }) };
+    return { kind, specifier, ...more, range, resolved };
   });
 }
 

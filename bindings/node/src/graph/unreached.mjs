@@ -47,7 +47,9 @@ export function finderOf(resolver) {
 export async function unreachedOf(graph, listed, project) {
   const { program, entries } = project;
   const reached = await graph.reached(entries, program);
-  const isReached = (/** @type {string} */ key) => [key, ...javaScriptBeside(key)].some((each) => reached.has(each));
+  const isReached = (/** @type {string} */ key) => {
+    return [key, ...javaScriptBeside(key)].some((each) => reached.has(each));
+  };
   const asked = [...new Set(listed)].filter((key) => {
     return (graph.hasTypes || !isDeclaration(key)) && !isReached(key) && graph.module(key);
   });
@@ -81,7 +83,8 @@ export async function unledOf(graph, listed, project) {
   }));
   const asked = listed.filter((key) => !led.has(key));
   const reasons = new Search(graph, led, project).reasons(graph.modules.map(({ specifier }) => specifier));
-  return { unreached: asked.filter((key) => !reasons.has(key)), mayBeReached: withReasons(asked, reasons), byTypes: [] };
+  const unreached = asked.filter((key) => !reasons.has(key));
+  return { unreached, mayBeReached: withReasons(asked, reasons), byTypes: [] };
 }
 
 /**
@@ -189,7 +192,7 @@ class Search {
     for (const edge of this.#graph.edgesFrom(key).filter(({ to }) => to !== key)) {
       const { reference: { range: [start], specifier } } = this.#graph.mentionOf(edge);
       const kind = this.#graph.module(key)?.isExcluded ? "excluded" : "import";
-      this.#add(edge.to, { kind, module: key, position: start, ...(specifier !== undefined && { text: specifier }) });
+      this.#add(edge.to, { kind, module: key, position: start, text: specifier });
     }
   }
 
@@ -209,8 +212,9 @@ class Search {
     if (argument && isRunKind(kind)) {
       const parts = argument.map((part) => (part.type === "string" ? part.value : undefined));
       const text = parts.map((each) => each ?? "${..}").join("");
-      const paths = this.#candidates.matching(parts, dirname(fileURLToPath(key)));
-      paths.forEach((path) => this.#add(pathToFileURL(path).href, { kind: "template", module: key, position, text }));
+      for (const path of this.#candidates.matching(parts, dirname(fileURLToPath(key)))) {
+        this.#add(pathToFileURL(path).href, { kind: "template", module: key, position, text });
+      }
     }
   }
 
@@ -243,7 +247,8 @@ class Search {
     }
     if (parts.includes(undefined)) {
       const relative = parts[0]?.startsWith("/") ? [`.${parts[0]}`, ...others] : parts;
-      return folders.flatMap((folder) => this.#candidates.matching(isOfFile(kind) ? atFolder(relative) : relative, folder));
+      const pattern = isOfFile(kind) ? atFolder(relative) : relative;
+      return folders.flatMap((folder) => this.#candidates.matching(pattern, folder));
     }
     const whole = parts.join("");
     if (/^[./]/.test(whole) || isOfFile(kind)) {

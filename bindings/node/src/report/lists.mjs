@@ -8,13 +8,16 @@
  * @property {import("./kinds.mjs").Kind} kind
  * @property {import("./rows.mjs").Row["name"]} name
  *
- * @typedef {import("../graph/cycles.mjs").Cycle & { rows: Found[], isOfTypes?: boolean }} ShownCycle each row leads
- *   from a module of the path to the next one; `isOfTypes`: whether a compiler may remove its imports
+ * @typedef {import("../graph/cycles.mjs").Cycle & { isOfTypes?: boolean }} Cycle `isOfTypes`: whether a compiler
+ *   may remove its imports
+ *
+ * @typedef {Cycle & { rows: Found[] }} ShownCycle each row leads from a module of the path to the next one
  *
  * @typedef {object} Unreached modules are indexes
  * @property {number[]} unreached
  * @property {MayBeReached[]} mayBeReached
- * @property {{ module: number, by: number, line: number, text?: string }[]} byTypes `by` is the module that has the name
+ * @property {{ module: number, by: number, line: number, text?: string }[]} byTypes `by` is the module that has
+ *   the name
  *
  * @typedef {object} MayBeReached
  * @property {number} module
@@ -49,7 +52,7 @@ import { isRunKind } from "../graph/references.mjs";
  * @param {Module[]} modules
  * @param {import("./links.mjs").Links} links
  * @param {Edge[]} edges
- * @param {{ unreached: Unreached, cycles: (import("../graph/cycles.mjs").Cycle & { isOfTypes?: boolean })[] }} found
+ * @param {{ unreached: Unreached, cycles: Cycle[] }} found
  * @returns {Lists}
  */
 export function listsOf(modules, links, edges, { unreached, cycles }) {
@@ -80,8 +83,7 @@ export function listsOf(modules, links, edges, { unreached, cycles }) {
  * The cycles of a graph, by the indexes of the report's modules.
  * @param {import("../graph/module_graph.mjs").ModuleGraph} graph
  * @param {(key: string) => number} indexOf
- * @returns {(import("../graph/cycles.mjs").Cycle & { isOfTypes?: boolean })[]} by their first modules, those that run
- *   before others
+ * @returns {Cycle[]} by their first modules, those that run before others
  */
 export function shownCycles(graph, indexOf) {
   const { cycles, typeCycles } = graph.withTypes().cycles();
@@ -128,7 +130,7 @@ function foundRow(modules, { module, row }) {
 /**
  * Returns the rows that make a cycle's path. Of several rows between two modules, one that runs is
  * preferred.
- * @param {import("../graph/cycles.mjs").Cycle} cycle
+ * @param {Cycle} cycle
  * @param {Edge[]} edges
  * @returns {{ module: number, row: number }[]}
  */

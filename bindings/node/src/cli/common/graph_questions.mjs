@@ -95,9 +95,8 @@ function cycles({ graph, values: { types } }) {
     ...run.map((cycle) => cycleLine(cycle, true)), ...typeCycles.map((cycle) => cycleLine(cycle, false)),
   ];
   const count = run.filter((cycle) => graph.isPerhapsOfTypes(cycle)).length;
-  const notes = count === 0 ? [] : [
-    `${count} of ${run.length} cycles: imports of TypeScript files among them, which a compiler removes where they name types alone`,
-  ];
+  const why = "a compiler removes imports of TypeScript whose names are types";
+  const notes = count === 0 ? [] : [`${count} of ${run.length} cycles may be of types alone: ${why}`];
   return { lines, data: { cycles: run, ...(types && { typeCycles }) }, isFinding: run.length > 0, notes };
 }
 

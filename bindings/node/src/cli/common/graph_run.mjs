@@ -22,7 +22,7 @@ import { FileReporter, ahead, exclusionsFor, findNamed, readOptions, saveCache }
  * @property {string[]} named the keys of the files of PATH
  * @property {string[]} pages the paths of the pages of PATH
  * @property {(path: string) => boolean} isIgnored
- * @property {(name: string, from: string) => string | undefined} find returns the path that a name leads to
+ * @property {import("../../graph/entry_points.mjs").Find} find
  * @property {string} program the path of `modinfo`
  * @property {number} status 1 if a file can't be read, or an entry isn't there
  */
@@ -41,7 +41,8 @@ export const GRAPH_OPTIONS = {
 };
 
 /** What these options mean, for the help of a command. */
-export const ENTRY_HELP = `  --entry FILE       a file with which the program begins; a folder with a package.json, whose
+export const ENTRY_HELP = `\
+  --entry FILE       a file with which the program begins; a folder with a package.json, whose
                      "exports", "main", "module", "bin" and "browser" name some; or an HTML page with
                      scripts. Reads what it leads to, outside of PATH too, but not installed packages
                      (without --all). May be repeated
@@ -61,7 +62,7 @@ export const CACHE_HELP = `  --cache FILE       keeps results in FILE, and parse
 /**
  * @param {Run} run
  * @param {{ hasPages: boolean, onRead?: (result: ReadFile) => void }} options `hasPages`: whether pages and
- *   components are looked for too, and excluded files read
+ *   components are looked for too, and excluded files are read
  * @returns {Promise<GraphRun>}
  */
 export async function readRun(run, { hasPages, onRead }) {
@@ -74,12 +75,12 @@ export async function readRun(run, { hasPages, onRead }) {
   points.absent.forEach((each) => reporter.warn(`${each}: an entry that isn't there`));
   const exclusions = await exclusionsFor(run);
   const { isExcluded, isIgnored } = exclusions;
-  const named = new NamedFiles(
-    await findNamed(run, { ...exclusions, hasPages }), await findNamed({ ...run, paths: points.files }, exclusions),
-  );
+  const fromEntries = await findNamed({ ...run, paths: points.files }, exclusions);
+  const named = new NamedFiles(await findNamed(run, { ...exclusions, hasPages }), fromEntries);
   const options = readOptions(run);
   const graph = await readGraph(named, {
-    ...options, work: { ...options.work, resolve: undefined }, resolver, types, all, dynamic: !noDynamic, isExcluded, isIgnored, follow: points.files.length > 0,
+    ...options, work: { ...options.work, resolve: undefined }, resolver, types, all, dynamic: !noDynamic,
+    isExcluded, isIgnored, follow: points.files.length > 0,
     ahead: (walked) => ahead(walked, reporter),
     onRead: async (result) => {
       await ready;
@@ -91,7 +92,8 @@ export async function readRun(run, { hasPages, onRead }) {
   reporter.end(paths);
   await saveCache(run, options.cache);
   return {
-    graph, named: named.keys, pages: named.pages, isIgnored, find, entries: points.files.map(keyOf), program: String(work.program),
+    graph, named: named.keys, pages: named.pages, isIgnored, find,
+    entries: points.files.map(keyOf), program: String(work.program),
     status: points.absent.length > 0 ? 1 : reporter.status,
   };
 }

@@ -132,8 +132,8 @@ function openCache(path, { program = "" }) {
 /**
  * The files of the paths of a run.
  * @param {Run} run
- * @param {Exclusions & { hasPages?: boolean }} [exclusions] `hasPages`: whether pages and components are taken too,
- *   and what globs exclude
+ * @param {Exclusions & { hasPages?: boolean }} [exclusions] `hasPages`: whether pages and components are taken
+ *   too, and what globs exclude
  * @returns {Promise<AsyncGenerator<Found, void>>}
  */
 export async function findNamed({ paths, values, work }, exclusions) {
