@@ -1,0 +1,127 @@
+//! Reads the elements of literals.
+
+ghost use Rattle.std.specs.Prelude.{◌≡◌, ◌<◌, ◌++◌, Some, None, IfOk, IfSome, OnOk};
+ghost use Rattle.std.specs.Str.{chars};
+ghost use Rattle.modinfo_literals.specs.Literal.{string_element, template_element, units_of};
+ghost use Rattle.modinfo_literals.specs.internal.Read.{IsElement, HasCodePoint, AreUnits, first_element};
+
+use crate::escape::{string_escape, template_escape};
+use crate::text::{after, after_carriage_return, split_first};
+use std::alloc::{AllocError, Global};
+
+/// A form of literal.
+#[derive(Clone, Copy)]
+pub(crate) enum Form {
+    /// A string literal with this quote.
+    StringWith(char),
+    /// A part of a template.
+    Template,
+}
+
+/// A piece of a literal that was read.
+#[derive(Clone, Copy)]
+pub(crate) struct Piece<'a> {
+    /// The code point that the piece stands for, or `None` if the piece stands for nothing.
+    pub(crate) point: Option<u32>,
+    /// The text after the piece.
+    pub(crate) rest: &'a str,
+}
+
+/// The UTF-16 units of a literal, and the text where no further element begins.
+#[derive(Drop)]
+pub(crate) struct Units<'a> {
+    pub(crate) units: Vec<u16>,
+    pub(crate) end: &'a str,
+}
+
+impl<'a> Piece<'a> {
+    /// Returns a piece that stands for a code point.
+    pub(crate) fn standing_for(point: u32, rest: &'a str) -> Piece<'a>
+        ensures point { result.point ≡ Some point }
+        ensures rest { result.rest.now ≡ rest.now }
+    {
+        Piece {
+            point: Some(point),
+            rest,
+        }
+    }
+
+    /// Returns a piece that stands for nothing.
+    pub(crate) fn standing_for_nothing(rest: &'a str) -> Piece<'a>
+        ensures point { result.point ≡ None }
+        ensures rest { result.rest.now ≡ rest.now }
+    {
+        Piece { point: None, rest }
+    }
+}
+
+/// Reads the first element of a string literal's text after the first quote.
+fn string_element(text: &str, quote: char) -> Option<Piece<'_>>
+    ensures element { IsElement result (string_element quote (chars text.now)) }
+    ensures code_point { HasCodePoint result }
+{
+    let (first, rest) = split_first(text)?;
+    if first == '\\' {
+        return string_escape(rest);
+    }
+    if first == quote || first == '\n' || first == '\r' {
+        return None;
+    }
+    Some(Piece::standing_for(u32::from(first), rest))
+}
+
+/// Reads the first element of a template's part.
+fn template_element(text: &str) -> Option<Piece<'_>>
+    ensures element { IsElement result (template_element (chars text.now)) }
+    ensures code_point { HasCodePoint result }
+{
+    let (first, rest) = split_first(text)?;
+    match first {
+        '\\' => template_escape(rest),
+        '`' => None,
+        '$' if after(rest, '{').is_some() => None,
+        '\r' => Some(Piece::standing_for(10, after_carriage_return(rest))),
+        _ => Some(Piece::standing_for(u32::from(first), rest)),
+    }
+}
+
+/// Reads the first element of a literal.
+fn first_element(form: Form, text: &str) -> Option<Piece<'_>>
+    ensures element { IsElement result (first_element form (chars text.now)) }
+    ensures code_point { HasCodePoint result }
+{
+    match form {
+        Form::StringWith(quote) => string_element(text, quote),
+        Form::Template => template_element(text),
+    }
+}
+
+/// Adds the UTF-16 units of a code point, if there is one.
+fn push_units(units: &mut Vec<u16>, point: Option<u32>) -> Result<(), AllocError>
+    requires { IfSome point (λ p. p < 0x11_0000) }
+    ensures { OnOk result (units.new.items ≡ units.old.items ++ units_of point) }
+{
+    let Some(point) = point else {
+        return Ok(());
+    };
+    if point < 0x1_0000 {
+        units.push(point as u16)?;
+    } else {
+        units.push((0xD800 + (point - 0x1_0000) / 0x400) as u16)?;
+        units.push((0xDC00 + (point - 0x1_0000) % 0x400) as u16)?;
+    }
+    Ok(())
+}
+
+/// Reads all elements from the start of a text.
+pub(crate) fn read_units(alloc: Global, form: Form, text: &str) -> Result<Units<'_>, AllocError>
+    ensures { IfOk result (λ r. AreUnits form (chars text.now) (chars r.end.now) r.units.items) }
+{
+    let mut units = Vec::new(alloc);
+    let mut end = text;
+    while let Some(piece) = first_element(form, end) {
+        push_units(&mut units, piece.point)?;
+        end = piece.rest;
+    }
+    Ok(Units { units, end })
+}
